@@ -12,7 +12,7 @@ use crate::words::{Words, question};
 use certificate::{Fact, LabelRow, Module};
 use facts::{Successor, Successors, advance, has_rule, transfer};
 use prefix_decoder::{Fun, Instr};
-use states::{Known, Loop, Source, State, WordFact};
+use states::{label_rows_are_sound, Known, Loop, Source, State, WordFact};
 use std::alloc::Global;
 
 /// A fact as a word: `?` where nothing is known, `@OFFSET`, or a number as `LO..HI` or alone.
@@ -67,6 +67,7 @@ fn write(module: &Module, state: &mut State, words: &mut Words)
 fn first_label<'a>(module: &'a Module) -> Option<&'a LabelRow>
     ensures { IfSome result (λ row. IsRowOf «module».now (label_of row.now)) }
 {
+    label_rows_are_sound();
     module.tables().labels.first()
 }
 
@@ -172,14 +173,16 @@ fn put_successor(successor: &Successor, out: &mut Answer) {
 
 /// The states that follow.
 fn put_successors(successors: &Successors, out: &mut Answer) {
-    match (&successors.behind, &successors.at_label) {
-        (Some(behind), Some(label)) => {
-            put_successor(behind, out);
+    match &successors.behind {
+        Some(behind) => put_successor(behind, out),
+        None if successors.labels.is_empty() => out.put("nothing"),
+        None => {}
+    }
+    for (n, label) in successors.labels.iter().enumerate() {
+        if n > 0 || successors.behind.is_some() {
             out.put(" or ");
-            put_successor(label, out);
         }
-        (Some(only), None) | (None, Some(only)) => put_successor(only, out),
-        (None, None) => out.put("nothing"),
+        put_successor(label, out);
     }
 }
 

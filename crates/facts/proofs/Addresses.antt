@@ -13,7 +13,7 @@ use Rattle.module_format.specs.Order.{is_stepped}
 use Rattle.module_format.specs.Contents.{Contents}
 use Rattle.machine_state.specs.Memory.{local_address}
 use Rattle.machine_state.specs.LocalStep as step
-use Rattle.facts.specs.Meaning.{Layout, Means, is_pointer, IsOffset, region_start, word_of}
+use Rattle.facts.specs.Meaning.{Layout, Means, is_pointer, IsOffset, region_start}
 
 -- ---- addresses
 

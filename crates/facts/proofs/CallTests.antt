@@ -56,7 +56,8 @@ use Rattle.facts.specs.CallRules.{lent_words}
 use Rattle.facts.specs.CallRules.{each_two}
 use Rattle.facts.proofs.Words.{word_test, plain_means}
 use Rattle.facts.proofs.Offsets.{offset_of_word}
-use Rattle.facts.proofs.Lending.{wider_means, IsRegionKind}
+use Rattle.facts.proofs.Lending.{wider_means}
+use Rattle.facts.specs.Lends.{IsRegionKind}
 
 -- ---- tests
 

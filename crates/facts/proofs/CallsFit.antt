@@ -3,6 +3,7 @@ use Rattle.std.proofs.Common.{◌≡◌, ℕ, zero, suc, ◌+◌, ◌-◌, ◌*�
 use Rattle.std.proofs.Common.{FitsSigned, Bool, true, false, cond, if◌then◌else◌, ◌&&◌, inl, inr, List, [], ◌∷◌, length}
 use Rattle.std.proofs.Common.{Option, Some, None, refl, sym, ap, ◌∙◌, subst, arith, ltb}
 use Rattle.std.specs.Int.{w32, int_wrap}
+use Rattle.std.proofs.lemmas.Option.{slice_get_within}
 use Rattle.std.specs.Prelude.{nat_lt, nat_abs, ◌==◌, slice_get}
 use Rattle.std.specs.List.{list_all}
 use Rattle.std.proofs.lemmas.Bool.Decides.{leb_tells}
@@ -50,15 +51,17 @@ use Rattle.facts.specs.Meaning.{code_address}
 use Rattle.facts.specs.Meaning.{place_in, frame_word, IsWellFormed, SameMode, both_plain, dues, dues_from, loop_due}
 use Rattle.facts.specs.Meaning.{owed}
 use Rattle.facts.specs.Fitting.{After, Here, Changes, rule_site, step_site, it_calls, it_returns, it_breaks, Waits}
+use Rattle.facts.proofs.Within.{Within, ArePlain}
 use Rattle.facts.proofs.Words.{word_test, frame_word_is, stored_means, local_place}
 use Rattle.facts.proofs.Dues.{changed_dues, written_owed}
 use Rattle.facts.proofs.Regions.{keeps_more, write_keeps}
 use Rattle.facts.proofs.Combining.{FitsIf, on_rule_test, on_step_test, writes_fits, reads_fits, write_step, after_write}
 use Rattle.facts.proofs.Combining.{in_plain_rule}
-use Rattle.facts.proofs.Combining.{beside_plain_rule, in_plain_step, rule_plain, step_plain, same_frame, unknown_means}
+use Rattle.facts.proofs.Combining.{beside_plain_rule, in_plain_step, same_frame, unknown_means}
 use Rattle.facts.proofs.Combining.{enough, below_not}
 use Rattle.facts.proofs.Combining.{written_readable}
-use Rattle.facts.proofs.Lending.{lift, lift_named}
+use Rattle.facts.proofs.Lending.{lift_named}
+use Rattle.facts.proofs.OneName.{EndsPass}
 use Rattle.facts.proofs.Resuming.{lent_span, resumes_words}
 use Rattle.facts.proofs.Passing as passing_of
 use Rattle.facts.proofs.Reaching.{natural}
@@ -253,7 +256,7 @@ module _ (x : Here) where
   lands_fits to r l low go = on_step_test x (ltb to (length x.m.code)) r _ _ (λ t. go)
       (λ t. absurd (below_not _ _ low t))
 
-  module _ (wf : IsWellFormed x.m) (s : State) (l : Local) (a : After x.m x.h x.mode x.act s l)
+  module _ (wf : IsWellFormed x.m) (s : State) (l : Local) (a : Within ArePlain x.m x.h x.mode x.act s l)
       (same : s.context ≡ x.context) (changes : Changes x l.memory) (n : owed s x.act ≤ x.owed) where
     -- ---- a procedure that is called
 
@@ -273,8 +276,8 @@ module _ (x : Here) where
           (numbers : list_all (rule.numbers_fit (call_in (all_passed s))) f.procedure.parameters ≡ true)
           (pointers : list_all (rule.pointers_fit (call_in (all_passed s))) f.procedure.parameters ≡ true)
           (beside : rule.regions_are_apart (call_in (all_passed s)) ≡ true)
-          (held : list_all (rule.ends_are_held (call_in (all_passed s))) f.procedure.parameters ≡ true)
-          (memory : Memory) (a4 : After x.m x.h x.mode x.act (all_passed s) (record l { memory = memory }))
+          (held : EndsPass (call_in (all_passed s)))
+          (memory : Memory) (a4 : Within ArePlain x.m x.h x.mode x.act (all_passed s) (record l { memory = memory }))
           (c4 : Changes x memory)
           (returned : frame_word memory (place_in x.act.layout.origin (s.depth +ℤ negsuc 3)) (pos 0)
           ≡ Some (word_of (pos (code_address x.m (x.at + x.len)))))
@@ -330,7 +333,7 @@ module _ (x : Here) where
                 some is (x.at + x.len) own (has_passed s) numbers pointers beside held returned k;
           };
           named = named inside;
-          same_mode = subst (λ q. SameMode states_modes.Plain q) (sym (step_plain a4.same_mode)) both_plain;
+          same_mode = subst (λ q. SameMode states_modes.Plain q) (sym a4.same_mode.step) both_plain;
         }
 
         waits : x.at + x.len < length x.m.code → Waits x.m x.h f.context layout
@@ -342,17 +345,18 @@ module _ (x : Here) where
             (x.at + x.len) own (has_passed s) numbers pointers beside held in
             record {
               goes_on = record {
-                plain = rule_plain a.same_mode;
+                plain = a.same_mode.rule;
                 registers = refl;
                 workspace = let at = a4.frame.start in omega (arith, ints, at);
               };
-              lifts = λ later keeps. lift x.m x.h (scope_of x.m s.context x.act.layout) (scope_of x.m f.context layout)
-                  (s.depth +ℤ negsuc 3) lends memory later (named inside) keeps;
+              base = s.depth +ℤ negsuc 3;
+              lends = lends;
+              lengths = refl;
               resumes = λ later keeps. record {
                 frame = same_frame (sym keeps.size) a4.frame;
                 words = resumes_words x.m x.h x.act (all_passed s) f.procedure f.context layout lends memory later keeps
                     a4.named (keeps.named (named inside))
-                    (passing_of.parameters_are x.m x.h x.mode x.act
+                    (passing_of.callee_parameters x.m x.h x.mode x.act
                     (all_passed s) passed_local wf a4 f.procedure f.context
                     some is (x.at + x.len) own (has_passed s))
                     (passing_of.linked x.m x.h x.mode x.act
@@ -392,7 +396,8 @@ module _ (x : Here) where
             let row = (wf.procedures (f.context - 1) f.procedure is).1 in
             let low : to < length x.m.code = subst (λ (k : ℕ). k < length x.m.code) entry row.in_code in
             it_calls callee_act l.registers.workspace found low (after_call inside) refl
-            (waits inside) same c4 both_owed
+            (waits inside) same c4 both_owed some
+            (let few = slice_get_within x.m.procedures (f.context - 1) f.procedure is in omega arith)
 
     -- ---- the step of a call
 
@@ -412,7 +417,7 @@ module _ (x : Here) where
         → rights.may_write_word x.m s.context (s.depth +ℤ negsuc 1) ≡ true
         → rights.may_write_word x.m s.context (s.depth +ℤ negsuc 2) ≡ true
         → rights.may_write_word x.m s.context (s.depth +ℤ negsuc 3) ≡ true
-        → ((memory : Memory) → After x.m x.h x.mode x.act (all_passed s) (record l { memory = memory })
+        → ((memory : Memory) → Within ArePlain x.m x.h x.mode x.act (all_passed s) (record l { memory = memory })
         → Changes x memory
         → frame_word memory (place_in x.act.layout.origin (s.depth +ℤ negsuc 3)) (pos 0)
         ≡ Some (word_of (pos (code_address x.m (x.at + x.len))))
@@ -477,14 +482,14 @@ module _ (x : Here) where
           (omega (arith, ints)) in
           let t3 = own_below x.m s f.procedure row.lo_high row.hi_low (negsuc 3) own (omega (arith, ints))
           (omega (arith, ints)) in
-          settled (passing x.m s) (passing_is x.m s t0 t1 t2 t3) own numbers pointers beside (and-parts _ _ held).0
-          t0 t1 t2 t3)))))))))
+          settled (passing x.m s) (passing_is x.m s t0 t1 t2 t3) own numbers pointers beside
+          (record { held = (and-parts _ _ held).0; once = (and-parts _ _ held).1; lengths = lengths }) t0 t1 t2 t3)))))))))
         where
           settled : (z : State) → z ≡ all_passed s → frame_is_own (call_in to f some is found entry z) ≡ true
               → list_all (rule.numbers_fit (call_in to f some is found entry z)) f.procedure.parameters ≡ true
               → list_all (rule.pointers_fit (call_in to f some is found entry z)) f.procedure.parameters ≡ true
               → rule.regions_are_apart (call_in to f some is found entry z) ≡ true
-              → list_all (rule.ends_are_held (call_in to f some is found entry z)) f.procedure.parameters ≡ true
+              → EndsPass (call_in to f some is found entry z)
               → rights.may_write_word x.m s.context (s.depth +ℤ negsuc 0) ≡ true
               → rights.may_write_word x.m s.context (s.depth +ℤ negsuc 1) ≡ true
               → rights.may_write_word x.m s.context (s.depth +ℤ negsuc 2) ≡ true
@@ -504,8 +509,7 @@ module _ (x : Here) where
               (subst (λ (y : State). list_all (rule.pointers_fit (call_in to f some is found entry y))
               f.procedure.parameters ≡ true) e pointers)
               (subst (λ (y : State). rule.regions_are_apart (call_in to f some is found entry y) ≡ true) e beside)
-              (subst (λ (y : State). list_all (rule.ends_are_held (call_in to f some is found entry y))
-              f.procedure.parameters ≡ true) e held)
+              (subst (λ (y : State). EndsPass (call_in to f some is found entry y)) e held)
               memory a4 c4 returned paid))))
 
     pub call_fits : (e : ℤ) → FitsIf x (call_rule (rule_site x) e s)
@@ -646,7 +650,7 @@ module _ (x : Here) where
         (local_address l.registers.workspace (pos 4)) l)))) (sym back_offset)
         (lands_fits x.act.layout.back returns _ a.named.back (λ next.
         it_returns (subst (λ (n : ℕ). 1 ≤ n) same r.some) (subst (λ (n : ℕ). n ≤ length x.m.procedures) same r.few)
-        (step_plain a.same_mode) changes refl (workspace_is r w.place w.is w.inside) a.named.back
+        a.same_mode.step changes refl (workspace_is r w.place w.is w.inside) a.named.back
         (let e = enough s.number x.len (dues s.frame x.act.turns) x.owed paid n in omega (arith, e)))))))))))
       where
         workspace_is : (r : Returning) (place : ℕ) → pos place ≡ place_in x.act.layout.origin (pos 0)

@@ -1,6 +1,6 @@
 -- What the rules of instructions are made of fits what their steps are made of, combinator by combinator.
 use Rattle.std.proofs.Common.{◌≡◌, ℕ, ◌+◌, ◌-◌, ◌≤◌, ◌<◌, ℤ, negsuc, ◌+ℤ◌, FitsSigned, Bool, true, false}
-use Rattle.std.proofs.Common.{cond, ◌&&◌, ◌||◌, suc, inl, inr, length, Option, Some, None, Result, Ok}
+use Rattle.std.proofs.Common.{cond, ◌&&◌, ◌||◌, suc, inl, inr, [], ◌∷◌, length, Option, Some, None, Result, Ok}
 use Rattle.std.proofs.Common.{Err, refl, sym, ap, ◌∙◌, subst, arith, ltb}
 use Rattle.std.proofs.lemmas.Bool.Decides.{leb_tells}
 use Rattle.std.proofs.lemmas.Int.{ints}
@@ -16,7 +16,6 @@ use Rattle.module_format.specs.Contents.{Par, Branch}
 use Rattle.certificate.specs.Branches.{numbered_branch}
 use Rattle.certificate.specs.Rights as rights
 use Rattle.machine_state.specs.declared.process.Mode as machine
-use Rattle.machine_state.specs.declared.process.Mode.TheVariants as machine_modes
 use Rattle.machine_state.specs.declared.fault.FaultKind.{FaultKind}
 use Rattle.machine_state.specs.Memory.{Memory, place_of, local_address, word_at, with_word}
 use Rattle.machine_state.specs.Holding.{Holding, covers, may_write, may_read, may_write_word, may_read_word}
@@ -32,17 +31,19 @@ use Rattle.states.specs.declared.rule.Rule.TheVariants as rules
 use Rattle.states.specs.State.{State, unknown, one_word, written}
 use Rattle.states.specs.Below.{below}
 use Rattle.states.proofs.RowFacts.{and-parts}
-use Rattle.facts.specs.Regions.{scope_of}
+use Rattle.facts.specs.Regions.{Scope, scope_of}
 use Rattle.facts.proofs.Regions.{keeps_more, write_keeps}
 use Rattle.facts.specs.Rulings as rule
 use Rattle.facts.specs.WordRules as word
 use Rattle.facts.specs.Rulings.{Ruling, falls, leads, breaks, leading}
 use Rattle.facts.specs.Meaning.{Layout, Activation, Means, says_nothing, IsOwnWord, Words}
-use Rattle.facts.specs.Meaning.{words_of, HasFrame, from_nowhere, MeansKnown}
-use Rattle.facts.specs.Meaning.{IsWellFormed, SameMode, both_plain, dues, owed, label_turns}
-use Rattle.facts.specs.Fitting.{Changes, After, Here, rule_site, step_site, Fits, it_falls, it_leads}
+use Rattle.facts.specs.Meaning.{words_in, HasFrame, from_nowhere, MeansKnown}
+use Rattle.facts.specs.Meaning.{IsWellFormed, SameMode, both_plain, both_enabling, both_disabling, both_starting}
+use Rattle.facts.specs.Meaning.{dues, owed, label_turns}
+use Rattle.facts.specs.Fitting.{Changes, Described, After, Here, rule_site, step_site, Fits, it_falls, it_leads}
 use Rattle.facts.specs.Fitting.{it_breaks}
 use Rattle.facts.specs.Fitting.{GoesTo, goes_behind, is_jump, HasNext}
+use Rattle.facts.proofs.Within.{Modes, Within, ArePlain, AreStill, is_starting, whole_after}
 use Rattle.facts.proofs.Words.{local_place, knows_changed, write_follows}
 use Rattle.facts.proofs.Entering.{below_tells, label_after}
 use Rattle.facts.proofs.Dues.{written_owed, label_owed}
@@ -115,16 +116,30 @@ below_not a b low t = elim (leb_tells (suc a) b) [
 -- ---- what holds behind an instruction, where it changes one thing
 
 -- the number
-pub paid : {m : Contents} {h : Holding} {mode : machine.Mode} {act : Activation} {s : State} {l : Local} {n : ℕ}
-    → After m h mode act s l → After m h mode act (record s { number = n }) l
+pub paid : {m : Contents} {h : Holding} {mode : machine.Mode} {act : Activation} {s : State} {l : Local} {scope : Scope}
+    {n : ℕ} → Described m h mode act s l scope → Described m h mode act (record s { number = n }) l scope
 paid a = record { frame = a.frame; knows = a.knows; named = a.named; same_mode = a.same_mode }
 
 -- the place in the code
 pub elsewhere : {m : Contents} {h : Holding} {mode : machine.Mode} {act : Activation} {s : State} {l : Local}
-    (at began : ℕ) (operand : ℤ) → After m h mode act s l
-    → After m h mode act s (record l { registers = record l.registers { at = at; began = began; operand = operand } })
+    {scope : Scope} (at began : ℕ) (operand : ℤ) → Described m h mode act s l scope
+    → Described m h mode act s
+    (record l { registers = record l.registers { at = at; began = began; operand = operand } }) scope
 elsewhere at began operand a =
     record { frame = a.frame; knows = a.knows; named = a.named; same_mode = a.same_mode }
+
+-- the registers
+pub stacked : {m : Contents} {h : Holding} {mode : machine.Mode} {act : Activation} {s : State} {l : Local}
+    {scope : Scope} {said : Stack Known} {stack : Stack (Option ℤ)} → Described m h mode act s l scope
+    → AreRelated (MeansKnown m scope.words.reads act.layout l.memory) said stack
+    → Described m h mode act (record s { stack = said })
+    (record l { registers = record l.registers { stack = stack } }) scope
+stacked a related = record {
+  frame = a.frame;
+  knows = record { registers = related; words = a.knows.words };
+  named = a.named;
+  same_mode = a.same_mode;
+}
 
 -- ---- registers
 
@@ -134,11 +149,26 @@ unknown_means = record { fact = says_nothing; source = from_nowhere }
 
 -- ---- modes
 
-pub rule_plain : {p : states.Mode} {q : machine.Mode} → SameMode p q → p ≡ states_modes.Plain
-rule_plain both_plain = refl
+-- neither starts branches
+pub still_step : {p : states.Mode} {q : machine.Mode} → AreStill p q → (o : Outcome) → step.outside_starts q o ≡ o
+unfolding step.outside_starts
+still_step {p} {q} same o = on p q same.still same.modes
+  where
+    on : (p : states.Mode) (q : machine.Mode) → is_starting p ≡ false → SameMode p q → step.outside_starts q o ≡ o
+    on p q e both_plain = refl
+    on p q e both_enabling = refl
+    on p q e both_disabling = refl
+    on p q e both_starting = absurd (cc)
 
-pub step_plain : {p : states.Mode} {q : machine.Mode} → SameMode p q → q ≡ machine_modes.Plain
-step_plain both_plain = refl
+pub still_rule : {p : states.Mode} {q : machine.Mode} → AreStill p q → (r : Ruling) → rule.outside_starts p r ≡ r
+unfolding rule.outside_starts
+still_rule {p} {q} same r = on p same.still
+  where
+    on : (p : states.Mode) → is_starting p ≡ false → rule.outside_starts p r ≡ r
+    on states_modes.Plain e = refl
+    on states_modes.Enabling e = refl
+    on (states_modes.Disabling done) e = refl
+    on (states_modes.Starting row started) e = absurd (cc)
 
 module _ (x : Here) where
   pub on_rule_test : (b : Bool) (one other : Ruling) (o : Outcome) → (b ≡ true → FitsIf x one o)
@@ -233,11 +263,12 @@ module _ (x : Here) where
       (λ t. subst (λ p. FitsIf x r (o (word_at l.memory p))) (sym is) go)
       (λ t. let no : true ≡ false = sym held ∙ ap (may_read_word x.h) (sym is) ∙ t in absurd (cc))
 
-  pub goes_on_fits : (s : State) (l : Local) → After x.m x.h x.mode x.act s l → s.context ≡ x.context
+  -- a process in whatever mode goes on
+  pub going_on_fits : (s : State) (l : Local) → After x.m x.h x.mode x.act s l → s.context ≡ x.context
       → Changes x l.memory
       → owed s x.act ≤ x.owed → FitsIf x (rule.goes_on (rule_site x) s) (step.goes_on (step_site x) l)
   unfolding rule.goes_on rule.pays step.goes_on
-  goes_on_fits s l a same changes n =
+  going_on_fits s l a same changes n =
       on_rule_test (ltb s.number x.len) _ _ _
       (λ t next. it_breaks)
       (λ t next. let low = next _ refl in
@@ -246,29 +277,37 @@ module _ (x : Here) where
       (enough s.number x.len (dues s.frame x.act.turns) x.owed t n))
       (λ u. absurd (below_not _ _ low u)) next)
 
+  pub goes_on_fits : {E : Modes} (s : State) (l : Local) → Within E x.m x.h x.mode x.act s l → s.context ≡ x.context
+      → Changes x l.memory
+      → owed s x.act ≤ x.owed → FitsIf x (rule.goes_on (rule_site x) s) (step.goes_on (step_site x) l)
+  goes_on_fits s l a same changes n = going_on_fits s l (whole_after a) same changes n
+
   -- ---- a write to a word of the frame
 
-  pub after_write : (s : State) (l : Local) (e : ℤ) (f : Fact) (v : Option ℤ) → After x.m x.h x.mode x.act s l
+  pub after_write : {E : Modes} (s : State) (l : Local) (e : ℤ) (f : Fact) (v : Option ℤ)
+      → Within E x.m x.h x.mode x.act s l
       → rights.may_write_word x.m s.context (s.depth +ℤ e) ≡ true
       → (w : IsOwnWord x.h (length l.memory) x.act.layout.origin (s.depth +ℤ e))
       → Means x.m x.act.layout f (word_at (with_word l.memory w.place v) w.place)
-      → After x.m x.h x.mode x.act (written (s.depth +ℤ e) f s) (record l { memory = with_word l.memory w.place v })
+      → Within E x.m x.h x.mode x.act (written (s.depth +ℤ e) f s) (record l { memory = with_word l.memory w.place v })
   unfolding written
   after_write s l e f v a t w means = record {
     frame = same_frame (sym (length-with_word l.memory w.place v)) a.frame;
     knows = knows_changed (one_word (s.depth +ℤ e) f)
-        (write_follows x.m x.h (words_of x.m s).reads x.act.layout (s.depth +ℤ e) l.memory f v w means) a.knows;
+        (write_follows x.m x.h (words_in x.m s.context).reads x.act.layout (s.depth +ℤ e) l.memory f v w means) a.knows;
     named = (write_keeps x.m x.h (scope_of x.m s.context x.act.layout) (s.depth +ℤ e) l.memory v t
         (written_readable x.m s.context (s.depth +ℤ e) t) w).named a.named;
     same_mode = a.same_mode;
+    modes = a.modes;
+    whole = a.whole;
   }
 
-  pub write_step : (s : State) (l : Local) (e : ℤ) (f : Fact) (v : Option ℤ) (r : Ruling) (o : Local → Outcome)
-      → After x.m x.h x.mode x.act s l → s.context ≡ x.context → Changes x l.memory
+  pub write_step : {E : Modes} (s : State) (l : Local) (e : ℤ) (f : Fact) (v : Option ℤ) (r : Ruling) (o : Local → Outcome)
+      → Within E x.m x.h x.mode x.act s l → s.context ≡ x.context → Changes x l.memory
       → FitsSigned w32 e → rights.may_write_word x.m s.context (s.depth +ℤ e) ≡ true
       → ((place : ℕ) → place + 4 ≤ length l.memory
       → Means x.m x.act.layout f (word_at (with_word l.memory place v) place))
-      → ((memory : Memory) → After x.m x.h x.mode x.act (written (s.depth +ℤ e) f s) (record l { memory = memory })
+      → ((memory : Memory) → Within E x.m x.h x.mode x.act (written (s.depth +ℤ e) f s) (record l { memory = memory })
       → Changes x memory → FitsIf x r (o (record l { memory = memory })))
       → FitsIf x r (step.writes (step_site x) (local_address l.registers.workspace e) v l o)
   write_step s l e f v r o a same changes fits t means go =
@@ -290,10 +329,10 @@ module _ (x : Here) where
       → Means x.m x.act.layout Unknown (word_at (with_word memory place None) place)
   undefined_means memory place inside = says_nothing
 
-  pub schedules_fits : (s : State) (l : Local) (r : State → Ruling) (o : Local → Outcome)
-      → After x.m x.h x.mode x.act s l
+  pub schedules_fits : {E : Modes} (s : State) (l : Local) (r : State → Ruling) (o : Local → Outcome)
+      → Within E x.m x.h x.mode x.act s l
       → s.context ≡ x.context → Changes x l.memory
-      → ((s' : State) (memory : Memory) → After x.m x.h x.mode x.act s' (record l { memory = memory })
+      → ((s' : State) (memory : Memory) → Within E x.m x.h x.mode x.act s' (record l { memory = memory })
       → s'.context ≡ x.context → Changes x memory → owed s' x.act ≤ owed s x.act
       → FitsIf x (r s') (o (record l { memory = memory })))
       → FitsIf x (rule.schedules (rule_site x) s r) (step.schedules (step_site x) l o)
@@ -320,15 +359,16 @@ module _ (x : Here) where
   -- ---- leading to a label
 
   -- going on at a label, by whatever outcome
-  pub label_fits : (wf : IsWellFormed x.m) {r : Ruling} {o : Outcome} {to cost : ℕ} {s : State} {l : Local} {t : Label}
-      → label_at x.m to ≡ Some t → below s t ≡ Ok cost → leading r ≡ Some to → GoesTo x o to l
-      → After x.m x.h x.mode x.act s l → s.context ≡ x.context → Changes x l.memory
+  pub label_fits : {E : Modes} (wf : IsWellFormed x.m) {r : Ruling} {o : Outcome} {to cost : ℕ} {s : State}
+      {l : Local} {t : Label}
+      → label_at x.m to ≡ Some t → below s t ≡ Ok cost → leading r ≡ to ∷ [] → GoesTo x o to l
+      → Within E x.m x.h x.mode x.act s l → s.context ≡ x.context → Changes x l.memory
       → owed s x.act + x.len ≤ x.owed → FitsIf x r o
-  label_fits wf {r} {o} {to} {cost} {s} {l} {t} e is led goes a same changes n next =
+  label_fits {E} wf {r} {o} {to} {cost} {s} {l} {t} e is led goes a same changes n next =
       let g = below_tells s t cost is in
       let less = label_owed s t cost x.act (wf.pairs to t e) is in
       it_leads (label_turns s.frame t.entries x.act.turns) led goes e (wf.labels to t e)
-      (label_after x.m x.h x.mode x.act s t l wf to e g.1 a) (sym g.1.context ∙ same) changes
+      (label_after x.m x.h x.mode x.act s t l wf to e g.1 (whole_after a)) (sym g.1.context ∙ same) changes
       (omega (arith, n, less))
 
   -- The ruling at a label: what is below it leads there in some way.
@@ -353,7 +393,8 @@ module _ (x : Here) where
       on_found None e = λ next. it_breaks
       on_found (Some t) e = on_below t e (below s t) refl
 
-  pub leads_fits : (wf : IsWellFormed x.m) (to : ℕ) (s : State) (l : Local) → After x.m x.h x.mode x.act s l
+  pub leads_fits : {E : Modes} (wf : IsWellFormed x.m) (to : ℕ) (s : State) (l : Local)
+      → Within E x.m x.h x.mode x.act s l
       → s.context ≡ x.context → Changes x l.memory → owed s x.act + x.len ≤ x.owed
       → FitsIf x (rule.leads_to (rule_site x) to s) (step.leads_to (step_site x) to l)
   unfolding rule.leads_to step.leads_to
@@ -364,37 +405,43 @@ module _ (x : Here) where
 
   -- ---- modes
 
-  pub in_plain_rule : (s : State) → SameMode s.mode x.mode → (r : Ruling) (o : Outcome) → FitsIf x r o
+  pub in_plain_rule : (s : State) → ArePlain s.mode x.mode → (r : Ruling) (o : Outcome) → FitsIf x r o
       → FitsIf x (rule.outside_alternation s.mode r) o
   unfolding rule.outside_alternation
-  in_plain_rule s same r o go = subst (λ q. FitsIf x (rule.outside_alternation q r) o) (sym (rule_plain same)) go
+  in_plain_rule s same r o go = subst (λ q. FitsIf x (rule.outside_alternation q r) o) (sym same.rule) go
 
-  pub beside_plain_rule : (s : State) → SameMode s.mode x.mode → (r : Ruling) (o : Outcome) → FitsIf x r o
+  pub beside_plain_rule : (s : State) → ArePlain s.mode x.mode → (r : Ruling) (o : Outcome) → FitsIf x r o
       → FitsIf x (rule.outside_starts s.mode r) o
   unfolding rule.outside_starts
-  beside_plain_rule s same r o go = subst (λ q. FitsIf x (rule.outside_starts q r) o) (sym (rule_plain same)) go
+  beside_plain_rule s same r o go = subst (λ q. FitsIf x (rule.outside_starts q r) o) (sym same.rule) go
 
-  pub in_plain_step : (s : State) → SameMode s.mode x.mode → (r : Ruling) (o : Outcome) → FitsIf x r o
+  pub in_plain_step : (s : State) → ArePlain s.mode x.mode → (r : Ruling) (o : Outcome) → FitsIf x r o
       → FitsIf x r (step.alone x.mode o)
   unfolding step.outside_alternation step.outside_starts
-  in_plain_step s same r o go = subst (λ q. FitsIf x r (step.alone q o)) (sym (step_plain same)) go
+  in_plain_step s same r o go = subst (λ q. FitsIf x r (step.alone q o)) (sym same.step) go
 
-  pub beside_plain_step : (s : State) → SameMode s.mode x.mode → (r : Ruling) (o : Outcome) → FitsIf x r o
+  -- a process that starts no branches
+  pub still_rule_fits : (s : State) → AreStill s.mode x.mode → (r : Ruling) (o : Outcome) → FitsIf x r o
+      → FitsIf x (rule.outside_starts s.mode r) o
+  still_rule_fits s same r o go = subst (λ q. FitsIf x q o) (sym (still_rule same r)) go
+
+  pub still_step_fits : (s : State) → AreStill s.mode x.mode → (r : Ruling) (o : Outcome) → FitsIf x r o
       → FitsIf x r (step.outside_starts x.mode o)
-  unfolding step.outside_starts
-  beside_plain_step s same r o go = subst (λ q. FitsIf x r (step.outside_starts q o)) (sym (step_plain same)) go
+  still_step_fits s same r o go = subst (λ q. FitsIf x r q) (sym (still_step same o)) go
 
   -- the registers and the number change, and all else stays known
-  pub after_stack : {s : State} {l : Local} {said : Stack Known} {stack : Stack (Option ℤ)} {number : ℕ}
-      → After x.m x.h x.mode x.act s l
-      → AreRelated (MeansKnown x.m (words_of x.m s).reads x.act.layout l.memory) said stack
-      → After x.m x.h x.mode x.act (record s { stack = said; number = number })
+  pub after_stack : {E : Modes} {s : State} {l : Local} {said : Stack Known} {stack : Stack (Option ℤ)} {number : ℕ}
+      → Within E x.m x.h x.mode x.act s l
+      → AreRelated (MeansKnown x.m (words_in x.m s.context).reads x.act.layout l.memory) said stack
+      → Within E x.m x.h x.mode x.act (record s { stack = said; number = number })
       (record l { registers = record l.registers { stack = stack } })
   after_stack a related = record {
     frame = a.frame;
     knows = record { registers = related; words = a.knows.words };
     named = a.named;
     same_mode = a.same_mode;
+    modes = a.modes;
+    whole = a.whole;
   }
 
   -- each byte is paid

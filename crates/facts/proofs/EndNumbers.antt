@@ -34,7 +34,8 @@ use Rattle.certificate.specs.Rights.{channel_length}
 use Rattle.certificate.proofs.RightLaws.{found_kept}
 use Rattle.states.proofs.RowFacts.{and-parts, and-both}
 use Rattle.states.proofs.Procedures.{at-row}
-use Rattle.facts.specs.CallRules.{all_below, message_length}
+use Rattle.facts.specs.Channels.{message_length}
+use Rattle.facts.specs.CallRules.{all_below}
 use Rattle.facts.specs.Callings.{IsNumbered}
 use Rattle.facts.proofs.CallTests.{parameter_keeps, same_word_by}
 use Rattle.facts.proofs.Ends.{all_below_at}

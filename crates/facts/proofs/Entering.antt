@@ -35,11 +35,13 @@ use Rattle.states.specs.Below.{entries_hold, are_alike, is_whole, is_plain, view
 use Rattle.states.specs.Rows.{IsRowOf, LoopFits, rise_from}
 use Rattle.facts.specs.Meaning.{Layout, Activation, with_turns, Means, says_nothing, is_number, is_pointer}
 use Rattle.facts.specs.Meaning.{is_code_address, word_of, region_start, code_address, IsOffset, MeansWord, is_fact}
-use Rattle.facts.specs.Meaning.{is_index, is_count, frame_word, Words, words_in, words_of, HasFrame, from_nowhere}
+use Rattle.facts.specs.Meaning.{is_index, is_count, frame_word, Words, words_in, HasFrame, from_nowhere}
 use Rattle.facts.specs.Meaning.{MeansKnown}
+use Rattle.facts.specs.Meaning.{both_enabling, both_disabling, both_starting}
 use Rattle.facts.specs.Meaning.{SameMode, both_plain, turns_from, label_turns, at_label, IsSpan, ArePairs, IsWellFormed}
 use Rattle.states.proofs.RowFacts.{and-parts, le-from, lt-from, rise-parts, about-within, about-behind}
 use Rattle.facts.specs.Regions.{scope_of, HoldsNamed}
+use Rattle.facts.proofs.Within.{Within, AreStill, is_starting, within}
 use Rattle.facts.specs.Fitting.{After}
 use Rattle.facts.proofs.Words.{bool_cases, means_same, word_test, int_le_tells, itself_means}
 
@@ -390,36 +392,50 @@ below_tells s t price h = first (ltb s.number (cost (view s) t)) refl h
     first true e g = absurd (cc)
     first false e g = (not_below s.number (cost (view s) t) e, second (agrees (view s) t) refl g)
 
--- what holds behind an instruction holds as the label's state, where the state is below the label
+-- what holds after an instruction holds as the label's state, where the state is below the label
 pub label_after : (m : Contents) (h : Holding) (mode : machine.Mode) (act : Activation) (s : State) (t : Label)
     (l : Local) → IsWellFormed m → (at : ℕ) → label_at m at ≡ Some t → IsBelow s t
     → After m h mode act s l → After m h mode (at_label s t act) (label_state t) l
 label_after m h mode act s t l wf at e g a = record {
-  frame = subst (λ d. HasFrame h (length l.memory) (words_of m (label_state t)) act.layout.origin d
+  frame = subst (λ d. HasFrame h (length l.memory) (words_in m t.context) act.layout.origin d
       l.registers.workspace) g.depth
-      (subst (λ w. HasFrame h (length l.memory) w act.layout.origin s.depth l.registers.workspace) same_words a.frame);
+      (subst (λ w. HasFrame h (length l.memory) w act.layout.origin s.depth l.registers.workspace) same_words b.frame);
   knows = record {
     registers = record {
-      a = register s.stack.a t.stack.a l.registers.stack.a g.a a.knows.registers.a;
-      b = register s.stack.b t.stack.b l.registers.stack.b g.b a.knows.registers.b;
-      c = register s.stack.c t.stack.c l.registers.stack.c g.c a.knows.registers.c;
+      a = register s.stack.a t.stack.a l.registers.stack.a g.a b.knows.registers.a;
+      b = register s.stack.b t.stack.b l.registers.stack.b g.b b.knows.registers.b;
+      c = register s.stack.c t.stack.c l.registers.stack.c g.c b.knows.registers.c;
     };
     words = λ k inside. label_words m act s.frame t k (frame_word l.memory act.layout.origin k) (wf.rows at t e)
         (wf.pairs at t e) g.entries g.whole
-        (a.knows.words k (ap (λ (w : Words). w.reads k) same_words ∙ inside));
+        (b.knows.words k (ap (λ (w : Words). w.reads k) same_words ∙ inside));
   };
-  named = subst (λ (n : ℕ). HoldsNamed m h (scope_of m n act.layout) l.memory) g.context a.named;
+  named = subst (λ (n : ℕ). HoldsNamed m h (scope_of m n act.layout) l.memory) g.context b.named;
   same_mode = plain_mode s.mode mode g.plain a.same_mode;
 }
   where
-    same_words : words_of m s ≡ words_of m (label_state t)
+    still_mode : (p : states.Mode) → is_plain p ≡ true → is_starting p ≡ false
+    still_mode states_modes.Plain e = refl
+    still_mode states_modes.Enabling e = refl
+    still_mode (states_modes.Disabling done) e = refl
+    still_mode (states_modes.Starting row started) e = absurd (cc)
+
+    b : Within AreStill m h mode act s l
+    b =
+        let still = still_mode s.mode g.plain in
+        within still (record { modes = a.same_mode; still = still }) a
+
+    same_words : words_in m s.context ≡ words_in m t.context
     same_words = ap (λ (n : ℕ). words_in m n) g.context
 
     register : (f : Known) (wanted : Fact) (v : Option ℤ) → implies f.fact wanted ≡ true
-        → MeansKnown m (words_of m s).reads act.layout l.memory f v
-        → MeansKnown m (words_of m (label_state t)).reads act.layout l.memory (known wanted) v
+        → MeansKnown m (words_in m s.context).reads act.layout l.memory f v
+        → MeansKnown m (words_in m t.context).reads act.layout l.memory (known wanted) v
     register f wanted v says_so means =
         record { fact = implies_means m act.layout f.fact wanted v says_so means.fact; source = from_nowhere }
 
     plain_mode : (p : states.Mode) (q : machine.Mode) → is_plain p ≡ true → SameMode p q → SameMode states_modes.Plain q
     plain_mode p q e both_plain = both_plain
+    plain_mode p q e both_enabling = absurd (cc)
+    plain_mode p q e both_disabling = absurd (cc)
+    plain_mode p q e both_starting = absurd (cc)

@@ -1,10 +1,9 @@
 -- What a call lends: whatever the callee may change its caller may change, and what the caller's parameters name is
 -- still
 -- there afterwards.
-use Rattle.std.proofs.Common.{◌≡◌, ℕ, ◌+◌, ◌-◌, ◌*◌, ◌/◌, ◌≤◌, ◌<◌, ℤ, pos, ◌+ℤ◌, ◌*ℤ◌, ◌≤ℤ◌, ◌<ℤ◌}
-use Rattle.std.proofs.Common.{Bool, true, false, ◌⊎◌, inl, inr, length, Option, Some, None, refl, sym, ap, ◌∙◌, subst}
+use Rattle.std.proofs.Common.{◌≡◌, ℕ, ◌+◌, ◌-◌, ◌*◌, ◌/◌, ◌≤◌, ◌<◌, ℤ, pos, ◌+ℤ◌, ◌≤ℤ◌, ◌<ℤ◌}
+use Rattle.std.proofs.Common.{Bool, true, ◌⊎◌, inl, inr, Option, Some, None, refl, sym, ap, ◌∙◌, subst}
 use Rattle.std.proofs.Common.{arith}
-use Rattle.std.specs.Prelude.{⊤, slice_get}
 use Rattle.std.proofs.lemmas.Bool.{cases_eq}
 use Rattle.std.proofs.lemmas.Int.{ints}
 use Rattle.module_format.specs.declared.fact.Fact.TheVariants.{Number}
@@ -14,11 +13,11 @@ use Rattle.module_format.specs.declared.rows.ParameterKind.TheVariants.{Value, R
 use Rattle.module_format.specs.Contents.{Contents}
 use Rattle.machine_state.specs.Memory.{Memory, byte_at, word_at, place_of}
 use Rattle.machine_state.specs.Holding.{Holding, may_read}
-use Rattle.machine_state.specs.World.{constants_start}
 use Rattle.machine_state.proofs.Reading.{word_at_same}
 use Rattle.facts.specs.Meaning.{Layout, Means, is_number, place_in}
 use Rattle.facts.specs.Regions.{IsByteOf, Scope, IsRegion, IsNamed, HoldsNamed, IsWrittenAt, IsNamedAt}
 use Rattle.facts.specs.Regions.{MayChange, in_frame, in_region, Keeps}
+use Rattle.facts.specs.Lends.{IsRegionKind, IsPart, of_frame, of_constants, of_parameter, Part, Lends}
 use Rattle.facts.proofs.Words.{int_le_tells}
 use Rattle.facts.proofs.Combining.{readable_byte}
 
@@ -57,60 +56,11 @@ pub run_byte : (origin word : ℤ) (place i : ℕ) → pos place ≡ place_in or
     → IsByteOf origin (word +ℤ pos (i / 4)) (place + i)
 run_byte origin word place i is = record { low = omega (arith, ints); high = omega (arith, ints) }
 
--- ---- what one parameter is lent
-
-abbrev pub IsRegionKind : ParameterKind → ℕ → ℤ → ℤ → Type 0
-IsRegionKind kind size lo hi = (kind ≡ ReadRegion size lo hi) ⊎ (kind ≡ WrittenRegion size lo hi)
-
--- So many words of a region from a byte on, where the caller has them: `base` is its word that is word 0 of the
--- callee's
--- frame.
-pub data IsPart (m : Contents) (caller callee : Scope) (base : ℤ) (region : ℕ) (first : ℤ) (count : ℕ) (lo hi : ℤ)
-    (written : Bool) (place : ℕ) : Type 0 where
-  of_frame : (word : ℤ) → region ≡ 0 → first ≡ pos 4 *ℤ word → pos place ≡ place_in caller.layout.origin word
-      → ((i : ℕ) → i < count → caller.words.reads (word +ℤ pos i) ≡ true)
-      → ((i : ℕ) → i < count → written ≡ true → caller.words.writes (word +ℤ pos i) ≡ true)
-      → ((i : ℕ) (k : ℤ) → i < count → callee.words.reads k ≡ true → word +ℤ pos i ≡ base +ℤ k → ⊥)
-      → IsPart m caller callee base region first count lo hi written place
-  of_constants : (n : ℕ) → region ≡ 1 → first ≡ pos n → written ≡ false → place ≡ constants_start m + n
-      → n + 4 * count ≤ length m.constants
-      → IsPart m caller callee base region first count lo hi written place
-  of_parameter : (q : ℕ) (p : Parameter) (n total : ℕ) (low high : ℤ) → region ≡ 2 + q → first ≡ pos (4 * n)
-      → slice_get caller.parameters q ≡ Some p
-      → IsRegionKind p.kind total low high → (written ≡ true → p.kind ≡ WrittenRegion total lo hi) → lo ≤ℤ low
-      → high ≤ℤ hi → place ≡ place_of (caller.layout.starts q) + 4 * n → 4 * n + 4 * count ≤ total
-      → IsPart m caller callee base region first count lo hi written place
-
--- what a parameter of this kind is lent, where the callee's begins at this address
-abbrev pub PartOf : Contents → Scope → Scope → ℤ → ParameterKind → ℕ → ℕ → ℤ → ℕ → Type 0
-PartOf m caller callee base (Value lo hi) start region first count = ⊤
-PartOf m caller callee base (ReadRegion size lo hi) start region first count =
-    (size ≡ 4 * count) × IsPart m caller callee base region first count lo hi false (place_of start)
-PartOf m caller callee base (WrittenRegion size lo hi) start region first count =
-    (size ≡ 4 * count) × IsPart m caller callee base region first count lo hi true (place_of start)
-PartOf m caller callee base (Channels count' len ends) start region first count = ⊤
-
--- where each parameter of the callee lies
-pub record Part (m : Contents) (caller callee : Scope) (base : ℤ) (kind : ParameterKind) (start : ℕ) : Type 0 where
-  pub region : ℕ
-  pub first : ℤ
-  pub count : ℕ
-  pub is : PartOf m caller callee base kind start region first count
-
--- What a call lends. It says nothing of memory.
-pub record Lends (m : Contents) (caller callee : Scope) (base : ℤ) : Type 0 where
-  pub origin : callee.layout.origin ≡ place_in caller.layout.origin base
-  pub own : (k : ℤ) → callee.words.reads k ≡ true → caller.words.writes (base +ℤ k) ≡ true
-  pub callee_reads : (k : ℤ) → callee.words.writes k ≡ true → callee.words.reads k ≡ true
-  pub caller_reads : (k : ℤ) → caller.words.writes k ≡ true → caller.words.reads k ≡ true
-  pub parts : (j : ℕ) (p : Parameter) → slice_get callee.parameters j ≡ Some p
-      → Part m caller callee base p.kind (callee.layout.starts j)
-
 -- the callee changes a byte of a region that it may write: where that is the caller's
 pub data WritesIn (m : Contents) (caller callee : Scope) (base : ℤ) (lends : Lends m caller callee base)
     (place : ℕ) : Type 0 where
   writes_in : (j : ℕ) (p : Parameter) (size : ℕ) (lo hi : ℤ) (region : ℕ) (first : ℤ) (count : ℕ)
-      (found : slice_get callee.parameters j ≡ Some p) → (lends.parts j p found).region ≡ region
+      (found : callee.parameters j ≡ Some p) → (lends.parts j p found).region ≡ region
       → (lends.parts j p found).first ≡ first → p.kind ≡ WrittenRegion size lo hi → size ≡ 4 * count
       → IsPart m caller callee base region first count lo hi true (place_of (callee.layout.starts j)) → (i : ℕ)
       → place ≡ place_of (callee.layout.starts j) + i → i < 4 * count → WritesIn m caller callee base lends place
@@ -125,7 +75,7 @@ module _ (m : Contents) (caller callee : Scope) (base : ℤ) (lends : Lends m ca
   }
 
   written_part : (j : ℕ) (p : Parameter) (kind : ParameterKind) (place : ℕ) → p.kind ≡ kind
-      → (found : slice_get callee.parameters j ≡ Some p) → IsWrittenAt kind (callee.layout.starts j) place
+      → (found : callee.parameters j ≡ Some p) → IsWrittenAt kind (callee.layout.starts j) place
       → (part : Part m caller callee base kind (callee.layout.starts j)) → (lends.parts j p found).region ≡ part.region
       → (lends.parts j p found).first ≡ part.first → WritesIn m caller callee base lends place
   written_part j p (Value lo hi) place is found there part r f = absurd there
@@ -136,7 +86,7 @@ module _ (m : Contents) (caller callee : Scope) (base : ℤ) (lends : Lends m ca
       (let whole = part.is.0 in omega (arith, i.2, whole))
   written_part j p (Channels count len ends) place is found there part r f = absurd there
 
-  pub writes_of : (j : ℕ) (p : Parameter) (place : ℕ) → slice_get callee.parameters j ≡ Some p
+  pub writes_of : (j : ℕ) (p : Parameter) (place : ℕ) → callee.parameters j ≡ Some p
       → IsWrittenAt p.kind (callee.layout.starts j) place → WritesIn m caller callee base lends place
   writes_of j p place found there = written_part j p p.kind place refl found there (lends.parts j p found) refl refl
 
@@ -157,7 +107,7 @@ module _ (m : Contents) (caller callee : Scope) (base : ℤ) (lends : Lends m ca
   -- whatever the callee may change its caller may
   pub lift_change : (place : ℕ) → MayChange callee place → MayChange caller place
   lift_change place (in_frame k t b) =
-      in_frame (base +ℤ k) (lends.own k (lends.callee_reads k t)) (frame_byte k place b)
+      in_frame (base +ℤ k) (lends.writes k t) (frame_byte k place b)
   lift_change place (in_region j p found there) = elim (writes_of j p place found there) [
     | writes_in j p size lo hi region first count found r f is whole part i at inside ↦ part_change part at inside
   ]
@@ -200,7 +150,7 @@ record InPart (m : Contents) (callee : Scope) (start : ℕ) (lo hi : ℤ) (i : �
   size : ℕ
   n : ℕ
   count : ℕ
-  found : slice_get callee.parameters j ≡ Some p
+  found : callee.parameters j ≡ Some p
   is : p.kind ≡ WrittenRegion size lo hi
   whole : size ≡ 4 * count
   place : place_of (callee.layout.starts j) ≡ start + 4 * n
@@ -227,12 +177,12 @@ module _ (m : Contents) (h : Holding) (caller callee : Scope) (base : ℤ) (lend
     (mine : HoldsNamed m h callee later) where
   -- the callee changes a region that its caller's parameter names only where the same parameter was lent
   in_part : {may_use : ℕ → Bool} (q : ℕ) (p : Parameter) (total : ℕ) (lo hi : ℤ) (i : ℕ)
-      → slice_get caller.parameters q ≡ Some p → IsRegionKind p.kind total lo hi
+      → caller.parameters q ≡ Some p → IsRegionKind p.kind total lo hi
       → IsRegion m may_use caller memory (place_of (caller.layout.starts q)) total lo hi → i < total
       → MayChange callee (place_of (caller.layout.starts q) + i)
       → InPart m callee (place_of (caller.layout.starts q)) lo hi i
   in_part q p total lo hi i found kind region inside (in_frame k t b) =
-      absurd (region.beside (base +ℤ k) i (lends.caller_reads (base +ℤ k) (lends.own k (lends.callee_reads k t))) inside
+      absurd (region.beside (base +ℤ k) i (lends.reads k (lends.callee_reads k t)) inside
       (frame_byte m caller callee base lends k (place_of (caller.layout.starts q) + i) b))
   in_part q p total lo hi i found kind region inside (in_region j r there at) =
       on_writes (writes_of m caller callee base lends j r (place_of (caller.layout.starts q) + i) there at)
@@ -241,7 +191,7 @@ module _ (m : Contents) (h : Holding) (caller callee : Scope) (base : ℤ) (lend
       start = place_of (caller.layout.starts q)
 
       on_part : (j : ℕ) (r : Parameter) (size : ℕ) (lo' hi' : ℤ) (region' : ℕ) (first : ℤ) (count n : ℕ)
-          → slice_get callee.parameters j ≡ Some r → r.kind ≡ WrittenRegion size lo' hi' → size ≡ 4 * count
+          → callee.parameters j ≡ Some r → r.kind ≡ WrittenRegion size lo' hi' → size ≡ 4 * count
           → place_of (caller.layout.starts q) + i ≡ place_of (callee.layout.starts j) + n → n < 4 * count
           → IsPart m caller callee base region' first count lo' hi' true (place_of (callee.layout.starts j))
           → InPart m callee (place_of (caller.layout.starts q)) lo hi i
@@ -255,8 +205,8 @@ module _ (m : Contents) (h : Holding) (caller callee : Scope) (base : ℤ) (lend
           (of_parameter q' p' k total' low high e f found' kind' written below above place fits) =
           elim (cases_eq q q') [
             | inl same ↦
-                let p_is : p ≡ p' = same_some (slice_get caller.parameters q) p p' found
-                (ap (λ (n : ℕ). slice_get caller.parameters n) same ∙ found') in
+                let p_is : p ≡ p' = same_some (caller.parameters q) p p' found
+                (ap (λ (n : ℕ). caller.parameters n) same ∙ found') in
                 let range = same_kind p.kind total total' lo hi lo' hi' kind
                 (ap (λ (x : Parameter). x.kind) p_is ∙ written refl) in
                 let there' : place_of (callee.layout.starts j) ≡ place_of (caller.layout.starts q) + 4 * k =
@@ -291,7 +241,7 @@ module _ (m : Contents) (h : Holding) (caller callee : Scope) (base : ℤ) (lend
 
   region_kept : {may_use : ℕ → Bool} (q : ℕ) (p : Parameter) (total : ℕ) (lo hi : ℤ)
       → ((place : ℕ) → may_use place ≡ true → may_read h place ≡ true)
-      → slice_get caller.parameters q ≡ Some p → IsRegionKind p.kind total lo hi
+      → caller.parameters q ≡ Some p → IsRegionKind p.kind total lo hi
       → IsRegion m may_use caller memory (place_of (caller.layout.starts q)) total lo hi
       → IsRegion m may_use caller later (place_of (caller.layout.starts q)) total lo hi
   region_kept {may_use} q p total lo hi reads found kind region = record {
@@ -338,7 +288,7 @@ module _ (m : Contents) (h : Holding) (caller callee : Scope) (base : ℤ) (lend
                 (subst (λ (n : ℕ). MayChange callee n) (omega arith) touched.change))
           ]
 
-  named_kept : (q : ℕ) (p : Parameter) (kind : ParameterKind) → p.kind ≡ kind → slice_get caller.parameters q ≡ Some p
+  named_kept : (q : ℕ) (p : Parameter) (kind : ParameterKind) → p.kind ≡ kind → caller.parameters q ≡ Some p
       → IsNamed m h caller memory kind (caller.layout.starts q) → IsNamed m h caller later kind (caller.layout.starts q)
   named_kept q p (Value lo hi) is found named = tt
   named_kept q p (ReadRegion size lo hi) is found named =
@@ -357,6 +307,8 @@ module _ (m : Contents) (h : Holding) (caller callee : Scope) (base : ℤ) (lend
     even = has.even;
     ends = has.ends;
     back = has.back;
+    lengths = has.lengths;
+    differ = has.differ;
   }
 
 -- whatever keeps the callee's scope keeps its caller's

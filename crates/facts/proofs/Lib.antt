@@ -2,6 +2,7 @@ pub mod LabelRows
 pub mod Steps
 pub mod Told
 pub mod Words
+pub mod Within
 pub mod Addresses
 pub mod Reaching
 pub mod Constants
@@ -24,6 +25,7 @@ pub mod MemoryFits
 pub mod Offsets
 pub mod Lending
 pub mod Ends
+pub mod OneName
 pub mod CallTests
 pub mod Passing
 pub mod Resuming
@@ -33,4 +35,5 @@ pub mod Touching
 pub mod Turning
 pub mod Blocks
 pub mod LoopsFit
+pub mod OtherModes
 pub mod Local

@@ -1,7 +1,7 @@
 -- lend: what its rule says fits its step.
 use Rattle.std.proofs.Common.{◌≡◌, ℕ, zero, suc, ◌+◌, ◌-◌, ◌≤◌, ◌<◌, ◌%◌, ◌^◌, ◌==◌, ◌&&◌, ℤ, pos, negsuc, ◌+ℤ◌, ◌-ℤ◌}
 use Rattle.std.proofs.Common.{◌*ℤ◌}
-use Rattle.std.proofs.Common.{◌≤ℤ◌, ◌<ℤ◌, FitsSigned, Bool, true, false, cond, ◌⊎◌, inl, inr, length, Option, Some}
+use Rattle.std.proofs.Common.{◌≤ℤ◌, ◌<ℤ◌, FitsSigned, Bool, true, false, cond, ◌⊎◌, inl, inr, [], ◌∷◌, length, Option, Some}
 use Rattle.std.proofs.Common.{None}
 use Rattle.std.proofs.Common.{Result, Ok, Err, refl, sym, ap, ◌∙◌, subst, arith, ltb}
 use Rattle.std.proofs.lemmas.Bool.{lt-ltb, eqb-true, eq-eqb}
@@ -41,10 +41,11 @@ use Rattle.facts.specs.LoopRules.{Beginning, finds, turns, after_loop, beginning
 use Rattle.facts.specs.Rules as table
 use Rattle.facts.specs.Meaning.{Layout, Activation, with_turns, Means, says_nothing, is_number, is_pointer, frame_word}
 use Rattle.facts.specs.Meaning.{IsOwnWord}
-use Rattle.facts.specs.Meaning.{place_in, words_of, MeansWord, is_fact, is_index, is_count, MeansKnown, owed, dues}
+use Rattle.facts.specs.Meaning.{place_in, words_in, MeansWord, is_fact, is_index, is_count, MeansKnown, owed, dues}
 use Rattle.facts.specs.Meaning.{IsWellFormed, label_turns, farthest_word}
-use Rattle.facts.specs.Fitting.{Changes, After, Here, rule_site, step_site, is_jump, it_falls, it_leads}
+use Rattle.facts.specs.Fitting.{Changes, Here, rule_site, step_site, is_jump, it_falls, it_leads}
 use Rattle.facts.specs.Fitting.{it_breaks}
+use Rattle.facts.proofs.Within.{Within, ArePlain, whole_after}
 use Rattle.facts.proofs.Words.{frame_word_is, means_same, word_elsewhere, word_test, write_follows}
 use Rattle.facts.proofs.Words.{knows_changed, local_place, stored_means}
 use Rattle.facts.proofs.Regions.{keeps_more, write_keeps}
@@ -138,23 +139,25 @@ constant_back m layout next n va some (is_number low high fits) =
 -- ---- writes to words of the frame, and facts alone
 
 module _ {m : Contents} {h : Holding} {mode : machine.Mode} {act : Activation} where
-  after_word : {s : State} {l : Local} (k : ℤ) (f : Fact) (v : Option ℤ) → After m h mode act s l
+  after_word : {s : State} {l : Local} (k : ℤ) (f : Fact) (v : Option ℤ) → Within ArePlain m h mode act s l
       → rights.may_write_word m s.context k ≡ true → (w : IsOwnWord h (length l.memory) act.layout.origin k)
       → Means m act.layout f (word_at (with_word l.memory w.place v) w.place)
-      → After m h mode act (written k f s) (record l { memory = with_word l.memory w.place v })
+      → Within ArePlain m h mode act (written k f s) (record l { memory = with_word l.memory w.place v })
   unfolding written
   after_word {s} {l} k f v a t w means = record {
     frame = same_frame (sym (length-with_word l.memory w.place v)) a.frame;
     knows = knows_changed (one_word k f)
-        (write_follows m h (words_of m s).reads act.layout k l.memory f v w means) a.knows;
+        (write_follows m h (words_in m s.context).reads act.layout k l.memory f v w means) a.knows;
     named = (write_keeps m h (scope_of m s.context act.layout) k l.memory v t
         (written_readable m s.context k t) w).named a.named;
     same_mode = a.same_mode;
+    modes = a.modes;
+    whole = a.whole;
   }
 
   -- a word is known to be what it is
-  after_said : {s : State} {l : Local} (k : ℤ) (f : Fact) → After m h mode act s l
-      → Means m act.layout f (frame_word l.memory act.layout.origin k) → After m h mode act (written k f s) l
+  after_said : {s : State} {l : Local} (k : ℤ) (f : Fact) → Within ArePlain m h mode act s l
+      → Means m act.layout f (frame_word l.memory act.layout.origin k) → Within ArePlain m h mode act (written k f s) l
   unfolding written
   after_said {s} {l} k f a means = record {
     frame = a.frame;
@@ -166,6 +169,8 @@ module _ {m : Contents} {h : Holding} {mode : machine.Mode} {act : Activation} w
     }) a.knows;
     named = a.named;
     same_mode = a.same_mode;
+    modes = a.modes;
+    whole = a.whole;
   }
     where
       at_word : (j k : ℤ) → is_word j k ≡ true → k ≡ j
@@ -175,8 +180,8 @@ module _ {m : Contents} {h : Holding} {mode : machine.Mode} {act : Activation} w
       ]
 
   -- facts that say the same of each word
-  after_facts : {s : State} {l : Local} {facts : Facts} → After m h mode act s l
-      → ((k : ℤ) → s.frame k ≡ facts k) → After m h mode act (record s { frame = facts }) l
+  after_facts : {s : State} {l : Local} {facts : Facts} → Within ArePlain m h mode act s l
+      → ((k : ℤ) → s.frame k ≡ facts k) → Within ArePlain m h mode act (record s { frame = facts }) l
   after_facts {s} {l} {facts} a same = record {
     frame = a.frame;
     knows = record {
@@ -185,6 +190,8 @@ module _ {m : Contents} {h : Holding} {mode : machine.Mode} {act : Activation} w
     };
     named = a.named;
     same_mode = a.same_mode;
+    modes = a.modes;
+    whole = a.whole;
   }
 
 -- the state once the words below the workspace are taken
@@ -296,9 +303,9 @@ module _ (x : Here) where
   }
 
   below_fits : (turns : ℤ → ℕ) (s : State) (l : Local) (n : ℕ) (r : Ruling) (o : Local → Outcome)
-      → After x.m x.h x.mode (with_turns turns x.act) s l → s.context ≡ x.context → Changes x l.memory → n < 3
+      → Within ArePlain x.m x.h x.mode (with_turns turns x.act) s l → s.context ≡ x.context → Changes x l.memory → n < 3
       → rights.may_write_word x.m s.context (s.depth +ℤ negsuc n) ≡ true
-      → ((memory : Memory) → After x.m x.h x.mode (with_turns turns x.act)
+      → ((memory : Memory) → Within ArePlain x.m x.h x.mode (with_turns turns x.act)
       (written (s.depth +ℤ negsuc n) Unknown s) (record l { memory = memory }) → Changes x memory
       → FitsIf x r (o (record l { memory = memory })))
       → FitsIf x r (step.writes (step_site x) (local_address l.registers.workspace (negsuc n)) None l o)
@@ -311,9 +318,9 @@ module _ (x : Here) where
       (word_changes k l.memory None (ap (λ (c : ℕ). rights.may_write_word x.m c k) (sym same) ∙ t) w changes))
 
   taken_fits : (turns : ℤ → ℕ) (s : State) (l : Local) (r : Ruling) (o : Local → Outcome)
-      → After x.m x.h x.mode (with_turns turns x.act) s l → s.context ≡ x.context → Changes x l.memory
+      → Within ArePlain x.m x.h x.mode (with_turns turns x.act) s l → s.context ≡ x.context → Changes x l.memory
       → ((n : ℕ) → n < 3 → rights.may_write_word x.m s.context (s.depth +ℤ negsuc n) ≡ true)
-      → ((memory : Memory) → After x.m x.h x.mode (with_turns turns x.act) (taken s) (record l { memory = memory })
+      → ((memory : Memory) → Within ArePlain x.m x.h x.mode (with_turns turns x.act) (taken s) (record l { memory = memory })
       → Changes x memory → FitsIf x r (o (record l { memory = memory })))
       → FitsIf x r (step.schedules (step_site x) l o)
   unfolding step.schedules written
@@ -340,7 +347,7 @@ turned_by more block index count l =
           (Some (step.word_of ((step.address index + 1) % 2 ^ 32)))) counted;
     }
 
-module _ (x : Here) (wf : IsWellFormed x.m) (s : State) (l : Local) (a : After x.m x.h x.mode x.act s l)
+module _ (x : Here) (wf : IsWellFormed x.m) (s : State) (l : Local) (a : Within ArePlain x.m x.h x.mode x.act s l)
     (even : IsTrue (is_stepped x.act.layout.origin))
     (near : (k : ℤ) → rights.may_write_word x.m s.context k ≡ true → (neg_ℤ (pos farthest_word) ≤ℤ k)
     × (k <ℤ pos farthest_word))
@@ -365,17 +372,17 @@ module _ (x : Here) (wf : IsWellFormed x.m) (s : State) (l : Local) (a : After x
   settled number = record s { stack = of_empty unknown; number = number }
 
   unknown_registers : {memory : Memory} {stack : Stack (Option ℤ)}
-      → AreRelated (MeansKnown x.m (words_of x.m s).reads x.act.layout memory) (of_empty unknown) stack
+      → AreRelated (MeansKnown x.m (words_in x.m s.context).reads x.act.layout memory) (of_empty unknown) stack
   unknown_registers = record { a = unknown_means; b = unknown_means; c = unknown_means }
 
-  after_settled : (number : ℕ) → After x.m x.h x.mode x.act (settled number) l
+  after_settled : (number : ℕ) → Within ArePlain x.m x.h x.mode x.act (settled number) l
   after_settled number = after_stack x a unknown_registers
 
   -- ---- the loop is over
 
   over : (number : ℕ) → (v : ℤ) → frame_word l.memory x.act.layout.origin k ≡ Some v → v ≡ block.last
       → FitsSigned w32 v
-      → After x.m x.h x.mode x.act (after_loop block (settled number))
+      → Within ArePlain x.m x.h x.mode x.act (after_loop block (settled number))
       (record l { memory = with_word l.memory second.place (Some (pos 0)) })
   over number v is last fits =
       after_said k (Number block.last block.last)
@@ -389,7 +396,7 @@ module _ (x : Here) (wf : IsWellFormed x.m) (s : State) (l : Local) (a : After x
 
   falls_fit : (number : ℕ) (r : Ruling) (memory : Memory)
       → falling r ≡ Some (after_loop block (taken (settled number)))
-      → After x.m x.h x.mode x.act (taken (after_loop block (settled number))) (record l { memory = memory })
+      → Within ArePlain x.m x.h x.mode x.act (taken (after_loop block (settled number))) (record l { memory = memory })
       → Changes x memory → number + dues (taken s).frame x.act.turns + x.len ≤ x.owed
       → FitsIf x r (step.leads_to (step_site x) (x.at + x.len) (step.without_registers (record l { memory = memory })))
   unfolding step.leads_to written
@@ -400,16 +407,17 @@ module _ (x : Here) (wf : IsWellFormed x.m) (s : State) (l : Local) (a : After x
       (written (k +ℤ pos 1) (Number (pos 0) (pos 0)) (taken (settled number))) x.act in
       on_step_test x (ltb (x.at + x.len) (length x.m.code)) r _ _
       (λ u next. it_falls is is_jump low
-      (after_stack x (after_facts b (λ i. taken_after block (settled number) i beside)) unknown_registers) same c
+      (whole_after (after_stack x (after_facts b (λ i. taken_after block (settled number) i beside)) unknown_registers))
+      same c
       (omega (arith, less, rest, left)))
       (λ u. absurd (below_not _ _ low u)) next
 
   -- ---- the loop turns
 
-  readable_second : (words_of x.m s).reads (k +ℤ pos 1) ≡ true
+  readable_second : (words_in x.m s.context).reads (k +ℤ pos 1) ≡ true
   readable_second = written_readable x.m s.context (k +ℤ pos 1) found.second
 
-  readable_first : (words_of x.m s).reads k ≡ true
+  readable_first : (words_in x.m s.context).reads k ≡ true
   readable_first = written_readable x.m s.context k found.first
 
   abbrev turning : Activation
@@ -460,7 +468,7 @@ module _ (x : Here) (wf : IsWellFormed x.m) (s : State) (l : Local) (a : After x
 
   words_now : (t : ℕ) (v : ℤ) → x.act.turns k ≡ t → 2 ≤ t → t ≤ block.turning.count → t < 2147483648
       → t ≤ found.is.other.count → v ≡ block.turning.base +ℤ pos block.turning.count -ℤ pos t
-      → FitsSigned w32 (v +ℤ pos 1) → (j : ℤ) → (words_of x.m s).reads j ≡ true
+      → FitsSigned w32 (v +ℤ pos 1) → (j : ℤ) → (words_in x.m s.context).reads j ≡ true
       → MeansWord x.m turning j (s.frame j) (frame_word (turned_memory t v) x.act.layout.origin j)
   words_now t v turns some most small other worth fits j inside = elim (word_test j k) [
     | inl p ↦ subst (λ (i : ℤ). MeansWord x.m turning i (s.frame i)
@@ -487,7 +495,7 @@ module _ (x : Here) (wf : IsWellFormed x.m) (s : State) (l : Local) (a : After x
   after_turned : (number t : ℕ) (v : ℤ) → x.act.turns k ≡ t → 2 ≤ t → t ≤ block.turning.count → t < 2147483648
       → t ≤ found.is.other.count → v ≡ block.turning.base +ℤ pos block.turning.count -ℤ pos t
       → FitsSigned w32 (v +ℤ pos 1)
-      → After x.m x.h x.mode turning (settled number) (record l { memory = turned_memory t v })
+      → Within ArePlain x.m x.h x.mode turning (settled number) (record l { memory = turned_memory t v })
   after_turned number t v turns some most small other worth fits = record {
     frame = same_frame (sym (length-with_word (counted t) first.place (Some (v +ℤ pos 1)) ∙ same_length t)) a.frame;
     knows = record {
@@ -499,6 +507,8 @@ module _ (x : Here) (wf : IsWellFormed x.m) (s : State) (l : Local) (a : After x
         ((write_keeps x.m x.h (scope_of x.m s.context x.act.layout) (k +ℤ pos 1) l.memory (Some (pos (t - 1)))
         found.second readable_second second).named a.named);
     same_mode = a.same_mode;
+    modes = a.modes;
+    whole = a.whole;
   }
 
   turned_changes : (t : ℕ) (v : ℤ) → Changes x (turned_memory t v)
@@ -508,9 +518,9 @@ module _ (x : Here) (wf : IsWellFormed x.m) (s : State) (l : Local) (a : After x
       (word_changes x (k +ℤ pos 1) l.memory (Some (pos (t - 1)))
       (ap (λ (c : ℕ). rights.may_write_word x.m c (k +ℤ pos 1)) (sym same) ∙ found.second) second changes)
 
-  leads_fit : (number cost : ℕ) (r : Ruling) (memory : Memory) → leading r ≡ Some begins.at
+  leads_fit : (number cost : ℕ) (r : Ruling) (memory : Memory) → leading r ≡ begins.at ∷ []
       → compared (number + block.turning.weight) (view (taken (settled number))) begins.label ≡ Ok cost
-      → 2 ≤ x.act.turns k → After x.m x.h x.mode turning (taken (settled number)) (record l { memory = memory })
+      → 2 ≤ x.act.turns k → Within ArePlain x.m x.h x.mode turning (taken (settled number)) (record l { memory = memory })
       → Changes x memory → number + dues (taken s).frame x.act.turns + x.len ≤ x.owed
       → FitsIf x r (step.leads_to (step_site x) begins.at (step.without_registers (record l { memory = memory })))
   unfolding step.leads_to written below
@@ -527,7 +537,7 @@ module _ (x : Here) (wf : IsWellFormed x.m) (s : State) (l : Local) (a : After x
       (λ u next. it_leads (label_turns after.frame t.entries (one_turn_less x.act.turns k)) led is_jump e
       (wf.labels begins.at t e)
       (label_after x.m x.h x.mode turning after t _ wf begins.at e g.1
-      (after_stack (record x { act = turning }) {number = number + block.turning.weight} b unknown_registers))
+      (whole_after (after_stack (record x { act = turning }) {number = number + block.turning.weight} b unknown_registers)))
       (sym g.1.context ∙ same) c (omega (arith, less, turned, left)))
       (λ u. absurd (below_not begins.at (length x.m.code) (wf.labels begins.at t e) u))
 
@@ -732,7 +742,7 @@ module _ (x : Here) (wf : IsWellFormed x.m) (s : State) (l : Local) (a : After x
 
 -- The rule of lend and its step fit, where the frame lies at a multiple of 4 and no word of it that may be written is
 -- farther from its word 0 than any is.
-module _ (x : Here) (wf : IsWellFormed x.m) (s : State) (l : Local) (a : After x.m x.h x.mode x.act s l)
+module _ (x : Here) (wf : IsWellFormed x.m) (s : State) (l : Local) (a : Within ArePlain x.m x.h x.mode x.act s l)
     (even : IsTrue (is_stepped x.act.layout.origin))
     (near : (k : ℤ) → rights.may_write_word x.m s.context k ≡ true
     → (neg_ℤ (pos farthest_word) ≤ℤ k) × (k <ℤ pos farthest_word))

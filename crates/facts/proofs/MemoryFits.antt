@@ -44,14 +44,16 @@ use Rattle.facts.specs.Reach.{may_read_bytes}
 use Rattle.facts.specs.Rules as table
 use Rattle.facts.specs.Meaning.{Layout, Means, IsOffset, is_number, is_pointer, is_code_address, from_nowhere}
 use Rattle.facts.specs.Meaning.{owed, code_address, region_start, IsWellFormed}
-use Rattle.facts.specs.Fitting.{Changes, After, Here, rule_site, step_site, it_breaks}
+use Rattle.facts.specs.Fitting.{Changes, Here, rule_site, step_site, it_breaks}
+use Rattle.facts.proofs.Within.{Within, ArePlain, AreStill}
 use Rattle.facts.proofs.Words.{word_test}
 use Rattle.facts.proofs.Addresses.{address_added, words_added, local_word, stepped, stepped_words, stepped_sum}
 use Rattle.facts.proofs.Addresses.{pointer_added}
 use Rattle.facts.proofs.Addresses.{keeps_step}
 use Rattle.facts.proofs.Through.{word_through, byte_through}
+use Rattle.facts.proofs.Combining.{still_rule_fits, still_step_fits}
 use Rattle.facts.proofs.Combining.{FitsIf, unknown_means, uses_fits, goes_on_fits, in_plain_rule, beside_plain_rule}
-use Rattle.facts.proofs.Combining.{in_plain_step, beside_plain_step, after_stack, wanted_fits, on_step_test, reads_fits}
+use Rattle.facts.proofs.Combining.{in_plain_step, after_stack, wanted_fits, on_step_test, reads_fits}
 use Rattle.facts.proofs.Reaching.{place_at, region_at, word_place, even_word}
 
 -- ---- what answers tell
@@ -333,7 +335,7 @@ module _ (x : Here) where
   settles_fits (Err broken) k o go = λ next. it_breaks
 
   -- what A becomes, outside alternations and starts
-  pub with_fact_fits : (s : State) (l : Local) (fact : Fact) (v : ℤ) → After x.m x.h x.mode x.act s l
+  pub with_fact_fits : (s : State) (l : Local) (fact : Fact) (v : ℤ) → Within ArePlain x.m x.h x.mode x.act s l
       → s.context ≡ x.context → Changes x l.memory → owed s x.act ≤ x.owed → Means x.m x.act.layout fact (Some v)
       → FitsIf x (memory.with_fact_a (rule_site x) fact s) (step.goes_on (step_site x) (step.with_a v l))
   with_fact_fits s l fact v a same changes n means =
@@ -345,17 +347,17 @@ module _ (x : Here) where
         c = a.knows.registers.c;
       })) same changes n))
 
-  module _ (s : State) (l : Local) (a : After x.m x.h x.mode x.act s l) (same : s.context ≡ x.context)
+  module _ (s : State) (l : Local) (a : Within AreStill x.m x.h x.mode x.act s l) (same : s.context ≡ x.context)
       (changes : Changes x l.memory) (n : owed s x.act ≤ x.owed) where
     pub ldnlp_fits : (e : ℤ) → FitsSigned w32 e
         → FitsIf x (table.instruction_rule (rule_site x) instructions.LoadNonLocalPointer e s)
         (step.instruction_step (step_site x) instructions.LoadNonLocalPointer e l)
     unfolding table.instruction_rule step.instruction_step
     ldnlp_fits e fits =
-        beside_plain_step x s a.same_mode _ _
+        still_step_fits x s a.same_mode _ _
         (uses_fits x s.stack.a l.registers.stack.a _ _ a.knows.registers.a (λ v means.
         settles_fits (shifted (pos 4 *ℤ e) s.stack.a.fact) _ _ (λ fact is.
-        beside_plain_rule x s a.same_mode _ _
+        still_rule_fits x s a.same_mode _ _
         (goes_on_fits x (rule.with_a (known fact) s) (step.with_a (step.word_of (local_address (step.address v) e)) l)
         (after_stack x a (record {
           a = record {
@@ -366,8 +368,10 @@ module _ (x : Here) where
           c = a.knows.registers.c;
         })) same changes n))))
 
+  module _ (s : State) (l : Local) (a : Within ArePlain x.m x.h x.mode x.act s l) (same : s.context ≡ x.context)
+      (changes : Changes x l.memory) (n : owed s x.act ≤ x.owed) where
     -- the registers without the first
-    popped : After x.m x.h x.mode x.act (rule.pop s) (step.pop l)
+    popped : Within ArePlain x.m x.h x.mode x.act (rule.pop s) (step.pop l)
     popped = after_stack x a (record { a = a.knows.registers.b; b = a.knows.registers.c; c = unknown_means })
 
     -- A becomes the byte, or the word, of number B behind it, whose address is such a sum

@@ -1,14 +1,13 @@
 -- The instruction that moves bytes: what its rule says fits its step.
-use Rattle.std.proofs.Common.{◌≡◌, ℕ, zero, suc, ◌+◌, ◌-◌, ◌≤◌, ◌<◌, ◌==◌, ℤ, pos, ◌+ℤ◌, ◌-ℤ◌, ◌≤ℤ◌, ◌<ℤ◌, nat_abs}
+use Rattle.std.proofs.Common.{◌≡◌, ℕ, ◌+◌, ◌-◌, ◌≤◌, ◌<◌, ◌==◌, ℤ, pos, ◌+ℤ◌, ◌-ℤ◌, ◌≤ℤ◌, nat_abs}
 use Rattle.std.proofs.Common.{Bool, true, false}
-use Rattle.std.proofs.Common.{not, cond, ◌&&◌, ◌||◌, length, Option, Some, None, Result, Ok, Err, refl, sym, ap, ◌∙◌}
+use Rattle.std.proofs.Common.{not, cond, ◌&&◌, ◌||◌, Option, Some, None, Ok, refl, sym, ap, ◌∙◌}
 use Rattle.std.proofs.Common.{subst, arith}
 use Rattle.std.proofs.Common.{◌⊎◌, inl, inr}
 use Rattle.std.proofs.lemmas.Bool.{cases_lt, cases_eq, eq-eqb}
 use Rattle.std.proofs.lemmas.Bool.Decides.{nat_tests}
 use Rattle.std.proofs.lemmas.Int.{ints}
 use Rattle.std.specs.Prelude.{int_le, nat_lt}
-use Rattle.std.specs.Int.{w32, int_wrap}
 use Rattle.std.specs.Option.{option_map}
 use Rattle.word_arithmetic.specs.Range.{full}
 use Rattle.module_format.specs.Rows.{Fact}
@@ -16,7 +15,6 @@ use Rattle.module_format.specs.declared.fact.Fact.TheVariants.{Unknown, Number, 
 use Rattle.module_format.specs.declared.fact.Fact.TheVariants.{ReturnAddress}
 use Rattle.module_format.specs.declared.fact.Step.{Step}
 use Rattle.module_format.specs.Stack.{of_empty}
-use Rattle.module_format.specs.Order.{least_word, greatest_word}
 use Rattle.certificate.specs.Rights.{may_write_word as context_writes}
 use Rattle.machine_state.specs.declared.op.Op.TheVariants as operations
 use Rattle.machine_state.specs.declared.fault.FaultKind.TheVariants.{NotOwn}
@@ -29,17 +27,13 @@ use Rattle.machine_state.specs.LocalStep.{copied}
 use Rattle.machine_state.specs.Site.{Outcome, Local}
 use Rattle.machine_state.proofs.Copying.{copied-none, all_places-none}
 use Rattle.machine_state.proofs.Frame.{copy_is_own, changes_more}
-use Rattle.states.specs.declared.rule.Rule.{Rule}
-use Rattle.states.specs.declared.rule.Rule.TheVariants as rules
 use Rattle.states.specs.declared.span.Leaving.{Leaving}
 use Rattle.states.specs.declared.span.Leaving.TheVariants.{Become}
 use Rattle.states.specs.State.{State, unknown, changed, is_word as is_same}
 use Rattle.states.specs.Spans.{on_span, after_change}
 use Rattle.states.proofs.RowFacts.{and-both, and-parts, le-from, le-yes}
 use Rattle.facts.specs.declared.pointers.Pointed.{Pointed}
-use Rattle.facts.specs.Rulings as rule
 use Rattle.facts.specs.Rulings.{Ruling}
-use Rattle.facts.specs.MemoryRules as memory
 use Rattle.facts.specs.MemoryRules.{are_near, constant_of, wanted_range, is_full, is_number_in, byte_read}
 use Rattle.facts.specs.MemoryRules.{number_within}
 use Rattle.facts.specs.MemoryRules.{stored_byte, leaves_words}
@@ -50,9 +44,10 @@ use Rattle.facts.specs.Reach.{word_of_byte, words_touched, all_touched, lie_in, 
 use Rattle.facts.specs.Reach.{writable_bytes}
 use Rattle.facts.specs.Reach.{parameter_range}
 use Rattle.facts.specs.Rules as table
-use Rattle.facts.specs.Meaning.{Layout, Means, is_number, is_pointer, owed, region_start, IsWellFormed}
+use Rattle.facts.specs.Meaning.{Layout, Means, is_pointer, owed, region_start, IsWellFormed}
 use Rattle.facts.specs.Regions.{scope_of, Keeps}
-use Rattle.facts.specs.Fitting.{Changes, After, Here, rule_site, step_site, it_breaks}
+use Rattle.facts.specs.Fitting.{Changes, Here, rule_site, step_site, it_breaks}
+use Rattle.facts.proofs.Within.{Within, ArePlain}
 use Rattle.facts.proofs.Words.{word_test, bool_cases}
 use Rattle.facts.proofs.Dues.{changed_dues}
 use Rattle.facts.proofs.Regions.{keeps_more}
@@ -62,7 +57,7 @@ use Rattle.facts.proofs.Combining.{holds_fits}
 use Rattle.facts.proofs.Combining.{goes_on_fits, in_plain_rule, beside_plain_rule, in_plain_step, after_stack}
 use Rattle.facts.proofs.MemoryFits.{ok_if, constant_is, settles_fits, reads_bytes_fits}
 use Rattle.facts.proofs.WritesFit.{same_numbers, writes_bytes_fits}
-use Rattle.facts.proofs.Moving.{all_held, Source, source_read, read_at, written_at, regions_apart, AreDefined, Moved}
+use Rattle.facts.proofs.Moving.{all_held, source_read, read_at, written_at, regions_apart, AreDefined, Moved}
 use Rattle.facts.proofs.Moving.{unknown_into_frame, numbers_into_frame, numbers_into_parameter}
 
 -- ---- what is asked
@@ -113,10 +108,10 @@ either : (a b : Bool) → (a || b) ≡ true → (a ≡ true) ⊎ (b ≡ true)
 either true b t = inl refl
 either false b t = inr t
 
-module _ (x : Here) (wf : IsWellFormed x.m) (s : State) (l : Local) (a : After x.m x.h x.mode x.act s l)
+module _ (x : Here) (wf : IsWellFormed x.m) (s : State) (l : Local) (a : Within ArePlain x.m x.h x.mode x.act s l)
     (same : s.context ≡ x.context) (changes : Changes x l.memory) (n : owed s x.act ≤ x.owed) where
   -- all registers are used up
-  clears_fits : (t : State) (new : Memory) → After x.m x.h x.mode x.act t (record l { memory = new })
+  clears_fits : (t : State) (new : Memory) → Within ArePlain x.m x.h x.mode x.act t (record l { memory = new })
       → t.context ≡ x.context → owed t x.act ≤ x.owed → Changes x new
       → FitsIf x (move.clears (rule_site x) t)
       (step.goes_on (step_site x) (step.without_registers (record l { memory = new })))

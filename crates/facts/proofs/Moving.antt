@@ -1,12 +1,12 @@
 -- Bytes that are moved: where they lie, and what is left of what is known.
 use Rattle.std.proofs.Common.{◌≡◌, ℕ, zero, suc, ◌+◌, ◌-◌, ◌*◌, ◌/◌, ◌%◌, ◌≤◌, ◌<◌, ◌==◌, ℤ, pos, negsuc, ◌+ℤ◌, ◌-ℤ◌}
 use Rattle.std.proofs.Common.{◌*ℤ◌, ◌≤ℤ◌, ◌<ℤ◌}
-use Rattle.std.proofs.Common.{Bool, true, false, cond, ◌&&◌, length, Option, Some, None, refl, sym, ap, ◌∙◌, subst}
+use Rattle.std.proofs.Common.{Bool, true, false, cond, length, Option, Some, None, refl, sym, ap, ◌∙◌, subst}
 use Rattle.std.proofs.Common.{arith}
 use Rattle.std.proofs.Common.{◌⊎◌, inl, inr}
-use Rattle.std.proofs.lemmas.Bool.{cases_lt, cases_eq, eqb-true}
+use Rattle.std.proofs.lemmas.Bool.{cases_lt, eqb-true}
 use Rattle.std.proofs.lemmas.Int.{ints}
-use Rattle.std.specs.Prelude.{int_le, int_lt, slice_get}
+use Rattle.std.specs.Prelude.{int_le, int_lt}
 use Rattle.std.specs.Option.{option_map}
 use Rattle.module_format.specs.Rows.{Fact}
 use Rattle.module_format.specs.declared.fact.Fact.TheVariants.{Unknown, Number}
@@ -15,7 +15,6 @@ use Rattle.module_format.specs.declared.rows.ParameterKind.{ParameterKind}
 use Rattle.module_format.specs.declared.rows.ParameterKind.TheVariants.{Value, ReadRegion, WrittenRegion, Channels}
 use Rattle.module_format.specs.Order.{least_word, greatest_word}
 use Rattle.module_format.specs.Contents.{Contents}
-use Rattle.module_format.specs.Contexts.{parameters_at}
 use Rattle.certificate.specs.Rights.{may_write_word as context_writes, may_read_word as context_reads}
 use Rattle.machine_state.specs.declared.process.Mode as machine
 use Rattle.machine_state.specs.Memory.{Memory, byte_at, word_at, with_byte, place_of}
@@ -32,22 +31,22 @@ use Rattle.states.specs.Spans.{is_in_span, on_span, after_change}
 use Rattle.states.specs.Below.{lies_within}
 use Rattle.states.proofs.RowFacts.{and-both, and-parts, le-from, lt-from}
 use Rattle.states.proofs.SpanFacts.{in-span}
-use Rattle.facts.specs.Meaning.{Layout, Activation, Means, is_number, says_nothing, place_in, frame_word, words_of}
+use Rattle.facts.specs.Meaning.{Layout, Activation, Means, says_nothing, place_in, frame_word, words_in}
 use Rattle.facts.specs.Meaning.{IsOwnWord, IsWellFormed}
-use Rattle.facts.specs.Regions.{Scope, scope_of, IsByteOf, IsRegion, IsNamed, IsWrittenAt, IsNamedAt, HasBytes, Keeps}
+use Rattle.facts.specs.Regions.{parameter_used, Scope, scope_of, IsByteOf, IsRegion, IsNamed, IsWrittenAt, IsNamedAt, Keeps}
 use Rattle.facts.specs.Reach.{word_of_byte, words_touched, all_touched, lie_in, may_read_bytes, may_write_bytes}
 use Rattle.facts.specs.Reach.{readable_bytes, readable_size, writable_bytes, parameter_range, kept_range}
 use Rattle.facts.specs.MemoryRules.{byte_read, stored_byte, is_full}
 use Rattle.facts.specs.MoveRules.{word_behind, words_within}
-use Rattle.facts.specs.Fitting.{After}
-use Rattle.facts.proofs.Words.{bool_cases, frame_word_is, Follows}
+use Rattle.facts.proofs.Within.{Within, ArePlain}
+use Rattle.facts.proofs.Words.{frame_word_is, Follows}
 use Rattle.facts.proofs.Regions.{frame_keeps, keeps_all, keeps_more, may_too, byte_of_own, bytes_read}
-use Rattle.facts.proofs.ReadThrough.{readable_found, range_found}
+use Rattle.facts.proofs.ReadThrough.{readable_found}
 use Rattle.facts.proofs.Reaching.{region_place, natural, word_of_byte_low, word_of_byte_high, touched_span}
 use Rattle.facts.proofs.Reaching.{touched_passes, lies_inside}
 use Rattle.facts.proofs.Through.{ByteThrough, byte_through}
 use Rattle.facts.proofs.WriteThrough.{byte_left, number_wider, FrameWord, frame_written, after_followed, after_beside}
-use Rattle.facts.proofs.WriteThrough.{Writable, writable_found, Lies, number_within}
+use Rattle.facts.proofs.WriteThrough.{Writable, writable_found, number_within}
 use Rattle.facts.proofs.WriteThrough.{AltersRegion, region_keeps, word_beside, number_byte, number_of_bytes}
 use Rattle.facts.proofs.WriteThrough.{byte_written}
 use Rattle.facts.proofs.Combining.{written_readable}
@@ -103,7 +102,7 @@ pub record Source (m : Contents) (h : Holding) (layout : Layout) (memory : Memor
   pub means : (i : ℕ) → i < n → Means m layout said (option_map pos (byte_at memory (place + i)))
 
 module _ {m : Contents} {h : Holding} {mode : machine.Mode} {act : Activation} {s : State} {l : Local}
-    (wf : IsWellFormed m) (a : After m h mode act s l) (region : ℕ) (lo : ℤ) (n : ℕ) (some : 0 < n)
+    (wf : IsWellFormed m) (a : Within ArePlain m h mode act s l) (region : ℕ) (lo : ℤ) (n : ℕ) (some : 0 < n)
     (may : may_read_bytes m s.context region lo (lo +ℤ pos n) ≡ true) where
   abbrev said : Fact
   said = byte_read s region lo (lo +ℤ pos n -ℤ pos 1)
@@ -142,14 +141,14 @@ pub data IsReadAt (m : Contents) (context : ℕ) (layout : Layout) (region place
       → IsReadAt m context layout region place
   read_in_constants : (i : ℕ) → i < length m.constants → place ≡ constants_start m + i
       → IsReadAt m context layout region place
-  read_in_parameter : (j : ℕ) (p : Parameter) → region ≡ j + 2 → slice_get (parameters_at m context) j ≡ Some p
+  read_in_parameter : (j : ℕ) (p : Parameter) → region ≡ j + 2 → parameter_used m context j ≡ Some p
       → IsNamedAt p.kind (layout.starts j) place → IsReadAt m context layout region place
 
 -- it is one that may be written
 pub data IsWrittenIn (m : Contents) (context : ℕ) (layout : Layout) (region place : ℕ) : Type 0 where
   written_in_frame : (k : ℤ) → region ≡ 0 → context_writes m context k ≡ true → IsByteOf layout.origin k place
       → IsWrittenIn m context layout region place
-  written_in_parameter : (j : ℕ) (p : Parameter) → region ≡ j + 2 → slice_get (parameters_at m context) j ≡ Some p
+  written_in_parameter : (j : ℕ) (p : Parameter) → region ≡ j + 2 → parameter_used m context j ≡ Some p
       → IsWrittenAt p.kind (layout.starts j) place → IsWrittenIn m context layout region place
 
 -- the number of the parameter that a region is
@@ -273,7 +272,7 @@ module _ (m : Contents) (h : Holding) (scope : Scope) (memory : Memory) (place :
   written_mine (Channels count len ends) start named at = absurd at
 
 module _ {m : Contents} {h : Holding} {mode : machine.Mode} {act : Activation} {s : State} {l : Local}
-    (a : After m h mode act s l) (from to place : ℕ) (differ : from ≡ to → ⊥) where
+    (a : Within ArePlain m h mode act s l) (from to place : ℕ) (differ : from ≡ to → ⊥) where
   abbrev scope : Scope
   scope = scope_of m s.context act.layout
 
@@ -341,16 +340,16 @@ AreDefined memory place n = (i : ℕ) → i < n → (b : ℕ) × (byte_at memory
 
 -- So many bytes are moved to a place, from where a region starts by an offset, and what is known then.
 pub record Moved {m : Contents} {h : Holding} {mode : machine.Mode} {act : Activation} {s : State} {l : Local}
-    (a : After m h mode act s l) (source : ℕ) (start offset : ℤ) (n : ℕ) (left : State) : Type 0 where
+    (a : Within ArePlain m h mode act s l) (source : ℕ) (start offset : ℤ) (n : ℕ) (left : State) : Type 0 where
   pub place : ℕ
   pub is : pos place ≡ start +ℤ offset
   pub small : place < 4294967296
   pub own : (i : ℕ) → i < n → may_write h (place + i) ≡ true
-  pub after : After m h mode act left (record l { memory = copied l.memory source place n l.memory })
+  pub after : Within ArePlain m h mode act left (record l { memory = copied l.memory source place n l.memory })
   pub keeps : Keeps m h (scope_of m s.context act.layout) l.memory (copied l.memory source place n l.memory)
 
 module _ {m : Contents} {h : Holding} {mode : machine.Mode} {act : Activation} {s : State} {l : Local}
-    (a : After m h mode act s l) (source n : ℕ) (some : 0 < n) (held : (i : ℕ) → i < n → may_read h (source + i) ≡ true)
+    (a : Within ArePlain m h mode act s l) (source n : ℕ) (some : 0 < n) (held : (i : ℕ) → i < n → may_read h (source + i) ≡ true)
     (lo : ℤ) where
   abbrev all : Scope
   all = scope_of m s.context act.layout
@@ -557,19 +556,19 @@ module _ {m : Contents} {h : Holding} {mode : machine.Mode} {act : Activation} {
           inside place t less is at from end low high (inl before) = omega (arith, ints)
           inside place t less is at from end low high (inr behind) = omega (arith, ints)
 
-      numbers_follow : Follows m (words_of m s).reads act.layout (on_span first count stored_byte) l.memory after_it
+      numbers_follow : Follows m (words_in m s.context).reads act.layout (on_span first count stored_byte) l.memory after_it
       numbers_follow = record {
         touched = λ k said counts e means. byte_left m act.layout said _ _
             (λ low high known. mixed k low high counts known) means;
         kept = kept;
       }
 
-      after_numbers : After m h mode act (after_change (on_span first count stored_byte) s)
+      after_numbers : Within ArePlain m h mode act (after_change (on_span first count stored_byte) s)
           (record l { memory = after_it })
       after_numbers = after_followed a (on_span first count stored_byte) after_it numbers_follow
           (frame_kept n (omega arith))
 
-      moved_numbers : (left : State) → After m h mode act left (record l { memory = after_it })
+      moved_numbers : (left : State) → Within ArePlain m h mode act left (record l { memory = after_it })
           → Moved a source act.layout.origin lo n left
       moved_numbers left after = record {
         place = to;
@@ -644,7 +643,7 @@ module _ {m : Contents} {h : Holding} {mode : machine.Mode} {act : Activation} {
             omega (arith, low, some)
 
         range_is : parameter_range m s.context j ≡ record { lo = r.lo; hi = r.hi }
-        range_is = range_found m s.context j r.parameter r.found ∙ ap kept_range r.is
+        range_is = r.range ∙ ap kept_range r.is
 
         wide : lies_within least_word greatest_word r.lo r.hi ≡ true
         wide = ap is_full (sym range_is) ∙ t

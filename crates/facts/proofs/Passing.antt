@@ -1,9 +1,9 @@
 -- What is passed to a procedure is what it wants, where the tests of a call hold.
 use Rattle.std.proofs.Common.{◌≡◌, ℕ, suc, ◌+◌, ◌-◌, ◌*◌, ◌/◌, ◌%◌, ◌≤◌, ◌<◌, ℤ, pos, negsuc, ◌+ℤ◌, ◌-ℤ◌, ◌*ℤ◌, ◌≤ℤ◌}
-use Rattle.std.proofs.Common.{◌^◌, ◌<ℤ◌, Bool, true, false, if◌then◌else◌, ◌||◌, not, inl, inr, List, [], ◌∷◌, length}
+use Rattle.std.proofs.Common.{◌<ℤ◌, Bool, true, false, if◌then◌else◌, ◌||◌, not, inl, inr, List, [], ◌∷◌, length}
 use Rattle.std.proofs.Common.{Option, Some, None, FitsSigned, refl, sym, ap, ◌∙◌, subst, arith}
 use Rattle.std.specs.Int.{w32, cast_unsigned}
-use Rattle.std.specs.Prelude.{slice_get, int_le, int_lt, nat_abs, ◌==◌}
+use Rattle.std.specs.Prelude.{slice_get, int_le, int_lt, nat_abs, ◌==◌, option_map, bit_and, ◌⊎◌}
 use Rattle.std.specs.List.{list_all, list_any}
 use Rattle.std.proofs.lemmas.Bool.{cases_lt, cases_eq}
 use Rattle.std.proofs.lemmas.Bool.Decides.{leb_tells}
@@ -43,14 +43,20 @@ use Rattle.facts.specs.Regions.{IsByteOf, Scope, scope_of, IsRegion, IsNamed, Ho
 use Rattle.states.specs.Spans.{all_words, together}
 use Rattle.facts.specs.Reach.{word_of_byte, words_touched, lie_in, readable_size, writable_size, readable_bytes}
 use Rattle.facts.specs.Reach.{writable_bytes}
-use Rattle.facts.specs.Reach.{may_read_bytes, may_write_bytes, may_read_parameter, may_write_parameter}
+use Rattle.facts.specs.Reach.{may_read_bytes, may_write_bytes}
 use Rattle.facts.specs.CallRules as rule
 use Rattle.facts.specs.declared.lent.Lent.{Lent}
 use Rattle.facts.specs.CallRules.{Calling, callee_word, given, lent_from, lent, suits, parameter_suits, numbers_suit}
 use Rattle.facts.specs.CallRules.{numbers_fit, is_off_callee, may_use, words_fit, may_lend, pointers_fit, frame_size}
 use Rattle.facts.specs.CallRules.{frame_is_own, end_of, ends_are_held, channel_of, holds_ends, has_direction}
-use Rattle.facts.specs.CallRules.{clash, are_apart, regions_are_apart, further}
-use Rattle.facts.proofs.Ends.{names, end_held}
+use Rattle.facts.specs.CallRules.{clash, are_apart, regions_are_apart, further, all_below, is_length, lengths_fit}
+use Rattle.facts.specs.CallRules.{give_other_ends, channels_meet}
+use Rattle.facts.specs.Channels.{message_length}
+use Rattle.facts.specs.Remaining.{only_read, not_used}
+use Rattle.facts.specs.Reach.{is_listed}
+use Rattle.facts.proofs.OneName.{EndsPass, further_once, further_meet, share_direction, no_meeting, length_is}
+use Rattle.facts.proofs.Within.{Within, ArePlain}
+use Rattle.facts.proofs.Ends.{names, end_held, all_below_at}
 use Rattle.module_format.specs.declared.rows.EndKind.{EndKind}
 use Rattle.module_format.specs.declared.rows.EndKind.TheVariants as end_kinds
 use Rattle.module_format.specs.declared.rows.Direction.{Direction}
@@ -59,15 +65,13 @@ use Rattle.facts.specs.Regions.{channel_address, IsWrittenAt, IsNamedAt}
 use Rattle.std.proofs.lemmas.Option.{slice_get_within}
 use Rattle.std.proofs.lemmas.Bool.{le-leb}
 use Rattle.std.specs.Prelude.{nat_lt}
-use Rattle.facts.specs.Fitting.{After}
 use Rattle.facts.proofs.Words.{word_test, bool_cases, means_same, plain_means, frame_word_is}
 use Rattle.facts.proofs.Entering.{implies_means}
-use Rattle.facts.proofs.Combining.{readable_byte, readable, written_readable}
+use Rattle.facts.proofs.Combining.{readable_byte, written_readable}
 use Rattle.facts.proofs.Offsets.{address_of_word, place_of_address, place_behind, word_of_address, defined_inside}
 use Rattle.facts.proofs.Offsets.{offset_of_word, words_of_region, all_words_at}
-use Rattle.facts.proofs.Lending.{byte_index, number_means, wider_means, same_word, run_byte, IsRegionKind, IsPart}
-use Rattle.facts.proofs.Lending.{of_frame}
-use Rattle.facts.proofs.Lending.{of_constants, of_parameter, named_at, PartOf, Part, Lends}
+use Rattle.facts.proofs.Lending.{byte_index, number_means, wider_means, same_word, run_byte, named_at}
+use Rattle.facts.specs.Lends.{IsRegionKind, IsPart, of_frame, of_constants, of_parameter, PartOf, Part, Lends}
 use Rattle.facts.proofs.CallTests.{chosen, other, differs, two_at_least, same_word_by, stepped_natural, no_region}
 use Rattle.facts.proofs.CallTests.{read_kind, write_kind, readable_kind, LinkedBy, list_all_at, each_two_at}
 use Rattle.facts.proofs.CallTests.{constant_known, stepped_further, whole_words, more_words, even_place}
@@ -75,7 +79,7 @@ use Rattle.facts.proofs.CallTests.{constants_aligned, constants_near, of_kind, p
 use Rattle.facts.proofs.CallTests.{HoldsPointer, pointer_held, lent_fact, together_means, HasPassed, given_is}
 use Rattle.facts.proofs.Regions.{bytes_read, bytes_written}
 use Rattle.facts.proofs.Reaching.{natural, lies_inside}
-use Rattle.facts.proofs.ReadThrough.{Usable, usable_found}
+use Rattle.facts.proofs.ReadThrough.{Usable, readable_found, writable_usable}
 use Rattle.facts.proofs.WriteThrough.{writable_kind}
 use Rattle.facts.specs.Reach.{kept_range}
 
@@ -86,13 +90,28 @@ abbrev pub may_use_place : Holding → Bool → ℕ → Bool
 may_use_place h true = may_write h
 may_use_place h false = may_read h
 
+-- the range of a parameter of this kind suits
+abbrev suits_kind : Lent → ParameterKind → Bool
+suits_kind l kind = elim kind [
+  | Value lo hi ↦ true
+  | ReadRegion size lo hi ↦ suits l lo hi
+  | WrittenRegion size lo hi ↦ suits l lo hi
+  | Channels count len ends ↦ true
+]
+
+suits_read : (l : Lent) (kind : ParameterKind) → suits_kind l kind ≡ suits_kind l (only_read kind)
+suits_read l (Value lo hi) = refl
+suits_read l (ReadRegion size lo hi) = refl
+suits_read l (WrittenRegion size lo hi) = refl
+suits_read l (Channels count len ends) = refl
+
 -- how many bytes a parameter names that may be used so
 abbrev size_used : Bool → ParameterKind → Option ℕ
 size_used true = writable_size
 size_used false = readable_size
 
 module _ (m : Contents) (h : Holding) (mode : machine.Mode) (act : Activation) (s : State) (l : Local)
-    (wf : IsWellFormed m) (a : After m h mode act s l) (p : Procedure) (context : ℕ) (some : 1 ≤ context)
+    (wf : IsWellFormed m) (a : Within ArePlain m h mode act s l) (p : Procedure) (context : ℕ) (some : 1 ≤ context)
     (is : slice_get m.procedures (context - 1) ≡ Some p) (back : ℕ)
     (own : frame_is_own (record { contents = m; state = s; callee = p }) ≡ true) (passed : HasPassed s) where
   abbrev pub call : Calling
@@ -119,7 +138,12 @@ module _ (m : Contents) (h : Holding) (mode : machine.Mode) (act : Activation) (
 
   -- where the callee's regions lie, and where it returns to
   abbrev pub layout : Layout
-  layout = record { origin = origin; starts = λ j. start_of (slice_get p.parameters j); back = back }
+  layout = record {
+    origin = origin;
+    starts = λ j. start_of (slice_get p.parameters j);
+    back = back;
+    lengths = act.layout.lengths;
+  }
 
   abbrev pub caller : Scope
   caller = scope_of m s.context act.layout
@@ -308,7 +332,7 @@ module _ (m : Contents) (h : Holding) (mode : machine.Mode) (act : Activation) (
   -- of the caller's parameter of this number
   module _ (size count : ℕ) (whole : size ≡ 4 * count) (at_least : 1 ≤ count) (lo hi : ℤ) (w : Bool) (q n : ℕ)
       (r : Parameter)
-      (found : slice_get caller.parameters q ≡ Some r) (start : ℕ)
+      (found : caller.parameters q ≡ Some r) (start : ℕ)
       (at : start ≡ (act.layout.starts q + 4 * n) % 4294967296) where
     module _ (total : ℕ) (low high : ℤ) (kind : IsRegionKind r.kind total low high)
         (may : ℕ → Bool) (region : IsRegion m may caller l.memory (place_of (act.layout.starts q)) total low high)
@@ -416,7 +440,10 @@ module _ (m : Contents) (h : Holding) (mode : machine.Mode) (act : Activation) (
   -- bytes of a parameter of the caller's that it may use so
   record Uses (w : Bool) (k : ℕ) (first end : ℤ) : Type 0 where
     r : Parameter
-    found : slice_get caller.parameters k ≡ Some r
+    found : caller.parameters k ≡ Some r
+    was : Parameter
+    was_found : slice_get (parameters_at m s.context) k ≡ Some was
+    is_used : (r.kind ≡ was.kind) ⊎ (r.kind ≡ only_read was.kind)
     total : ℕ
     low : ℤ
     high : ℤ
@@ -434,6 +461,9 @@ module _ (m : Contents) (h : Holding) (mode : machine.Mode) (act : Activation) (
       record {
         r = u.parameter;
         found = u.found;
+        was = u.was;
+        was_found = u.was_found;
+        is_used = u.is_used;
         total = f.0;
         low = (kept_range u.parameter.kind).lo;
         high = (kept_range u.parameter.kind).hi;
@@ -446,8 +476,8 @@ module _ (m : Contents) (h : Holding) (mode : machine.Mode) (act : Activation) (
       usable : (w : Bool) (size : ℕ)
           → (if w then writable_bytes m s.context k else readable_bytes m s.context k) ≡ Some size
           → Usable m (size_used w) s.context k size
-      usable true size e = usable_found m writable_size (may_write_parameter m s.context k) s.context k size e
-      usable false size e = usable_found m readable_size (may_read_parameter m s.context k) s.context k size e
+      usable true size e = writable_usable m s.context k size e
+      usable false size e = readable_found m s.context k size e
 
       kind_of : (w : Bool) (kind : ParameterKind) (size : ℕ) → size_used w kind ≡ Some size
           → IsRegionKind kind size (kept_range kind).lo (kept_range kind).hi
@@ -458,6 +488,12 @@ module _ (m : Contents) (h : Holding) (mode : machine.Mode) (act : Activation) (
           → kind ≡ WrittenRegion size (kept_range kind).lo (kept_range kind).hi
       written_of true kind size e t = writable_kind kind size e
       written_of false kind size e t = absurd (cc)
+
+  -- whether a range suits does not hang on how the region is used
+  suits_used : (l : Lent) (was r : Parameter) → (r.kind ≡ was.kind) ⊎ (r.kind ≡ only_read was.kind)
+      → parameter_suits l (Some was) ≡ parameter_suits l (Some r)
+  suits_used l was r (inl e) = ap (suits_kind l) (sym e)
+  suits_used l was r (inr e) = suits_read l was.kind ∙ ap (suits_kind l) (sym e)
 
   -- the ranges of two regions suit
   record Ranges (lo hi low high : ℤ) (w : Bool) : Type 0 where
@@ -499,7 +535,8 @@ module _ (m : Contents) (h : Holding) (mode : machine.Mode) (act : Activation) (
         let suit' = other (region == 1) _ _ r' (other (region == 0) _ _ r lends.suit) in
         let ranges = ranges_of region first size lo hi u.low u.high w
         (of_kind (a_lent region first size lo hi w) u.r u.total u.low u.high u.kind
-        (sym (ap (parameter_suits (a_lent region first size lo hi w)) u.found) ∙ suit')) in
+        (sym (suits_used (a_lent region first size lo hi w) u.was u.r u.is_used) ∙ sym (ap (parameter_suits
+        (a_lent region first size lo hi w)) u.was_found) ∙ suit')) in
         let quarter : n.0 ≡ 4 * (n.0 / 4) = stepped_natural first n.0 n.1 lends.held.stepped in
         let to = u.to in
         let fits : 4 * (n.0 / 4) + 4 * count ≤ u.total = omega (arith, ints, to, n.1, quarter, whole) in
@@ -542,7 +579,7 @@ module _ (m : Contents) (h : Holding) (mode : machine.Mode) (act : Activation) (
         on_write false place may = readable_byte h place may
 
         on_kind : (kind : ParameterKind) (k n : ℕ) (r : Parameter) → r.kind ≡ kind
-            → slice_get caller.parameters k ≡ Some r
+            → caller.parameters k ≡ Some r
             → (total : ℕ) (low high : ℤ) → IsRegionKind r.kind total low high
             → (w ≡ true → r.kind ≡ WrittenRegion total low high)
             → Ranges lo hi low high w → layout.starts j ≡ (act.layout.starts k + 4 * n) % 4294967296
@@ -822,31 +859,52 @@ module _ (m : Contents) (h : Holding) (mode : machine.Mode) (act : Activation) (
   no_branch = ap (λ (b : Bool). if b then None else slice_get (branches_of m.pars) (context - first_branch m))
       (le-leb (suc context) (first_branch m) (let low = row_inside in omega arith))
 
-  there : (j : ℕ) (q : Parameter) → slice_get callee.parameters j ≡ Some q → slice_get p.parameters j ≡ Some q
-  there j q found = subst (λ (ps : List Parameter). slice_get ps j ≡ Some q) parameters_are found
+  -- a procedure uses each of its parameters by its kind
+  pub callee_parameters : (j : ℕ) → callee.parameters j ≡ slice_get p.parameters j
+  callee_parameters j =
+      ap (λ (o : Option (Par × Branch)). option_map (λ (q : Parameter).
+      record q { kind = used_by o q.kind }) (slice_get (parameters_at m context) j)) no_branch
+      ∙ same (slice_get (parameters_at m context) j)
+      ∙ ap (λ (ps : List Parameter). slice_get ps j) parameters_are
+    where
+      used_by : Option (Par × Branch) → ParameterKind → ParameterKind
+      used_by o kind =
+          if elim o [ None ↦ true | Some found ↦ is_listed found.1.written_parameters j ] then kind
+          else if elim o [
+            | None ↦ true
+            | Some found ↦ is_listed found.1.written_parameters j || is_listed found.1.read_parameters j
+          ] then only_read kind else not_used kind
+
+      same : (o : Option Parameter) → option_map (λ (q : Parameter). record q { kind = q.kind }) o ≡ o
+      same None = refl
+      same (Some q) = refl
+
+  there : (j : ℕ) (q : Parameter) → callee.parameters j ≡ Some q → slice_get p.parameters j ≡ Some q
+  there j q found = sym (callee_parameters j) ∙ found
 
   -- ---- what the tests of a call say
 
   module _ (numbers : list_all (numbers_fit call) p.parameters ≡ true)
       (pointers : list_all (pointers_fit call) p.parameters ≡ true)
-      (beside : regions_are_apart call ≡ true) (held : list_all (ends_are_held call) p.parameters ≡ true) where
+      (beside : regions_are_apart call ≡ true) (passed_ends : EndsPass call) where
     pub passed_parameter : (j : ℕ) (q : Parameter) → slice_get p.parameters j ≡ Some q
         → Passed j q.kind (value q) (given call q)
     passed_parameter j q found = passed_at j q.word q.kind found
         (list_all_at (numbers_fit call) p.parameters j q numbers found)
         (list_all_at (pointers_fit call) p.parameters j q pointers found)
-        (list_all_at (ends_are_held call) p.parameters j q held found)
+        (list_all_at (ends_are_held call) p.parameters j q passed_ends.held found)
 
     pub lends : Lends m caller callee base
     lends = record {
       origin = refl;
-      own = λ k t. let inside = callee_word_inside k t in own_word k inside.0 inside.1;
+      writes = λ k t. let inside = callee_word_inside k (callee_reads k t) in own_word k inside.0 inside.1;
+      reads = λ k t. let inside = callee_word_inside k t in own_read k inside.0 inside.1;
       callee_reads = callee_reads;
       caller_reads = λ k t. written_readable m s.context k t;
       parts = λ j q found. (passed_parameter j q (there j q found)).part;
     }
 
-    pub linked : (j : ℕ) (q : Parameter) (found : slice_get callee.parameters j ≡ Some q) (size : ℕ) (lo hi : ℤ)
+    pub linked : (j : ℕ) (q : Parameter) (found : callee.parameters j ≡ Some q) (size : ℕ) (lo hi : ℤ)
         → q.kind ≡ WrittenRegion size lo hi → lent call q
         ≡ Some (a_lent (lends.parts j q found).region (lends.parts j q found).first size lo hi true)
     unfolding lends passed_parameter
@@ -859,7 +917,7 @@ module _ (m : Contents) (h : Holding) (mode : machine.Mode) (act : Activation) (
     -- ---- regions that do not meet
 
     -- a word that counts has no byte of a region that a parameter names
-    beside_region : (q : ℕ) (u : Parameter) (total : ℕ) (low high : ℤ) → slice_get caller.parameters q ≡ Some u
+    beside_region : (q : ℕ) (u : Parameter) (total : ℕ) (low high : ℤ) → caller.parameters q ≡ Some u
         → IsRegionKind u.kind total low high → (k : ℤ) (i : ℕ) → caller.words.reads k ≡ true → i < total
         → IsByteOf act.layout.origin k (place_of (act.layout.starts q) + i) → ⊥
     beside_region q u total low high found (inl e) k i t inside b =
@@ -870,7 +928,7 @@ module _ (m : Contents) (h : Holding) (mode : machine.Mode) (act : Activation) (
         (a.named.each q u found)).beside k i t inside b
 
     -- nor has a run of words that count a byte of one
-    beside_run : (q : ℕ) (u : Parameter) (total : ℕ) (low high : ℤ) → slice_get caller.parameters q ≡ Some u
+    beside_run : (q : ℕ) (u : Parameter) (total : ℕ) (low high : ℤ) → caller.parameters q ≡ Some u
         → IsRegionKind u.kind total low high → (k : ℤ) (place i n : ℕ) → caller.words.reads (k +ℤ pos (i / 4)) ≡ true
         → n < total → pos place ≡ place_in act.layout.origin k → place + i ≡ place_of (act.layout.starts q) + n → ⊥
     beside_run q u total low high found kind k place i n t inside at same =
@@ -996,8 +1054,8 @@ module _ (m : Contents) (h : Holding) (mode : machine.Mode) (act : Activation) (
         ∙ refl) ∙ ap (λ (x : Option Lent). are_apart o x) (sym f) ∙ apart in
         (cc)
 
-    pub callee_apart : (j k : ℕ) (q r : Parameter) → slice_get callee.parameters j ≡ Some q
-        → slice_get callee.parameters k ≡ Some r → (j ≡ k → ⊥) → (place : ℕ)
+    pub callee_apart : (j k : ℕ) (q r : Parameter) → callee.parameters j ≡ Some q
+        → callee.parameters k ≡ Some r → (j ≡ k → ⊥) → (place : ℕ)
         → IsWrittenAt q.kind (layout.starts j) place → IsNamedAt r.kind (layout.starts k) place → ⊥
     unfolding regions_are_apart
     callee_apart j k q r found other_found differ place written named =
@@ -1063,13 +1121,30 @@ module _ (m : Contents) (h : Holding) (mode : machine.Mode) (act : Activation) (
 
     -- ---- ends
 
-    element_held : (j word el count len : ℕ) (ends : EndSet) (d : Direction)
+    -- an end of the callee is one of a channel of its caller's
+    record IsEndOf (kind : EndKind) (d : Direction) : Type 0 where
+      j : ℕ
+      el : ℕ
+      word : ℕ
+      count : ℕ
+      len : ℕ
+      ends : EndSet
+      found : slice_get p.parameters j ≡ Some (record { word = word; kind = Channels count len ends })
+      kind_is : kind ≡ end_kinds.Parameter (pos j) el
+      low : el < count
+      gives : has_direction ends.0 d ≡ true
+      first : EndKind
+      named : channel_of (given call (record { word = word; kind = Channels count len ends })) ≡ Some first
+      has : caller.ends (further first el) d ≡ true
+      address : channel_address layout kind ≡ channel_address act.layout (further first el)
+
+    element_of : (j word el count len : ℕ) (ends : EndSet) (d : Direction)
         → slice_get p.parameters j ≡ Some (record { word = word; kind = Channels count len ends })
         → (nat_lt el count ≡ true) × (has_direction ends.0 d ≡ true)
         → ends_are_held call (record { word = word; kind = Channels count len ends }) ≡ true
-        → has_end h (record { address = (layout.starts j + 4 * el) % 2 ^ 32; direction = d }) ≡ true
+        → IsEndOf (end_kinds.Parameter (pos j) el) d
     unfolding ends_are_held
-    element_held j word el count len ends d found gives holds = on_channel (channel_of (given call q)) refl holds
+    element_of j word el count len ends d found gives holds = on_channel (channel_of (given call q)) refl holds
       where
         q : Parameter
         q = record { word = word; kind = Channels count len ends }
@@ -1082,17 +1157,30 @@ module _ (m : Contents) (h : Holding) (mode : machine.Mode) (act : Activation) (
 
         on_channel : (o : Option EndKind) → channel_of (given call q) ≡ o
             → (elim o as (λ o. Bool) [ None ↦ false | Some first ↦ holds_ends m s.context first count ends.0 ]) ≡ true
-            → has_end h (record { address = (layout.starts j + 4 * el) % 2 ^ 32; direction = d }) ≡ true
+            → IsEndOf (end_kinds.Parameter (pos j) el) d
         on_channel None e h' = absurd (cc)
         on_channel (Some first) e h' =
             let n = names m act (callee_word s (pos word)) (given call q) first (value q) e (given_means j q found) in
-            subst (λ (address : ℕ). has_end h (record { address = address; direction = d }) ≡ true)
-            (n.addresses el ∙ ap (λ (start : ℕ). (start + 4 * el) % 4294967296) (sym (start_is j q n.x found n.is)))
-            (a.named.ends (further first el) d (end_held m s.context first count ends.0 el d h' gives.1 low))
+            record {
+              j = j;
+              el = el;
+              word = word;
+              count = count;
+              len = len;
+              ends = ends;
+              found = found;
+              kind_is = refl;
+              low = low;
+              gives = gives.1;
+              first = first;
+              named = e;
+              has = end_held m s.context first count ends.0 el d h' gives.1 low;
+              address = sym (n.addresses el
+                  ∙ ap (λ (start : ℕ). (start + 4 * el) % 4294967296) (sym (start_is j q n.x found n.is)));
+            }
 
-    pub callee_ends : (kind : EndKind) (d : Direction) → callee.ends kind d ≡ true
-        → has_end h (record { address = channel_address layout kind; direction = d }) ≡ true
-    callee_ends kind d t =
+    end_of_caller : (kind : EndKind) (d : Direction) → callee.ends kind d ≡ true → IsEndOf kind d
+    end_of_caller kind d t =
         on_kind kind (subst (λ (ps : List Parameter). rights.gives_parameter ps kind d ≡ true) parameters_are
         (other (context == 0) _ _ (differs context 0 (λ e. omega (arith, e)))
         (sym (ap (λ (o : Option (Par × Branch)). elim o as (λ o. Bool) [
@@ -1105,27 +1193,114 @@ module _ (m : Contents) (h : Holding) (mode : machine.Mode) (act : Activation) (
         on_element : (j word el : ℕ) (kind : ParameterKind)
             → slice_get p.parameters j ≡ Some (record { word = word; kind = kind })
             → rights.gives_element kind el d ≡ true → ends_are_held call (record { word = word; kind = kind }) ≡ true
-            → has_end h (record { address = (layout.starts j + 4 * el) % 2 ^ 32; direction = d }) ≡ true
+            → IsEndOf (end_kinds.Parameter (pos j) el) d
         on_element j word el (Value lo hi) found gives holds = absurd (cc)
         on_element j word el (ReadRegion size lo hi) found gives holds = absurd (cc)
         on_element j word el (WrittenRegion size lo hi) found gives holds = absurd (cc)
         on_element j word el (Channels count len ends) found gives holds =
-            element_held j word el count len ends d found
+            element_of j word el count len ends d found
             (and-parts (nat_lt el count) (has_direction ends.0 d) gives) holds
 
         on_parameter : (j el : ℕ) (o : Option Parameter) → slice_get p.parameters j ≡ o
             → (elim o as (λ o. Bool) [ None ↦ false | Some q ↦ rights.gives_element q.kind el d ]) ≡ true
-            → has_end h (record { address = (layout.starts j + 4 * el) % 2 ^ 32; direction = d }) ≡ true
+            → IsEndOf (end_kinds.Parameter (pos j) el) d
         on_parameter j el None e gives = absurd (cc)
         on_parameter j el (Some q) e gives = on_element j q.word el q.kind e gives
-            (list_all_at (ends_are_held call) p.parameters j q held e)
+            (list_all_at (ends_are_held call) p.parameters j q passed_ends.held e)
 
-        on_kind : (kind : EndKind) → rights.gives_parameter p.parameters kind d ≡ true
-            → has_end h (record { address = channel_address layout kind; direction = d }) ≡ true
+        on_kind : (kind : EndKind) → rights.gives_parameter p.parameters kind d ≡ true → IsEndOf kind d
         on_kind (end_kinds.FrameWord word) gives = absurd (cc)
         on_kind (end_kinds.Link link) gives = absurd (cc)
         on_kind (end_kinds.Parameter (negsuc j) el) gives = absurd (cc)
         on_kind (end_kinds.Parameter (pos j) el) gives = on_parameter j el (slice_get p.parameters j) refl gives
+
+    callee_ends : (kind : EndKind) (d : Direction) → callee.ends kind d ≡ true
+        → has_end h (record { address = channel_address layout kind; direction = d }) ≡ true
+    callee_ends kind d t =
+        let e = end_of_caller kind d t in
+        subst (λ (address : ℕ). has_end h (record { address = address; direction = d }) ≡ true) (sym e.address)
+        (a.named.ends (further e.first e.el) d e.has)
+
+    -- messages are as long as the caller knows
+    callee_lengths : (kind : EndKind) (d : Direction) → callee.ends kind d ≡ true
+        → callee.lengths kind ≡ Some (layout.lengths (channel_address layout kind))
+    unfolding lengths_fit
+    callee_lengths kind d t =
+        let e = end_of_caller kind d t in
+        let q : Parameter = record { word = e.word; kind = Channels e.count e.len e.ends } in
+        let tested = list_all_at (lengths_fit call) p.parameters e.j q passed_ends.lengths e.found in
+        let known : caller.lengths (further e.first e.el) ≡ Some e.len =
+        length_is e.len (caller.lengths (further e.first e.el))
+        (all_below_at e.count e.el (λ n. is_length e.len (message_length m s.context (further e.first n)))
+        (sym (ap (λ (o : Option EndKind). elim o as (λ o. Bool) [
+          | None ↦ true
+          | Some first ↦ all_below e.count (λ n. is_length e.len (message_length m s.context (further first n)))
+        ]) e.named) ∙ tested) e.low) in
+        ap (message_length m context) e.kind_is
+        ∙ ap (λ (ps : List Parameter). length_in (slice_get ps e.j)) parameters_are
+        ∙ ap length_in e.found
+        ∙ sym known ∙ a.named.lengths (further e.first e.el) d e.has
+        ∙ ap (λ (address : ℕ). Some (act.layout.lengths address)) (sym e.address)
+      where
+        length_in : Option Parameter → Option ℕ
+        length_in o = elim o [ None ↦ None | Some p ↦ elim p.kind [ Channels count len ends ↦ Some len | _ ↦ None ] ]
+
+    -- no end is passed to two parameters
+    callee_differ : (x y : EndKind) (d : Direction) → callee.ends x d ≡ true → callee.ends y d ≡ true
+        → channel_address layout x ≡ channel_address layout y → x ≡ y
+    unfolding give_other_ends
+    callee_differ x y d t u same =
+        let e = end_of_caller x d t in
+        let f = end_of_caller y d u in
+        let one : further e.first e.el ≡ further f.first f.el =
+        a.named.differ (further e.first e.el) (further f.first f.el) d e.has f.has
+        (sym e.address ∙ same ∙ f.address) in
+        elim (cases_eq e.j f.j) [
+          | inl same_j ↦ of_one x y d e f one same_j
+          | inr differ ↦ elim (cases_lt e.j f.j) [
+            | inl less ↦ absurd (of_two x y d e f one less)
+            | inr more ↦ absurd (of_two y x d f e (sym one) (omega arith))
+          ]
+        ]
+      where
+        of_one : (x y : EndKind) (d : Direction) (e : IsEndOf x d) (f : IsEndOf y d)
+            → further e.first e.el ≡ further f.first f.el → e.j ≡ f.j → x ≡ y
+        of_one x y d e f one same_j =
+            let q : Parameter = record { word = e.word; kind = Channels e.count e.len e.ends } in
+            let r : Parameter = record { word = f.word; kind = Channels f.count f.len f.ends } in
+            let there : Some q ≡ Some r = sym e.found ∙ ap (slice_get p.parameters) same_j ∙ f.found in
+            let same_q : q ≡ r = cc in
+            let both : Some e.first ≡ Some f.first =
+            sym e.named ∙ ap (λ (z : Parameter). channel_of (given call z)) same_q ∙ f.named in
+            let same_first : e.first ≡ f.first = cc in
+            let same_el : e.el ≡ f.el = further_once f.first e.el f.el
+            (ap (λ (z : EndKind). further z e.el) (sym same_first) ∙ one) in
+            e.kind_is ∙ ap (λ (n : ℕ). end_kinds.Parameter (pos n) e.el) same_j
+            ∙ ap (λ (n : ℕ). end_kinds.Parameter (pos f.j) n) same_el ∙ sym f.kind_is
+
+        of_two : (x y : EndKind) (d : Direction) (e : IsEndOf x d) (f : IsEndOf y d)
+            → further e.first e.el ≡ further f.first f.el → e.j < f.j → ⊥
+        of_two x y d e f one less =
+            let q : Parameter = record { word = e.word; kind = Channels e.count e.len e.ends } in
+            let r : Parameter = record { word = f.word; kind = Channels f.count f.len f.ends } in
+            let tested = each_two_at (give_other_ends call) p.parameters e.j f.j q r less e.found f.found
+            passed_ends.once in
+            let limits = kind_kept e.j q e.found in
+            let other_limits = kind_kept f.j r f.found in
+            no_meeting (bit_and e.ends.0 f.ends.0 == 0) (channels_meet e.first e.count f.first f.count)
+            (sym (ap (λ (o : Option EndKind). elim o as (λ o. Bool) [
+              | None ↦ true
+              | Some first ↦ elim (channel_of (given call r)) [
+                | None ↦ true
+                | Some other ↦ (bit_and e.ends.0 f.ends.0 == 0) || not (channels_meet first e.count other f.count)
+              ]
+            ]) e.named
+            ∙ ap (λ (o : Option EndKind). elim o as (λ o. Bool) [
+              | None ↦ true
+              | Some other ↦ (bit_and e.ends.0 f.ends.0 == 0) || not (channels_meet e.first e.count other f.count)
+            ]) f.named) ∙ tested)
+            (share_direction e.ends.0 f.ends.0 d limits.no_more other_limits.no_more e.gives f.gives)
+            (further_meet e.first f.first e.el f.el e.count f.count one e.low f.low)
 
     -- the callee has all that its parameters name
     pub callee_named : back < length m.code → HoldsNamed m h callee l.memory
@@ -1137,6 +1312,8 @@ module _ (m : Contents) (h : Holding) (mode : machine.Mode) (act : Activation) (
       even = stepped_further act.layout.origin base a.named.even;
       ends = callee_ends;
       back = inside;
+      lengths = callee_lengths;
+      differ = callee_differ;
     }
 
     -- ---- what is known where the procedure begins

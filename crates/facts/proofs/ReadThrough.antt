@@ -1,11 +1,11 @@
 -- What is read through a pointer.
 use Rattle.std.proofs.Common.{◌≡◌, ℕ, zero, suc, ◌+◌, ◌*◌, ◌<◌, ◌==◌, ℤ, pos, ◌+ℤ◌, ◌≤ℤ◌, ◌<ℤ◌}
 use Rattle.std.proofs.Common.{FitsSigned, Bool, true, false, cond, ◌&&◌, length, Option, Some, None, refl, ap}
-use Rattle.std.proofs.Common.{◌∙◌, subst, arith, rules, inl, inr}
+use Rattle.std.proofs.Common.{◌∙◌, subst, arith, rules, inl, inr, sym}
 use Rattle.std.proofs.lemmas.Bool.{cases_lt, eqb-true}
 use Rattle.std.proofs.lemmas.List.{get_or_past}
 use Rattle.std.proofs.lemmas.Int.{ints, clamps, by_lt_z}
-use Rattle.std.specs.Prelude.{slice_get}
+use Rattle.std.specs.Prelude.{slice_get, option_map, if◌then◌else◌, ◌⊎◌}
 use Rattle.std.specs.Int.{w32, cast_signed}
 use Rattle.word_arithmetic.specs.Range.{Ends, full}
 use Rattle.module_format.specs.Rows.{Fact}
@@ -23,8 +23,10 @@ use Rattle.states.specs.State.{Facts, plain, is_alone}
 use Rattle.states.specs.Spans.{with_plain, together}
 use Rattle.states.proofs.RowFacts.{and-both}
 use Rattle.facts.specs.Meaning.{Layout, Activation, Means, is_number, says_nothing, MeansWord}
-use Rattle.facts.specs.Regions.{Scope, IsRegion, IsNamed}
+use Rattle.facts.specs.Regions.{Scope, IsRegion, IsNamed, kind_used, parameter_used}
+use Rattle.facts.specs.Remaining.{only_read, not_used}
 use Rattle.facts.specs.Reach.{readable_size, readable_bytes, may_read_parameter, kept_range, parameter_range}
+use Rattle.facts.specs.Reach.{writable_size, writable_bytes, may_write_parameter}
 use Rattle.facts.specs.MemoryRules.{any_of, frame_read}
 use Rattle.facts.proofs.Words.{plain_means}
 use Rattle.facts.proofs.Regions.{may_too}
@@ -170,36 +172,103 @@ number_inside {m} {layout} {lo} {hi} memory place means = elim (cases_lt place (
     nothing : Means m layout (Number lo hi) None → ⊥
     nothing means = elim means [ ]
 
+-- ---- parameters, as a context uses them
+
 -- the parameter of whose region so many bytes may be used
 pub record Usable (m : Contents) (size_of : ParameterKind → Option ℕ) (context j size : ℕ) : Type 0 where
   pub parameter : Parameter
-  pub found : slice_get (parameters_at m context) j ≡ Some parameter
+  pub found : parameter_used m context j ≡ Some parameter
   pub has : size_of parameter.kind ≡ Some size
+  pub range : parameter_range m context j ≡ kept_range parameter.kind
+  -- the row that it has, and what is used of that
+  pub was : Parameter
+  pub was_found : slice_get (parameters_at m context) j ≡ Some was
+  pub is_used : (parameter.kind ≡ was.kind) ⊎ (parameter.kind ≡ only_read was.kind)
 
-pub usable_found : (m : Contents) (size_of : ParameterKind → Option ℕ) (may : Bool) (context j size : ℕ)
-    → (elim (slice_get (parameters_at m context) j) as (λ o. Option ℕ) [
-      | None ↦ None
-      | Some p ↦ cond may (size_of p.kind) None
-    ]) ≡ Some size → Usable m size_of context j size
-usable_found m size_of may context j size h = on (slice_get (parameters_at m context) j) may refl h
-  where
-    on : (o : Option Parameter) (may : Bool) → slice_get (parameters_at m context) j ≡ o
-        → (elim o as (λ o. Option ℕ) [ None ↦ None | Some p ↦ cond may (size_of p.kind) None ]) ≡ Some size
-        → Usable m size_of context j size
-    on None may e h = absurd (cc)
-    on (Some p) true e h = record { parameter = p; found = e; has = h }
-    on (Some p) false e h = absurd (cc)
+-- what is used of a parameter's kind, where it may be written, or only read
+abbrev used_if : Bool → Bool → ParameterKind → ParameterKind
+used_if write read kind = if write then kind else if read then only_read kind else not_used kind
 
-pub readable_found : (m : Contents) (context j size : ℕ) → readable_bytes m context j ≡ Some size
-    → Usable m readable_size context j size
-readable_found m context j size h = usable_found m readable_size (may_read_parameter m context j) context j size h
+read_size : (kind : ParameterKind) → readable_size (only_read kind) ≡ readable_size kind
+read_size (Value lo hi) = refl
+read_size (ReadRegion size lo hi) = refl
+read_size (WrittenRegion size lo hi) = refl
+read_size (Channels count len ends) = refl
 
-pub range_found : (m : Contents) (context j : ℕ) (p : Parameter) → slice_get (parameters_at m context) j ≡ Some p
-    → parameter_range m context j ≡ kept_range p.kind
-range_found m context j p e = ap (λ (o : Option Parameter). elim o as (λ o. Ends) [
-  | None ↦ full
-  | Some p ↦ kept_range p.kind
-]) e
+read_range : (kind : ParameterKind) → kept_range (only_read kind) ≡ kept_range kind
+read_range (Value lo hi) = refl
+read_range (ReadRegion size lo hi) = refl
+read_range (WrittenRegion size lo hi) = refl
+read_range (Channels count len ends) = refl
+
+used_size : (write : Bool) (kind : ParameterKind) → readable_size (used_if write true kind) ≡ readable_size kind
+used_size true kind = refl
+used_size false kind = read_size kind
+
+used_kind : (write : Bool) (kind : ParameterKind)
+    → (used_if write true kind ≡ kind) ⊎ (used_if write true kind ≡ only_read kind)
+used_kind true kind = inl refl
+used_kind false kind = inr refl
+
+used_range : (write : Bool) (kind : ParameterKind) → kept_range (used_if write true kind) ≡ kept_range kind
+used_range true kind = refl
+used_range false kind = read_range kind
+
+module _ (m : Contents) (context j size : ℕ) where
+  abbrev p_used : Parameter → Parameter
+  p_used p = record p { kind = kind_used m context j p.kind }
+
+  abbrev used_by : Bool → Bool → Parameter → Parameter
+  used_by write read p = record p { kind = used_if write read p.kind }
+
+  range_of : (p : Parameter) → slice_get (parameters_at m context) j ≡ Some p
+      → parameter_range m context j ≡ kept_range p.kind
+  range_of p e = ap (λ (o : Option Parameter). elim o as (λ o. Ends) [
+    | None ↦ full
+    | Some p ↦ kept_range p.kind
+  ]) e
+
+  used_of : (p : Parameter) → slice_get (parameters_at m context) j ≡ Some p
+      → parameter_used m context j ≡ Some (p_used p)
+  used_of p e = ap (λ (o : Option Parameter). option_map p_used o) e
+
+  pub readable_found : readable_bytes m context j ≡ Some size → Usable m readable_size context j size
+  readable_found h = on (slice_get (parameters_at m context) j) (may_read_parameter m context j) refl refl h
+    where
+      on : (o : Option Parameter) (may : Bool) → slice_get (parameters_at m context) j ≡ o
+          → may_read_parameter m context j ≡ may
+          → (elim o as (λ o. Option ℕ) [ None ↦ None | Some p ↦ cond may (readable_size p.kind) None ]) ≡ Some size
+          → Usable m readable_size context j size
+      on None may e r h = absurd (cc)
+      on (Some p) true e r h = record {
+        parameter = used_by (may_write_parameter m context j) true p;
+        found = used_of p e ∙ ap (λ (b : Bool). Some (used_by (may_write_parameter m context j) b p)) r;
+        has = used_size (may_write_parameter m context j) p.kind ∙ h;
+        range = range_of p e ∙ sym (used_range (may_write_parameter m context j) p.kind);
+        was = p;
+        was_found = e;
+        is_used = used_kind (may_write_parameter m context j) p.kind;
+      }
+      on (Some p) false e r h = absurd (cc)
+
+  pub writable_usable : writable_bytes m context j ≡ Some size → Usable m writable_size context j size
+  writable_usable h = on (slice_get (parameters_at m context) j) (may_write_parameter m context j) refl refl h
+    where
+      on : (o : Option Parameter) (may : Bool) → slice_get (parameters_at m context) j ≡ o
+          → may_write_parameter m context j ≡ may
+          → (elim o as (λ o. Option ℕ) [ None ↦ None | Some p ↦ cond may (writable_size p.kind) None ]) ≡ Some size
+          → Usable m writable_size context j size
+      on None may e r h = absurd (cc)
+      on (Some p) true e r h = record {
+        parameter = used_by true (may_read_parameter m context j) p;
+        found = used_of p e ∙ ap (λ (b : Bool). Some (used_by b (may_read_parameter m context j) p)) r;
+        has = h;
+        range = range_of p e;
+        was = p;
+        was_found = e;
+        is_used = inl refl;
+      }
+      on (Some p) false e r h = absurd (cc)
 
 -- it is a region that may be read
 pub readable_region : (m : Contents) (h : Holding) (scope : Scope) (memory : Memory) (kind : ParameterKind)

@@ -6,7 +6,6 @@ use Rattle.std.specs.List.{list_any}
 use Rattle.std.proofs.lemmas.Bool.{cases_lt, cases_eq}
 use Rattle.std.proofs.lemmas.List.{get_or_past}
 use Rattle.std.proofs.lemmas.Int.{ints}
-use Rattle.std.specs.Prelude.{slice_get}
 use Rattle.std.specs.Option.{option_map}
 use Rattle.module_format.specs.declared.fact.Fact.TheVariants.{Number}
 use Rattle.module_format.specs.declared.rows.Parameter.{Parameter}
@@ -193,7 +192,7 @@ module _ (m : Contents) (h : Holding) (scope : Scope) (old new : Memory) (change
   kind_left (Channels count len ends) start beside named = tt
 
   -- Of each region either no byte has changed, or it is still what it was.
-  pub named_left : ((j : ℕ) (p : Parameter) → slice_get scope.parameters j ≡ Some p
+  pub named_left : ((j : ℕ) (p : Parameter) → scope.parameters j ≡ Some p
       → IsBeside changed p.kind (scope.layout.starts j) ⊎ IsNamed m h scope new p.kind (scope.layout.starts j))
       → HoldsNamed m h scope old → HoldsNamed m h scope new
   named_left regions has = record {
@@ -207,6 +206,8 @@ module _ (m : Contents) (h : Holding) (scope : Scope) (old new : Memory) (change
     even = has.even;
     ends = has.ends;
     back = has.back;
+    lengths = has.lengths;
+    differ = has.differ;
   }
 
 -- ---- a write to a word of the frame

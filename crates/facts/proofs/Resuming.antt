@@ -19,18 +19,17 @@ use Rattle.states.proofs.RowFacts.{and-parts, and-both, le-from, lt-from, le-yes
 use Rattle.facts.specs.Meaning.{Layout, Activation, Means, says_nothing, MeansWord, is_fact, place_in, frame_word}
 use Rattle.facts.specs.Meaning.{IsReadableWord}
 use Rattle.facts.specs.Regions.{IsByteOf, Scope, scope_of, IsRegion, IsNamed, HoldsNamed, MayChange, in_frame}
-use Rattle.facts.specs.Regions.{in_region, Keeps}
+use Rattle.facts.specs.Regions.{in_region, Keeps, parameter_used}
 use Rattle.states.specs.declared.span.Leaving.TheVariants.{Become}
 use Rattle.states.specs.Spans.{on_span}
 use Rattle.facts.specs.Reach.{word_of_byte}
-use Rattle.module_format.specs.Contexts.{parameters_at}
 use Rattle.facts.specs.declared.lent.Lent.{Lent}
 use Rattle.facts.specs.CallRules.{Calling, callee_word, given, lent_to, lent, with_lent, with_all_lent, callee_span}
 use Rattle.facts.specs.CallRules.{frame_size}
 use Rattle.facts.proofs.Words.{bool_cases, means_same, itself_means, frame_word_is}
 use Rattle.facts.proofs.Offsets.{word_of_offset}
-use Rattle.facts.proofs.Lending.{number_means, same_word, run_byte, IsPart, of_frame, of_constants, of_parameter}
-use Rattle.facts.proofs.Lending.{PartOf, Lends, WritesIn, writes_in, writes_of, word_kept, frame_byte}
+use Rattle.facts.specs.Lends.{IsPart, of_frame, of_constants, of_parameter, PartOf, Lends}
+use Rattle.facts.proofs.Lending.{number_means, same_word, run_byte, WritesIn, writes_in, writes_of, word_kept, frame_byte}
 use Rattle.facts.proofs.CallTests.{lent_fact}
 use Rattle.facts.proofs.Reaching.{natural}
 use Rattle.facts.proofs.Regions.{bytes_read}
@@ -174,7 +173,7 @@ module _ (m : Contents) (h : Holding) (act : Activation) (s : State) (p : Proced
     (memory later : Memory) (keeps : Keeps m h (scope_of m context layout) memory later)
     (has : HoldsNamed m h (scope_of m s.context act.layout) memory)
     (mine : HoldsNamed m h (scope_of m context layout) later)
-    (parameters_are : parameters_at m context ≡ p.parameters) where
+    (parameters_are : (j : ℕ) → parameter_used m context j ≡ slice_get p.parameters j) where
   abbrev c : Calling
   c = record { contents = m; state = s; callee = p }
 
@@ -188,13 +187,13 @@ module _ (m : Contents) (h : Holding) (act : Activation) (s : State) (p : Proced
   base = s.depth +ℤ negsuc 3
 
   -- a parameter that is written was lent its part
-  abbrev pub part_lent : (j : ℕ) (q : Parameter) → slice_get callee.parameters j ≡ Some q → ℕ → ℤ → ℤ → Lent
+  abbrev pub part_lent : (j : ℕ) (q : Parameter) → callee.parameters j ≡ Some q → ℕ → ℤ → ℤ → Lent
   part_lent j q found size lo hi =
       let part = lends.parts j q found in
       record { region = part.region; first = part.first; size = size; lo = lo; hi = hi; is_written = true }
 
   abbrev pub AreLinked : Type 0
-  AreLinked = (j : ℕ) (q : Parameter) (found : slice_get callee.parameters j ≡ Some q) (size : ℕ) (lo hi : ℤ)
+  AreLinked = (j : ℕ) (q : Parameter) (found : callee.parameters j ≡ Some q) (size : ℕ) (lo hi : ℤ)
       → q.kind ≡ WrittenRegion size lo hi → lent c q ≡ Some (part_lent j q found size lo hi)
 
   module _ (linked : AreLinked) (inside : (k : ℤ) → callee.words.reads k ≡ true → (p.lo ≤ℤ k) × (k <ℤ p.hi))
@@ -236,8 +235,8 @@ module _ (m : Contents) (h : Holding) (act : Activation) (s : State) (p : Proced
     all_hold : (k : ℤ) → AllHold m act c k (frame_word later act.layout.origin k) p.parameters
     all_hold k j q found l is writes touches = on_kind q.kind refl is
       where
-        there : slice_get callee.parameters j ≡ Some q
-        there = subst (λ (ps : List Parameter). slice_get ps j ≡ Some q) (sym parameters_are) found
+        there : callee.parameters j ≡ Some q
+        there = parameters_are j ∙ found
 
         both : (l.is_written ≡ true) × ((l.region == 0) ≡ true)
         both = and-parts l.is_written (l.region == 0) writes
@@ -287,7 +286,7 @@ module _ (m : Contents) (h : Holding) (act : Activation) (s : State) (p : Proced
           on_writes (writes_of m caller callee base lends j q at found changes)
         where
           on_part : (j : ℕ) (q : Parameter) (size : ℕ) (lo hi : ℤ) (region : ℕ) (first : ℤ) (count i : ℕ)
-              → (found : slice_get callee.parameters j ≡ Some q) → (lends.parts j q found).region ≡ region
+              → (found : callee.parameters j ≡ Some q) → (lends.parts j q found).region ≡ region
               → (lends.parts j q found).first ≡ first → q.kind ≡ WrittenRegion size lo hi → size ≡ 4 * count
               → at ≡ place_of (layout.starts j) + i → i < 4 * count
               → IsPart m caller callee base region first count lo hi true (place_of (layout.starts j)) → ⊥
@@ -300,7 +299,7 @@ module _ (m : Contents) (h : Holding) (act : Activation) (s : State) (p : Proced
               let l : Lent = part_lent j q found size lo hi in
               let word_is : word_of_byte (lends.parts j q found).first ≡ word =
               ap word_of_byte (f ∙ first_is) ∙ word_of_offset word in
-              let none = uncovered j q (subst (λ (ps : List Parameter). slice_get ps j ≡ Some q) parameters_are found) l
+              let none = uncovered j q (sym (parameters_are j) ∙ found) l
               (linked j q found size lo hi kind) (zero_test (r ∙ zero')) in
               let yes : (lent_span l).touches k ≡ true =
               and-both _ _ (le-yes (word_of_byte l.first) k (omega (arith, ints, same, word_is)))

@@ -28,14 +28,14 @@ use Rattle.facts.specs.Reach.{word_of_byte, words_touched, all_touched, lie_in, 
 use Rattle.facts.specs.Reach.{may_read_bytes}
 use Rattle.facts.specs.Reach.{kept_range, constant_range, parameter_range, region_range}
 use Rattle.facts.specs.MemoryRules.{number_within, frame_read, word_read, byte_read}
-use Rattle.facts.specs.Fitting.{After}
+use Rattle.facts.proofs.Within.{Within, ArePlain}
 use Rattle.facts.proofs.Words.{plain_means, means_same, frame_word_is}
 use Rattle.facts.proofs.Regions.{bytes_read}
 use Rattle.facts.proofs.Addresses.{stepped_quotient}
 use Rattle.facts.proofs.Reaching.{region_place, word_of_byte_low, word_of_byte_high, touched_span, touched_passes}
 use Rattle.facts.proofs.Reaching.{lies_inside, natural, place_by}
 use Rattle.facts.proofs.Constants.{word_in, row_word}
-use Rattle.facts.proofs.ReadThrough.{frame_means, word_readable, number_inside, readable_found, range_found}
+use Rattle.facts.proofs.ReadThrough.{frame_means, word_readable, number_inside, readable_found}
 use Rattle.facts.proofs.ReadThrough.{readable_region}
 use Rattle.facts.proofs.ReadThrough.{word_of_bytes, word_fits, no_byte, number_among}
 
@@ -90,7 +90,7 @@ record Readable (m : Contents) (h : Holding) (scope : Scope) (context : ℕ) (me
   to : end ≤ℤ pos size
 
 named_readable : {m : Contents} {h : Holding} {mode : machine.Mode} {act : Activation} {s : State} {l : Local}
-    → After m h mode act s l → (j : ℕ) (first end : ℤ) → lie_in (readable_bytes m s.context j) first end ≡ true
+    → Within ArePlain m h mode act s l → (j : ℕ) (first end : ℤ) → lie_in (readable_bytes m s.context j) first end ≡ true
     → Readable m h (scope_of m s.context act.layout) s.context l.memory j first end
 named_readable {m} {h} {mode} {act} {s} {l} a j first end inside =
     let f = lies_inside (readable_bytes m s.context j) first end inside in
@@ -98,7 +98,7 @@ named_readable {m} {h} {mode} {act} {s} {l} a j first end inside =
     record {
       size = f.0;
       range = kept_range r.parameter.kind;
-      range_is = range_found m s.context j r.parameter r.found;
+      range_is = r.range;
       region = readable_region m h (scope_of m s.context act.layout) l.memory r.parameter.kind (act.layout.starts j) f.0
           r.has (a.named.each j r.parameter r.found);
       from = f.2;
@@ -106,7 +106,7 @@ named_readable {m} {h} {mode} {act} {s} {l} a j first end inside =
     }
 
 module _ {m : Contents} {h : Holding} {mode : machine.Mode} {act : Activation} {s : State} {l : Local}
-    (wf : IsWellFormed m) (a : After m h mode act s l) (lo hi offset : ℤ) (low : lo ≤ℤ offset) (high : offset ≤ℤ hi)
+    (wf : IsWellFormed m) (a : Within ArePlain m h mode act s l) (lo hi offset : ℤ) (low : lo ≤ℤ offset) (high : offset ≤ℤ hi)
     (aligned : IsTrue (is_stepped offset)) where
   -- a word of the frame
   through_frame : all_touched (context_reads m s.context) lo (hi +ℤ pos 4) ≡ true
@@ -273,7 +273,7 @@ byte_of_word {m} {layout} {lo} {hi} h memory place n less held bytes means =
         is_number (omega (arith, ints)) (omega (arith, ints)) (byte_fits b low)
 
 module _ {m : Contents} {h : Holding} {mode : machine.Mode} {act : Activation} {s : State} {l : Local}
-    (wf : IsWellFormed m) (a : After m h mode act s l) (lo hi offset : ℤ) (low : lo ≤ℤ offset)
+    (wf : IsWellFormed m) (a : Within ArePlain m h mode act s l) (lo hi offset : ℤ) (low : lo ≤ℤ offset)
     (high : offset ≤ℤ hi) where
   -- a byte of the frame
   byte_frame : all_touched (context_reads m s.context) lo (hi +ℤ pos 1) ≡ true

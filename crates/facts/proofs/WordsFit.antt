@@ -42,21 +42,23 @@ use Rattle.facts.specs.WordRules as word
 use Rattle.facts.specs.MemoryRules.{is_near, near}
 use Rattle.facts.specs.WordRules.{has_range}
 use Rattle.facts.specs.Rules as table
-use Rattle.facts.specs.Meaning.{Activation, IsOffset, Means, is_number, is_pointer, frame_word, words_of, ComesFrom}
+use Rattle.facts.specs.Meaning.{Activation, IsOffset, Means, is_number, is_pointer, frame_word, words_in, ComesFrom}
 use Rattle.facts.specs.Meaning.{from_nowhere}
 use Rattle.facts.specs.Meaning.{from_word, MeansWord, MeansKnown, frame_lo, frame_hi, owed, IsWellFormed}
 use Rattle.facts.specs.Fitting.{Changes, After, Here, rule_site, step_site, it_falls, it_breaks, goes_behind}
 use Rattle.facts.specs.Fitting.{is_landing}
+use Rattle.facts.proofs.Within.{Within, ArePlain, AreStill, whole_after, within_paid}
 use Rattle.facts.proofs.Words.{local_place, local_word, moved_workspace, frame_word_is, stored_means, plain_means}
 use Rattle.facts.proofs.Results.{ResultMeans, Lies, lies, two_means, result_means, unary_result_means, numbers_fit}
 use Rattle.facts.proofs.Results.{shift_computed, shift_holds, long_holds}
 use Rattle.facts.proofs.Sources.{result_comes, constant_comes}
 use Rattle.facts.proofs.NarrowedWords.{narrowed_means, narrowed_dues}
 use Rattle.facts.proofs.Dues.{changed_dues}
+use Rattle.facts.proofs.Combining.{stacked, going_on_fits, still_rule_fits, still_step_fits}
 use Rattle.facts.proofs.Combining.{FitsIf, unknown_means, paid, below_not, on_rule_test, on_step_test, uses_value}
 use Rattle.facts.proofs.Combining.{uses_fits, in_bounds_fits, holds_fits, writes_word_fits, reads_word_fits, reads_fits}
 use Rattle.facts.proofs.Combining.{goes_on_fits, write_step, label_fits, on_label, in_plain_rule, beside_plain_rule}
-use Rattle.facts.proofs.Combining.{in_plain_step, beside_plain_step, after_stack, pays_fits}
+use Rattle.facts.proofs.Combining.{in_plain_step, after_stack, pays_fits}
 
 -- a multiple of four is one
 four_times : (k : ℤ) → IsOffset Word (pos 4 *ℤ k)
@@ -117,37 +119,73 @@ loaded_means m counts act k f memory v inside means is = record {
   source = loaded_source k (plain f) inside (sym is);
 }
 
+-- ---- in every mode
+
 module _ (x : Here) (s : State) (l : Local) (a : After x.m x.h x.mode x.act s l) (same : s.context ≡ x.context)
     (changes : Changes x l.memory) (n : owed s x.act ≤ x.owed) where
   pub ldc_fits : (e : ℤ) → FitsSigned w32 e
       → FitsIf x (rule.goes_on (rule_site x) (rule.push (word.constant e) s))
       (step.goes_on (step_site x) (step.push (Some e) l))
-  ldc_fits e fits = goes_on_fits x (rule.push (word.constant e) s) (step.push (Some e) l)
-      (after_stack x a (record {
+  ldc_fits e fits = going_on_fits x (rule.push (word.constant e) s) (step.push (Some e) l)
+      (stacked a (record {
         a = record { fact = is_number (omega (arith, ints)) (omega (arith, ints)) fits; source = from_nowhere };
         b = a.knows.registers.a;
         c = a.knows.registers.b;
       })) same changes n
 
+  pub pointer_fits : (e : ℤ) → FitsSigned w32 e
+      → FitsIf x (table.instruction_rule (rule_site x) instructions.LoadLocalPointer e s)
+      (step.instruction_step (step_site x) instructions.LoadLocalPointer e l)
+  unfolding table.instruction_rule step.instruction_step near
+  pointer_fits e fits =
+      let offset : ℤ = pos 4 *ℤ (s.depth +ℤ e) in
+      on_rule_test x (is_near offset) _ _ _ (λ t.
+      going_on_fits x (rule.push (known (Pointer 0 offset offset Word)) s)
+      (step.push (Some (step.word_of (local_address l.registers.workspace e))) l)
+      (stacked a (record {
+        a = record {
+          fact = is_pointer offset (omega (arith, ints)) (omega (arith, ints)) (four_times (s.depth +ℤ e))
+              (local_word l.registers.workspace e _ fits (omega (arith, ints, a.frame.start)));
+          source = from_nowhere;
+        };
+        b = a.knows.registers.a;
+        c = a.knows.registers.b;
+      })) same changes n) (λ t next. it_breaks)
+
+-- ---- but among the starts of a PAR
+
+module _ (x : Here) (s : State) (l : Local) (a : Within AreStill x.m x.h x.mode x.act s l) (same : s.context ≡ x.context)
+    (changes : Changes x l.memory) (n : owed s x.act ≤ x.owed) where
   pub ldl_fits : (e : ℤ) → FitsSigned w32 e
       → FitsIf x (table.instruction_rule (rule_site x) instructions.LoadLocal e s)
       (step.instruction_step (step_site x) instructions.LoadLocal e l)
   unfolding table.instruction_rule step.instruction_step
   ldl_fits e fits =
-      beside_plain_rule x s a.same_mode _ _ (beside_plain_step x s a.same_mode _ _ (reads_word_fits x s e _ _ (λ t.
+      still_rule_fits x s a.same_mode _ _ (still_step_fits x s a.same_mode _ _ (reads_word_fits x s e _ _ (λ t.
       let w = a.frame.readable (s.depth +ℤ e) t in
       reads_fits x l (local_address l.registers.workspace e) w.place _ _
       (local_place a.frame e fits w.place w.is w.inside) w.readable
       (goes_on_fits x (rule.push (word.loaded (s.depth +ℤ e) (s.frame (s.depth +ℤ e))) s)
       (step.push (word_at l.memory w.place) l)
       (after_stack x a (record {
-        a = loaded_means x.m (words_of x.m s).reads x.act (s.depth +ℤ e) (s.frame (s.depth +ℤ e)) l.memory
+        a = loaded_means x.m (words_in x.m s.context).reads x.act (s.depth +ℤ e) (s.frame (s.depth +ℤ e)) l.memory
             (word_at l.memory w.place) t (a.knows.words (s.depth +ℤ e) t)
             (frame_word_is l.memory x.act.layout.origin (s.depth +ℤ e) w.place w.is);
         b = a.knows.registers.a;
         c = a.knows.registers.b;
       })) same changes n))))
 
+  pub mint_fits : FitsIf x (table.operation_rule (rule_site x) operations.MinimumInteger s)
+      (step.operation_step (step_site x) operations.MinimumInteger l)
+  unfolding table.operation_rule step.operation_step
+  mint_fits =
+      still_rule_fits x s a.same_mode _ _
+      (still_step_fits x s a.same_mode _ _ (ldc_fits x s l (whole_after a) same changes n least_word (record { sfits = lit< tt })))
+
+-- ---- in plain mode
+
+module _ (x : Here) (s : State) (l : Local) (a : Within ArePlain x.m x.h x.mode x.act s l) (same : s.context ≡ x.context)
+    (changes : Changes x l.memory) (n : owed s x.act ≤ x.owed) where
   pub stl_fits : (e : ℤ) → FitsSigned w32 e
       → FitsIf x (table.instruction_rule (rule_site x) instructions.StoreLocal e s)
       (step.instruction_step (step_site x) instructions.StoreLocal e l)
@@ -163,10 +201,10 @@ module _ (x : Here) (s : State) (l : Local) (a : After x.m x.h x.mode x.act s l)
 
   -- what A becomes
   becomes_fits : (s' : State) (l' : Local) (fact : Option Fact) (source : Source) (result : Option ℤ)
-      → After x.m x.h x.mode x.act s' l' → s'.context ≡ x.context → Changes x l'.memory → owed s' x.act ≤ x.owed
+      → Within ArePlain x.m x.h x.mode x.act s' l' → s'.context ≡ x.context → Changes x l'.memory → owed s' x.act ≤ x.owed
       → ResultMeans x.m x.act.layout fact result
       → ((f : Fact) → fact ≡ Some f
-      → ComesFrom (words_of x.m s').reads l'.memory x.act.layout.origin source result)
+      → ComesFrom (words_in x.m s'.context).reads l'.memory x.act.layout.origin source result)
       → FitsIf x (word.becomes (rule_site x) fact source s')
       (step.computes result (λ v. step.goes_on (step_site x) (step.with_a v l')))
   unfolding word.becomes step.computes
@@ -182,7 +220,7 @@ module _ (x : Here) (s : State) (l : Local) (a : After x.m x.h x.mode x.act s l)
       })) same' c e))
 
   -- the registers without A
-  after_pop : After x.m x.h x.mode x.act (rule.pop s) (step.pop l)
+  after_pop : Within ArePlain x.m x.h x.mode x.act (rule.pop s) (step.pop l)
   after_pop = after_stack x a (record { a = a.knows.registers.b; b = a.knows.registers.c; c = unknown_means })
 
   pub constant_fits : (op : BinaryOperation) (e : ℤ) → FitsSigned w32 e
@@ -194,26 +232,7 @@ module _ (x : Here) (s : State) (l : Local) (a : After x.m x.h x.mode x.act s l)
       becomes_fits s l _ _ _ a same changes n
       (result_means x.m x.act.layout op s.stack.a.fact (Number e e) v e means.fact
       (is_number (omega (arith, ints)) (omega (arith, ints)) fits))
-      (λ f is. constant_comes x.m (words_of x.m s).reads x.act.layout l.memory op s.stack.a v e means)))
-
-  pub pointer_fits : (e : ℤ) → FitsSigned w32 e
-      → FitsIf x (table.instruction_rule (rule_site x) instructions.LoadLocalPointer e s)
-      (step.instruction_step (step_site x) instructions.LoadLocalPointer e l)
-  unfolding table.instruction_rule step.instruction_step near
-  pointer_fits e fits =
-      let offset : ℤ = pos 4 *ℤ (s.depth +ℤ e) in
-      on_rule_test x (is_near offset) _ _ _ (λ t.
-      goes_on_fits x (rule.push (known (Pointer 0 offset offset Word)) s)
-      (step.push (Some (step.word_of (local_address l.registers.workspace e))) l)
-      (after_stack x a (record {
-        a = record {
-          fact = is_pointer offset (omega (arith, ints)) (omega (arith, ints)) (four_times (s.depth +ℤ e))
-              (local_word l.registers.workspace e _ fits (omega (arith, ints, a.frame.start)));
-          source = from_nowhere;
-        };
-        b = a.knows.registers.a;
-        c = a.knows.registers.b;
-      })) same changes n) (λ t next. it_breaks)
+      (λ f is. constant_comes x.m (words_in x.m s.context).reads x.act.layout l.memory op s.stack.a v e means)))
 
   pub adjust_fits : (e : ℤ) → FitsSigned w32 e
       → FitsIf x (table.instruction_rule (rule_site x) instructions.AdjustWorkspace e s)
@@ -243,7 +262,7 @@ module _ (x : Here) (s : State) (l : Local) (a : After x.m x.h x.mode x.act s l)
           let from = a.frame.from_start in
           let to = a.frame.to_end in
           let small = a.frame.small in
-          goes_on_fits x (record s { depth = s.depth +ℤ e })
+          goes_on_fits x {E = ArePlain} (record s { depth = s.depth +ℤ e })
           (step.with_workspace (local_address l.registers.workspace e) l)
           (record {
             frame = record {
@@ -258,6 +277,8 @@ module _ (x : Here) (s : State) (l : Local) (a : After x.m x.h x.mode x.act s l)
             knows = a.knows;
             named = a.named;
             same_mode = a.same_mode;
+            modes = a.modes;
+            whole = a.whole;
           }) same changes n) (λ t next. it_breaks)
 
   pub reverse_fits : FitsIf x (table.operation_rule (rule_site x) operations.Reverse s)
@@ -268,13 +289,6 @@ module _ (x : Here) (s : State) (l : Local) (a : After x.m x.h x.mode x.act s l)
       (goes_on_fits x (rule.reverse s) (step.reverse l)
       (after_stack x a (record { a = a.knows.registers.b; b = a.knows.registers.a; c = a.knows.registers.c }))
       same changes n)))
-
-  pub mint_fits : FitsIf x (table.operation_rule (rule_site x) operations.MinimumInteger s)
-      (step.operation_step (step_site x) operations.MinimumInteger l)
-  unfolding table.operation_rule step.operation_step
-  mint_fits =
-      beside_plain_rule x s a.same_mode _ _
-      (beside_plain_step x s a.same_mode _ _ (ldc_fits least_word (record { sfits = lit< tt })))
 
   pub binary_fits : (op : BinaryOperation) → FitsIf x (table.operation_rule (rule_site x) (operations.Binary op) s)
       (step.operation_step (step_site x) (operations.Binary op) l)
@@ -287,7 +301,7 @@ module _ (x : Here) (s : State) (l : Local) (a : After x.m x.h x.mode x.act s l)
       (λ f is.
       let fit = numbers_fit x.m x.act.layout (result_range op) s.stack.b.fact s.stack.a.fact f u v is other.fact
       means.fact in
-      result_comes x.m (words_of x.m s).reads x.act.layout l.memory op s.stack.b s.stack.a u v fit.0 fit.1 other
+      result_comes x.m (words_in x.m s.context).reads x.act.layout l.memory op s.stack.b s.stack.a u v fit.0 fit.1 other
       means))))
 
   pub unary_fits : (op : UnaryOperation) → FitsIf x (table.operation_rule (rule_site x) (operations.Unary op) s)
@@ -436,19 +450,21 @@ module _ (x : Here) (s : State) (l : Local) (a : After x.m x.h x.mode x.act s l)
 
   -- where the condition came out so
   after_narrowing : (s' : State) (l' : Local) (source : Source) (holds : Bool) (v : ℤ)
-      → After x.m x.h x.mode x.act s' l'
-      → ComesFrom (words_of x.m s').reads l'.memory x.act.layout.origin source (Some v) → (holds ≡ true → v ≢ pos 0)
+      → Within ArePlain x.m x.h x.mode x.act s' l'
+      → ComesFrom (words_in x.m s'.context).reads l'.memory x.act.layout.origin source (Some v) → (holds ≡ true → v ≢ pos 0)
       → (holds ≡ false → v ≡ pos 0)
-      → After x.m x.h x.mode x.act (record s' { frame = word.narrowed source holds s'.frame }) l'
+      → Within ArePlain x.m x.h x.mode x.act (record s' { frame = word.narrowed source holds s'.frame }) l'
   after_narrowing s' l' source holds v b comes so not_so = record {
     frame = b.frame;
     knows = record {
       registers = b.knows.registers;
-      words = narrowed_means x.m x.act (words_of x.m s').reads l'.memory s'.frame source holds v comes so not_so
+      words = narrowed_means x.m x.act (words_in x.m s'.context).reads l'.memory s'.frame source holds v comes so not_so
           b.knows.words;
     };
     named = b.named;
     same_mode = b.same_mode;
+    modes = b.modes;
+    whole = b.whole;
   }
 
   -- a word is 0 exactly if its bits are
@@ -466,7 +482,7 @@ module _ (x : Here) (s : State) (l : Local) (a : After x.m x.h x.mode x.act s l)
 
   module _ (wf : IsWellFormed x.m) where
     -- with the condition in A, and the instruction paid
-    forks_fits : (s' : State) (to : ℕ) (v : ℤ) → After x.m x.h x.mode x.act s' l → s'.context ≡ x.context
+    forks_fits : (s' : State) (to : ℕ) (v : ℤ) → Within ArePlain x.m x.h x.mode x.act s' l → s'.context ≡ x.context
         → owed s' x.act + x.len ≤ x.owed → FitsSigned w32 v → l.registers.stack.a ≡ Some v
         → FitsIf x (rule.forks_to (rule_site x) to (word.where_false s') (word.where_true s'))
         (if step.address v == 0 then step.lands_at (step_site x) to l else step.goes_on (step_site x) (step.pop l))
@@ -478,15 +494,15 @@ module _ (x : Here) (s : State) (l : Local) (a : After x.m x.h x.mode x.act s l)
         (omega (arith, paid, narrowed_dues s'.stack.a.source false s'.frame x.act.turns)))
         (λ w. absurd (below_not _ _ (wf.labels to t e) w)))
         (λ u. on_step_test x (ltb (x.at + x.len) (length x.m.code)) _ _ _
-        (λ w next. it_falls refl goes_behind (next _ refl) (true_after (not_zero_from v u)) same' changes
+        (λ w next. it_falls refl goes_behind (next _ refl) (whole_after (true_after (not_zero_from v u))) same' changes
         (omega (arith, paid, narrowed_dues s'.stack.a.source true s'.frame x.act.turns)))
         (λ w next. absurd (below_not _ _ (next _ refl) w))))
       where
-        comes : ComesFrom (words_of x.m s').reads l.memory x.act.layout.origin s'.stack.a.source (Some v)
-        comes = subst (λ (o : Option ℤ). ComesFrom (words_of x.m s').reads l.memory x.act.layout.origin
+        comes : ComesFrom (words_in x.m s'.context).reads l.memory x.act.layout.origin s'.stack.a.source (Some v)
+        comes = subst (λ (o : Option ℤ). ComesFrom (words_in x.m s'.context).reads l.memory x.act.layout.origin
             s'.stack.a.source o) is b.knows.registers.a.source
 
-        false_after : v ≡ pos 0 → After x.m x.h x.mode x.act (word.where_false s') l
+        false_after : v ≡ pos 0 → Within ArePlain x.m x.h x.mode x.act (word.where_false s') l
         false_after zero = after_stack x
             (after_narrowing s' l s'.stack.a.source false v b comes (λ e. absurd (cc)) (λ e. zero))
             (record {
@@ -499,7 +515,7 @@ module _ (x : Here) (s : State) (l : Local) (a : After x.m x.h x.mode x.act s l)
               c = b.knows.registers.c;
             })
 
-        true_after : v ≢ pos 0 → After x.m x.h x.mode x.act (word.where_true s') (step.pop l)
+        true_after : v ≢ pos 0 → Within ArePlain x.m x.h x.mode x.act (word.where_true s') (step.pop l)
         true_after other = after_stack x
             (after_narrowing s' l s'.stack.a.source true v b comes (λ e. other) (λ e. absurd (cc)))
             (record { a = b.knows.registers.b; b = b.knows.registers.c; c = unknown_means })
@@ -518,5 +534,5 @@ module _ (x : Here) (s : State) (l : Local) (a : After x.m x.h x.mode x.act s l)
         in_bounds_fits x (has_range s.stack.a.fact) _ _ (λ t.
         in_plain_rule x s a.same_mode _ _ (beside_plain_rule x s a.same_mode _ _
         (pays_fits x s _ _ n (λ left.
-        forks_fits (record s { number = s.number - x.len }) (target (x.at + x.len) (pos k)) v (paid a) same left
+        forks_fits (record s { number = s.number - x.len }) (target (x.at + x.len) (pos k)) v (within_paid a) same left
         (number_of s.stack.a.fact t v means.fact) is))))))

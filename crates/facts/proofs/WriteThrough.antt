@@ -4,7 +4,6 @@ use Rattle.std.proofs.Common.{Bool, true, false, length, FitsSigned, Option, Som
 use Rattle.std.proofs.Common.{arith, ◌⊎◌, inl, inr}
 use Rattle.std.proofs.lemmas.Bool.{cases_eq}
 use Rattle.std.proofs.lemmas.Int.{ints, clamps}
-use Rattle.std.specs.Prelude.{slice_get}
 use Rattle.std.specs.Int.{w32, cast_signed}
 use Rattle.module_format.specs.Rows.{Fact}
 use Rattle.module_format.specs.declared.fact.Fact.TheVariants.{Unknown, Number, Pointer, CodeAddress, Loop}
@@ -14,7 +13,6 @@ use Rattle.module_format.specs.declared.rows.ParameterKind.{ParameterKind}
 use Rattle.module_format.specs.declared.rows.ParameterKind.TheVariants.{Value, ReadRegion, WrittenRegion, Channels}
 use Rattle.module_format.specs.Order.{least_word, greatest_word}
 use Rattle.module_format.specs.Contents.{Contents}
-use Rattle.module_format.specs.Contexts.{parameters_at}
 use Rattle.certificate.specs.Rights.{may_write_word as context_writes}
 use Rattle.machine_state.specs.declared.process.Mode as machine
 use Rattle.machine_state.specs.Memory.{Memory, byte_at, word_at, with_byte, place_of}
@@ -30,17 +28,17 @@ use Rattle.states.specs.State.{Change, State}
 use Rattle.states.specs.Spans.{is_in_span, widened, left_of, on_span, after_change}
 use Rattle.states.proofs.SpanFacts.{in-span}
 use Rattle.facts.specs.Meaning.{Layout, Activation, Means, says_nothing, is_number, place_in, frame_word, IsOwnWord}
-use Rattle.facts.specs.Meaning.{words_of, ComesFrom, from_nowhere, from_word, from_test, MeansKnown}
+use Rattle.facts.specs.Meaning.{words_in, ComesFrom, from_nowhere, from_word, from_test, MeansKnown}
 use Rattle.facts.specs.Regions.{Scope, scope_of, IsByteOf, IsRegion, IsNamed, IsWrittenAt, HoldsNamed, HasBytes}
 use Rattle.facts.specs.Regions.{in_region, Keeps}
 use Rattle.facts.specs.Reach.{word_of_byte, words_touched, all_touched, writable_size, writable_bytes}
-use Rattle.facts.specs.Reach.{may_write_parameter}
-use Rattle.facts.specs.Reach.{kept_range}
+use Rattle.facts.specs.Reach.{kept_range, parameter_range}
+use Rattle.facts.specs.Regions.{parameter_used}
 use Rattle.facts.specs.MemoryRules.{widened_by}
-use Rattle.facts.specs.Fitting.{After}
+use Rattle.facts.proofs.Within.{Within, ArePlain}
 use Rattle.facts.proofs.Words.{means_same, frame_word_is, word_test, Follows, knows_changed}
 use Rattle.facts.proofs.Regions.{AltersWord, Alters, named_left, IsBeside, byte_small}
-use Rattle.facts.proofs.ReadThrough.{no_byte, word_of_bytes, word_fits, usable_found}
+use Rattle.facts.proofs.ReadThrough.{no_byte, word_of_bytes, word_fits, writable_usable}
 use Rattle.facts.proofs.Reaching.{inside_memory, touched_span, touched_passes, word_of_byte_low, word_of_byte_high}
 use Rattle.facts.proofs.Combining.{same_frame}
 
@@ -128,7 +126,7 @@ pub record FrameWord (m : Contents) (h : Holding) (context : ℕ) (size : ℕ) (
   pub high : offset <ℤ (pos 4 *ℤ word +ℤ pos 4)
 
 module _ {m : Contents} {h : Holding} {mode : machine.Mode} {act : Activation} {s : State} {l : Local}
-    (a : After m h mode act s l) where
+    (a : Within ArePlain m h mode act s l) where
   pub frame_written : (lo end offset : ℤ) → lo ≤ℤ offset → offset <ℤ end
       → all_touched (context_writes m s.context) lo end ≡ true
       → FrameWord m h s.context (length l.memory) act.layout.origin lo end offset
@@ -148,31 +146,33 @@ module _ {m : Contents} {h : Holding} {mode : machine.Mode} {act : Activation} {
       }
 
   -- what is known changes as memory does
-  pub after_followed : (change : Change) (new : Memory) → Follows m (words_of m s).reads act.layout change l.memory new
+  pub after_followed : (change : Change) (new : Memory) → Follows m (words_in m s.context).reads act.layout change l.memory new
       → Keeps m h (scope_of m s.context act.layout) l.memory new
-      → After m h mode act (after_change change s) (record l { memory = new })
+      → Within ArePlain m h mode act (after_change change s) (record l { memory = new })
   unfolding after_change
   after_followed change new follows keeps = record {
     frame = same_frame (sym keeps.size) a.frame;
     knows = knows_changed change follows a.knows;
     named = keeps.named a.named;
     same_mode = a.same_mode;
+    modes = a.modes;
+    whole = a.whole;
   }
 
   -- what is known of a span changes as one of its words does
   pub after_span : (first : ℤ) (count : ℕ) (leaving : Leaving) (k : ℤ) (new : Memory) → is_in_span first count k ≡ true
       → LeavesWell m act.layout first count leaving k l.memory new
       → Keeps m h (scope_of m s.context act.layout) l.memory new
-      → After m h mode act (after_change (on_span first count leaving) s) (record l { memory = new })
+      → Within ArePlain m h mode act (after_change (on_span first count leaving) s) (record l { memory = new })
   after_span first count leaving k new there leaves keeps =
       after_followed (on_span first count leaving) new
-      (span_follows (words_of m s).reads first count k there leaves) keeps
+      (span_follows (words_in m s.context).reads first count k there leaves) keeps
 
   -- ---- what is known of the frame where a region changes that is beside it
 
-  pub after_beside : (new : Memory) → ((k : ℤ) → (words_of m s).reads k ≡ true
+  pub after_beside : (new : Memory) → ((k : ℤ) → (words_in m s.context).reads k ≡ true
       → frame_word new act.layout.origin k ≡ frame_word l.memory act.layout.origin k)
-      → Keeps m h (scope_of m s.context act.layout) l.memory new → After m h mode act s (record l { memory = new })
+      → Keeps m h (scope_of m s.context act.layout) l.memory new → Within ArePlain m h mode act s (record l { memory = new })
   after_beside new same keeps = record {
     frame = same_frame (sym keeps.size) a.frame;
     knows = record {
@@ -185,19 +185,21 @@ module _ {m : Contents} {h : Holding} {mode : machine.Mode} {act : Activation} {
     };
     named = keeps.named a.named;
     same_mode = a.same_mode;
+    modes = a.modes;
+    whole = a.whole;
   }
     where
       source_same : (source : Source) (v : Option ℤ)
-          → ComesFrom (words_of m s).reads l.memory act.layout.origin source v
-          → ComesFrom (words_of m s).reads new act.layout.origin source v
+          → ComesFrom (words_in m s.context).reads l.memory act.layout.origin source v
+          → ComesFrom (words_in m s.context).reads new act.layout.origin source v
       source_same Nowhere v comes = from_nowhere
       source_same (From word) v (from_word counts is) = from_word counts (is ∙ sym (same word counts))
       source_same (Test word lo hi inside) v (from_test x counts is tested) =
           from_test x counts (same word counts ∙ is) tested
 
       register : (known : Known) (v : Option ℤ)
-          → MeansKnown m (words_of m s).reads act.layout l.memory known v
-          → MeansKnown m (words_of m s).reads act.layout new known v
+          → MeansKnown m (words_in m s.context).reads act.layout l.memory known v
+          → MeansKnown m (words_in m s.context).reads act.layout new known v
       register known v means = record { fact = means.fact; source = source_same known.source v means.source }
 
 -- ---- a region that a parameter names
@@ -205,10 +207,11 @@ module _ {m : Contents} {h : Holding} {mode : machine.Mode} {act : Activation} {
 -- the parameter that a region is that of which may be written
 pub record Writable (m : Contents) (context j size : ℕ) : Type 0 where
   pub parameter : Parameter
-  pub found : slice_get (parameters_at m context) j ≡ Some parameter
+  pub found : parameter_used m context j ≡ Some parameter
   pub lo : ℤ
   pub hi : ℤ
   pub is : parameter.kind ≡ WrittenRegion size lo hi
+  pub range : parameter_range m context j ≡ kept_range parameter.kind
 
 pub writable_kind : (kind : ParameterKind) (size : ℕ) → writable_size kind ≡ Some size
     → kind ≡ WrittenRegion size (kept_range kind).lo (kept_range kind).hi
@@ -221,13 +224,14 @@ writable_kind (Channels count len ends) size e = absurd (cc)
 pub writable_found : (m : Contents) (context j size : ℕ) → writable_bytes m context j ≡ Some size
     → Writable m context j size
 writable_found m context j size h =
-    let u = usable_found m writable_size (may_write_parameter m context j) context j size h in
+    let u = writable_usable m context j size h in
     record {
       parameter = u.parameter;
       found = u.found;
       lo = (kept_range u.parameter.kind).lo;
       hi = (kept_range u.parameter.kind).hi;
       is = writable_kind u.parameter.kind size u.has;
+      range = u.range;
     }
 
 -- some bytes from a place on
@@ -246,7 +250,7 @@ pub record AltersRegion (m : Contents) (h : Holding) (scope : Scope) (start size
   pub numbers : (i : ℕ) → 4 * i + 4 ≤ size → Means m scope.layout (Number lo hi) (word_at new (start + 4 * i))
 
 module _ (m : Contents) (h : Holding) (scope : Scope) (old new : Memory) (has : HoldsNamed m h scope old) (j : ℕ)
-    (p : Parameter) (found : slice_get scope.parameters j ≡ Some p) (size : ℕ) (lo hi : ℤ)
+    (p : Parameter) (found : scope.parameters j ≡ Some p) (size : ℕ) (lo hi : ℤ)
     (is : p.kind ≡ WrittenRegion size lo hi) (from width : ℕ)
     (alters : AltersRegion m h scope (place_of (scope.layout.starts j)) size lo hi from width old new) where
   abbrev start : ℕ
@@ -287,11 +291,11 @@ module _ (m : Contents) (h : Holding) (scope : Scope) (old new : Memory) (has : 
         numbers = alters.numbers;
       } in r)
 
-  each : (i : ℕ) (q : Parameter) → slice_get scope.parameters i ≡ Some q
+  each : (i : ℕ) (q : Parameter) → scope.parameters i ≡ Some q
       → IsBeside (Lies from width) q.kind (scope.layout.starts i) ⊎ IsNamed m h scope new q.kind (scope.layout.starts i)
   each i q there = elim (cases_eq i j) [
     | inl same ↦
-        let one : Some p ≡ Some q = sym found ∙ (ap (slice_get scope.parameters) (sym same) ∙ there) in
+        let one : Some p ≡ Some q = sym found ∙ (ap scope.parameters (sym same) ∙ there) in
         let p_is : p ≡ q = cc in
         inr (subst (λ (n : ℕ). IsNamed m h scope new q.kind (scope.layout.starts n)) (sym same)
         (subst (λ (r : Parameter). IsNamed m h scope new r.kind (scope.layout.starts j)) p_is again))

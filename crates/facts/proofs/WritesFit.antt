@@ -30,7 +30,7 @@ use Rattle.machine_state.proofs.Frame.{write_is_own, byte_is_own, changes_more}
 use Rattle.states.specs.declared.span.Leaving.{Leaving}
 use Rattle.states.specs.declared.span.Leaving.TheVariants.{Become}
 use Rattle.states.specs.State.{State, is_word as is_same}
-use Rattle.states.specs.Spans.{is_in_span, widened, on_span, after_change}
+use Rattle.states.specs.Spans.{is_in_span, on_span, after_change}
 use Rattle.states.specs.Below.{lies_within}
 use Rattle.states.proofs.RowFacts.{and-parts, le-from, lt-from}
 use Rattle.facts.specs.declared.pointers.Pointed.{Pointed}
@@ -44,15 +44,16 @@ use Rattle.facts.specs.Reach.{word_of_byte, words_touched, all_touched, lie_in, 
 use Rattle.facts.specs.Reach.{parameter_range}
 use Rattle.facts.specs.Reach.{kept_range}
 use Rattle.facts.specs.Rules as table
-use Rattle.facts.specs.Meaning.{Layout, Activation, Means, says_nothing, is_pointer, place_in, word_at_place}
+use Rattle.facts.specs.Meaning.{Layout, Activation, Means, is_pointer, place_in, word_at_place}
 use Rattle.facts.specs.Meaning.{frame_word}
 use Rattle.facts.specs.Meaning.{owed, region_start}
 use Rattle.facts.specs.Regions.{Scope, scope_of, IsByteOf, IsRegion, IsNamed, Keeps}
-use Rattle.facts.specs.Fitting.{Changes, After, Here, rule_site, step_site}
+use Rattle.facts.specs.Fitting.{Changes, Here, rule_site, step_site}
+use Rattle.facts.proofs.Within.{Within, ArePlain}
 use Rattle.facts.proofs.Words.{frame_word_is, word_test, stored_means, word_elsewhere}
 use Rattle.facts.proofs.Dues.{changed_dues}
 use Rattle.facts.proofs.Regions.{write_keeps, frame_keeps, keeps_more, may_too, bytes_written, word_small, byte_small}
-use Rattle.facts.proofs.ReadThrough.{word_writable, range_found}
+use Rattle.facts.proofs.ReadThrough.{word_writable}
 use Rattle.facts.proofs.Reaching.{region_place, place_at, region_at, word_place, even_word, word_of_byte_low}
 use Rattle.facts.proofs.Reaching.{word_of_byte_high}
 use Rattle.facts.proofs.Reaching.{natural, place_by}
@@ -140,16 +141,16 @@ pub record IsOwnAt (h : Holding) (place : ℕ) : Type 0 where
 
 -- Memory with so many bytes written at a place, from where a region starts by an offset, and what is known then.
 pub record Written {m : Contents} {h : Holding} {mode : machine.Mode} {act : Activation} {s : State} {l : Local}
-    (a : After m h mode act s l) (start offset : ℤ) (new : ℕ → Memory) (mine : ℕ → Type 0) (left : State) : Type 0 where
+    (a : Within ArePlain m h mode act s l) (start offset : ℤ) (new : ℕ → Memory) (mine : ℕ → Type 0) (left : State) : Type 0 where
   pub place : ℕ
   pub is : pos place ≡ start +ℤ offset
   pub small : place < 4294967296
   pub own : mine place
-  pub after : After m h mode act left (record l { memory = new place })
+  pub after : Within ArePlain m h mode act left (record l { memory = new place })
   pub keeps : Keeps m h (scope_of m s.context act.layout) l.memory (new place)
 
 module _ {m : Contents} {h : Holding} {mode : machine.Mode} {act : Activation} {s : State} {l : Local}
-    (a : After m h mode act s l) (lo hi offset : ℤ) (low : lo ≤ℤ offset) (high : offset ≤ℤ hi) where
+    (a : Within ArePlain m h mode act s l) (lo hi offset : ℤ) (low : lo ≤ℤ offset) (high : offset ≤ℤ hi) where
   abbrev scope : Scope
   scope = scope_of m s.context act.layout
 
@@ -162,7 +163,7 @@ module _ {m : Contents} {h : Holding} {mode : machine.Mode} {act : Activation} {
 
   range_is : (j size : ℕ) (r : Writable m s.context j size)
       → parameter_range m s.context j ≡ record { lo = r.lo; hi = r.hi }
-  range_is j size r = range_found m s.context j r.parameter r.found ∙ ap kept_range r.is
+  range_is j size r = r.range ∙ ap kept_range r.is
 
   -- some of its bytes are written
   into_region : (j size : ℕ) (r : Writable m s.context j size) (n width : ℕ) (new : ℕ → Memory) (mine : ℕ → Type 0)
@@ -501,7 +502,7 @@ module _ {m : Contents} {h : Holding} {mode : machine.Mode} {act : Activation} {
 
 -- ---- the instructions
 
-module _ (x : Here) (s : State) (l : Local) (a : After x.m x.h x.mode x.act s l) (same : s.context ≡ x.context)
+module _ (x : Here) (s : State) (l : Local) (a : Within ArePlain x.m x.h x.mode x.act s l) (same : s.context ≡ x.context)
     (changes : Changes x l.memory) (n : owed s x.act ≤ x.owed) where
   -- the bytes of a region may be written
   pub writes_bytes_fits : (region : ℕ) (first end : ℤ) (r : Ruling) (o : Outcome)
@@ -551,7 +552,7 @@ module _ (x : Here) (s : State) (l : Local) (a : After x.m x.h x.mode x.act s l)
 
   -- what a write leaves, once A and B are used up
   pops_two_fits : (p : Pointed) (end : ℤ) (leaving : Leaving) (new : Memory)
-      → After x.m x.h x.mode x.act (leaves_words p end leaving s) (record l { memory = new }) → Changes x new
+      → Within ArePlain x.m x.h x.mode x.act (leaves_words p end leaving s) (record l { memory = new }) → Changes x new
       → FitsIf x (memory.pops_two (rule_site x) (leaves_words p end leaving s))
       (step.goes_on (step_site x) (step.pop (step.pop (record l { memory = new }))))
   pops_two_fits p end leaving new b changed =

@@ -14,12 +14,12 @@ use Rattle.module_format.specs.declared.rows.EndKind.{EndKind}
 use Rattle.module_format.specs.declared.rows.EndKind.TheVariants as ends_of
 use Rattle.module_format.specs.declared.rows.Direction.{Direction}
 use Rattle.module_format.specs.declared.rows.Direction.TheVariants.{In, Out}
-use Rattle.module_format.specs.Contents.{Contents, Procedure, link_length}
+use Rattle.module_format.specs.Contents.{Contents, Procedure}
 use Rattle.module_format.specs.Contexts.{first_branch, parameters_at}
 use Rattle.module_format.specs.Pars.{direction_number}
 use Rattle.module_format.specs.Places.{owner_at}
 use Rattle.module_format.specs.Stack.{of_empty}
-use Rattle.certificate.specs.Rights.{may_write_word, channel_length, has_end}
+use Rattle.certificate.specs.Rights.{may_write_word, has_end}
 use Rattle.certificate.specs.Starts.{Entered, procedure_at}
 use Rattle.word_arithmetic.specs.Word.{least_word}
 use Rattle.machine_state.specs.LocalStep.{target}
@@ -33,6 +33,7 @@ use Rattle.states.specs.declared.span.Together.{Together}
 use Rattle.states.specs.declared.span.Leaving.TheVariants.{Become}
 use Rattle.states.specs.Spans.{all_words, together, on_span}
 use Rattle.facts.specs.Reach.{word_of_byte, may_read_bytes, may_write_bytes, constant_range}
+use Rattle.facts.specs.Channels.{message_length}
 use Rattle.facts.specs.Rulings.{Ruling, Site, calls, returns, breaks, alone, pays}
 use Rattle.facts.specs.MemoryRules.{is_near, are_near}
 use Rattle.facts.specs.declared.lent.Lent.{Lent}
@@ -242,16 +243,6 @@ ends_are_held c p = elim p.kind [
     | Some first ↦ holds_ends c.contents c.state.context first count ends.0
   ]
   | _ ↦ true
-]
-
--- the bytes of the messages of a channel that a context knows
-abbrev pub message_length : Contents → ℕ → EndKind → Option ℕ
-message_length m context (ends_of.FrameWord word) = channel_length m context word
-message_length m context (ends_of.Link link) = Some (link_length m link)
-message_length m context (ends_of.Parameter (negsuc j) element) = None
-message_length m context (ends_of.Parameter (pos j) element) = elim (slice_get (parameters_at m context) j) [
-  | None ↦ None
-  | Some p ↦ elim p.kind [ Channels count len ends ↦ Some len | _ ↦ None ]
 ]
 
 abbrev pub is_length : ℕ → Option ℕ → Bool

@@ -27,8 +27,9 @@ use Rattle.facts.specs.declared.calling.Wanted.TheVariants as wanted
 use Rattle.facts.specs.declared.calling.Pairwise.{Pairwise}
 use Rattle.facts.specs.declared.calling.Pairwise.TheVariants as pairwise
 use Rattle.facts.specs.Rulings.{Ruling, alone}
+use Rattle.facts.specs.Channels.{message_length}
 use Rattle.facts.specs.CallRules.{Calling, callee_word, lent, passes_all, may_call, frame_is_own, frame_size, wants}
-use Rattle.facts.specs.CallRules.{with_lent, are_apart, further, message_length, is_length}
+use Rattle.facts.specs.CallRules.{with_lent, are_apart, further, is_length}
 use Rattle.facts.specs.CallRules.{numbers_fit, pointers_fit, ends_are_held, lengths_fit, give_other_ends}
 
 abbrev pub calling_of : InMemory → Calling

@@ -1,6 +1,8 @@
 pub mod Rulings
 pub mod WordRules
 pub mod Reach
+pub mod Channels
+pub mod Remaining
 pub mod MemoryRules
 pub mod MoveRules
 pub mod CallRules
@@ -13,4 +15,5 @@ pub mod Narrowings
 pub mod Successions
 pub mod Meaning
 pub mod Regions
+pub mod Lends
 pub mod Fitting

@@ -1,7 +1,7 @@
 -- What the facts of a state mean of a process.
 use Rattle.std.specs.Prelude.{◌≡◌, ⊤, ℕ, ◌+◌, ◌*◌, ◌-◌, ◌≤◌, ◌<◌, ◌==◌, ℤ, pos, negsuc, ◌+ℤ◌, ◌-ℤ◌, ◌*ℤ◌, ◌≤ℤ◌}
 use Rattle.std.specs.Prelude.{FitsSigned, Bool, true, not, ◌&&◌, int_le, IsTrue, if◌then◌else◌, List, length, Option}
-use Rattle.std.specs.Prelude.{◌<ℤ◌, zero, suc, neg_ℤ, slice_get, Some, None}
+use Rattle.std.specs.Prelude.{◌<ℤ◌, zero, suc, neg_ℤ, slice_get, Some, None, ◌||◌}
 use Rattle.std.specs.Int.{w32, int_wrap}
 use Rattle.std.specs.List.{AllByRecursion}
 use Rattle.module_format.specs.Rows.{Fact}
@@ -11,7 +11,7 @@ use Rattle.module_format.specs.declared.fact.Step.{Step}
 use Rattle.module_format.specs.declared.fact.Step.TheVariants.{Byte, Word}
 use Rattle.module_format.specs.Rows.{Entry}
 use Rattle.module_format.specs.Order.{IsBytes, InOrder, is_stepped}
-use Rattle.module_format.specs.Contents.{Contents, Label, Procedure, label_at}
+use Rattle.module_format.specs.Contents.{Contents, Label, Procedure, Par, label_at}
 use Rattle.module_format.specs.Procedures.{ProcedureKeeps, TableKeeps, behind_table}
 use Rattle.module_format.specs.Contexts.{context_at}
 use Rattle.module_format.specs.Stack.{AreRelated}
@@ -34,12 +34,14 @@ use Rattle.states.specs.declared.known.WordFact.{WordFact}
 use Rattle.states.specs.declared.known.WordFact.TheVariants.{Alone, Index, Count}
 use Rattle.states.specs.State.{State, Facts, entry_fact}
 use Rattle.states.specs.Rows.{IsRowOf}
+use Rattle.facts.specs.Remaining.{is_hidden, word_given_to_write, word_given_to_read}
 
--- Where the regions of an activation lie, and where it returns to.
+-- Where the regions of an activation lie, where it returns to, and how long messages are.
 pub record Layout : Type 0 where
   pub origin : ℤ  -- the place of frame word 0
   pub starts : ℕ → ℕ  -- the address of the first byte of what parameter j names
   pub back : ℕ  -- the code offset to which it returns
+  pub lengths : ℕ → ℕ  -- the bytes of a message on the channel at an address of which it has an end
 
 -- One activation of the root, a procedure or a branch. The machine keeps none of it.
 pub record Activation : Type 0 where
@@ -150,9 +152,16 @@ words_in m context = record {
   hi = frame_hi m context;
 }
 
--- the words that count in a state: those that its context may use
-abbrev pub words_of : Contents → State → Words
-words_of m s = words_in m s.context
+-- the words that the opener of a PAR has left in a context, once so many branches are started: a word that a branch
+-- was given to read is only read
+abbrev pub words_left : Contents → Par → ℕ → ℕ → Words
+words_left m par context started = record {
+  writes = λ k. rights.may_write_word m context k && not (is_hidden par k)
+      && not (word_given_to_write par started k || word_given_to_read par started k);
+  reads = λ k. rights.may_read_word m context k && not (is_hidden par k) && not (word_given_to_write par started k);
+  lo = frame_lo m context;
+  hi = frame_hi m context;
+}
 
 -- Where the frame lies: it lies in memory, the words that count as written are the process's own, it may read those
 -- that count as read, and the workspace is `depth` words from frame word 0.
@@ -193,9 +202,13 @@ pub record Knows (m : Contents) (counts : ℤ → Bool) (act : Activation) (said
   pub registers : AreRelated (MeansKnown m counts act.layout memory) said stack
   pub words : (k : ℤ) → counts k ≡ true → MeansWord m act k (facts k) (frame_word memory act.layout.origin k)
 
--- the modes of a state and of a process (those of alternation and of starts come with them)
+-- the modes of a state and of a process
 pub data SameMode : states.Mode → machine.Mode → Type 0 where
   both_plain : SameMode states_modes.Plain machine_modes.Plain
+  both_enabling : {is_ready : Bool} → SameMode states_modes.Enabling (machine_modes.Enabling is_ready)
+  both_disabling : {done : ℕ} {selection : Option ℤ}
+      → SameMode (states_modes.Disabling done) (machine_modes.Disabling selection)
+  both_starting : {row started : ℕ} → SameMode (states_modes.Starting row started) machine_modes.Starting
 
 -- ---- what is owed
 

@@ -1,6 +1,6 @@
 -- What the parameters of an activation name, and what an activation may change.
 use Rattle.std.specs.Prelude.{◌≡◌, ◌⊎◌, ⊤, ℕ, ◌+◌, ◌*◌, ◌%◌, ◌^◌, ◌≤◌, ◌<◌, ℤ, pos, negsuc, ◌+ℤ◌, ◌≤ℤ◌, ◌<ℤ◌, Bool}
-use Rattle.std.specs.Prelude.{true, IsTrue, List, length, get_or, slice_get, Some}
+use Rattle.std.specs.Prelude.{true, IsTrue, length, get_or, slice_get, Option, Some, None, option_map, if◌then◌else◌}
 use Rattle.std.specs.Int.{w32, cast_unsigned}
 use Rattle.module_format.specs.declared.fact.Fact.TheVariants.{Number}
 use Rattle.module_format.specs.declared.rows.Parameter.{Parameter}
@@ -8,7 +8,7 @@ use Rattle.module_format.specs.declared.rows.ParameterKind.{ParameterKind}
 use Rattle.module_format.specs.declared.rows.ParameterKind.TheVariants.{Value, ReadRegion, WrittenRegion, Channels}
 use Rattle.module_format.specs.declared.rows.Direction.{Direction}
 use Rattle.module_format.specs.Order.{is_multiple_of_four, is_stepped}
-use Rattle.module_format.specs.Contents.{Contents}
+use Rattle.module_format.specs.Contents.{Contents, Par}
 use Rattle.module_format.specs.Contexts.{parameters_at}
 use Rattle.module_format.specs.declared.rows.EndKind.{EndKind}
 use Rattle.module_format.specs.declared.rows.EndKind.TheVariants as kinds
@@ -16,28 +16,80 @@ use Rattle.certificate.specs.Rights as rights
 use Rattle.machine_state.specs.Memory.{Memory, byte_at, word_at, place_of, data_start}
 use Rattle.machine_state.specs.World.{constants_start, link_words}
 use Rattle.machine_state.specs.Holding.{Holding, may_write, may_read, has_end}
-use Rattle.facts.specs.Meaning.{Layout, Words, words_in, word_of, Means, place_in}
+use Rattle.states.specs.declared.known.Mode.{Mode}
+use Rattle.states.specs.declared.known.Mode.TheVariants.{Starting}
+use Rattle.states.specs.State.{State}
+use Rattle.facts.specs.Meaning.{Layout, Words, words_in, words_left, word_of, Means, place_in}
+use Rattle.facts.specs.Reach.{may_write_parameter, may_read_parameter}
+use Rattle.facts.specs.Channels.{message_length}
+use Rattle.facts.specs.Remaining.{only_read, not_used, kind_left, end_left}
 
 -- the byte at a place is one of frame word k
 pub record IsByteOf (origin k : ℤ) (place : ℕ) : Type 0 where
   pub low : place_in origin k ≤ℤ pos place
   pub high : pos place <ℤ (place_in origin k +ℤ pos 4)
 
--- What an activation may reach: words of its frame, and what its parameters name.
+-- What an activation may reach: words of its frame, what its parameters name, and ends of channels, with the bytes of
+-- the messages of a channel, where it is known.
 pub record Scope : Type 0 where
   pub words : Words
   pub layout : Layout
-  pub parameters : List Parameter
+  pub parameters : ℕ → Option Parameter
   pub ends : EndKind → Direction → Bool
+  pub lengths : EndKind → Option ℕ
+
+-- what a parameter is to a context: a branch uses those so that its row names
+abbrev pub kind_used : Contents → ℕ → ℕ → ParameterKind → ParameterKind
+kind_used m context j kind =
+    if may_write_parameter m context j then kind
+    else if may_read_parameter m context j then only_read kind else not_used kind
+
+-- parameter j, as a context uses it
+abbrev pub parameter_used : Contents → ℕ → ℕ → Option Parameter
+parameter_used m context j =
+    option_map (λ (p : Parameter). record p { kind = kind_used m context j p.kind })
+    (slice_get (parameters_at m context) j)
 
 -- the scope of an activation of a context
 abbrev pub scope_of : Contents → ℕ → Layout → Scope
 scope_of m context layout = record {
   words = words_in m context;
   layout = layout;
-  parameters = parameters_at m context;
+  parameters = parameter_used m context;
   ends = λ kind direction. rights.has_end m context (record { kind = kind; direction = direction });
+  lengths = message_length m context;
 }
+
+-- a channel of a PAR has the length that its row says, whatever the word is around it
+abbrev pub length_left : Contents → Par → ℕ → EndKind → Option ℕ
+length_left m par context (kinds.FrameWord word) = elim (rights.listed_length par.channels word) [
+  | Some len ↦ Some len
+  | None ↦ message_length m context (kinds.FrameWord word)
+]
+length_left m par context kind = message_length m context kind
+
+-- what the opener of a PAR has left, once so many branches are started
+abbrev pub scope_left : Contents → Par → ℕ → ℕ → Layout → Scope
+scope_left m par context started layout = record {
+  words = words_left m par context started;
+  layout = layout;
+  parameters = λ j. option_map (λ (p : Parameter). record p { kind = kind_left par started j p.kind })
+      (parameter_used m context j);
+  ends = end_left m par context started;
+  lengths = length_left m par context;
+}
+
+-- the scope of an activation in a mode: among the starts of a PAR what its opener has left
+abbrev pub scope_among : Contents → ℕ → Mode → Layout → Scope
+scope_among m context (Starting row started) layout = elim (slice_get m.pars row) [
+  | None ↦ scope_of m context layout
+  | Some par ↦ scope_left m par context started layout
+]
+scope_among m context mode layout = scope_of m context layout
+
+-- the scope of an activation in a state
+abbrev pub scope_in : Contents → State → Layout → Scope
+scope_in m s layout = scope_among m s.context s.mode layout
 
 -- ---- what parameters name
 
@@ -98,15 +150,14 @@ pub record HasBytes (h : Holding) (memory : Memory) : Type 0 where
   pub each : (place b : ℕ) → may_read h place ≡ true → byte_at memory place ≡ Some b → b < 256
 
 -- The process holds what each parameter of the scope names, the constants, and the ends of the scope. No byte of a
--- region
--- that is written is one of another parameter's region. The frame lies at a multiple of 4, and the activation returns
--- into
--- the code.
+-- region that is written is one of another parameter's region. The frame lies at a multiple of 4, and the activation
+-- returns into the code. A channel of which the scope has an end has messages of the length that is known, and one name
+-- for that end.
 pub record HoldsNamed (m : Contents) (h : Holding) (scope : Scope) (memory : Memory) : Type 0 where
-  pub each : (j : ℕ) (p : Parameter) → slice_get scope.parameters j ≡ Some p
+  pub each : (j : ℕ) (p : Parameter) → scope.parameters j ≡ Some p
       → IsNamed m h scope memory p.kind (scope.layout.starts j)
-  pub apart : (j k : ℕ) (p q : Parameter) → slice_get scope.parameters j ≡ Some p
-      → slice_get scope.parameters k ≡ Some q → (j ≡ k → ⊥) → (place : ℕ)
+  pub apart : (j k : ℕ) (p q : Parameter) → scope.parameters j ≡ Some p
+      → scope.parameters k ≡ Some q → (j ≡ k → ⊥) → (place : ℕ)
       → IsWrittenAt p.kind (scope.layout.starts j) place → IsNamedAt q.kind (scope.layout.starts k) place → ⊥
   pub constants : HasConstants m h memory
   pub bytes : HasBytes h memory
@@ -114,11 +165,15 @@ pub record HoldsNamed (m : Contents) (h : Holding) (scope : Scope) (memory : Mem
   pub ends : (kind : EndKind) (direction : Direction) → scope.ends kind direction ≡ true
       → has_end h (record { address = channel_address scope.layout kind; direction = direction }) ≡ true
   pub back : scope.layout.back < length m.code
+  pub lengths : (kind : EndKind) (direction : Direction) → scope.ends kind direction ≡ true
+      → scope.lengths kind ≡ Some (scope.layout.lengths (channel_address scope.layout kind))
+  pub differ : (a b : EndKind) (direction : Direction) → scope.ends a direction ≡ true
+      → scope.ends b direction ≡ true → channel_address scope.layout a ≡ channel_address scope.layout b → a ≡ b
 
 -- The activation may change the byte at a place.
 pub data MayChange (scope : Scope) (place : ℕ) : Type 0 where
   in_frame : (k : ℤ) → scope.words.writes k ≡ true → IsByteOf scope.layout.origin k place → MayChange scope place
-  in_region : (j : ℕ) (p : Parameter) → slice_get scope.parameters j ≡ Some p
+  in_region : (j : ℕ) (p : Parameter) → scope.parameters j ≡ Some p
       → IsWrittenAt p.kind (scope.layout.starts j) place → MayChange scope place
 
 -- What steps of an activation leave of memory: of the bytes that the process may read only those have changed that the

@@ -1,6 +1,6 @@
 -- Where a rule leads, and the tests and changes of states that rules are made of. The tests are in rising order of the
 -- numbers of rules.
-use Rattle.std.specs.Prelude.{ℕ, ◌-◌, nat_lt, if◌then◌else◌, ℤ, pos, negsuc, ◌+ℤ◌, Option, Some}
+use Rattle.std.specs.Prelude.{ℕ, ◌-◌, nat_lt, if◌then◌else◌, ℤ, pos, negsuc, ◌+ℤ◌, List, [], ◌∷◌, Option, Some}
 use Rattle.std.specs.Prelude.{None, Ok, Err}
 use Rattle.module_format.specs.Rows.{Fact}
 use Rattle.module_format.specs.declared.fact.Fact.TheVariants.{Unknown}
@@ -26,6 +26,11 @@ pub data Ruling : Type 0 where
   -- it calls the procedure that begins at this offset, and goes on after the instruction in this state, once that has
   -- returned
   calls : ℕ → State → Ruling
+  -- it starts the branch at the first of these offsets, and goes on after the instruction in this state; where it is
+  -- the first branch of a PAR, the second one is the offset after the PAR
+  starts : State → List ℕ → Ruling
+  -- it goes on at one of the labels at these offsets, and nothing falls through
+  selects : List ℕ → Ruling
   -- it returns to where it was called
   returns : Ruling
   -- it stops
@@ -39,19 +44,23 @@ falling (falls s) = Some s
 falling (leads to) = None
 falling (falls_or_leads s to) = Some s
 falling (calls to s) = Some s
+falling (starts s labels) = Some s
+falling (selects labels) = None
 falling returns = None
 falling ends = None
 falling (breaks broken) = None
 
--- the offset of the label at which a ruling lets the process go on
-abbrev pub leading : Ruling → Option ℕ
-leading (falls s) = None
-leading (leads to) = Some to
-leading (falls_or_leads s to) = Some to
-leading (calls to s) = None
-leading returns = None
-leading ends = None
-leading (breaks broken) = None
+-- the offsets of the labels whose states a ruling lets a process go on in
+abbrev pub leading : Ruling → List ℕ
+leading (falls s) = []
+leading (leads to) = to ∷ []
+leading (falls_or_leads s to) = to ∷ []
+leading (calls to s) = []
+leading (starts s labels) = labels
+leading (selects labels) = labels
+leading returns = []
+leading ends = []
+leading (breaks broken) = []
 
 -- the place of an instruction: the module, and the offset and the bytes of the instruction
 pub record Site : Type 0 where

@@ -1,6 +1,7 @@
 -- What follows an instruction, in terms of its ruling.
 use Rattle.std.specs.Prelude.{◌≡◌, ◌⊎◌, ℕ, ◌+◌, ◌%◌, ◌^◌, Bool, true, false, IfSome, Result, Ok, Err}
-use Rattle.std.specs.Prelude.{Option, option_map, option_and_then}
+use Rattle.std.specs.Prelude.{Some, None, option_map, List, [], ◌∷◌, map}
+use Rattle.std.specs.List.{AllByRecursion}
 use Rattle.module_format.specs.Contents.{Contents, label_at}
 use Rattle.states.specs.declared.rule.Rule.{Rule}
 use Rattle.states.specs.declared.rule.RuleFault.{RuleFault}
@@ -25,19 +26,23 @@ abbrev pub offset_behind : ℕ → ℕ → ℕ
 offset_behind at length = (at + length) % 2 ^ 32
 
 -- the offset of a successor, and its state
-abbrev pub placed : Option Successor → Option (ℕ × State)
-placed = option_map (λ s. (s.at, state_of s.state))
+abbrev pub placed_at : Successor → ℕ × State
+placed_at s = (s.at, state_of s.state)
 
--- the state of the label at an offset, and that offset
-abbrev pub state_at_label : Contents → ℕ → Option (ℕ × State)
-state_at_label m to = option_map (λ t. (to, label_state t)) (label_at m to)
+-- the states of the labels at these offsets, each with its offset
+abbrev pub states_at_labels : Contents → List ℕ → List (ℕ × State)
+states_at_labels m [] = []
+states_at_labels m (to ∷ rest) = elim (label_at m to) [
+  | None ↦ states_at_labels m rest
+  | Some t ↦ (to, label_state t) ∷ states_at_labels m rest
+]
 
 -- The states that follow are those of a ruling that breaks no rule: the one that falls through, at this offset, and
--- that of the label to which it leads.
+-- those of the labels to which it leads, in their order.
 pub record AreOf (m : Contents) (next : ℕ) (successors : Successors) (ruling : Ruling) : Type 0 where
   pub obeyed : obeys ruling ≡ true
-  pub behind : placed successors.behind ≡ option_map (λ s. (next, s)) (falling ruling)
-  pub at_label : placed successors.at_label ≡ option_and_then (state_at_label m) (leading ruling)
+  pub behind : option_map placed_at successors.behind ≡ option_map (λ s. (next, s)) (falling ruling)
+  pub labels : map placed_at successors.labels.items ≡ states_at_labels m (leading ruling)
 
 -- the states that follow are those of the ruling, unless memory ran out
 abbrev pub Succeeds : Contents → ℕ → Result Successors RuleFault → Ruling → Type 0
@@ -47,4 +52,4 @@ Succeeds m next (Err fault) ruling = (fault ≡ out_of_memory) ⊎ Reports fault
 -- a state that follows is one of the module
 pub record Follow (m : Contents) (successors : Successors) : Type 0 where
   pub behind : IfSome successors.behind (λ s. BelongsTo m s.state)
-  pub at_label : IfSome successors.at_label (λ s. BelongsTo m s.state)
+  pub labels : AllByRecursion (λ (s : Successor). BelongsTo m s.state) successors.labels.items

@@ -1,16 +1,18 @@
 //! The states that follow an instruction.
 
-ghost use Rattle.std.specs.Prelude.{◌≡◌, ◌+◌, IfSome, IfOk};
+ghost use Rattle.std.specs.Prelude.{◌≡◌, ◌+◌, [], ◌∷◌, map, IfOk, IfErr};
+ghost use Rattle.std.specs.List.{AllByRecursion};
 ghost use Rattle.module_format.specs.Contents.{Contents};
 ghost use Rattle.states.specs.Views.{state_of, BelongsTo};
 ghost use Rattle.facts.specs.Rules.{rule_at};
-ghost use Rattle.facts.specs.Successions.{placed, offset_behind, state_at_label, Succeeds, Follow};
+ghost use Rattle.states.specs.Numbers.{out_of_memory};
+ghost use Rattle.facts.specs.Successions.{placed_at, states_at_labels, offset_behind, Succeeds, Follow};
 
 use crate::advancing::advance;
 use crate::continuation::Continuation;
 use certificate::Module;
 use prefix_decoder::Instr;
-use states::{RuleFault, State};
+use states::{RuleFault, State, label_rows_are_sound};
 use std::alloc::Global;
 
 /// A state that follows an instruction, and the code offset where it holds.
@@ -25,8 +27,8 @@ pub struct Successor<'a> {
 pub struct Successors<'a> {
     /// The state that falls through, behind the instruction; of a call, once the procedure has returned.
     pub behind: Option<Successor<'a>>,
-    /// The state of the label at which the process may go on.
-    pub at_label: Option<Successor<'a>>,
+    /// The states of the labels at which it may go on, in their order.
+    pub labels: Vec<Successor<'a>>,
 }
 
 /// The offset behind an instruction. Code offsets have 32 bits.
@@ -36,15 +38,25 @@ fn offset_behind(at: usize, len: usize) -> u32
     ((at as u128 + len as u128) % (1 << 32)) as u32
 }
 
-/// The state of the label at a code offset, made in place of another one.
-fn at_label<'a>(mut state: State<'a>, module: &'a Module<'a>, to: u32) -> Option<Successor<'a>>
+/// The state of the label at a code offset, made in place of another one, if there is a label.
+fn label_at<'a>(
+    alloc: Global,
+    mut state: State<'a>,
+    module: &'a Module<'a>,
+    to: u32,
+) -> Result<Vec<Successor<'a>>, RuleFault>
     requires { BelongsTo «module».now state }
-    ensures state { placed result ≡ state_at_label «module».now to }
-    ensures belongs { IfSome result (λ s. BelongsTo «module».now s.state) }
+    ensures states { IfOk result (λ labels. map placed_at labels.items ≡ states_at_labels «module».now (to ∷ [])) }
+    ensures belong { IfOk result (λ labels. AllByRecursion (λ s. BelongsTo «module».now s.state) labels.items) }
+    ensures memory { IfErr result (λ fault. fault ≡ out_of_memory) }
 {
-    let row = module.label_at(to)?;
-    state.become_label(module, row);
-    Some(Successor { at: to, state })
+    label_rows_are_sound();
+    let mut labels = Vec::new(alloc);
+    if let Some(row) = module.label_at(to) {
+        state.become_label(module, row);
+        labels.push(Successor { at: to, state })?;
+    }
+    Ok(labels)
 }
 
 /// The states that follow the instruction at a code offset, by the rule of that instruction, each with its
@@ -69,19 +81,19 @@ pub fn transfer<'a>(
     match continuation {
         Continuation::Falls | Continuation::Calls { .. } => Ok(Successors {
             behind: Some(Successor { at: next, state }),
-            at_label: None,
+            labels: Vec::new(alloc),
         }),
         Continuation::Leads { to } => Ok(Successors {
             behind: None,
-            at_label: at_label(state, module, to),
+            labels: label_at(alloc, state, module, to)?,
         }),
         Continuation::FallsOrLeads { to } => Ok(Successors {
-            at_label: at_label(state.copy(alloc)?, module, to),
+            labels: label_at(alloc, state.copy(alloc)?, module, to)?,
             behind: Some(Successor { at: next, state }),
         }),
         Continuation::Returns | Continuation::Ends => Ok(Successors {
             behind: None,
-            at_label: None,
+            labels: Vec::new(alloc),
         }),
     }
 }

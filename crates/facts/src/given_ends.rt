@@ -8,7 +8,8 @@ impl Calling<'_, '_, '_, '_> {
     ghost use Rattle.std.specs.Prelude.{◌≡◌, ℕ, true};
     ghost use Rattle.module_format.specs.Contents.{link_length};
     ghost use Rattle.module_format.specs.Keeping.{Keeps};
-    ghost use Rattle.facts.specs.CallRules.{further, all_below, holds_ends, ends_are_held, message_length, lengths_fit};
+    ghost use Rattle.facts.specs.Channels.{message_length};
+    ghost use Rattle.facts.specs.CallRules.{further, all_below, holds_ends, ends_are_held, lengths_fit};
     ghost use Rattle.facts.specs.CallRules.{give_other_ends};
     ghost use Rattle.facts.specs.Callings.{calling_of, has_end_further, HasAllBefore, has_length_further};
     ghost use Rattle.facts.specs.Callings.{length_of_parameter};

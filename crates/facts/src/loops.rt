@@ -12,7 +12,7 @@ use crate::combinators::{outside_alternation, outside_starts, uses};
 use crate::continuation::Continuation;
 use crate::place::Place;
 use certificate::{Fact, LabelRow, Stack};
-use states::{Known, Loop, Rule, State, WordFact, compare};
+use states::{Known, Loop, Rule, State, WordFact, compare, label_rows_are_sound};
 
 /// The block of a loop: two words of the frame, its index and, behind it, its count.
 #[derive(Clone, Copy)]
@@ -153,6 +153,7 @@ impl Place<'_, '_> {
         if to as usize > self.at {
             return None;
         }
+        label_rows_are_sound();
         Some((to, self.module.label_at(to)?))
     }
 

@@ -4,7 +4,7 @@ use crate::combinators::{Check, alone, forward, outside_alternation, outside_sta
 use crate::continuation::Continuation;
 use certificate::{Fact, Module, Stack, Step};
 use machine_state::Op;
-use states::{Known, Rule, State, cost_below};
+use states::{Known, Rule, State, cost_below, label_rows_are_sound};
 
 /// The place of an instruction: its module, its offset and its bytes. The functions of a place are the rules
 /// there. Where a rule is broken, the state is left part of the way.
@@ -125,6 +125,7 @@ impl Place<'_, '_> {
     {
         match self.module.label_at(to) {
             Some(row) => {
+                label_rows_are_sound();
                 cost_below(state, row)?;
                 Ok(())
             }

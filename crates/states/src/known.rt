@@ -142,6 +142,8 @@ pub enum GuardName {
 pub struct Guard {
     pub kind: GuardKind,
     pub name: GuardName,
+    /// Once the guard is disabled, how far after `altend` the process goes on if it is selected.
+    pub exit: Option<i32>,
 }
 
 /// What a state is in the middle of.

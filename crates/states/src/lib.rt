@@ -8,6 +8,7 @@ mod frame_spans;
 mod implication;
 mod intervals;
 mod known;
+mod laws;
 mod overlay;
 mod row;
 mod rule;
@@ -17,6 +18,7 @@ mod state;
 pub use comparison::{below, compare, cost_below};
 pub use implication::{implies, says};
 pub use known::{Guard, GuardKind, GuardName, Known, Loop, Mode, Source, WordFact};
+pub use laws::label_rows_are_sound;
 pub use rule::{
     ALTERNATION, BUDGET, CALL, CHANNEL, FLOW, FORWARD, INSTRUCTION_START, LABEL, MEMORY,
     MESSAGE_LENGTH, NUMBER, OWN_WORD, PAR, POINTER, REGIONS_MEET, Rule, RuleFault, SPELLING,

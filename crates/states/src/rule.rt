@@ -1,6 +1,6 @@
 //! The rules that a certificate can break, and the numbers by which they are reported.
 
-use std::alloc::AllocError;
+use std::alloc::{AllocError, AllocFailed};
 
 /// A rule that a certificate can break. Running out of memory breaks none.
 #[derive(Clone, Copy, Debug, PartialEq, Eq)]
@@ -78,6 +78,17 @@ impl From<AllocError> for RuleFault {
     ghost from_gives = { λ _ fault. fault ≡ out_of_memory };
 
     fn from(_error: AllocError) -> RuleFault {
+        RuleFault { number: MEMORY }
+    }
+}
+
+impl<T: Drop> From<AllocFailed<T>> for RuleFault {
+    ghost use Rattle.std.specs.Prelude.{◌≡◌};
+    ghost use Rattle.states.specs.Numbers.{out_of_memory};
+
+    ghost from_gives = { λ _ fault. fault ≡ out_of_memory };
+
+    fn from(_error: AllocFailed<T>) -> RuleFault {
         RuleFault { number: MEMORY }
     }
 }

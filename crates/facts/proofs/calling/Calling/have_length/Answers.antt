@@ -1,6 +1,7 @@
 use Rattle.std.proofs.Common.{◌≡◌, ◌∙◌, ℕ, ◌+◌, ◌<◌, true, sym, ap, arith}
 use Rattle.module_format.specs.declared.rows.EndKind.{EndKind}
-use Rattle.facts.specs.CallRules.{further, is_length, message_length}
+use Rattle.facts.specs.Channels.{message_length}
+use Rattle.facts.specs.CallRules.{further, is_length}
 use Rattle.facts.specs.Callings.{has_length_further}
 use Rattle.facts.proofs.EndNumbers.{all_from, one_fails, one_length}
 use Rattle.facts.proofs.calling.Calling.have_length.Goals.{in-Parameter, in_default}

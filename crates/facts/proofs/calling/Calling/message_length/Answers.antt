@@ -1,7 +1,8 @@
 use Rattle.std.proofs.Common.{rules, ◌∙◌, sym, ap, arith, ◌+ℤ◌, pos}
 use Rattle.std.proofs.lemmas.Int.{ints}
 use Rattle.module_format.specs.declared.rows.EndKind.{EndKind}
-use Rattle.facts.specs.CallRules.{further, message_length}
+use Rattle.facts.specs.Channels.{message_length}
+use Rattle.facts.specs.CallRules.{further}
 use Rattle.facts.proofs.EndNumbers.{far_channel, above_by}
 use Rattle.facts.proofs.calling.Calling.message_length.Goals as goal
 

@@ -1,14 +1,13 @@
 use Rattle.module_format.specs.Contents.{label_of}
 use Rattle.std.proofs.lemmas.Result.{err_from_is_err_and}
 use Rattle.states.specs.Views.{state_of}
-use Rattle.states.proofs.LabelRows.{label_row_at}
 use Rattle.facts.specs.Places.{site_of}
 use Rattle.facts.proofs.Steps.{forks-on, forks-nowhere}
 use Rattle.facts.proofs.place.Place.forks_to.Goals as goal
 
 pub cost_below-requires : goal.cost_below-requires
 cost_below-requires c =
-    (label_row_at c.args.self.now.module.now c.args.to (label_of c.in-Some.row.now) c.requires c.in-Some.ensures).apart
+    (c.label_rows_are_sound.ensures.at_offsets c.args.self.now.module.now c.args.to (label_of c.in-Some.row.now) c.requires c.in-Some.ensures).apart
 
 pub returns-in_err-cost_below-in-Some : goal.returns-in_err-cost_below-in-Some
 returns-in_err-cost_below-in-Some c =
