@@ -6,7 +6,7 @@ use Rattle.machine_state.specs.World.{World, loaded}
 use Rattle.machine_state.specs.Happens.{turn, run_from, world_after}
 
 module _ (m : Contents) where
-  run_further : (w : World) (es : List Event) (e : Event)
+  pub run_further : (w : World) (es : List Event) (e : Event)
       → run_from m w (es ++ e ∷ []) ≡ (turn m (run_from m w es) e).world
   run_further w [] e = refl
   run_further w (x ∷ es) e = run_further (turn m w x).world es e

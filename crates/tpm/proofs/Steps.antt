@@ -1,6 +1,6 @@
 -- What a plain Step can do, and what runs of them come to.
-use Rattle.std.proofs.Common.{◌≡◌, ◌≢◌, ℕ, ◌+◌, ◌-◌, ◌<◌, ◌≤◌, nat_le, Bool, true, false, List, [], ◌∷◌}
-use Rattle.std.proofs.Common.{◌++◌, Option, Some, None, is_some, Ok, Err, slice_get, replicate, refl, ap, sym, subst}
+use Rattle.std.proofs.Common.{◌≡◌, ◌≢◌, ℕ, zero, suc, ◌+◌, ◌-◌, ◌<◌, ◌≤◌, nat_le, Bool, true, false, List}
+use Rattle.std.proofs.Common.{Option, Some, None, is_some, Ok, Err, slice_get, replicate, refl, ap, sym, subst}
 use Rattle.std.proofs.Common.{◌∙◌, arith, cond, not, length, nat_lt, ℤ}
 use Rattle.std.proofs.lemmas.Bool.{leb-true}
 use Rattle.std.proofs.lemmas.List.{replicate_more}
@@ -26,6 +26,8 @@ use Rattle.machine_state.specs.Happens.{Effect, ran, idle, emitted, answered, He
 use Rattle.machine_state.specs.Happens.{failed, site_of, settled, prefix_turn, byte_turn, task_turn, step_turn}
 use Rattle.machine_state.specs.Happens.{most_executed}
 use Rattle.machine_state.proofs.EventLaws.{events_count_bytes, faults_are_kept}
+use Rattle.machine_state.proofs.EveryWorld.{run_further}
+use Rattle.machine_state.proofs.Waiting.{lines_are_ready}
 use Rattle.machine_state.specs.Endings as turns
 use Rattle.machine_state.proofs.Turns.{settled_ends}
 use Rattle.machine_state.specs.Endings.{Ends}
@@ -33,7 +35,8 @@ use Rattle.machine.specs.Asking.{Execution, is_running}
 use Rattle.machine.specs.Lending.{shown}
 use Rattle.verifier.specs.Certified.{IsCertified}
 use Rattle.verifier.specs.Invariant.{Holds}
-use Rattle.verifier.proofs.Start.{loaded_world_holds, event_keeps_holding}
+use Rattle.verifier.specs.Headline.{AreEvents}
+use Rattle.verifier.proofs.CertifiedRuns.{certified_run_holds}
 use Rattle.tpm.specs.Running.{plain_step, world_at}
 
 -- ---- one Step
@@ -180,59 +183,59 @@ not_idle effects.Ignored not = λ same. cc
 
 -- ---- runs of Steps
 
-run_more : (m : Contents) (w : World) (es : List Event) (e : Event)
-    → run_from m w (es ++ e ∷ []) ≡ happens m (run_from m w es) e
-run_more m w [] e = refl
-run_more m w (x ∷ es) e = run_more m (happens m w x) es e
-
 -- one more Step
 pub world_more : (m : Contents) (n : ℕ) → world_at m (n + 1) ≡ happens m (world_at m n) plain_step
-world_more m n = ap (λ (es : List Event). run_from m (loaded m) es) (sym (replicate_more n plain_step)) ∙ run_more m
+world_more m n = ap (λ (es : List Event). run_from m (loaded m) es) (sym (replicate_more n plain_step)) ∙ run_further m
     (loaded m) (replicate n plain_step) plain_step
 
--- The machine runs this module, is where some number of Steps leads, and the module's invariant holds there.
+plain_events : (n : ℕ) → AreEvents (replicate n plain_step)
+plain_events zero = tt
+plain_events (suc n) = (tt, plain_events n)
+
+-- the invariant holds after each number of Steps
+holds_at : (m : Contents) (n : ℕ) → Keeps m → IsCertified m → Holds m (world_at m n)
+holds_at m n keeps certified = certified_run_holds m (replicate n plain_step) keeps certified (plain_events n)
+
+-- The machine runs this module, and is where some number of Steps leads.
 pub record IsAt (m : Contents) (machine : Execution) : Type 0 where
   pub contents : machine.contents ≡ m
-  pub holds : Holds m machine.world
   pub count : ℕ
   pub world : machine.world ≡ world_at m count
 
-pub at_start : (m : Contents) (machine : Execution) → Keeps m → IsCertified m
-    → machine ≡ record { contents = m; world = loaded m } → IsAt m machine
-at_start m machine keeps certified is = record {
+pub at_start : (m : Contents) (machine : Execution) → machine ≡ record { contents = m; world = loaded m }
+    → IsAt m machine
+at_start m machine is = record {
   contents = ap (λ (x : Execution). x.contents) is;
-  holds = subst (λ (x : Execution). Holds m x.world) (sym is) (loaded_world_holds m keeps certified);
   count = 0;
   world = ap (λ (x : Execution). x.world) is;
 }
 
--- the invariant holds after one more Step
-holds_next : (m : Contents) (machine : Execution) → Keeps m → IsCertified m → IsAt m machine
-    → Holds m (happens machine.contents machine.world plain_step)
-holds_next m machine keeps certified at =
-    subst (λ (x : Contents). Holds m (happens x machine.world plain_step)) (sym at.contents)
-    (event_keeps_holding m plain_step machine.world keeps certified tt at.holds)
+-- where one more Step leads
+next_world : (m : Contents) (machine : Execution) → (at : IsAt m machine)
+    → happens machine.contents machine.world plain_step ≡ world_at m (at.count + 1)
+next_world m machine at =
+    ap (λ (x : Contents). happens x machine.world plain_step) at.contents
+    ∙ ap (λ (w : World). happens m w plain_step) at.world ∙ sym (world_more m at.count)
 
-pub at_next : (m : Contents) (machine later : Execution) → Keeps m → IsCertified m → IsAt m machine
-    → later.contents ≡ machine.contents → later.world ≡ happens machine.contents machine.world plain_step
-    → IsAt m later
-at_next m machine later keeps certified at same stepped = record {
+pub at_next : (m : Contents) (machine later : Execution) → IsAt m machine → later.contents ≡ machine.contents
+    → later.world ≡ happens machine.contents machine.world plain_step → IsAt m later
+at_next m machine later at same stepped = record {
   contents = same ∙ at.contents;
-  holds = subst (λ (w : World). Holds m w) (sym stepped) (holds_next m machine keeps certified at);
   count = at.count + 1;
-  world = stepped ∙ ap (λ (x : Contents). happens x machine.world plain_step) at.contents ∙ ap
-      (λ (w : World). happens m w plain_step) at.world
-      ∙ sym (world_more m at.count);
+  world = stepped ∙ next_world m machine at;
 }
 
--- where the invariant holds, no more is executed than the budget
-pub within : (m : Contents) (machine : Execution) → IsAt m machine → machine.world.counters.executed ≤ m.budget
-within m machine at = omega (arith, at.holds.owed)
+-- no more is executed than the budget
+pub within : (m : Contents) (machine : Execution) → Keeps m → IsCertified m → IsAt m machine
+    → machine.world.counters.executed ≤ m.budget
+within m machine keeps certified at = subst (λ (w : World). w.counters.executed ≤ m.budget) (sym at.world)
+    (let owed = (holds_at m at.count keeps certified).owed in omega arith)
 
 -- and the next Step meets no fault
 pub none_next : (m : Contents) (machine : Execution) → Keeps m → IsCertified m → IsAt m machine
     → (happens machine.contents machine.world plain_step).fault ≡ None
-none_next m machine keeps certified at = (holds_next m machine keeps certified at).well
+none_next m machine keeps certified at =
+    ap (λ (w : World). w.fault) (next_world m machine at) ∙ (holds_at m (at.count + 1) keeps certified).well
 
 -- what is not, is
 pub not_both : (b : Bool) → b ≡ true → not b ≡ true → ⊥
@@ -260,9 +263,14 @@ pub idle_ends : (m : Contents) (machine later : Execution) → IsAt m machine
 idle_ends m machine later at stepped small told =
     ap is_running (idle_count m machine later at.contents stepped told)
     ∙ ap is_some (nobody_runs machine.world (turn machine.contents machine.world plain_step)
-    (steps machine.contents machine.world) told at.holds.line small)
+    (steps machine.contents machine.world) told
+    (subst (λ (w : World). Line w.tasks w.queue) (sym at.world) (lines_are_ready m (replicate at.count plain_step)))
+    small)
 
 -- no run of a module that keeps the format comes near the greatest count
-pub small : (m : Contents) (machine : Execution) → Keeps m → IsAt m machine
+pub small : (m : Contents) (machine : Execution) → Keeps m → IsCertified m → IsAt m machine
     → machine.world.counters.executed < most_executed
-small m machine keeps at = let low = within m machine at in let most = keeps.bounds.budget in omega arith
+small m machine keeps certified at =
+    let low = within m machine keeps certified at in
+    let most = keeps.bounds.budget in
+    omega arith

@@ -16,7 +16,8 @@ use Rattle.states.specs.declared.rule.Rule.{Rule}
 use Rattle.states.specs.declared.rule.Rule.TheVariants as rules
 use Rattle.states.specs.Numbers.{number_of}
 use Rattle.states.specs.State.{State, root_state}
-use Rattle.facts.specs.Rulings.{Ruling, falls, leads, falls_or_leads, calls, returns, ends, breaks, falling}
+use Rattle.facts.specs.Rulings.{Ruling, falls, leads, falls_or_leads, calls, starts, selects, returns, ends, breaks}
+use Rattle.facts.specs.Rulings.{falling}
 use Rattle.facts.specs.Rules.{rule_at, has_rule}
 use Rattle.facts.proofs.Steps.{unruled as breaks_one}
 use Rattle.verifier.specs.declared.stop.Breach.{Breach}
@@ -91,6 +92,8 @@ decides : (r : Ruling) → Decides r
 decides (falls s) = goes_on (λ v e. cc) (λ cost. refl) (λ u. refl)
 decides (leads to) = goes_on (λ v e. cc) (λ cost. refl) (λ u. refl)
 decides (falls_or_leads s to) = goes_on (λ v e. cc) (λ cost. refl) (λ u. refl)
+decides (starts s labels) = goes_on (λ v e. cc) (λ cost. refl) (λ u. refl)
+decides (selects labels) = goes_on (λ v e. cc) (λ cost. refl) (λ u. refl)
 decides (calls to s) = goes_on (λ v e. cc) (λ cost. refl) (λ u. refl)
 decides returns = goes_on (λ v e. cc) (λ cost. refl) (λ u. refl)
 decides ends = goes_on (λ v e. cc) (λ cost. refl) (λ u. refl)

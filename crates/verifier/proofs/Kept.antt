@@ -10,11 +10,9 @@ use Rattle.std.specs.Str.{bytes_eq}
 use Rattle.prefix_decoder.specs.Spelling.{spelling}
 use Rattle.prefix_decoder.specs.Fetching.{read, checked, fetched, StandsAt}
 use Rattle.prefix_decoder.proofs.Outcomes.{fetched-found, StandsAt-length}
-use Rattle.std.proofs.Common.{ℕ, zero, suc, ◌+◌, ◌≢◌, Option, None, refl}
-use Rattle.std.specs.Prelude.{slice_get}
+use Rattle.std.proofs.Common.{ℕ, ◌+◌, ◌≢◌, Option, None, refl}
 use Rattle.std.specs.List.{AllByRecursion}
 use Rattle.certificate.specs.Starts.{Entered, procedure_from, procedure_at}
-use Rattle.module_format.specs.Procedures.{ProcedureKeeps, behind_procedure}
 use Rattle.module_format.specs.Contents.{Contents, Procedure, Label, label_at}
 use Rattle.module_format.specs.Order.{InOrder}
 use Rattle.module_format.specs.Facts.{LabelKeeps, behind_label}

@@ -4,9 +4,15 @@ pub mod Reporting
 pub mod RowsLeft
 pub mod Passing
 pub mod Steps
-pub mod Worlds
+pub mod Tables
+pub mod LawfulWorlds
+pub mod Rousing
+pub mod Arrivals
+pub mod Instructions
+pub mod EventsKeepInvariant
 pub mod RootHolds
 pub mod RootEnds
 pub mod Start
 pub mod Kept
+pub mod CertifiedRuns
 pub mod Examples

@@ -1,49 +1,44 @@
--- The loaded world, and the headline.
+-- The invariant holds of the loaded world.
 use Rattle.std.proofs.Common.{◌≡◌, ℕ, zero, suc, ◌+◌, ◌*◌, ◌≤◌, ◌<◌, ◌≤ℤ◌, ◌<ℤ◌, ◌+ℤ◌, ◌-ℤ◌, neg_ℤ, Bool, true, false}
 use Rattle.std.proofs.Common.{if◌then◌else◌, ltb, ◌&&◌, ◌||◌, ℤ, pos, negsuc, List, [], ◌∷◌, length, replicate, Some}
 use Rattle.std.proofs.Common.{Option, None, refl, sym, ap, ◌∙◌, subst, arith}
 use Rattle.std.proofs.lemmas.List.{length-append, length-map, length-replicate}
 use Rattle.std.proofs.lemmas.Bool.{le-leb}
 use Rattle.std.proofs.lemmas.Int.{ints}
-use Rattle.std.specs.Prelude.{slice_get, int_le, int_lt}
+use Rattle.std.specs.Prelude.{slice_get, int_le, int_lt, option_map, ◌-◌, ◌/◌, ◌%◌}
 use Rattle.module_format.specs.declared.contexts.Context.{Context}
-use Rattle.module_format.specs.Contents.{Contents, Par}
+use Rattle.module_format.specs.Contents.{Contents, Par, link_length}
 use Rattle.certificate.specs.Rights.{has_word}
 use Rattle.module_format.specs.Contexts.{root_context, own_context, branch_count, owner, context_at, own_parameters}
 use Rattle.module_format.specs.Contexts.{parameters_at}
 use Rattle.machine_state.specs.declared.process.Mode.TheVariants as machine_modes
-use Rattle.machine_state.specs.declared.link.InputLink.{InputLink}
-use Rattle.machine_state.specs.declared.link.OutputLink.{OutputLink}
 use Rattle.machine_state.specs.Memory.{data_start}
-use Rattle.machine_state.specs.Holding.{may_write, may_write_word}
-use Rattle.machine_state.specs.World.{Role, padding, loaded_memory, root_holding, root_task, root_role, quiet_links}
-use Rattle.machine_state.specs.World.{World, loaded}
+use Rattle.machine_state.specs.Holding.{may_write, may_write_word, has_end}
+use Rattle.machine_state.specs.World.{padding, loaded_memory, root_holding, root_task, root_role}
+use Rattle.machine_state.specs.World.{Role, loaded, link_words, quiet_links}
 use Rattle.machine_state.specs.Site.{Local}
 use Rattle.states.specs.State.{unknown, root_state}
 use Rattle.verifier.specs.Certified.{begins, IsCertified}
-use Rattle.facts.specs.Meaning.{owed, Activation, means_unknown, nothing_known, place_in, IsOwnWord, words_of, HasFrame}
+use Rattle.facts.specs.Meaning.{owed, Activation, means_unknown, nothing_known, place_in, IsOwnWord, words_in, HasFrame}
 use Rattle.facts.specs.Meaning.{frame_lo, frame_hi}
 use Rattle.facts.specs.Meaning.{from_nowhere}
 use Rattle.facts.specs.Meaning.{MeansKnown, both_plain, IsWellFormed}
-use Rattle.verifier.specs.Point.{Behind, nobody_waits, owed_behind, Decodes}
+use Rattle.verifier.specs.Point.{Began, Behind, nobody_waits, owed_behind, Decodes}
+use Rattle.verifier.specs.Lives.{Meets, it_lives}
+use Rattle.verifier.proofs.Tables.{IsSound, AreBytes, quietly}
+use Rattle.facts.specs.Regions.{kind_used, parameter_used}
+use Rattle.machine_state.specs.declared.process.Task.{Task}
+use Rattle.machine_state.specs.declared.link.InputLink.{InputLink}
 use Rattle.module_format.specs.declared.rows.Parameter.{Parameter}
-use Rattle.machine_state.specs.Apart.{AllApart}
-use Rattle.verifier.specs.Invariant.{Meets, it_lives, Holds}
-use Rattle.machine_state.specs.Waiting.{Waiters}
-use Rattle.machine_state.specs.declared.event.Event.{Event}
-use Rattle.machine_state.specs.Happens.{happens}
-use Rattle.module_format.specs.Keeping.{Keeps}
-use Rattle.verifier.specs.Headline.{IsEvent, RunsWell}
+use Rattle.verifier.specs.Invariant.{LengthsAgree, at_link}
 use Rattle.verifier.proofs.RootHolds.{root_constants, root_bytes}
-use Rattle.verifier.proofs.RootEnds.{root_ends}
-use Rattle.verifier.proofs.Kept.{decodes, well_formed}
+use Rattle.verifier.proofs.RootEnds.{root_ends, root_lengths, root_differ, held_link}
 use Rattle.facts.specs.Fitting.{After}
 use Rattle.facts.proofs.Addresses.{stepped}
 use Rattle.facts.proofs.Dues.{nothing_due}
 use Rattle.facts.proofs.Combining.{readable}
 use Rattle.states.proofs.RowFacts.{and-parts, le-from, lt-from}
 use Rattle.verifier.proofs.Steps.{enter, lives_at}
-use Rattle.verifier.proofs.Worlds.{happens_holds, run_holds}
 
 -- no branch comes before the root
 owner_of_root : (first : ℕ) (rows : List Par) → 0 < first → owner first rows 0 ≡ 0
@@ -126,7 +121,7 @@ root_hi : (m : Contents) → frame_hi m 0 ≡ pos m.data_words -ℤ pos m.base
 root_hi m = ap (λ (c : Option Context). elim c as (λ c. ℤ) [ None ↦ pos 0 | Some context ↦ context.hi ]) (root_is m)
 
 root_frame : (m : Contents) → IsWellFormed m
-    → HasFrame (root_holding m) (length (loaded_memory m)) (words_of m (root_state m)) (pos (4 * m.base)) (pos 0)
+    → HasFrame (root_holding m) (length (loaded_memory m)) (words_in m 0) (pos (4 * m.base)) (pos 0)
     (data_start + 4 * m.base)
 root_frame m wf = record {
   small = rw (memory_length m) (omega (arith, wf.few_words, wf.short_code, wf.few_constants));
@@ -145,56 +140,43 @@ only : {A : Type 0} (x y : A) (p : ℕ) → slice_get (x ∷ []) p ≡ Some y �
 only x y zero h = (refl, cc)
 only x y (suc p) h = absurd (cc)
 
--- in a list of equals
-equal_at : {A : Type 0} (n : ℕ) (x y : A) (p : ℕ) → slice_get (replicate n x) p ≡ Some y → x ≡ y
-equal_at zero x y p h = absurd (cc)
-equal_at (suc n) x y zero h = cc
-equal_at (suc n) x y (suc p) h = equal_at n x y p h
-
-root_apart : (m : Contents) → AllApart (root_role m ∷ []) (replicate m.data_words None)
-root_apart m = record {
-  processes = λ p q r s differ a b. let x = only (root_role m) r p a in let y =
-      only (root_role m) s q b in absurd (differ (x.0 ∙ sym y.0));
-  blocks = λ p q r s join a opened b.
-      let x = only (root_role m) r p a in
-      let no' : None ≡ Some join = ap (λ (role : Role). role.opened) x.1 ∙ opened in
-      absurd (cc);
-  channel_words = λ k q channel s a b. let no' : None ≡ Some channel =
-      equal_at m.data_words None (Some channel) k a in absurd (cc);
-  blocks_once = λ p q r s a b differ x y open_a open_b. let u = only (root_role m) r p x in let v =
-      only (root_role m) s q y in absurd (differ (u.0 ∙ sym v.0));
-  both_once = λ p k r join channel x opened y. let no' : None ≡ Some channel =
-      equal_at m.data_words None (Some channel) k y in absurd (cc);
-}
-
-no_waiters : (m : Contents) → Waiters (root_task m ∷ []) quiet_links
-no_waiters m = record {
-  inputs = λ k l q a b.
-      let quiet : InputLink = record { kept = None; waiting = None; enabled = None } in
-      let same : quiet ≡ l = equal_at 4 quiet l k a in
-      let no' : None ≡ Some q = ap (λ (x : InputLink). x.waiting) same ∙ b in
-      absurd (cc);
-  outputs = λ k l q a b.
-      let quiet : OutputLink = record { waiting = None } in
-      let same : quiet ≡ l = equal_at 4 quiet l k a in
-      let no' : None ≡ Some q = ap (λ (x : OutputLink). x.waiting) same ∙ b in
-      absurd (cc);
-}
-
 module _ (m : Contents) (d : Decodes m) (wf : IsWellFormed m) (c : IsCertified m) where
   abbrev root_local : Local
   root_local = record { registers = (root_task m).registers; memory = loaded_memory m }
 
-  -- the root has no parameters, returns nowhere, and is in no loop
+  -- the root has no parameters, returns nowhere, is in no loop, and knows how long messages on links are
   abbrev root_activation : Activation
   root_activation = record {
-    layout = record { origin = pos (4 * m.base); starts = λ j. 0; back = 0 };
+    layout = record {
+      origin = pos (4 * m.base);
+      starts = λ j. 0;
+      back = 0;
+      lengths = λ address. link_length m ((address - link_words) / 4);
+    };
     turns = λ k. 0;
   }
 
   -- nothing is known of a register
-  nothing_there : MeansKnown m (words_of m (root_state m)).reads root_activation.layout (loaded_memory m) unknown None
+  nothing_there : MeansKnown m (words_in m 0).reads root_activation.layout (loaded_memory m) unknown None
   nothing_there = record { fact = means_unknown m root_activation.layout None; source = from_nowhere }
+
+  no_parameter : (j : ℕ) (p : Parameter) → parameter_used m 0 j ≡ Some p → ⊥
+  no_parameter j p found = none_at j p (sym (ap (λ (ps : List Parameter).
+      option_map (λ (q : Parameter). record q { kind = kind_used m 0 j q.kind }) (slice_get ps j)) (root_has_none m))
+      ∙ found)
+    where
+      none_at : (j : ℕ) (p : Parameter)
+          → option_map (λ (q : Parameter). record q { kind = kind_used m 0 j q.kind }) (slice_get [] j) ≡ Some p → ⊥
+      none_at j p found = on (slice_get [] j) refl found
+        where
+          on : (o : Option Parameter) → slice_get [] j ≡ o
+              → option_map (λ (q : Parameter). record q { kind = kind_used m 0 j q.kind }) o ≡ Some p → ⊥
+          on None e h = cc
+          on (Some q) e h = nothing_at j q e
+
+  link_lengths : (link : ℕ) → link < 8
+      → link_length m (((link_words + 4 * link) % 4294967296 - link_words) / 4) ≡ link_length m link
+  link_lengths link low = ap (link_length m) (omega arith)
 
   root_after : After m (root_holding m) machine_modes.Plain root_activation (root_state m) root_local
   root_after = record {
@@ -204,61 +186,79 @@ module _ (m : Contents) (d : Decodes m) (wf : IsWellFormed m) (c : IsCertified m
       words = λ k inside. nothing_known m root_activation k _;
     };
     named = record {
-      each = λ j p found. absurd (nothing_at j p (subst (λ (ps : List Parameter). slice_get ps j ≡ Some p)
-          (root_has_none m) found));
-      apart = λ j k p q found other differ. absurd (nothing_at j p (subst (λ (ps : List Parameter).
-          slice_get ps j ≡ Some p) (root_has_none m) found));
+      each = λ j p found. absurd (no_parameter j p found);
+      apart = λ j k p q found other differ. absurd (no_parameter j p found);
       constants = root_constants m;
       bytes = root_bytes m wf.constant_bytes;
       even = stepped (pos (4 * m.base)) (pos m.base) (omega (arith, ints));
       ends = λ kind direction given. root_ends m wf.eight root_activation.layout kind direction given;
       back = wf.some_code;
+      lengths = λ kind direction given.
+          root_lengths m wf.eight root_activation.layout link_lengths kind direction given;
+      differ = λ a b direction given other same.
+          root_differ m wf.eight root_activation.layout a b direction given other same;
     };
     same_mode = both_plain;
   }
 
+  abbrev root_began : Began
+  root_began = record { context = 0; layout = root_activation.layout }
+
   -- nobody waits for its return
-  nobody_behind : Behind m (root_holding m) 0 root_activation.layout (loaded_memory m) []
-  nobody_behind = nobody_waits (λ some. absurd (omega arith))
+  nobody_behind : Behind m (root_holding m) root_began 0 root_activation.layout (loaded_memory m) []
+  nobody_behind = nobody_waits refl refl (λ some. absurd (omega arith))
 
-  loaded_holds : Holds m (loaded m)
+  -- the root holds ends of links alone
+  root_agrees : LengthsAgree m (root_role m ∷ []) (replicate m.data_words None) (root_began ∷ [])
+  root_agrees p role start e has_role has_start held =
+      let r = only (root_role m) role p has_role in
+      let b = only root_began start p has_start in
+      let link = held_link 0 m.lengths e
+      (subst (λ (x : Role). has_end x.own e ≡ true) (sym r.1) held) in
+      let low : link.link < 8 = let high = link.high in let eight = wf.eight in omega arith in
+      at_link link.link low link.is (subst (λ (x : Began). link_length m link.link ≡ x.layout.lengths e.address) b.1
+      (ap (link_length m) (let is = link.is in omega arith)))
+
+  pub loaded_holds : IsSound m (loaded m)
   loaded_holds =
-      let en = enter m d wf c (root_holding m) machine_modes.Plain root_activation 0
-      (root_state m) root_local [] begins wf.some_code root_after nobody_behind in
-      let lives = lives_at m d wf c (root_holding m) machine_modes.Plain en.act 0
-      (Some (root_state m)) en.state root_local [] begins wf.some_code en.stands en.after en.behind in
+      let en = enter m d wf c (root_holding m) root_began machine_modes.Plain root_activation 0
+      (root_state m) root_local [] begins wf.some_code refl root_after nobody_behind in
+      let lives = lives_at m d wf c (root_holding m) root_began machine_modes.Plain en.act 0
+      (Some (root_state m)) en.state root_local [] begins wf.some_code en.stands en.plain en.after en.behind in
       let due : ℕ = owed en.state en.act + owed_behind [] in
-      record {
-        dues = due ∷ [];
-        table = record {
-          each = λ p t h.
-              let x = only (root_task m) t p h in
-              record {
-                role = root_role m;
-                has_role = ap (λ n. slice_get (root_role m ∷ []) n) x.0;
-                due = owed en.state en.act + owed_behind [];
-                has_due = ap (λ n. slice_get (due ∷ []) n) x.0;
-                meets = subst (λ u. Meets m (root_holding m) (loaded_memory m) u (due)) x.1 (it_lives lives);
-              };
-        };
-        line = record { ready = (record { task = root_task m; here = refl; ready = refl }, tt); once = (tt, tt) };
-        few = omega arith;
-        waiters = no_waiters m;
-        apart = root_apart m;
-        owed = let none = nothing_due root_activation.turns in omega (arith, en.paid, none);
-        well = refl;
-      }
+      quietly m (loaded m) (due ∷ []) [] (root_began ∷ [])
+      (record {
+        roles = λ p role h.
+            let x = only (root_role m) role p h in
+            (ap (λ (r : Role). r.opened) (sym x.1), ap (λ (r : Role). r.opener) (sym x.1));
+        plain = λ p t h. let x = only (root_task m) t p h in ap (λ (u : Task). u.mode) (sym x.1);
+      })
+      (record {
+        each = λ p t h.
+            let x = only (root_task m) t p h in
+            record {
+              role = root_role m;
+              has_role = ap (λ n. slice_get (root_role m ∷ []) n) x.0;
+              start = root_began;
+              has_start = ap (λ n. slice_get (root_began ∷ []) n) x.0;
+              due = owed en.state en.act + owed_behind [];
+              has_due = ap (λ n. slice_get (due ∷ []) n) x.0;
+              meets = subst (λ u. Meets m (root_holding m) root_began (loaded_memory m) u (due)) x.1 (it_lives lives);
+            };
+      }) root_agrees quiet_links_keep_nothing
+      (let none = nothing_due root_activation.turns in omega (arith, en.paid, none)) refl
+    where
+      -- no byte is kept on a link
+      quiet_links_keep_nothing : AreBytes quiet_links.inputs
+      quiet_links_keep_nothing k link b here kept =
+          let none : None ≡ Some b =
+          ap (λ (x : InputLink). x.kept) (one_of_many 4 k empty link here) ∙ kept in
+          absurd (cc)
+        where
+          empty : InputLink
+          empty = record { kept = None; waiting = None; enabled = None }
 
-  pub runs_well : RunsWell m
-  runs_well events are =
-      let h = run_holds m d wf c events are (loaded m) loaded_holds in
-      record { no_fault = h.well; apart = h.apart; within_budget = omega (arith, h.owed) }
-
--- ---- the same of modules that keep the format
-
-pub loaded_world_holds : (m : Contents) → Keeps m → IsCertified m → Holds m (loaded m)
-loaded_world_holds m k c = loaded_holds m (decodes m k) (well_formed m k) c
-
-pub event_keeps_holding : (m : Contents) (e : Event) (w : World) → Keeps m → IsCertified m → IsEvent e → Holds m w
-    → Holds m (happens m w e)
-event_keeps_holding m e w k c is holds = happens_holds m (decodes m k) (well_formed m k) c e is w holds
+          one_of_many : {A : Type 0} (n k : ℕ) (x y : A) → slice_get (replicate n x) k ≡ Some y → x ≡ y
+          one_of_many zero k x y h = absurd (cc)
+          one_of_many (suc n) zero x y h = cc
+          one_of_many (suc n) (suc k) x y h = one_of_many n k x y h

@@ -34,25 +34,25 @@ use Rattle.states.specs.Below.{below}
 use Rattle.facts.specs.Rulings.{Ruling, breaks, falling}
 use Rattle.facts.specs.Rules.{rule_at}
 use Rattle.verifier.specs.Certified.{state_at, Reaches, follows, IsCertified}
-use Rattle.facts.specs.Meaning.{owed, Layout, Means, Activation, with_turns, at_label, word_at_place, frame_word}
-use Rattle.facts.specs.Meaning.{words_of}
+use Rattle.facts.specs.Meaning.{owed, Layout, Activation, with_turns, at_label, word_at_place, frame_word}
+use Rattle.facts.specs.Meaning.{words_in}
 use Rattle.facts.specs.Meaning.{ComesFrom, from_nowhere, from_word, from_test, MeansKnown, Knows, IsWellFormed}
 use Rattle.machine_state.specs.Frame.{ChangesOwn}
-use Rattle.verifier.specs.Point.{IsReading, Behind, nobody_waits, one_waits, owed_behind, Stands, Decodes}
-use Rattle.verifier.specs.Invariant.{Lives}
+use Rattle.verifier.specs.Point.{IsReading, Began, Behind, nobody_waits, one_waits, owed_behind, Point, BehindIn}
+use Rattle.verifier.specs.Point.{owed_at, MeetsPoint, Decodes}
+use Rattle.verifier.specs.Lives.{Lives}
 use Rattle.facts.proofs.Words.{means_same, frame_word_is}
 use Rattle.states.proofs.RowFacts.{and-parts}
-use Rattle.facts.specs.Fitting.{After, Here, step_site, GoesTo, goes_behind, is_jump, is_landing, Fits, it_falls}
-use Rattle.facts.specs.Fitting.{it_leads, it_calls, it_returns, it_ends, it_breaks}
-use Rattle.facts.proofs.Combining.{readable_byte, same_frame, elsewhere}
+use Rattle.facts.specs.Fitting.{Described, After, Here, step_site, GoesTo, goes_behind, is_jump, is_landing, Fits, it_falls}
+use Rattle.facts.specs.Fitting.{it_leads, it_calls, it_returns, it_ends, it_asks, it_breaks}
+use Rattle.facts.proofs.Combining.{same_frame, elsewhere}
 use Rattle.facts.proofs.Local.{function_fits}
 use Rattle.facts.proofs.Entering.{below_tells, label_after}
 use Rattle.facts.proofs.Dues.{label_owed}
 use Rattle.facts.proofs.Regions.{keeps_all, keeps_more, named_left}
-use Rattle.facts.specs.Regions.{Scope, scope_of, IsRegion, IsNamed, Keeps}
-use Rattle.module_format.specs.declared.fact.Fact.TheVariants.{Number}
-use Rattle.module_format.specs.declared.rows.ParameterKind.{ParameterKind}
-use Rattle.module_format.specs.declared.rows.ParameterKind.TheVariants.{Value, ReadRegion, WrittenRegion, Channels}
+use Rattle.facts.specs.Regions.{Scope, scope_of, scope_in, scope_among, Keeps, HoldsNamed}
+use Rattle.facts.proofs.Lending.{lift}
+use Rattle.facts.proofs.Within.{within}
 use Rattle.verifier.proofs.Given.{nothing_given, is_given, given_label, given_none, label_is_start, given_procedure}
 use Rattle.verifier.proofs.Given.{procedure_is_start}
 use Rattle.std.proofs.Common.{◌+ℤ◌}
@@ -62,8 +62,8 @@ use Rattle.machine_state.specs.declared.process.Mode.TheVariants as machine_mode
 use Rattle.states.specs.declared.known.Mode as states
 use Rattle.states.specs.declared.known.Mode.TheVariants as states_modes
 use Rattle.states.specs.State.{unknown, procedure_state}
-use Rattle.facts.specs.Meaning.{HasFrame, place_in, SameMode, both_plain}
-use Rattle.facts.specs.Fitting.{Caller, GoesOn}
+use Rattle.facts.specs.Meaning.{HasFrame, place_in, SameMode, both_plain, both_enabling, both_disabling, both_starting}
+use Rattle.facts.specs.Fitting.{Caller}
 use Rattle.facts.proofs.Combining.{unknown_means}
 
 same_ok : {A E : Type 0} (r : Result A E) (x y : A) → r ≡ Ok x → r ≡ Ok y → x ≡ y
@@ -119,7 +119,7 @@ knows_agree {m} {counts} {act} {said} {facts} {stack} {memory} {later} same know
 
 module _ (h : Holding) (memory later : Memory) (size : length later ≡ length memory)
     (agree : (place : ℕ) → may_read h place ≡ true → byte_at later place ≡ byte_at memory place) where
-  agree_keeps : (m : Contents) (scope : Scope) → Keeps m h scope memory later
+  pub agree_keeps : (m : Contents) (scope : Scope) → Keeps m h scope memory later
   agree_keeps m scope = record {
     size = size;
     bytes = λ place e. inl (agree place e);
@@ -130,27 +130,41 @@ module _ (h : Holding) (memory later : Memory) (size : length later ≡ length m
     }) (λ j p found. inl (λ place at no'. no'));
   }
 
-behind_keeps : {m : Contents} {h : Holding} {context : ℕ} {layout : Layout} {old new : Memory} {callers : List Caller}
-    → Keeps m h (scope_of m context layout) old new → Behind m h context layout old callers
-    → Behind m h context layout new callers
-behind_keeps keeps (nobody_waits procedure) = nobody_waits procedure
-behind_keeps keeps (one_waits reached going resumes rest) =
-    one_waits reached going (λ later more. resumes later (keeps_more keeps more))
+behind_keeps : {m : Contents} {h : Holding} {began : Began} {context : ℕ} {layout : Layout} {old new : Memory}
+    {callers : List Caller} → Keeps m h (scope_of m context layout) old new
+    → Behind m h began context layout old callers → Behind m h began context layout new callers
+behind_keeps keeps (nobody_waits same there procedure) = nobody_waits same there procedure
+behind_keeps keeps (one_waits some few reached going lengths base lends resumes rest) =
+    one_waits some few reached going lengths base lends (λ later more. resumes later (keeps_more keeps more))
     (λ later more. rest later (keeps_more keeps more))
 
--- all that holds behind an instruction holds whatever happens to bytes that the process may not read
+-- whatever keeps what an activation has keeps what its process began with
+pub behind_lifts : {m : Contents} {h : Holding} {began : Began} {context : ℕ} {layout : Layout} {old new : Memory}
+    {callers : List Caller} → Behind m h began context layout old callers → HoldsNamed m h (scope_of m context layout) old
+    → Keeps m h (scope_of m context layout) old new → Keeps m h (scope_of m began.context began.layout) old new
+behind_lifts {m} {h} {began} {context = context} {layout = layout} {old = old} {new = new}
+    (nobody_waits same there procedure) named keeps =
+    subst (λ (layout : Layout). Keeps m h (scope_of m began.context layout) old new) there
+    (subst (λ (n : ℕ). Keeps m h (scope_of m n layout) old new) same keeps)
+behind_lifts {m} {h} {context = context} {layout = layout} {old = old} {new = new} {callers = caller ∷ callers}
+    (one_waits some few reached going lengths base lends resumes rest) named keeps =
+    behind_lifts (rest old keeps_all) (resumes old keeps_all).named
+    (lift m h (scope_of m caller.state.context caller.act.layout) (scope_of m context layout) base lends old new named
+    keeps)
+
+-- all that is so of an activation is so whatever happens to bytes that the process may not read
 pub after_agrees : {m : Contents} {h : Holding} {mode : machine.Mode} {act : Activation} {s : State} {l : Local}
-    (later : Memory) → length later ≡ length l.memory
+    {scope : Scope} (later : Memory) → length later ≡ length l.memory
     → ((place : ℕ) → may_read h place ≡ true → byte_at later place ≡ byte_at l.memory place)
-    → After m h mode act s l → After m h mode act s (record l { memory = later })
-after_agrees {m} {h} {mode} {act} {s} {l} later size agree a = record {
+    → Described m h mode act s l scope → Described m h mode act s (record l { memory = later }) scope
+after_agrees {m} {h} {mode} {act} {s} {l} {scope} later size agree a = record {
   frame = same_frame (sym size) a.frame;
   knows = knows_agree same a.knows;
-  named = (agree_keeps h l.memory later size agree m (scope_of m s.context act.layout)).named a.named;
+  named = (agree_keeps h l.memory later size agree m scope).named a.named;
   same_mode = a.same_mode;
 }
   where
-    same : (k : ℤ) → (words_of m s).reads k ≡ true
+    same : (k : ℤ) → scope.words.reads k ≡ true
         → frame_word l.memory act.layout.origin k ≡ frame_word later act.layout.origin k
     same k inside =
         let w = a.frame.readable k inside in
@@ -160,6 +174,16 @@ after_agrees {m} {h} {mode} {act} {s} {l} later size agree a = record {
         frame_word_is l.memory act.layout.origin k w.place w.is
         ∙ word_same l.memory later w.place (at _ four.0) (at _ four.1) (at _ four.2) (at _ four.3)
         ∙ sym (ap (word_at_place later) (sym w.is))
+
+-- ---- modes
+
+-- a process in plain mode is at a point in plain mode
+pub plain_state : {p : states.Mode} {q : machine.Mode} → SameMode p q → q ≡ machine_modes.Plain
+    → p ≡ states_modes.Plain
+plain_state both_plain e = refl
+plain_state both_enabling e = absurd (cc)
+plain_state both_disabling e = absurd (cc)
+plain_state both_starting e = absurd (cc)
 
 -- ---- reading the code
 
@@ -238,10 +262,46 @@ after_some (Some f) g e n rest i some h =
 fits_pays : (x : Here) {r : Ruling} {o : Outcome} → Fits x r o → ((v : Rule) → r ≡ breaks v → ⊥) → x.len ≤ x.owed
 fits_pays x (it_falls fallen gone low after same changes pay) whole = omega arith
 fits_pays x (it_leads turns led gone label low after same changes pay) whole = omega arith
-fits_pays x (it_calls act workspace found low after back waits same changes pay) whole = omega arith
+fits_pays x (it_calls act workspace found low after back waits same changes pay one few) whole = omega arith
 fits_pays x (it_returns some few plain changes registers workspace back pay) whole = pay
 fits_pays x (it_ends changes pay) whole = pay
+fits_pays x (it_asks asks pay) whole = pay
 fits_pays x (it_breaks {broken = v}) whole = absurd (whole v refl)
+
+-- ---- what the last byte of an instruction comes to
+
+module _ (m : Contents) where
+  -- where the last byte of an instruction is executed
+  abbrev pub site_in : ℕ → machine.Mode → Holding → Site
+  site_in next mode h = record {
+    code_start = data_start + 4 * m.data_words;
+    code_length = length m.code;
+    next = next;
+    mode = mode;
+    holding = h;
+    has_long_operations = m.has_long_operations;
+  }
+
+  -- what the last byte of an instruction comes to
+  pub data Comes (h : Holding) (began : Began) (memory : Memory) (t : Task) (due : ℕ) : Outcome → Type 0 where
+    -- it goes on behind it
+    comes_on : {l : Local} (later : ℕ) → ChangesOwn h memory l.memory
+        → Lives m h began l.memory (record {
+          registers = between (t.registers.at + 1) l.registers;
+          mode = t.mode;
+          condition =
+              Ready;
+        }) later → later + 1 ≤ due → Comes h began memory t due (goes l)
+    -- or at another offset, where it may be sent to the back of the ready list
+    comes_to : {to : ℕ} {l : Local} (later : ℕ) → ChangesOwn h memory l.memory
+        → Lives m h began l.memory (record { registers = between to l.registers; mode = t.mode; condition = Ready }) later
+        → later + 1 ≤ due → Comes h began memory t due (jumps to l)
+    -- or at one with no such break
+    comes_straight : {to : ℕ} {l : Local} (later : ℕ) → ChangesOwn h memory l.memory
+        → Lives m h began l.memory (record { registers = between to l.registers; mode = t.mode; condition = Ready }) later
+        → later + 1 ≤ due → Comes h began memory t due (lands to l)
+    -- or it stops
+    comes_down : {l : Local} → ChangesOwn h memory l.memory → 1 ≤ due → Comes h began memory t due (stops l)
 
 -- ---- a process at its point
 
@@ -262,33 +322,36 @@ module _ (m : Contents) (d : Decodes m) (wf : IsWellFormed m) (c : IsCertified m
             absurd (cc)
       ]
 
-  -- the state behind, where one falls in, and its activation
-  pub record Entered (h : Holding) (mode : machine.Mode) (at most : ℕ) (before : Option State) (l : Local)
+  -- the state after an instruction, where one falls in, and its activation
+  pub record Entered (h : Holding) (began : Began) (mode : machine.Mode) (at most : ℕ) (before : Option State) (l : Local)
       (callers : List Caller) : Type 0 where
     pub state : State
     pub stands : state_at m at before ≡ Some state
     pub act : Activation
     pub after : After m h mode act state l
     pub paid : owed state act ≤ most
-    pub behind : Behind m h state.context act.layout l.memory callers
+    pub plain : state.mode ≡ states_modes.Plain
+    pub behind : Behind m h began state.context act.layout l.memory callers
 
   -- at a label, or where the tables give no state
-  enter_on : (h : Holding) (mode : machine.Mode) (act : Activation) (at : ℕ) (s : State) (l : Local)
+  enter_on : (h : Holding) (began : Began) (mode : machine.Mode) (act : Activation) (at : ℕ) (s : State) (l : Local)
       (callers : List Caller) (cost : ℕ) (label : Option Label) (begun : Option Begun) → label_at m at ≡ label
-      → procedure_at m at ≡ begun
-      → After m h mode act s l → Behind m h s.context act.layout l.memory callers → elim label as (λ o. Result ℕ Rule)
+      → procedure_at m at ≡ begun → s.mode ≡ states_modes.Plain
+      → After m h mode act s l → Behind m h began s.context act.layout l.memory callers
+      → elim label as (λ o. Result ℕ Rule)
       [ None ↦ cond (is_some begun) (Err rules.Flow) (Ok 0) | Some t ↦ below s t ] ≡ Ok cost
-      → Entered h mode at (owed s act) (Some s) l callers
-  enter_on h mode act at s l callers cost None None no_label no_procedure a behind ok = record {
+      → Entered h began mode at (owed s act) (Some s) l callers
+  enter_on h began mode act at s l callers cost None None no_label no_procedure plain a behind ok = record {
     state = s;
     stands = nothing_given m at (Some s) (given_none m at no_label no_procedure);
     act = act;
     after = a;
     paid = omega arith;
+    plain = plain;
     behind = behind;
   }
-  enter_on h mode act at s l callers cost None (Some e) no_label begins a behind ok = absurd (cc)
-  enter_on h mode act at s l callers cost (Some t) begun e f a behind ok =
+  enter_on h began mode act at s l callers cost None (Some e) no_label begins plain a behind ok = absurd (cc)
+  enter_on h began mode act at s l callers cost (Some t) begun e f plain a behind ok =
       let b = below_tells s t cost ok in
       record {
         state = label_state t;
@@ -296,28 +359,33 @@ module _ (m : Contents) (d : Decodes m) (wf : IsWellFormed m) (c : IsCertified m
         act = at_label s t act;
         after = label_after m h mode act s t l wf at e b.1 a;
         paid = label_owed s t cost act (wf.pairs at t e) ok;
-        behind = subst (λ (n : ℕ). Behind m h n act.layout l.memory callers) b.1.context behind;
+        plain = refl;
+        behind = subst (λ (n : ℕ). Behind m h began n act.layout l.memory callers) b.1.context behind;
       }
 
-  pub enter : (h : Holding) (mode : machine.Mode) (act : Activation) (at : ℕ) (s : State) (l : Local)
-      (callers : List Caller) → Reaches m at (Some s) → at < length m.code → After m h mode act s l
-      → Behind m h s.context act.layout l.memory callers → Entered h mode at (owed s act) (Some s) l callers
-  enter h mode act at s l callers r low a behind =
+  pub enter : (h : Holding) (began : Began) (mode : machine.Mode) (act : Activation) (at : ℕ) (s : State) (l : Local)
+      (callers : List Caller) → Reaches m at (Some s) → at < length m.code → s.mode ≡ states_modes.Plain
+      → After m h mode act s l → Behind m h began s.context act.layout l.memory callers
+      → Entered h began mode at (owed s act) (Some s) l callers
+  enter h began mode act at s l callers r low plain a behind =
       let holds = c.holds.each at (Some s) low r in
-      enter_on h mode act at s l callers holds.cost (label_at m at) (procedure_at m at) refl refl a behind holds.enters
+      enter_on h began mode act at s l callers holds.cost (label_at m at) (procedure_at m at) refl refl plain a behind
+      holds.enters
 
   -- between two instructions
-  pub lives_at : (h : Holding) (mode : machine.Mode) (act : Activation) (at : ℕ) (before : Option State) (s : State)
-      (l : Local) (callers : List Caller) → Reaches m at before → at < length m.code → state_at m at before ≡ Some s
-      → After m h mode act s l → Behind m h s.context act.layout l.memory callers → Lives m h l.memory (record {
+  pub lives_at : (h : Holding) (began : Began) (mode : machine.Mode) (act : Activation) (at : ℕ) (before : Option State)
+      (s : State) (l : Local) (callers : List Caller) → Reaches m at before → at < length m.code
+      → state_at m at before ≡ Some s → s.mode ≡ states_modes.Plain
+      → After m h mode act s l → Behind m h began s.context act.layout l.memory callers
+      → Lives m h began l.memory (record {
         registers = between at l.registers;
         mode = mode;
         condition = Ready;
       }) (owed s act + owed_behind callers)
-  lives_at h mode act at before s l callers r low st a behind =
+  lives_at h began mode act at before s l callers r low st plain a behind =
       let holds = c.holds.each at before low r in
       record {
-        claim = λ later size agree bytes. record {
+        point = record {
           before = before;
           state = s;
           reached = r;
@@ -333,13 +401,22 @@ module _ (m : Contents) (d : Decodes m) (wf : IsWellFormed m) (c : IsCertified m
                 rest = d.reads at holds.instr holds.spelled;
               };
           act = act;
-          here = elsewhere at at (pos 0) (after_agrees later size (λ place e. agree place e refl) a);
           callers = callers;
-          behind = behind_keeps (agree_keeps h l.memory later size (λ place e. agree place e refl) m
-              (scope_of m s.context act.layout)) behind;
-          paid = omega arith;
+        };
+        claim = λ later size agree bytes. record {
+          here = elsewhere at at (pos 0) (after_agrees later size (λ place e. agree place e refl) a);
+          behind = subst (λ (q : states.Mode). BehindIn m h began q s.context act.layout later callers) (sym plain)
+              (behind_keeps (agree_keeps h l.memory later size (λ place e. agree place e refl) m
+              (scope_of m s.context act.layout)) behind);
         };
         room = λ place e. absurd (cc);
+        sends = λ e no'. absurd (cc);
+        fills = λ old new fills. agree_keeps h old new fills.size (λ place e. fills.others place e refl) m
+            (scope_in m s act.layout);
+        named = a.named;
+        known_length = λ e no'. elim no' [ inl is ↦ absurd (cc) | inr is ↦ absurd (cc) ];
+        paid = subst (λ (q : states.Mode). owed s act + owed_behind callers + 0 ≡ owed_at q s act callers) (sym plain)
+            (omega arith);
       }
 
   -- how the rule at the process's point and the step fit, with the whole instruction read
@@ -357,246 +434,234 @@ module _ (m : Contents) (d : Decodes m) (wf : IsWellFormed m) (c : IsCertified m
         len = i.len;
       }
 
-  pub point_fits : (h : Holding) (memory : Memory) (t : Task) (due : ℕ) (p : Stands m h memory t due)
-      → Fits (here_of h p.act memory t p.state p.instr) (rule_at m t.registers.began p.instr p.state)
-      (local_step (step_site (here_of h p.act memory t p.state p.instr)) p.instr.fun p.instr.operand
-      (record { registers = t.registers; memory = memory }))
-  point_fits h memory t due p =
-      let x = here_of h p.act memory t p.state p.instr in
-      function_fits x wf p.state (record { registers = t.registers; memory = memory })
-      p.here refl (record { own = record { size = refl; others = λ place e. refl }; keeps = keeps_all }) (omega arith)
-      p.instr.fun p.instr.operand (d.fits t.registers.began p.instr p.reading.spelled)
-      (has_next t.registers.began p.before p.state p.instr p.reached p.stands p.reading.spelled)
+  -- a process at a point, in plain mode
+  module _ (h : Holding) (began : Began) (memory : Memory) (t : Task) (due : ℕ) (p : Point m t)
+      (meets : MeetsPoint m t h began p memory) (paid : due + p.taken ≡ owed_at p.state.mode p.state p.act p.callers)
+      (plain : t.mode ≡ machine_modes.Plain) where
+    abbrev x : Here
+    x = here_of h p.act memory t p.state p.instr
 
-  -- the rule at the process's point is not broken
-  pub unbroken : (h : Holding) (memory : Memory) (t : Task) (due : ℕ) (p : Stands m h memory t due)
-      → t.registers.began < length m.code → (v : Rule) → rule_at m t.registers.began p.instr p.state ≡ breaks v → ⊥
-  unbroken h memory t due p low v e =
-      let holds = c.holds.each t.registers.began p.before low p.reached in
-      let i_is : p.instr ≡ holds.instr =
-      same_ok (fetched m.code t.registers.began) p.instr holds.instr p.reading.spelled holds.spelled in
-      let s_is : p.state ≡ holds.state =
-      same_some (state_at m t.registers.began p.before) p.state holds.state p.stands holds.stands in
-      holds.unbroken v (ap (λ j. rule_at m t.registers.began j holds.state) (sym i_is) ∙ ap
-      (λ u. rule_at m t.registers.began p.instr u) (sym s_is) ∙ e)
+    state_plain : p.state.mode ≡ states_modes.Plain
+    state_plain = plain_state meets.here.same_mode plain
 
-  began_inside : (h : Holding) (memory : Memory) (t : Task) (due : ℕ) (p : Stands m h memory t due)
-      → t.registers.began < length m.code
-  began_inside h memory t due p =
-      let some = d.some t.registers.began p.instr p.reading.spelled in
-      let inside = d.inside t.registers.began p.instr p.reading.spelled in
-      omega arith
+    behind : Behind m h began p.state.context p.act.layout memory p.callers
+    behind = subst (λ (q : states.Mode). BehindIn m h began q p.state.context p.act.layout memory p.callers) state_plain
+        meets.behind
 
-  -- the instruction can be paid
-  can_pay : (h : Holding) (memory : Memory) (t : Task) (due : ℕ) (p : Stands m h memory t due)
-      → p.instr.len ≤ owed p.state p.act
-  can_pay h memory t due p = fits_pays (here_of h p.act memory t p.state p.instr) (point_fits h memory t due p)
-      (unbroken h memory t due p (began_inside h memory t due p))
+    owes_all : due + p.taken ≡ owed p.state p.act + owed_behind p.callers
+    owes_all = subst (λ (q : states.Mode). due + p.taken ≡ owed_at q p.state p.act p.callers) state_plain paid
 
-  -- something is owed before each byte
-  pub owes : (h : Holding) (memory : Memory) (t : Task) (due : ℕ) (p : Stands m h memory t due) → 1 ≤ due
-  owes h memory t due p =
-      let pay = can_pay h memory t due p in
-      let more =
-      longer p.reading.fuel (drop t.registers.at m.code) t.registers.operand p.taken p.instr p.reading.rest in
-      omega (arith, p.paid)
+    point_fits : Fits x (rule_at m t.registers.began p.instr p.state) (local_step (step_site x) p.instr.fun p.instr.operand
+        (record { registers = t.registers; memory = memory }))
+    point_fits =
+        function_fits x wf p.state (record { registers = t.registers; memory = memory })
+        meets.here refl (record { own = record { size = refl; others = λ place e. refl }; keeps = keeps_all })
+        (omega arith)
+        p.instr.fun p.instr.operand (d.fits t.registers.began p.instr p.reading.spelled)
+        (has_next t.registers.began p.before p.state p.instr p.reached p.stands p.reading.spelled)
 
-  -- a prefix: the process is one byte further in its instruction
-  pub prefixed_stands : (h : Holding) (memory : Memory) (t : Task) (due byte : ℕ) → Stands m h memory t (suc due)
-      → slice_get m.code t.registers.at ≡ Some byte → fun_of (function_code byte) ≡ None
-      → Stands m h memory (record t {
-        registers = record t.registers {
-          at = t.registers.at + 1;
-          operand = after_prefix
-              (function_code byte) (with_nibble t.registers.operand (nibble byte));
-        };
-      }) due
-  prefixed_stands h memory t due byte p here none =
-      let b = byte_here m t.registers p.instr p.taken p.reading in
-      let same : b.byte ≡ byte = same_some (slice_get m.code t.registers.at) b.byte byte b.here here in
-      record {
-        before = p.before;
-        state = p.state;
-        reached = p.reached;
-        stands = p.stands;
-        instr = p.instr;
-        taken = p.taken + 1;
-        reading = record {
-          fuel = b.fuel;
-          whole = b.whole;
-          at_is = omega (arith, p.reading.at_is);
-          spelled = p.reading.spelled;
-          rest = after_none (fun_of (function_code byte)) _ _ _ p.instr none
-              (subst (λ y. ended_or (fun_of (function_code y)) (with_nibble t.registers.operand (nibble y))
-              (p.taken + 1) (read b.fuel (drop (t.registers.at + 1) m.code)
-              (after_prefix (function_code y) (with_nibble t.registers.operand (nibble y))) (p.taken + 1))
-              ≡ Ok p.instr) same b.rest);
-        };
-        act = p.act;
-        here = elsewhere (t.registers.at + 1) t.registers.began (after_prefix (function_code byte)
-            (with_nibble t.registers.operand (nibble byte))) p.here;
-        callers = p.callers;
-        behind = p.behind;
-        paid = omega (arith, p.paid);
-      }
+    began_inside : t.registers.began < length m.code
+    began_inside =
+        let some = d.some t.registers.began p.instr p.reading.spelled in
+        let inside = d.inside t.registers.began p.instr p.reading.spelled in
+        omega arith
 
-  -- where the last byte of an instruction is executed
-  abbrev pub site_in : ℕ → machine.Mode → Holding → Site
-  site_in next mode h = record {
-    code_start = data_start + 4 * m.data_words;
-    code_length = length m.code;
-    next = next;
-    mode = mode;
-    holding = h;
-    has_long_operations = m.has_long_operations;
-  }
+    -- the rule at the process's point is not broken
+    unbroken : (v : Rule) → rule_at m t.registers.began p.instr p.state ≡ breaks v → ⊥
+    unbroken v e =
+        let holds = c.holds.each t.registers.began p.before began_inside p.reached in
+        let i_is : p.instr ≡ holds.instr =
+        same_ok (fetched m.code t.registers.began) p.instr holds.instr p.reading.spelled holds.spelled in
+        let s_is : p.state ≡ holds.state =
+        same_some (state_at m t.registers.began p.before) p.state holds.state p.stands holds.stands in
+        holds.unbroken v (ap (λ j. rule_at m t.registers.began j holds.state) (sym i_is) ∙ ap
+        (λ u. rule_at m t.registers.began p.instr u) (sym s_is) ∙ e)
 
-  -- what the last byte of an instruction comes to
-  pub data Comes (h : Holding) (memory : Memory) (t : Task) (due : ℕ) : Outcome → Type 0 where
-    -- it goes on behind it
-    comes_on : {l : Local} (later : ℕ) → ChangesOwn h memory l.memory
-        → Lives m h l.memory (record {
-          registers = between (t.registers.at + 1) l.registers;
+    -- something is owed before each byte
+    pub owes : 1 ≤ due
+    owes =
+        let pay = fits_pays x point_fits unbroken in
+        let more =
+        longer p.reading.fuel (drop t.registers.at m.code) t.registers.operand p.taken p.instr p.reading.rest in
+        omega (arith, owes_all)
+
+    -- it goes on at an offset, by whatever outcome
+    comes_by : {o : Outcome} {to : ℕ} {l : Local} (later : ℕ) → GoesTo x o to l → x.at + x.len ≡ t.registers.at + 1
+        → ChangesOwn h memory l.memory
+        → Lives m h began l.memory (record { registers = between to l.registers; mode = t.mode; condition = Ready }) later
+        → later + 1 ≤ due → Comes m h began memory t due o
+    comes_by later (goes_behind {l = l}) at own lives less =
+        comes_on later own (subst (λ n. Lives m h began l.memory (record {
+          registers = between n l.registers;
           mode = t.mode;
-          condition =
-              Ready;
-        }) later → later + 1 ≤ due → Comes h memory t due (goes l)
-    -- or at another offset, where it may be sent to the back of the ready list
-    comes_to : {to : ℕ} {l : Local} (later : ℕ) → ChangesOwn h memory l.memory
-        → Lives m h l.memory (record { registers = between to l.registers; mode = t.mode; condition = Ready }) later
-        → later + 1 ≤ due → Comes h memory t due (jumps to l)
-    -- or at one with no such break
-    comes_straight : {to : ℕ} {l : Local} (later : ℕ) → ChangesOwn h memory l.memory
-        → Lives m h l.memory (record { registers = between to l.registers; mode = t.mode; condition = Ready }) later
-        → later + 1 ≤ due → Comes h memory t due (lands to l)
-    -- or it stops
-    comes_down : {l : Local} → ChangesOwn h memory l.memory → 1 ≤ due → Comes h memory t due (stops l)
+          condition = Ready;
+        }) later) at lives) less
+    comes_by later is_jump at own lives less = comes_to later own lives less
+    comes_by later is_landing at own lives less = comes_straight later own lives less
 
-  -- it goes on at an offset, by whatever outcome
-  comes_by : (h : Holding) (memory : Memory) (t : Task) (due : ℕ) (x : Here) {o : Outcome} {to : ℕ} {l : Local}
-      (later : ℕ) → GoesTo x o to l → x.at + x.len ≡ t.registers.at + 1 → ChangesOwn h memory l.memory
-      → Lives m h l.memory (record { registers = between to l.registers; mode = t.mode; condition = Ready }) later
-      → later + 1 ≤ due → Comes h memory t due o
-  comes_by h memory t due x later (goes_behind {l = l}) at own lives less =
-      comes_on later own (subst (λ n. Lives m h l.memory (record {
-        registers = between n l.registers;
-        mode = t.mode;
-        condition = Ready;
-      }) later) at lives) less
-  comes_by h memory t due x later is_jump at own lives less = comes_to later own lives less
-  comes_by h memory t due x later is_landing at own lives less = comes_straight later own lives less
+    -- the caller that has waited goes on
+    resumed : (l : Local) (callers : List Caller) → Behind m h began p.state.context p.act.layout l.memory callers
+        → ChangesOwn h memory l.memory → 1 ≤ p.state.context → p.state.context ≤ length m.procedures
+        → l.registers.stack ≡ of_empty None
+        → pos l.registers.workspace ≡ pos data_start +ℤ place_in p.act.layout.origin (pos 4)
+        → p.act.layout.back < length m.code → owed_behind callers + 1 ≤ due → p.callers ≡ callers
+        → Comes m h began memory t due (lands p.act.layout.back l)
+    resumed l [] (nobody_waits same there procedure) own some few registers workspace back pay e =
+        absurd (let high = procedure some in omega arith)
+    resumed l (caller ∷ callers) (one_waits one inside reached going lengths base lends resumes rest) own some few
+        registers workspace back pay e =
+        let again = resumes l.memory keeps_all in
+        let said : MeansStack caller.state.stack l.registers.stack caller.state.context caller.act l.memory =
+        subst (λ (said : Stack Known). MeansStack said l.registers.stack caller.state.context caller.act l.memory)
+        (sym going.registers)
+        (subst (λ (stack : Stack (Option ℤ)). MeansStack (of_empty unknown) stack caller.state.context caller.act l.memory)
+        (sym registers) (record { a = unknown_means; b = unknown_means; c = unknown_means })) in
+        let whole : scope_in m caller.state caller.act.layout ≡ scope_of m caller.state.context caller.act.layout =
+        ap (λ (q : states.Mode). scope_among m caller.state.context q caller.act.layout) going.plain in
+        let here : After m h t.mode caller.act caller.state l =
+        subst (λ (scope : Scope). Described m h t.mode caller.act caller.state l scope) (sym whole) (record {
+          frame = subst (λ (w : ℕ). HasFrame h (length l.memory) (words_in m caller.state.context)
+              caller.act.layout.origin
+              caller.state.depth w) (let at = going.workspace in omega (arith, ints, at, workspace)) again.frame;
+          knows = record { registers = said; words = again.words };
+          named = again.named;
+          same_mode = subst (λ (q : states.Mode). SameMode q t.mode) (sym going.plain)
+              (subst (λ (q : machine.Mode). SameMode states_modes.Plain q) (sym plain) both_plain);
+        }) in
+        let en = enter h began t.mode caller.act p.act.layout.back caller.state l callers reached back going.plain here
+        (rest l.memory keeps_all) in
+        comes_straight (owed en.state en.act + owed_behind callers) own
+        (lives_at h began t.mode en.act p.act.layout.back (Some caller.state) en.state l callers reached back en.stands
+        en.plain en.after en.behind) (let less = en.paid in omega arith)
+      where
+        MeansStack : Stack Known → Stack (Option ℤ) → ℕ → Activation → Memory → Type 0
+        MeansStack said stack context act memory =
+            AreRelated (MeansKnown m (words_in m context).reads act.layout memory) said stack
 
-  -- the caller that has waited goes on
-  resumed : (h : Holding) (memory : Memory) (t : Task) (due : ℕ) (p : Stands m h memory t due) (l : Local)
-      (callers : List Caller) → Behind m h p.state.context p.act.layout l.memory callers → ChangesOwn h memory l.memory
-      → 1 ≤ p.state.context → p.state.context ≤ length m.procedures → t.mode ≡ machine_modes.Plain
-      → l.registers.stack ≡ of_empty None
-      → pos l.registers.workspace ≡ pos data_start +ℤ place_in p.act.layout.origin (pos 4)
-      → p.act.layout.back < length m.code → owed_behind callers + 1 ≤ due → p.callers ≡ callers
-      → Comes h memory t due (lands p.act.layout.back l)
-  resumed h memory t due p l [] (nobody_waits procedure) own some few plain registers workspace back pay e =
-      absurd (let high = procedure some in omega arith)
-  resumed h memory t due p l (caller ∷ callers) (one_waits reached going resumes rest) own some few plain registers
-      workspace back pay e =
-      let again = resumes l.memory keeps_all in
-      let here : After m h t.mode caller.act caller.state l = record {
-        frame = subst (λ (w : ℕ). HasFrame h (length l.memory) (words_of m caller.state) caller.act.layout.origin
-            caller.state.depth w) (let at = going.workspace in omega (arith, ints, at, workspace)) again.frame;
-        knows = record {
-          registers = subst (λ (said : Stack Known). AreRelated (MeansKnown m (words_of m caller.state).reads
-              caller.act.layout l.memory) said l.registers.stack) (sym going.registers)
-              (subst (λ (stack : Stack (Option ℤ)). AreRelated (MeansKnown m (words_of m caller.state).reads
-              caller.act.layout l.memory) (of_empty unknown) stack) (sym registers)
-              (record { a = unknown_means; b = unknown_means; c = unknown_means }));
-          words = again.words;
-        };
-        named = again.named;
-        same_mode = subst (λ (q : states.Mode). SameMode q t.mode) (sym going.plain)
-            (subst (λ (q : machine.Mode). SameMode states_modes.Plain q) (sym plain) both_plain);
-      } in
-      let en = enter h t.mode caller.act p.act.layout.back caller.state l callers reached back here
-      (rest l.memory keeps_all) in
-      comes_straight (owed en.state en.act + owed_behind callers) own
-      (lives_at h t.mode en.act p.act.layout.back (Some caller.state) en.state l callers reached back en.stands en.after
-      en.behind) (let less = en.paid in omega arith)
+    comes : (r : Ruling) (o : Outcome)
+        → r ≡ rule_at m t.registers.began p.instr p.state → p.taken + 1 ≡ p.instr.len
+        → Fits x r o → Comes m h began memory t due o
+    comes r o e last (it_falls {s = s'} {l = l} is gone low after same changes pay) =
+        let next : Reaches m (t.registers.began + p.instr.len) (Some s') =
+        follows p.reached p.stands p.reading.spelled refl (sym is ∙ ap falling e) in
+        let waiting : Behind m h began s'.context p.act.layout l.memory p.callers =
+        subst (λ (n : ℕ). Behind m h began n p.act.layout l.memory p.callers) (sym same)
+        (behind_keeps changes.keeps behind) in
+        let en = enter h began t.mode p.act (t.registers.began + p.instr.len) s' l p.callers next low
+        (plain_state after.same_mode plain) after waiting in
+        comes_by (owed en.state en.act + owed_behind p.callers)
+        gone (omega (arith, p.reading.at_is)) changes.own
+        (lives_at h began t.mode en.act (t.registers.began + p.instr.len) (Some s') en.state l p.callers next low en.stands
+        en.plain en.after en.behind)
+        (omega (arith, owes_all, en.paid, pay))
+    comes r o e last (it_leads {to = to} {l = l} {t = label} turns led gone is low after same changes
+        pay) =
+        let r = c.holds.starts to low (label_is_start m to label is) in
+        let st : state_at m to r.0 ≡ Some (label_state label) =
+        is_given m to r.0 (label_state label) (given_label m to label is) in
+        let waiting : Behind m h began label.context p.act.layout l.memory p.callers =
+        subst (λ (n : ℕ). Behind m h began n p.act.layout l.memory p.callers) (sym same)
+        (behind_keeps changes.keeps behind) in
+        comes_by (owed (label_state label) (with_turns turns p.act) + owed_behind p.callers) gone
+        (omega (arith, p.reading.at_is)) changes.own
+        (lives_at h began t.mode (with_turns turns p.act) to r.0 (label_state label) l p.callers r.1 low st refl after
+        waiting)
+        (omega (arith, owes_all, pay))
+    comes r o e last
+        (it_calls {to = to} {s = s'} {l = l} {e = f} act workspace found low after back waits
+        same changes pay some few) =
+        let next : Reaches m (t.registers.began + p.instr.len) (Some s') =
+        follows p.reached p.stands p.reading.spelled refl (ap falling e) in
+        let unlabelled = wf.entries to f found in
+        let r = c.holds.starts to low (procedure_is_start m to f unlabelled found) in
+        let st : state_at m to r.0 ≡ Some (procedure_state f.context f.procedure) =
+        is_given m to r.0 (procedure_state f.context f.procedure) (given_procedure m to f unlabelled found) in
+        let caller : Caller = record { act = p.act; state = s'; workspace = workspace } in
+        let waiting : Behind m h began s'.context p.act.layout l.memory p.callers =
+        subst (λ (n : ℕ). Behind m h began n p.act.layout l.memory p.callers) (sym same)
+        (behind_keeps changes.keeps behind) in
+        let called : Behind m h began f.context act.layout l.memory (caller ∷ p.callers) =
+        one_waits some few (subst (λ (n : ℕ). Reaches m n (Some s')) (sym back) next) waits.goes_on waits.lengths
+        waits.base waits.lends waits.resumes
+        (λ later keeps. behind_keeps (lift m h (scope_of m s'.context p.act.layout) (scope_of m f.context act.layout)
+        waits.base waits.lends l.memory later after.named keeps) waiting) in
+        comes_straight (owed (procedure_state f.context f.procedure) act + owed_behind (caller ∷ p.callers)) changes.own
+        (lives_at h began t.mode act to r.0 (procedure_state f.context f.procedure) l
+        (caller ∷ p.callers) r.1 low st refl after called)
+        (omega (arith, owes_all, pay))
+    comes r o e last (it_returns {l = l} some few plain_mode changes registers workspace back pay) =
+        resumed l p.callers (behind_keeps changes.keeps behind) changes.own some few registers
+        workspace back (let paid = owes_all in omega arith) refl
+    comes r o e last (it_ends changes pay) = comes_down changes.own (omega (arith, owes_all, pay))
+    comes r o e last (it_asks asks pay) = elim asks [ ]
+    comes r o e last (it_breaks {broken = v}) = absurd (unbroken v (sym e))
 
-  comes : (h : Holding) (memory : Memory) (t : Task) (due : ℕ) (p : Stands m h memory t due) (r : Ruling) (o : Outcome)
-      → r ≡ rule_at m t.registers.began p.instr p.state → p.taken + 1 ≡ p.instr.len
-      → Fits (here_of h p.act memory t p.state p.instr) r o → Comes h memory t due o
-  comes h memory t due p r o e last (it_falls {s = s'} {l = l} is gone low after same changes pay) =
-      let next : Reaches m (t.registers.began + p.instr.len) (Some s') =
-      follows p.reached p.stands p.reading.spelled refl (sym is ∙ ap falling e) in
-      let behind : Behind m h s'.context p.act.layout l.memory p.callers =
-      subst (λ (n : ℕ). Behind m h n p.act.layout l.memory p.callers) (sym same)
-      (behind_keeps changes.keeps p.behind) in
-      let en = enter h t.mode p.act (t.registers.began + p.instr.len) s' l p.callers next low after behind in
-      comes_by h memory t due (here_of h p.act memory t p.state p.instr) (owed en.state en.act + owed_behind p.callers)
-      gone (omega (arith, p.reading.at_is)) changes.own
-      (lives_at h t.mode en.act (t.registers.began + p.instr.len) (Some s') en.state l p.callers next low en.stands
-      en.after en.behind)
-      (omega (arith, p.paid, en.paid, pay))
-  comes h memory t due p r o e last (it_leads {to = to} {l = l} {t = label} turns led gone is low after same changes
-      pay) =
-      let r = c.holds.starts to low (label_is_start m to label is) in
-      let st : state_at m to r.0 ≡ Some (label_state label) =
-      is_given m to r.0 (label_state label) (given_label m to label is) in
-      let behind : Behind m h label.context p.act.layout l.memory p.callers =
-      subst (λ (n : ℕ). Behind m h n p.act.layout l.memory p.callers) (sym same)
-      (behind_keeps changes.keeps p.behind) in
-      comes_by h memory t due (here_of h p.act memory t p.state p.instr)
-      (owed (label_state label) (with_turns turns p.act) + owed_behind p.callers) gone
-      (omega (arith, p.reading.at_is)) changes.own
-      (lives_at h t.mode (with_turns turns p.act) to r.0 (label_state label) l p.callers r.1 low st after behind)
-      (omega (arith, p.paid, pay))
-  comes h memory t due p r o e last
-      (it_calls {to = to} {s = s'} {l = l} {e = f} act workspace found low after back waits
-      same changes pay) =
-      let next : Reaches m (t.registers.began + p.instr.len) (Some s') =
-      follows p.reached p.stands p.reading.spelled refl (ap falling e) in
-      let unlabelled = wf.entries to f found in
-      let r = c.holds.starts to low (procedure_is_start m to f unlabelled found) in
-      let st : state_at m to r.0 ≡ Some (procedure_state f.context f.procedure) =
-      is_given m to r.0 (procedure_state f.context f.procedure) (given_procedure m to f unlabelled found) in
-      let waiting : Behind m h s'.context p.act.layout l.memory p.callers =
-      subst (λ (n : ℕ). Behind m h n p.act.layout l.memory p.callers) (sym same)
-      (behind_keeps changes.keeps p.behind) in
-      let behind : Behind m h f.context act.layout l.memory
-      (record { act = p.act; state = s'; workspace = workspace } ∷ p.callers) =
-      one_waits (subst (λ (n : ℕ). Reaches m n (Some s')) (sym back) next) waits.goes_on waits.resumes
-      (λ later keeps. behind_keeps (waits.lifts later keeps) waiting) in
-      comes_straight (owed (procedure_state f.context f.procedure) act
-      + owed_behind (record { act = p.act; state = s'; workspace = workspace } ∷ p.callers)) changes.own
-      (lives_at h t.mode act to r.0 (procedure_state f.context f.procedure) l
-      (record { act = p.act; state = s'; workspace = workspace } ∷ p.callers) r.1 low st after behind)
-      (omega (arith, p.paid, pay))
-  comes h memory t due p r o e last (it_returns {l = l} some few plain changes registers workspace back pay) =
-      resumed h memory t due p l p.callers (behind_keeps changes.keeps p.behind) changes.own some few plain registers
-      workspace back (let paid = p.paid in omega arith) refl
-  comes h memory t due p r o e last (it_ends changes pay) = comes_down changes.own (omega (arith, p.paid, pay))
-  comes h memory t due p r o e last (it_breaks {broken = v}) =
-      absurd (unbroken h memory t due p (began_inside h memory t due p) v (sym e))
+    -- the last byte of an instruction
+    pub comes_last : (byte : ℕ) (f : Fun)
+        → slice_get m.code t.registers.at ≡ Some byte → fun_of (function_code byte) ≡ Some f
+        → Comes m h began memory t due (local_step (site_in m (t.registers.at + 1) t.mode h) f
+        (with_nibble t.registers.operand (nibble byte))
+        (record { registers = t.registers; memory = memory }))
+    comes_last byte f here some =
+        let b = byte_here m t.registers p.instr p.taken p.reading in
+        let same : b.byte ≡ byte = same_some (slice_get m.code t.registers.at) b.byte byte b.here here in
+        let rest = subst (λ y. ended_or (fun_of (function_code y)) (with_nibble t.registers.operand (nibble y))
+        (p.taken + 1) (read b.fuel (drop (t.registers.at + 1) m.code)
+        (after_prefix (function_code y) (with_nibble t.registers.operand (nibble y))) (p.taken + 1))
+        ≡ Ok p.instr) same b.rest in
+        let is = after_some (fun_of (function_code byte)) f _ _ _ p.instr some rest in
+        let at : t.registers.began + p.instr.len ≡ t.registers.at + 1 = omega (arith, p.reading.at_is, is.2) in
+        subst (λ n. Comes m h began memory t due
+        (local_step (site_in m n t.mode h) f (with_nibble t.registers.operand (nibble byte))
+        (record { registers = t.registers; memory = memory }))) at
+        (subst (λ g. Comes m h began memory t due (local_step (step_site x) g
+        (with_nibble t.registers.operand (nibble byte)) (record { registers = t.registers; memory = memory })))
+        (sym is.0)
+        (subst (λ e. Comes m h began memory t due (local_step (step_site x) p.instr.fun e
+        (record { registers = t.registers; memory = memory }))) (sym is.1)
+        (comes (rule_at m t.registers.began p.instr p.state) _ refl is.2 point_fits)))
 
-  -- the last byte of an instruction
-  pub comes_last : (h : Holding) (memory : Memory) (t : Task) (due byte : ℕ) (f : Fun) → Stands m h memory t due
-      → slice_get m.code t.registers.at ≡ Some byte → fun_of (function_code byte) ≡ Some f
-      → Comes h memory t due (local_step (site_in (t.registers.at + 1) t.mode h) f
-      (with_nibble t.registers.operand (nibble byte))
-      (record { registers = t.registers; memory = memory }))
-  comes_last h memory t due byte f p here some =
-      let b = byte_here m t.registers p.instr p.taken p.reading in
-      let same : b.byte ≡ byte = same_some (slice_get m.code t.registers.at) b.byte byte b.here here in
-      let rest = subst (λ y. ended_or (fun_of (function_code y)) (with_nibble t.registers.operand (nibble y))
-      (p.taken + 1) (read b.fuel (drop (t.registers.at + 1) m.code)
-      (after_prefix (function_code y) (with_nibble t.registers.operand (nibble y))) (p.taken + 1))
-      ≡ Ok p.instr) same b.rest in
-      let is = after_some (fun_of (function_code byte)) f _ _ _ p.instr some rest in
-      let at : t.registers.began + p.instr.len ≡ t.registers.at + 1 = omega (arith, p.reading.at_is, is.2) in
-      subst (λ n. Comes h memory t due
-      (local_step (site_in n t.mode h) f (with_nibble t.registers.operand (nibble byte))
-      (record { registers = t.registers; memory = memory }))) at
-      (subst (λ g. Comes h memory t due (local_step (step_site (here_of h p.act memory t p.state p.instr)) g
-      (with_nibble t.registers.operand (nibble byte)) (record { registers = t.registers; memory = memory })))
-      (sym is.0)
-      (subst (λ e. Comes h memory t due (local_step (step_site (here_of h p.act memory t p.state p.instr)) p.instr.fun e
-      (record { registers = t.registers; memory = memory }))) (sym is.1)
-      (comes h memory t due p (rule_at m t.registers.began p.instr p.state) _ refl is.2 (point_fits h memory t due p))))
+-- ---- a prefix
+
+-- the rest is read as before
+pub prefixed_reading : {m : Contents} {t : Task} (byte : ℕ) (p : Point m t)
+    → slice_get m.code t.registers.at ≡ Some byte → fun_of (function_code byte) ≡ None
+    → IsReading m (record t.registers {
+      at = t.registers.at + 1;
+      operand = after_prefix (function_code byte) (with_nibble t.registers.operand (nibble byte));
+    }) p.instr (p.taken + 1)
+prefixed_reading {m} {t} byte p here none =
+    let b = byte_here m t.registers p.instr p.taken p.reading in
+    let same : b.byte ≡ byte = same_some (slice_get m.code t.registers.at) b.byte byte b.here here in
+    record {
+      fuel = b.fuel;
+      whole = b.whole;
+      at_is = omega (arith, p.reading.at_is);
+      spelled = p.reading.spelled;
+      rest = after_none (fun_of (function_code byte)) _ _ _ p.instr none
+          (subst (λ y. ended_or (fun_of (function_code y)) (with_nibble t.registers.operand (nibble y))
+          (p.taken + 1) (read b.fuel (drop (t.registers.at + 1) m.code)
+          (after_prefix (function_code y) (with_nibble t.registers.operand (nibble y))) (p.taken + 1))
+          ≡ Ok p.instr) same b.rest);
+    }
+
+-- the point one byte further in its instruction
+abbrev pub prefixed_point : {m : Contents} {t : Task} (byte : ℕ) (p : Point m t)
+    → slice_get m.code t.registers.at ≡ Some byte → fun_of (function_code byte) ≡ None
+    → Point m (record t {
+      registers = record t.registers {
+        at = t.registers.at + 1;
+        operand = after_prefix (function_code byte) (with_nibble t.registers.operand (nibble byte));
+      };
+    })
+prefixed_point byte p here none = record {
+  before = p.before;
+  state = p.state;
+  reached = p.reached;
+  stands = p.stands;
+  instr = p.instr;
+  taken = p.taken + 1;
+  reading = prefixed_reading byte p here none;
+  act = p.act;
+  callers = p.callers;
+}

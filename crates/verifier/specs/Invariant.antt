@@ -1,69 +1,87 @@
--- What holds of every world that a certified module comes to, in parts: each reads only some parts of the world.
-use Rattle.std.specs.Prelude.{◌≡◌, ℕ, zero, suc, ◌+◌, ◌-◌, ◌==◌, nat_le, ◌&&◌, ◌||◌, ◌%◌, ◌^◌, ◌≤◌, ◌<◌, Bool}
-use Rattle.std.specs.Prelude.{true, false, List, [], ◌∷◌, length, Option, Some, None, slice_get}
-use Rattle.module_format.specs.Contents.{Contents}
+-- What holds of every world that a certified module comes to, in parts: each reads only some parts of the world. Who
+-- runs and who waits, and that holdings are apart, are laws of every module.
+use Rattle.std.specs.Prelude.{◌≡◌, ℕ, ◌+◌, ◌*◌, ◌≤◌, ◌<◌, ⊤, true, List, [], ◌∷◌, Option, Some, None, slice_get}
+use Rattle.module_format.specs.Contents.{Contents, link_length}
+use Rattle.machine_state.specs.declared.holding.End.{End}
+use Rattle.machine_state.specs.declared.link.InputLink.{InputLink}
 use Rattle.machine_state.specs.declared.process.Task.{Task}
-use Rattle.machine_state.specs.declared.process.Exchange.{Exchange}
-use Rattle.machine_state.specs.declared.process.Condition.{Condition}
-use Rattle.machine_state.specs.declared.process.Condition.TheVariants.{Ready, Sending, Receiving, OnLink, Alternating}
-use Rattle.machine_state.specs.declared.process.Condition.TheVariants.{Stopped, Ended}
-use Rattle.machine_state.specs.Memory.{Memory, byte_at, place_of}
-use Rattle.machine_state.specs.Holding.{Holding, may_write, may_read}
-use Rattle.machine_state.specs.Apart.{AllApart}
-use Rattle.machine_state.specs.Waiting.{Line, Waiters}
-use Rattle.machine_state.specs.World.{World, Role, held, input_word}
-use Rattle.verifier.specs.Point.{Stands}
+use Rattle.machine_state.specs.declared.process.Channel.{Channel}
+use Rattle.machine_state.specs.EnabledLaws.{Alternates}
+use Rattle.machine_state.specs.Memory.{Memory}
+use Rattle.machine_state.specs.Holding.{Holding, has_end}
+use Rattle.machine_state.specs.Moves.{cell_of}
+use Rattle.machine_state.specs.Waiting.{IsOver}
+use Rattle.machine_state.specs.World.{World, Role, Join, held, link_words}
+use Rattle.verifier.specs.Point.{Began}
+use Rattle.verifier.specs.Lives.{Meets, it_lives, it_stopped, it_ended}
+use Rattle.verifier.specs.Pending.{Pending, IsMember, StartsHere}
+use Rattle.verifier.specs.Alternating.{AlternatesHere}
 
 -- ---- processes
 
--- the address of byte j of a message
-abbrev pub message_place : Exchange → ℕ → ℕ
-message_place x j = place_of ((x.address + j) % 2 ^ 32)
-
--- the place is that of one of so many bytes of a message from byte j on
-abbrev pub is_filled : Exchange → ℕ → ℕ → ℕ → Bool
-is_filled x j zero place = false
-is_filled x j (suc more) place = (place == message_place x j) || is_filled x (j + 1) more place
-
--- the place is filled before a waiting process goes on
-abbrev pub awaits : Condition → ℕ → Bool
-awaits Ready place = false
-awaits (Sending x) place = false
-awaits (Receiving x) place = is_filled x 0 x.length place
-awaits (OnLink x done) place = nat_le (input_word 0) x.channel && is_filled x done (x.length - done) place
-awaits Alternating place = false
-awaits Stopped place = false
-awaits Ended place = false
-
-abbrev pub IsByte : Option ℕ → Type 0
-IsByte o = (b : ℕ) × (o ≡ Some b) × (b < 256)
-
--- Whatever the awaited bytes are, and whatever happens to bytes that the process may not read, it stands at its point
--- when it goes on.
-pub record Lives (m : Contents) (h : Holding) (memory : Memory) (t : Task) (due : ℕ) : Type 0 where
-  pub claim : (later : Memory) → length later ≡ length memory
-      → ((place : ℕ) → may_read h place ≡ true → awaits t.condition place ≡ false
-      → byte_at later place ≡ byte_at memory place)
-      → ((place : ℕ) → awaits t.condition place ≡ true → IsByte (byte_at later place)) → Stands m h later t due
-  pub room : (place : ℕ) → awaits t.condition place ≡ true → (may_write h place ≡ true) × (place < length memory)
-
--- a process lives on, or is over
-pub data Meets (m : Contents) (h : Holding) (memory : Memory) (t : Task) (due : ℕ) : Type 0 where
-  it_lives : Lives m h memory t due → Meets m h memory t due
-  it_stopped : t.condition ≡ Stopped → Meets m h memory t due
-  it_ended : t.condition ≡ Ended → Meets m h memory t due
-
--- a process with its role and what it owes
-pub record Process (m : Contents) (memory : Memory) (roles : List Role) (dues : List ℕ) (p : ℕ)
+-- a process with its role, what it began with, and what it owes
+pub record Process (m : Contents) (memory : Memory) (roles : List Role) (began : List Began) (dues : List ℕ) (p : ℕ)
     (t : Task) : Type 0 where
   pub role : Role
   pub has_role : slice_get roles p ≡ Some role
+  pub start : Began
+  pub has_start : slice_get began p ≡ Some start
   pub due : ℕ
   pub has_due : slice_get dues p ≡ Some due
-  pub meets : Meets m (held role) memory t due
+  pub meets : Meets m (held role) start memory t due
 
-pub record Table (m : Contents) (memory : Memory) (tasks : List Task) (roles : List Role) (dues : List ℕ) : Type 0 where
-  pub each : (p : ℕ) (t : Task) → slice_get tasks p ≡ Some t → Process m memory roles dues p t
+pub record Table (m : Contents) (memory : Memory) (tasks : List Task) (roles : List Role) (began : List Began)
+    (dues : List ℕ) : Type 0 where
+  pub each : (p : ℕ) (t : Task) → slice_get tasks p ≡ Some t → Process m memory roles began dues p t
+
+-- ---- lengths of messages
+
+-- the messages at an end are as long as who began with it knows
+pub data LengthAgrees (m : Contents) (channels : List (Option Channel)) (began : Began) (e : End) : Type 0 where
+  at_link : (k : ℕ) → k < 8 → e.address ≡ link_words + 4 * k → link_length m k ≡ began.layout.lengths e.address
+      → LengthAgrees m channels began e
+  at_channel : (c : Channel) → slice_get channels (cell_of e.address) ≡ Some (Some c)
+      → c.length ≡ began.layout.lengths e.address → LengthAgrees m channels began e
+
+abbrev pub LengthsAgree : Contents → List Role → List (Option Channel) → List Began → Type 0
+LengthsAgree m roles channels began =
+    (p : ℕ) (role : Role) (start : Began) (e : End) → slice_get roles p ≡ Some role → slice_get began p ≡ Some start
+    → has_end role.own e ≡ true → LengthAgrees m channels start e
+
+-- ---- PARs
+
+-- for a process that has a join open: its role, and what it goes on with
+pub record Opener (m : Contents) (memory : Memory) (tasks : List Task) (roles : List Role) (began : List Began)
+    (dues pending_dues : List ℕ) (table : Table m memory tasks roles began dues) (p : ℕ) (role : Role)
+    (j : Join) : Type 0 where
+  pub task : Task
+  pub here : slice_get tasks p ≡ Some task
+  pub due : ℕ
+  pub has_due : slice_get pending_dues p ≡ Some due
+  pub pending : Pending m role.own (table.each p task here).start began memory j due
+  pub starter : StartsHere (table.each p task here).meets pending.par j pending.act
+
+-- a branch that is not over is a member of the join that its opener has open
+pub record Member (m : Contents) (memory : Memory) (tasks : List Task) (roles : List Role) (began : List Began)
+    (dues pending_dues : List ℕ) (table : Table m memory tasks roles began dues) (p o : ℕ) : Type 0 where
+  pub role : Role
+  pub has_role : slice_get roles o ≡ Some role
+  pub join : Join
+  pub is_open : role.opened ≡ Some join
+  pub opener : Opener m memory tasks roles began dues pending_dues table o role join
+  pub start : Began
+  pub has_start : slice_get began p ≡ Some start
+  pub is_member : IsMember m role.own (table.each o opener.task opener.here).start began memory join opener.due
+      opener.pending start
+
+-- ---- alternations
+
+-- who has stopped or ended is in none
+abbrev pub AlternatesIn : {m : Contents} {h : Holding} {start : Began} {memory : Memory} {t : Task} {due : ℕ} → World → ℕ
+    → Meets m h start memory t due → Type 0
+AlternatesIn {t = t} w p (it_lives l) = AlternatesHere w p t l.point.state l.point.act
+AlternatesIn w p (it_stopped e) = ⊤
+AlternatesIn w p (it_ended e) = ⊤
 
 -- ---- all of it
 
@@ -73,10 +91,16 @@ total (n ∷ ns) = n + total ns
 
 pub record Holds (m : Contents) (w : World) : Type 0 where
   pub dues : List ℕ
-  pub table : Table m w.memory w.tasks w.roles dues
-  pub line : Line w.tasks w.queue
-  pub few : length w.links.outputs ≤ 4
-  pub waiters : Waiters w.tasks w.links
-  pub apart : AllApart w.roles w.channels
-  pub owed : total dues + w.counters.executed ≤ m.budget
+  pub pending_dues : List ℕ
+  pub began : List Began
+  pub table : Table m w.memory w.tasks w.roles began dues
+  pub pending : (p : ℕ) (role : Role) (j : Join) → slice_get w.roles p ≡ Some role → role.opened ≡ Some j
+      → Opener m w.memory w.tasks w.roles began dues pending_dues table p role j
+  pub members : (p o : ℕ) (role : Role) → slice_get w.roles p ≡ Some role → role.opener ≡ Some o
+      → (IsOver w.tasks p → ⊥) → Member m w.memory w.tasks w.roles began dues pending_dues table p o
+  pub lengths : LengthsAgree m w.roles w.channels began
+  pub alternating : (p : ℕ) (t : Task) (here : slice_get w.tasks p ≡ Some t) → Alternates t.mode t.condition
+      → AlternatesIn w p (table.each p t here).meets
+  pub kept : (k : ℕ) (link : InputLink) (b : ℕ) → slice_get w.links.inputs k ≡ Some link → link.kept ≡ Some b → b < 256
+  pub owed : total dues + total pending_dues + w.counters.executed ≤ m.budget
   pub well : w.fault ≡ None

@@ -2,5 +2,8 @@ pub mod Certified
 pub mod Judge
 pub mod Judging
 pub mod Point
+pub mod Lives
+pub mod Pending
+pub mod Alternating
 pub mod Invariant
 pub mod Headline

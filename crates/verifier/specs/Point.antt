@@ -1,5 +1,5 @@
 -- A process at a point of the code.
-use Rattle.std.specs.Prelude.{◌≡◌, ℕ, ◌+◌, ◌≤◌, ◌<◌, pos, FitsSigned, List, [], ◌∷◌, length, drop, Option}
+use Rattle.std.specs.Prelude.{◌≡◌, ℕ, ◌+◌, ◌≤◌, ◌<◌, ⊤, ℤ, pos, FitsSigned, List, [], ◌∷◌, length, drop, Option}
 use Rattle.std.specs.Prelude.{Some}
 use Rattle.std.specs.Prelude.{Ok}
 use Rattle.std.specs.Int.{w32}
@@ -10,9 +10,12 @@ use Rattle.machine_state.specs.declared.process.Registers.{Registers}
 use Rattle.machine_state.specs.declared.process.Task.{Task}
 use Rattle.machine_state.specs.Memory.{Memory}
 use Rattle.machine_state.specs.Holding.{Holding}
+use Rattle.states.specs.declared.known.Mode.{Mode}
+use Rattle.states.specs.declared.known.Mode.TheVariants.{Starting}
 use Rattle.states.specs.State.{State}
 use Rattle.facts.specs.Meaning.{Layout, Activation, owed}
 use Rattle.facts.specs.Regions.{scope_of, Keeps}
+use Rattle.facts.specs.Lends.{Lends}
 use Rattle.facts.specs.Fitting.{After, Caller, Resumes, GoesOn}
 use Rattle.verifier.specs.Certified.{Reaches, state_at}
 
@@ -26,17 +29,25 @@ pub record IsReading (m : Contents) (r : Registers) (i : Instr) (taken : ℕ) : 
 
 -- ---- activations that wait for a return
 
--- Those that wait for an activation of a context to return, the one that called it first. Whatever it still changes,
--- each goes on in its state, which falls into the offset of the return. An activation of a procedure has a caller.
-pub data Behind (m : Contents) (h : Holding) : ℕ → Layout → Memory → List Caller → Type 0 where
-  nobody_waits : {context : ℕ} {layout : Layout} {memory : Memory} → (1 ≤ context → length m.procedures < context)
-      → Behind m h context layout memory []
+-- The context in which a process began, for good, and where the regions of its first activation lie.
+pub record Began : Type 0 where
+  pub context : ℕ
+  pub layout : Layout
+
+-- Those that wait for an activation of a context to return, the one that called it first. Each has lent what the one
+-- that it called has, and whatever that still changes, it goes on in its state, which falls into the offset of the
+-- return. Only procedures have callers; the activation that nobody waits for is the one that the process began with.
+pub data Behind (m : Contents) (h : Holding) (began : Began) : ℕ → Layout → Memory → List Caller → Type 0 where
+  nobody_waits : {context : ℕ} {layout : Layout} {memory : Memory} → context ≡ began.context → layout ≡ began.layout
+      → (1 ≤ context → length m.procedures < context) → Behind m h began context layout memory []
   one_waits : {context : ℕ} {layout : Layout} {memory : Memory} {c : Caller} {cs : List Caller}
-      → Reaches m layout.back (Some c.state) → GoesOn layout c
+      → 1 ≤ context → context ≤ length m.procedures → Reaches m layout.back (Some c.state) → GoesOn layout c
+      → layout.lengths ≡ c.act.layout.lengths → (base : ℤ)
+      → Lends m (scope_of m c.state.context c.act.layout) (scope_of m context layout) base
       → ((later : Memory) → Keeps m h (scope_of m context layout) memory later → Resumes m h c later)
       → ((later : Memory) → Keeps m h (scope_of m context layout) memory later
-      → Behind m h c.state.context c.act.layout later cs)
-      → Behind m h context layout memory (c ∷ cs)
+      → Behind m h began c.state.context c.act.layout later cs)
+      → Behind m h began context layout memory (c ∷ cs)
 
 -- what those owe that wait
 abbrev pub owed_behind : List Caller → ℕ
@@ -45,9 +56,9 @@ owed_behind (c ∷ cs) = owed c.state c.act + owed_behind cs
 
 -- ---- a process
 
--- The process is at a point of the code, in the state that the certificate has there and in some activation, and owes
--- what is left of what it owed, and what those owe that wait for its return.
-pub record Stands (m : Contents) (h : Holding) (memory : Memory) (t : Task) (due : ℕ) : Type 0 where
+-- A point of the code to which a process has come: the state that the certificate has there, an activation, and those
+-- that wait for its return. It reads no memory.
+pub record Point (m : Contents) (t : Task) : Type 0 where
   pub before : Option State
   pub state : State
   pub reached : Reaches m t.registers.began before
@@ -56,10 +67,23 @@ pub record Stands (m : Contents) (h : Holding) (memory : Memory) (t : Task) (due
   pub taken : ℕ
   pub reading : IsReading m t.registers instr taken
   pub act : Activation
-  pub here : After m h t.mode act state (record { registers = t.registers; memory = memory })
   pub callers : List Caller
-  pub behind : Behind m h state.context act.layout memory callers
-  pub paid : due + taken ≡ owed state act + owed_behind callers
+
+-- Those that wait for a return; while branches are started they wait for the PAR.
+abbrev pub BehindIn : Contents → Holding → Began → Mode → ℕ → Layout → Memory → List Caller → Type 0
+BehindIn m h began (Starting row started) context layout memory callers = ⊤
+BehindIn m h began mode context layout memory callers = Behind m h began context layout memory callers
+
+-- what a process owes at a point; while branches are started, what its loops and callers owe waits for the PAR
+abbrev pub owed_at : Mode → State → Activation → List Caller → ℕ
+owed_at (Starting row started) s act callers = s.number
+owed_at mode s act callers = owed s act + owed_behind callers
+
+-- in this memory all that is known at the point is so
+pub record MeetsPoint (m : Contents) (t : Task) (h : Holding) (began : Began) (point : Point m t)
+    (memory : Memory) : Type 0 where
+  pub here : After m h t.mode point.act point.state (record { registers = t.registers; memory = memory })
+  pub behind : BehindIn m h began point.state.mode point.state.context point.act.layout memory point.callers
 
 -- What the decoder says of the code: an instruction has at least one byte, lies in the code, has an operand of a word,
 -- and is what the device reads.

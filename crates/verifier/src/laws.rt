@@ -1,15 +1,14 @@
 //! The laws of certified modules, each the contract of a function that does nothing.
-ghost use Rattle.std.specs.Prelude.{◌≡◌, ℕ, Ok};
+ghost use Rattle.std.specs.Prelude.{◌≡◌, ℕ, List, Ok};
 ghost use Rattle.module_format.specs.Contents.{Contents};
 ghost use Rattle.module_format.specs.Keeping.{Keeps};
 ghost use Rattle.machine_state.specs.declared.event.Event.{Event};
-ghost use Rattle.machine_state.specs.World.{World, loaded};
-ghost use Rattle.machine_state.specs.Happens.{happens};
+ghost use Rattle.machine_state.specs.Happens.{world_after};
 ghost use Rattle.states.specs.declared.rule.Rule.{Rule};
 ghost use Rattle.verifier.specs.Certified.{IsCertified, IsRefused};
 ghost use Rattle.verifier.specs.Judge.{verdict, refused};
 ghost use Rattle.verifier.specs.Invariant.{Holds};
-ghost use Rattle.verifier.specs.Headline.{IsEvent, RunsWell};
+ghost use Rattle.verifier.specs.Headline.{AreEvents, RunsWell};
 
 /// No module is both certified and refused.
 pub fn not_both()
@@ -24,16 +23,10 @@ pub fn verdict_is_right()
         → verdict m ≡ refused rule at → IsRefused m rule at }
 {}
 
-/// The invariant of a certified module holds of its loaded world.
-pub fn loaded_worlds_hold_the_invariant()
-    ensures { (m : Contents) → Keeps m → IsCertified m → Holds m (loaded m) }
-{}
-
-/// Whatever event comes to whatever world in which the invariant of a certified module holds, it holds
-/// afterwards.
-pub fn events_keep_the_invariant()
-    ensures { (m : Contents) (e : Event) (w : World) → Keeps m → IsCertified m → IsEvent e → Holds m w
-        → Holds m (happens m w e) }
+/// In every world that a list of events leads to, the invariant of a certified module holds.
+pub fn certified_runs_hold_the_invariant()
+    ensures { (m : Contents) (es : List Event) → Keeps m → IsCertified m → AreEvents es
+        → Holds m (world_after m es) }
 {}
 
 /// For every list of events a certified module runs without a fault, all holdings stay apart, and at most the

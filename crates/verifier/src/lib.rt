@@ -9,8 +9,7 @@ mod stop;
 mod verified;
 
 pub use laws::{
-    certified_modules_run_well, events_keep_the_invariant, loaded_worlds_hold_the_invariant,
-    not_both, verdict_is_right,
+    certified_modules_run_well, certified_runs_hold_the_invariant, not_both, verdict_is_right,
 };
 pub use verified::{Verified, verify};
 

@@ -1,9 +1,9 @@
 use Rattle.std.proofs.Common.{refl}
 use Rattle.std.proofs.lemmas.Result.{err_from_is_err_and}
 use Rattle.verifier.proofs.Judging.{accepted_is_certified}
-use Rattle.verifier.proofs.Kept.{decodes, well_formed, spans}
+use Rattle.verifier.proofs.Kept.{spans}
 use Rattle.verifier.proofs.Reporting.{reports}
-use Rattle.verifier.proofs.Start.{runs_well}
+use Rattle.verifier.proofs.CertifiedRuns.{runs_well}
 use Rattle.verifier.proofs.verified.verify.Goals as goal
 
 pub returns-in_err-pass-clause-refuses : goal.returns-in_err-pass-clause-refuses
@@ -29,5 +29,4 @@ pub returns-clause-headline : goal.returns-clause-headline
 returns-clause-headline c =
     let m = c.args.module.now in
     let kept = c.pass.ensures.kept in
-    runs_well m (decodes m kept) (well_formed m kept)
-    (accepted_is_certified m (spans m kept) c.in_ok-pass.ensures.accepts)
+    runs_well m kept (accepted_is_certified m (spans m kept) c.in_ok-pass.ensures.accepts)

@@ -1,0 +1,237 @@
+-- Bytes that arrive and messages that are acknowledged: who waits on a link goes on.
+use Rattle.std.proofs.Common.{◌≡◌, ◌≢◌, ℕ, suc, ◌+◌, ◌-◌, ◌<◌, Bool, true, false, if◌then◌else◌, leb, eqb}
+use Rattle.std.proofs.Common.{◌&&◌, ◌||◌, inl, inr, List, Some, None, refl, sym, ap, ◌∙◌, subst, arith}
+use Rattle.std.proofs.lemmas.Bool.{le-leb}
+use Rattle.std.proofs.lemmas.Bool.Decides.{leb_tells, eqb_tells}
+use Rattle.std.proofs.lemmas.Option.{slice_get_within}
+use Rattle.std.specs.Prelude.{slice_get, slice_set}
+use Rattle.module_format.specs.Contents.{Contents}
+use Rattle.machine_state.specs.declared.process.Task.{Task}
+use Rattle.machine_state.specs.declared.process.Exchange.{Exchange}
+use Rattle.machine_state.specs.declared.process.Condition.{Condition}
+use Rattle.machine_state.specs.declared.process.Condition.TheVariants.{Ready, OnLink}
+use Rattle.machine_state.specs.declared.link.InputLink.{InputLink}
+use Rattle.machine_state.specs.declared.link.OutputLink.{OutputLink}
+use Rattle.machine_state.specs.Memory.{Memory, byte_at, with_byte}
+use Rattle.machine_state.specs.Holding.{may_write}
+use Rattle.machine_state.specs.World.{World, held, input_word}
+use Rattle.machine_state.specs.Frame.{ChangesOwn}
+use Rattle.machine_state.specs.Waiting.{WaitsOn}
+use Rattle.machine_state.specs.Moves.{dispatch, enqueue, wake, with_condition, with_input, with_output, fill}
+use Rattle.machine_state.specs.Moves.{fill_condition, rouse}
+use Rattle.machine_state.proofs.Moving.{at_some, on_task_is}
+use Rattle.machine_state.proofs.Reading.{length-with_byte, byte_at-with_byte, byte_at-with_byte_other}
+use Rattle.verifier.specs.Lives.{awaits, is_filled, message_place, IsByte, IsExchanging, Lives, it_lives}
+use Rattle.verifier.proofs.Given.{or_left}
+use Rattle.verifier.proofs.LawfulWorlds.{IsLawful}
+use Rattle.machine_state.proofs.Lines.{set_either}
+use Rattle.verifier.proofs.Tables.{IsSound, AreBytes, Puts, Living, living, lives_on, lives_whatever, holds_put}
+use Rattle.verifier.proofs.Tables.{holds_elsewhere}
+use Rattle.verifier.proofs.Tables.{dispatch_holds}
+use Rattle.verifier.proofs.Rousing.{rouse_holds}
+
+-- the world after a process was made ready that is there
+wake_is : (w : World) (p : ℕ) (t : Task) → slice_get w.tasks p ≡ Some t
+    → enqueue p (record w { tasks = slice_set w.tasks p (record t { condition = Ready }) }) ≡ wake p w
+wake_is w p t here = ap (enqueue p) (sym (on_task_is p (λ task. record task { condition = Ready }) w t here))
+
+-- ---- an acknowledgement
+
+-- who sends awaits no byte
+awaits_no_input : (c : Condition) (x : Exchange) (done place : ℕ) → c ≡ OnLink x done → x.channel < input_word 0
+    → awaits c place ≡ false
+awaits_no_input c x done place e low =
+    ap (λ c. awaits c place) e ∙ ap (λ (b : Bool). b && is_filled x done (x.length - done) place)
+    (not_above (input_word 0) x.channel low)
+  where
+    not_above : (a b : ℕ) → b < a → leb a b ≡ false
+    not_above a b h = elim (leb_tells a b) [ inl t ↦ absurd (omega (arith, t.1)) | inr t ↦ t.0 ]
+
+pub acknowledged_holds : (m : Contents) (w : World) → IsLawful w → IsSound m w → (k : ℕ) (l : OutputLink) (p : ℕ)
+    → slice_get w.links.outputs k ≡ Some l → l.waiting ≡ Some p
+    → IsSound m (dispatch 0 (wake p (with_output k (record { waiting = None }) w)))
+acknowledged_holds m w lawful h k l p here waiting =
+    let v = lawful.waiters.outputs k l p here waiting in
+    let r = living m w h.holds p v.task (OnLink v.exchange v.done) v.here v.waits (λ e. cc) (λ e. cc) in
+    let low : k < 4 = let inside = slice_get_within w.links.outputs k l here in let four = lawful.four.outputs in
+    omega arith in
+    let channel : v.exchange.channel < input_word 0 = let on = v.on in omega arith in
+    let free : World = with_output k (record { waiting = None }) w in
+    let u : Task = record v.task { condition = Ready } in
+    let ready : World = enqueue p (record free { tasks = slice_set w.tasks p u }) in
+    dispatch_holds m 0 (wake p free) (subst (λ x. IsSound m x) (wake_is free p v.task v.here)
+    (holds_put m w h lawful.apart.processes p v.task r.row ready u w.memory r.row.due
+    (record {
+      tasks = refl;
+      memory = refl;
+      roles = refl;
+      channels = refl;
+      kept = h.holds.kept;
+      fault = refl;
+    }) (omega arith) (h.quiet.plain p v.task v.here)
+    (record { size = refl; others = λ place e. refl })
+    (it_lives (lives_whatever Ready (λ e is. elim is [ inl no' ↦ cc | inr no' ↦ cc ])
+    (λ place. awaits_no_input v.task.condition v.exchange v.done place v.waits channel) (λ place. refl) r.lives))))
+
+-- ---- a byte that is kept
+
+-- what is kept are bytes, where one link changed on which a byte is kept, or none
+bytes_set : (inputs : List InputLink) (k : ℕ) (l : InputLink) → AreBytes inputs
+    → ((b : ℕ) → l.kept ≡ Some b → b < 256) → AreBytes (slice_set inputs k l)
+bytes_set inputs k l bytes small j link b here kept = elim (set_either inputs k l j link here) [
+  | inl itself ↦ small b (ap (λ (x : InputLink). x.kept) (sym itself.1) ∙ kept)
+  | inr other ↦ bytes j link b other.1 kept
+]
+
+pub kept_holds : (m : Contents) (w : World) → IsLawful w → IsSound m w → (k byte : ℕ) → byte < 256
+    → (l : InputLink) → IsSound m (dispatch 0 (rouse l.enabled (with_input k (record l { kept = Some byte }) w)))
+kept_holds m w lawful h k byte small l =
+    let kept = with_input k (record l { kept = Some byte }) w in
+    dispatch_holds m 0 (rouse l.enabled kept)
+    (rouse_holds m kept (holds_elsewhere m w w.queue kept.links
+    (bytes_set w.links.inputs k (record l { kept = Some byte }) h.holds.kept (λ b is.
+    let same : byte ≡ b = cc in omega (arith, small, same))) h) lawful.apart.processes l.enabled)
+
+-- ---- a byte that is taken
+
+module _ (m : Contents) (w : World) (lawful : IsLawful w) (h : IsSound m w) (k byte : ℕ) (small : byte < 256)
+    (l : InputLink) (p : ℕ) (here : slice_get w.links.inputs k ≡ Some l) (waiting : l.waiting ≡ Some p) where
+  abbrev v : WaitsOn w.tasks p (input_word k)
+  v = lawful.waiters.inputs k l p here waiting
+
+  -- the place that the byte goes to, and how many bytes come after it
+  abbrev goal_place : ℕ
+  goal_place = message_place v.exchange v.done
+
+  abbrev after_it : ℕ
+  after_it = v.exchange.length - (v.done + 1)
+
+  abbrev filled : Memory
+  filled = with_byte w.memory goal_place (Some byte)
+
+  awaited : (place : ℕ)
+      → awaits v.task.condition place ≡ (eqb place goal_place || is_filled v.exchange (v.done + 1) after_it place)
+  awaited place =
+      ap (λ c. awaits c place) v.waits
+      ∙ ap (λ (b : Bool). b && is_filled v.exchange v.done (v.exchange.length - v.done) place)
+      (le-leb (input_word 0) v.exchange.channel (omega (arith, v.on)))
+      ∙ ap (λ n. is_filled v.exchange v.done n place) rest
+    where
+      rest : v.exchange.length - v.done ≡ suc (v.exchange.length - (v.done + 1))
+      rest = let more = v.more in omega arith
+
+  awaited_here : awaits v.task.condition goal_place ≡ true
+  awaited_here = awaited goal_place
+      ∙ ap (λ (b : Bool). b || is_filled v.exchange (v.done + 1) after_it goal_place) (eqb_is goal_place)
+    where
+      eqb_is : (n : ℕ) → eqb n n ≡ true
+      eqb_is n = elim (eqb_tells n n) [ inl t ↦ t.0 | inr t ↦ absurd (t.1 refl) ]
+
+  r : Living m w h.holds.began h.holds.dues p v.task
+  r = living m w h.holds p v.task (OnLink v.exchange v.done) v.here v.waits (λ e. cc) (λ e. cc)
+
+  mine : may_write (held r.row.role) goal_place ≡ true
+  mine = (r.lives.room goal_place awaited_here).0
+
+  changes : ChangesOwn (held r.row.role) w.memory filled
+  changes = record {
+    size = length-with_byte w.memory goal_place (Some byte);
+    others = λ place free. byte_at-with_byte_other w.memory goal_place place (Some byte)
+        (λ e. let no' : true ≡ false = sym mine ∙ ap (may_write (held r.row.role)) (sym e) ∙ free in cc);
+  }
+
+  -- the process lives on, where a test tells the places that are still awaited
+  filled_lives : (c : Condition) (still : ℕ → Bool) → ((e : Exchange) → IsExchanging c e → ⊥)
+      → ((place : ℕ) → awaits c place ≡ still place)
+      → ((place : ℕ) → awaits v.task.condition place ≡ (eqb place goal_place || still place))
+      → Lives m (held r.row.role) r.row.start filled (record v.task { condition = c }) r.row.due
+  filled_lives c still quiet is_still was = lives_on filled c quiet changes.size
+      (λ place e free. byte_at-with_byte_other w.memory goal_place place (Some byte)
+      (differs place (or_left (eqb place goal_place) (still place) (sym (was place) ∙ free))))
+      (λ place e. was place ∙ or_true_right (eqb place goal_place) (still place) (sym (is_still place) ∙ e))
+      (λ place e. elim (eqb_tells place goal_place) [
+        | inl t ↦ inr (subst (λ q. IsByte (byte_at filled q)) (sym t.1) comes_in)
+        | inr t ↦ inl (byte_at-with_byte_other w.memory goal_place place (Some byte) t.1)
+      ])
+      (λ place e over. subst (λ q. IsByte (byte_at filled q))
+      (sym (same_place place (still place) (sym (is_still place) ∙ over) (sym (was place) ∙ e))) comes_in) r.lives
+    where
+      comes_in : IsByte (byte_at filled goal_place)
+      comes_in =
+          (byte, byte_at-with_byte w.memory goal_place (Some byte) (r.lives.room goal_place awaited_here).1, small)
+
+      or_true_right : (a b : Bool) → b ≡ true → (a || b) ≡ true
+      or_true_right true b e = refl
+      or_true_right false b e = e
+
+      differs : (place : ℕ) → eqb place goal_place ≡ false → place ≢ goal_place
+      differs place e same =
+          elim (eqb_tells place goal_place) [ inl t ↦ let no' : true ≡ false = sym t.0 ∙ e in cc | inr t ↦ t.1 same ]
+
+      same_place : (place : ℕ) (b : Bool) → b ≡ false → (eqb place goal_place || b) ≡ true → place ≡ goal_place
+      same_place place true none e = absurd (cc)
+      same_place place false none e = elim (eqb_tells place goal_place)
+          [ inl t ↦ t.1 | inr t ↦ let no' : false ≡ true = sym t.0 ∙ or_none (eqb place goal_place) e in absurd (cc) ]
+        where
+          or_none : (a : Bool) → (a || false) ≡ true → a ≡ true
+          or_none true e = refl
+          or_none false e = e
+
+  filled_puts : (c : Condition) (after : World) → Puts w after p (record v.task { condition = c }) filled
+      → after.counters ≡ w.counters → Lives m (held r.row.role) r.row.start filled (record v.task { condition = c }) r.row.due
+      → IsSound m after
+  filled_puts c after puts same lives =
+      holds_put m w h lawful.apart.processes p v.task r.row after (record v.task { condition = c }) filled r.row.due puts
+      (rw same (omega arith)) (h.quiet.plain p v.task v.here) changes (it_lives lives)
+
+  abbrev with_filled : World
+  with_filled = record w { memory = filled }
+
+  -- with the last byte it becomes ready
+  last_holds : v.done + 1 ≡ v.exchange.length → IsSound m (wake p (with_input k (record l { waiting = None }) with_filled))
+  last_holds last =
+      let free : World = with_input k (record l { waiting = None }) with_filled in
+      let none : after_it ≡ 0 = omega (arith, last) in
+      let ready : World = enqueue p (record free { tasks = slice_set w.tasks p (record v.task { condition = Ready }) }) in
+      subst (λ x. IsSound m x) (wake_is free p v.task v.here)
+      (filled_puts Ready ready (record {
+        tasks = refl;
+        memory = refl;
+        roles = refl;
+        channels = refl;
+        kept = bytes_set w.links.inputs k (record l { waiting = None }) h.holds.kept (λ b. h.holds.kept k l b here);
+        fault = refl;
+      }) refl
+      (filled_lives Ready (λ place. false) (λ e is. elim is [ inl no' ↦ cc | inr no' ↦ cc ]) (λ place. refl) (λ place. awaited place
+      ∙ ap (λ i. eqb place goal_place || is_filled v.exchange (v.done + 1) i place) none)))
+
+  -- else it waits for the next
+  next_holds : IsSound m (with_condition p (OnLink v.exchange (v.done + 1)) with_filled)
+  next_holds =
+      let next : Condition = OnLink v.exchange (v.done + 1) in
+      subst (λ x. IsSound m x) (sym (on_task_is p (λ task. record task { condition = next }) with_filled v.task v.here))
+      (filled_puts next (record with_filled { tasks = slice_set w.tasks p (record v.task { condition = next }) }) (record {
+        tasks = refl;
+        memory = refl;
+        roles = refl;
+        channels = refl;
+        kept = h.holds.kept;
+        fault = refl;
+      }) refl
+      (filled_lives next (λ place. is_filled v.exchange (v.done + 1) after_it place)
+      (λ e is. elim is [ inl no' ↦ cc | inr no' ↦ cc ])
+      (λ place. ap (λ (b : Bool). b && is_filled v.exchange (v.done + 1) after_it place)
+      (le-leb (input_word 0) v.exchange.channel (omega (arith, v.on)))) awaited))
+
+  pub taken_holds : IsSound m (dispatch 0 (fill p k byte l w))
+  taken_holds = dispatch_holds m 0 (fill p k byte l w) (subst (λ x. IsSound m x)
+      (sym (at_some (slice_get w.tasks p) v.task w (λ task. fill_condition p k byte l task.condition w) v.here
+      ∙ ap (λ c. fill_condition p k byte l c w) v.waits))
+      (on_last (eqb (v.done + 1) v.exchange.length) refl))
+    where
+      on_last : (b : Bool) → eqb (v.done + 1) v.exchange.length ≡ b
+          → IsSound m (if b then wake p (with_input k (record l { waiting = None }) with_filled)
+          else with_condition p (OnLink v.exchange (v.done + 1)) with_filled)
+      on_last true e = last_holds (elim (eqb_tells (v.done + 1) v.exchange.length)
+          [ inl t ↦ t.1 | inr t ↦ let no' : true ≡ false = sym e ∙ t.0 in absurd (cc) ])
+      on_last false e = next_holds

@@ -1,0 +1,44 @@
+-- The invariant holds in each world that a certified module comes to, and so the module runs well.
+use Rattle.std.proofs.Common.{List, [], ◌∷◌, ◌++◌, sym, subst, append_assoc, append-nil, arith}
+use Rattle.module_format.specs.Contents.{Contents}
+use Rattle.module_format.specs.Keeping.{Keeps}
+use Rattle.machine_state.specs.declared.event.Event.{Event}
+use Rattle.machine_state.specs.World.{loaded}
+use Rattle.machine_state.specs.Happens.{happens, world_after}
+use Rattle.machine_state.proofs.EveryWorld.{run_further}
+use Rattle.verifier.specs.Certified.{IsCertified}
+use Rattle.verifier.specs.Invariant.{Holds}
+use Rattle.verifier.specs.Headline.{IsEvent, AreEvents, RunsWell}
+use Rattle.verifier.proofs.Kept.{decodes, well_formed}
+use Rattle.verifier.proofs.LawfulWorlds.{lawful}
+use Rattle.verifier.proofs.Tables.{IsSound}
+use Rattle.verifier.proofs.EventsKeepInvariant.{event_holds}
+use Rattle.verifier.proofs.Start.{loaded_holds}
+
+module _ (m : Contents) (k : Keeps m) (c : IsCertified m) where
+  -- one event more
+  step_further : (es : List Event) (e : Event) → IsEvent e → IsSound m (world_after m es)
+      → IsSound m (happens m (world_after m es) e)
+  step_further es e is h =
+      event_holds m (decodes m k) (well_formed m k) c (world_after m es) (lawful m es k) h e is
+
+  holds_from : (before es : List Event) → AreEvents es → IsSound m (world_after m before)
+      → IsSound m (world_after m (before ++ es))
+  holds_from before [] are h = subst (λ (es : List Event). IsSound m (world_after m es)) (sym (append-nil before)) h
+  holds_from before (e ∷ es) are h = subst (λ (es : List Event). IsSound m (world_after m es))
+      (append_assoc before (e ∷ []) es) (holds_from (before ++ e ∷ []) es are.1
+      (subst (IsSound m) (sym (run_further m (loaded m) before e)) (step_further before e are.0 h)))
+
+pub certified_run_holds : (m : Contents) (es : List Event) → Keeps m → IsCertified m → AreEvents es
+    → Holds m (world_after m es)
+certified_run_holds m es k c are =
+    (holds_from m k c [] es are (loaded_holds m (decodes m k) (well_formed m k) c)).holds
+
+pub runs_well : (m : Contents) → Keeps m → IsCertified m → RunsWell m
+runs_well m k c es are =
+    let h = certified_run_holds m es k c are in
+    record {
+      no_fault = h.well;
+      apart = (lawful m es k).apart;
+      within_budget = let owed = h.owed in omega arith;
+    }

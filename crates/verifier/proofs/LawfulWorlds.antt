@@ -1,0 +1,39 @@
+-- What the laws of every module say of a world that events lead to, as the invariant's proof reads it.
+use Rattle.std.proofs.Common.{◌≡◌, ℕ, List, Option, Some, ap, ◌∙◌, subst}
+use Rattle.std.specs.Prelude.{slice_get}
+use Rattle.module_format.specs.Contents.{Contents}
+use Rattle.module_format.specs.Keeping.{Keeps}
+use Rattle.machine_state.specs.declared.event.Event.{Event}
+use Rattle.machine_state.specs.declared.process.Task.{Task}
+use Rattle.machine_state.specs.declared.process.Condition.TheVariants.{Ready}
+use Rattle.machine_state.specs.World.{World}
+use Rattle.machine_state.specs.Happens.{world_after}
+use Rattle.machine_state.specs.Apart.{AllApart}
+use Rattle.machine_state.specs.Waiting.{Line, AllReady, line_of, Waiters}
+use Rattle.machine_state.specs.LinkLaws.{FourEachWay}
+use Rattle.machine_state.proofs.Claims.{only_one}
+use Rattle.machine_state.proofs.Waiting.{lines_are_ready, links_have_their_waiters}
+use Rattle.machine_state.proofs.LinkCounts.{links_stay_four}
+use Rattle.machine_state.proofs.ApartLaws.{holdings_stay_apart}
+
+pub record IsLawful (w : World) : Type 0 where
+  pub line : Line w.tasks w.queue
+  pub waiters : Waiters w.tasks w.links
+  pub four : FourEachWay w.links
+  pub apart : AllApart w.roles w.channels
+
+-- each law is one of machine_state
+pub lawful : (m : Contents) (es : List Event) → Keeps m → IsLawful (world_after m es)
+lawful m es keeps = record {
+  line = lines_are_ready m es;
+  waiters = links_have_their_waiters m es;
+  four = links_stay_four m es;
+  apart = holdings_stay_apart m es keeps;
+}
+
+-- who runs is ready
+pub runs_ready : (w : World) → IsLawful w → (p : ℕ) (t : Task) → w.queue.running ≡ Some p
+    → slice_get w.tasks p ≡ Some t → t.condition ≡ Ready
+runs_ready w lawful p t running here =
+    let first = (subst (λ (o : Option ℕ). AllReady w.tasks (line_of o w.queue.ready)) running lawful.line.ready).0 in
+    ap (λ (u : Task). u.condition) (only_one (slice_get w.tasks p) t first.task here first.here) ∙ first.ready
