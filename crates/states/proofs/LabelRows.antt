@@ -1,6 +1,6 @@
 -- The label rows of a module: what the format says of their entries.
-use Rattle.std.proofs.Common.{◌≡◌, ℕ, ◌<◌, ℤ, pos, ◌+ℤ◌, ◌≤ℤ◌, ◌<ℤ◌, Bool, true, false, cond, List, [], ◌∷◌, length}
-use Rattle.std.proofs.Common.{get_or, map, Option, Some, None, zero, suc, refl, sym, ap, ◌∙◌, subst, arith, inl, inr}
+use Rattle.std.proofs.Common.{◌≡◌, ℕ, ℤ, pos, ◌+ℤ◌, ◌≤ℤ◌, ◌<ℤ◌, Bool, true, false, cond, List, [], ◌∷◌, length}
+use Rattle.std.proofs.Common.{Option, Some, None, refl, sym, ap, ◌∙◌, subst, arith, inl, inr}
 use Rattle.std.specs.Prelude.{MatchOption, find, ◌==◌}
 use Rattle.std.specs.List.{AllByRecursion}
 use Rattle.std.proofs.lemmas.Bool.{cases_Bool}
@@ -9,9 +9,8 @@ use Rattle.module_format.specs.Rows.{Fact}
 use Rattle.module_format.specs.declared.fact.Fact.TheVariants.{Unknown, Number, Pointer, CodeAddress, Loop}
 use Rattle.module_format.specs.declared.fact.Fact.TheVariants.{ReturnAddress}
 use Rattle.module_format.specs.Rows.{Entry}
-use Rattle.module_format.specs.Rows.{LabelRow}
 use Rattle.module_format.specs.declared.contexts.Context.{Context}
-use Rattle.module_format.specs.Contents.{Contents, Procedure, Label, label_of, label_at}
+use Rattle.module_format.specs.Contents.{Contents, Procedure, Label, label_at}
 use Rattle.module_format.specs.Contexts.{context_at}
 use Rattle.certificate.specs.Rights.{has_word}
 use Rattle.module_format.specs.Order.{InOrder, least_word}
@@ -107,15 +106,3 @@ row-found m at (row ∷ rows) t all h = elim (cases_Bool (row.offset == at)) [
 -- so does the label at an offset
 pub label_row_at : (m : Contents) (at : ℕ) (t : Label) → Keeps m → label_at m at ≡ Some t → IsRowOf m t
 label_row_at m at t k h = row-found m at m.labels t (label_rows m k) h
-
-row-at : (m : Contents) (rows : List LabelRow) (i : ℕ) (d : LabelRow) → AllByRecursion (IsRowOf m) (map label_of rows)
-    → i < length rows → IsRowOf m (label_of (get_or rows i d))
-row-at m [] i d all h = absurd (omega arith)
-row-at m (row ∷ rows) zero d all h = all.0
-row-at m (row ∷ rows) (suc i) d all h = row-at m rows i d all.1 (omega arith)
-
--- and each row in memory
-pub label_row_of : (m : Contents) (rows : List LabelRow) (i : ℕ) (d : LabelRow) → Keeps m → m.labels ≡ map label_of rows
-    → i < length rows → IsRowOf m (label_of (get_or rows i d))
-label_row_of m rows i d k is h =
-    row-at m rows i d (subst (λ (ls : List Label). AllByRecursion (IsRowOf m) ls) is (label_rows m k)) h

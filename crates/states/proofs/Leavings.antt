@@ -1,5 +1,5 @@
 -- Blocks of words that were left in some way.
-use Rattle.std.proofs.Common.{◌≡◌, ◌≢◌, ℕ, zero, suc, ◌+◌, ◌-◌, ◌*◌, ◌/◌, ◌%◌, ◌<◌, ◌≤◌, ℤ, pos, negsuc, ◌+ℤ◌, ◌-ℤ◌, ◌≤ℤ◌, ◌<ℤ◌}
+use Rattle.std.proofs.Common.{◌≡◌, ◌≢◌, ℕ, zero, suc, ◌+◌, ◌*◌, ◌/◌, ◌%◌, ◌<◌, ℤ, pos, negsuc, ◌+ℤ◌, ◌-ℤ◌}
 use Rattle.std.proofs.Common.{Bool, true, false, ◌&&◌, cond, eqb, nat_abs, List, [], length, get_or, Option, Some, None, refl, sym, ap, ◌∙◌, subst}
 use Rattle.std.proofs.Common.{arith, inl, inr}
 use std.Path.{fun_ext}
@@ -7,7 +7,7 @@ use Rattle.std.specs.Int.{int_min, int_max}
 use Rattle.std.proofs.lemmas.Bool.{cases_eq, cases_lt}
 use Rattle.std.proofs.lemmas.List.{get_or_default, get_or_past}
 use Rattle.std.proofs.lemmas.Bool.Decides.{nat_tests}
-use Rattle.std.proofs.lemmas.Int.{ints, clamps, by_lt_z}
+use Rattle.std.proofs.lemmas.Int.{ints, clamps}
 use Rattle.std.proofs.lemmas.Nat.{div-add-mod'}
 use Rattle.std.proofs.Math.Nat.{mod-lt}
 use Rattle.std.specs.Prelude.{option_map, unwrap_or}
@@ -21,7 +21,7 @@ use Rattle.states.specs.declared.span.Leaving.{Leaving}
 use Rattle.states.specs.declared.span.Leaving.TheVariants.{Become, Widen}
 use Rattle.states.specs.declared.span.Together.{Together}
 use Rattle.states.specs.declared.overlay.Written.{Written}
-use Rattle.states.specs.State.{Facts, by_itself, is_word, is_alone, handed_out, entry_fact}
+use Rattle.states.specs.State.{Facts, by_itself, is_alone, handed_out, entry_fact}
 use Rattle.states.specs.Lookup.{fact_of_index, facts_over}
 use Rattle.states.specs.Frames.{with_alone, with_span}
 use Rattle.states.specs.Spans.{is_in_span, left_of, widened, of_none, with_plain, with_one, together}

@@ -8,7 +8,7 @@ ghost use Rattle.states.specs.Views.{BelongsTo};
 
 use crate::tests::text::Found;
 use certificate::{Fact, LabelRow, Module, ProcedureRow};
-use states::{Known, Source, State, below};
+use states::{Known, Source, State, below, label_rows_are_sound};
 use std::alloc::Global;
 
 const SMALL: Fact = Fact::Number { lo: 1, hi: 5 };
@@ -143,6 +143,7 @@ fn put_copy(alloc: Global, module: &Module, state: &mut State, found: &mut Found
 pub fn label<'t>(module: &'t Module, index: usize) -> Option<&'t LabelRow>
     ensures { IfSome result (λ row. IsRowOf «module».now (label_of row.now)) }
 {
+    label_rows_are_sound();
     let rows = module.tables().labels.as_slice();
     if index >= rows.len() {
         return None;

@@ -1,4 +1,4 @@
-use Rattle.std.proofs.Common.{◌≡◌, Some, refl, sym, ap, ◌∙◌}
+use Rattle.std.proofs.Common.{Some, refl, sym, ap, ◌∙◌}
 use Rattle.module_format.specs.Rows.{Fact}
 use Rattle.states.specs.declared.blocks.Block.{Block}
 use Rattle.states.specs.declared.span.Leaving.{Leaving}

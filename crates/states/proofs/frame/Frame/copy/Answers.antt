@@ -1,4 +1,4 @@
-use Rattle.std.proofs.Common.{◌≡◌, List, ℕ, ap, sym, subst, ◌∙◌, pos, ◌+ℤ◌, ◌<ℤ◌, SFits, rules}
+use Rattle.std.proofs.Common.{List, ℕ, ap, sym, subst, ◌∙◌, pos, ◌+ℤ◌, ◌<ℤ◌, SFits, rules}
 use Rattle.std.proofs.lemmas.Int.{to_z-of_z}
 use Rattle.std.specs.Int.{w32}
 use Rattle.states.specs.declared.blocks.Block.{Block}

@@ -1,8 +1,7 @@
-use Rattle.std.proofs.Common.{arith, refl, ◌+◌, to_z, of_z, ◌∙◌}
+use Rattle.std.proofs.Common.{arith, refl, to_z, of_z, ◌∙◌}
 use Rattle.std.proofs.lemmas.Int.{ints}
 use Rattle.std.specs.Int.{w32}
 use Rattle.states.specs.Frames.{frame_facts}
-use Rattle.states.proofs.SpanFacts.{leave-none}
 use Rattle.states.proofs.Leavings.{span-further}
 use Rattle.states.proofs.frame.Frame.leave.Goals as goal
 

@@ -1,7 +1,6 @@
-use Rattle.std.proofs.Common.{◌≡◌, ap, ◌∙◌, sym, None, Some}
+use Rattle.std.proofs.Common.{◌≡◌, ap, ◌∙◌, sym, Some}
 use Rattle.states.specs.declared.blocks.Block.{Block}
-use Rattle.states.specs.declared.span.Together.{Together}
-use Rattle.states.specs.Blocks.{block_words, first_of, left_after, sum_left, facts_left}
+use Rattle.states.specs.Blocks.{block_words, first_of, left_after, facts_left}
 use Rattle.states.specs.State.{Facts}
 use Rattle.states.specs.Spans.{together}
 use Rattle.states.specs.Frames.{frame_facts, over_facts, with_span}

@@ -1,6 +1,6 @@
 use Rattle.std.proofs.Common.{rules, arith, ◌≡◌, ℕ, ◌/◌, ◌-ℤ◌, pos, ◌+ℤ◌, nat_abs, ap, ◌∙◌}
 use Rattle.std.proofs.lemmas.Int.{ints}
-use Rattle.states.specs.Blocks.{block_words, facts_left}
+use Rattle.states.specs.Blocks.{facts_left}
 use Rattle.states.specs.Frames.{frame_facts, over_facts, with_alone}
 use Rattle.states.specs.Lookup.{facts_over}
 use Rattle.states.proofs.FrameFacts.{facts_over-write, distance}

@@ -1,7 +1,7 @@
-use Rattle.std.proofs.Common.{◌≡◌, ℕ, ℤ, subst, pos, ◌+ℤ◌, ◌∙◌, None, cond, eqb, refl, sym, ap, inl, inr}
+use Rattle.std.proofs.Common.{◌≡◌, ℤ, subst, pos, ◌+ℤ◌, ◌∙◌, None, refl, sym, ap}
 use Rattle.states.specs.declared.blocks.Block.{Block}
 use Rattle.states.specs.declared.blocks.Blocks.{Blocks}
-use Rattle.states.specs.Blocks.{block_words, block_at, first_of, facts_left}
+use Rattle.states.specs.Blocks.{block_at, first_of, facts_left}
 use Rattle.states.specs.State.{Facts}
 use Rattle.states.specs.Frames.{frame_facts, over_facts}
 use Rattle.states.proofs.Leavings.{block-settled, summed-same, sums-set}
