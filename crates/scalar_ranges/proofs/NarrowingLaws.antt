@@ -19,10 +19,11 @@ use Rattle.scalar_ranges.specs.Entries.{Meaning, Constant, Scalar, Array, Channe
 use Rattle.scalar_ranges.specs.Entries.{meaning_in}
 use Rattle.scalar_ranges.specs.Environments.{Held, Nothing, One, Many, Binding, Environment, held_in, one_of, IsHeld}
 use Rattle.scalar_ranges.specs.Environments.{Meets}
-use Rattle.scalar_ranges.specs.Types.{type_of, type_of_term, pair_type}
+use Rattle.scalar_ranges.specs.Types.{named_type, type_of, type_of_term, pair_type}
 use Rattle.scalar_ranges.specs.Values.{number_of_term, truth_of, truth_of_term}
 use Rattle.scalar_ranges.specs.Bounds.{Bound, Exactly, Within, exact_value, bound_of_term}
-use Rattle.scalar_ranges.specs.Narrowing.{is_narrowed, constant_in, Tested, tested, turned, opposite, first_of, test_of}
+use Rattle.scalar_ranges.specs.Narrowing.{is_narrowed, are_alike, constant_in, Tested, tested, turned, opposite}
+use Rattle.scalar_ranges.specs.Narrowing.{first_of, test_of}
 use Rattle.scalar_ranges.specs.Narrowing.{left_of, with_range, changed, as_holds, by_test}
 use Rattle.scalar_ranges.specs.Laws.{HasValue, NarrowingHolds}
 use Rattle.scalar_ranges.proofs.Parts.{both_ok, both_are, mapped}
@@ -162,24 +163,31 @@ pub record IsTrueOf (env : Environment) (holds : Bool) (k : Tested) : Type 0 whe
   pub held : held_in k.name env ≡ One value
   pub compares : compares (as_holds holds k.comparison) value k.constant ≡ true
 
+chosen_is : {A : Type 0} (b : Bool) (o : Option A) (x : A) → cond b o None ≡ Some x → o ≡ Some x
+chosen_is true o x e = e
+chosen_is false o x e = absurd (cc)
+
 module _ (es : List Entry) (env : Environment) (meets : Meets env es) where
   tested_by : (c : Comparison) (name : List ℕ) (t : Term) (k : Tested) (holds : Bool) (x y : ℤ) (s : ExprType)
       (b : Bool)
-      → cond b (option_map (λ v. record { name = name; comparison = c; constant = v }) (constant_in es t)) None
+      → cond b (option_map (λ v. record { name = name; comparison = c; constant = v })
+      (constant_in es (named_type (meaning_in name es)) t)) None
       ≡ Some k
       → number_of_term env (Named name) ≡ Some x → number_of_term env t ≡ Some y → type_of_term es t ≡ Ok s
       → pair_type (pair.Comparison comparison.Equal) s s ≡ Ok types.Condition
       → compares c x y ≡ holds → IsTrueOf env holds k
   tested_by c name t k holds x y s false e p q is alike h = absurd (cc)
   tested_by c name t k holds x y s true e p q is alike h =
-      let m = mapped (λ (v : ℤ). record { name = name; comparison = c; constant = v }) (constant_in es t) k e in
-      let exact = exact_is (bound_of_term es t) m.0 m.1 in
-      let value = constant_value s m.0 y (number_of_term env t) (truth_of_term env t)
+      let wanted = named_type (meaning_in name es) in
+      let m = mapped (λ (v : ℤ). record { name = name; comparison = c; constant = v }) (constant_in es wanted t) k e in
+      let value = chosen_is (are_alike wanted (type_of_term es t)) (exact_value (bound_of_term es t)) m.0 m.1 in
+      let exact = exact_is (bound_of_term es t) m.0 value in
+      let number = constant_value s m.0 y (number_of_term env t) (truth_of_term env t)
       (bounds_hold es env (Alone t) s (Exactly m.0) meets is exact) q alike in
       subst (IsTrueOf env holds) m.2 (record {
         value = x;
         held = one_is (held_in name env) x p;
-        compares = so_it_holds c x m.0 holds (ap (compares c x) (sym value) ∙ h);
+        compares = so_it_holds c x m.0 holds (ap (compares c x) (sym number) ∙ h);
       })
 
   tested_holds : (c : Comparison) (a t : Term) (k : Tested) (holds : Bool) (x y : ℤ) (s : ExprType)

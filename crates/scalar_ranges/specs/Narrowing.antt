@@ -1,6 +1,6 @@
 -- What a condition tells of a scalar that it compares with a constant.
 use Rattle.std.specs.Prelude.{ℤ, Bool, true, false, List, [], ◌∷◌, bytes_eq, if◌then◌else◌, Option, Some, None}
-use Rattle.std.specs.Prelude.{ℕ, option_map, unwrap_or}
+use Rattle.std.specs.Prelude.{ℕ, option_map, unwrap_or, Result, Ok}
 use Rattle.word_arithmetic.specs.declared.compare.Comparison.{Comparison}
 use Rattle.word_arithmetic.specs.declared.compare.Comparison.TheVariants as comparison
 use Rattle.word_arithmetic.specs.Range.{Ends, range_between, narrowed}
@@ -9,6 +9,9 @@ use Rattle.occam_parser.specs.Expressions.{Expression, Paired, Term, Named}
 use Rattle.scalar_ranges.specs.declared.scope.ScalarKind.{ScalarKind}
 use Rattle.scalar_ranges.specs.declared.scope.ScalarKind.TheVariants as kinds
 use Rattle.scalar_ranges.specs.Entries.{Meaning, Scalar, Entry, meaning_in}
+use Rattle.scalar_ranges.specs.declared.types.ExprType.{ExprType}
+use Rattle.scalar_ranges.specs.declared.types.ExprType.TheVariants as types
+use Rattle.scalar_ranges.specs.Types.{named_type, type_of_term}
 use Rattle.scalar_ranges.specs.Bounds.{exact_value, bound_of_term}
 
 -- scalars that a line declares, and VAL parameters
@@ -22,9 +25,16 @@ abbrev pub is_narrowed : Option Meaning → Bool
 is_narrowed (Some (Scalar kind type range)) = can_narrow kind
 is_narrowed m = false
 
--- the value of a constant operand
-abbrev pub constant_in : List Entry → Term → Option ℤ
-constant_in es t = exact_value (bound_of_term es t)
+-- whether both are numbers of one type
+abbrev pub are_alike : Result ExprType ℕ → Result ExprType ℕ → Bool
+are_alike (Ok types.Int) (Ok types.Int) = true
+are_alike (Ok types.Byte) (Ok types.Byte) = true
+are_alike s t = false
+
+-- the value of a constant operand of a type
+abbrev pub constant_in : List Entry → Result ExprType ℕ → Term → Option ℤ
+constant_in es wanted t =
+    if are_alike wanted (type_of_term es t) then exact_value (bound_of_term es t) else None
 
 -- what a condition says: the scalar of this name compares so with this constant
 pub record Tested : Type 0 where
@@ -34,8 +44,10 @@ pub record Tested : Type 0 where
 
 abbrev pub tested : List Entry → Comparison → Term → Term → Option Tested
 tested es c (Named name) t =
-    if is_narrowed (meaning_in name es)
-    then option_map (λ v. record { name = name; comparison = c; constant = v }) (constant_in es t) else None
+    let m = meaning_in name es in
+    if is_narrowed m
+    then option_map (λ v. record { name = name; comparison = c; constant = v }) (constant_in es (named_type m) t)
+    else None
 tested es c other t = None
 
 -- the comparison that holds with the operands exchanged, and the one that holds where this one doesn't
@@ -57,7 +69,8 @@ abbrev pub first_of : {A : Type 0} → Option A → Option A → Option A
 first_of None second = second
 first_of (Some x) second = Some x
 
--- A condition says so if it is exactly a scalar and a constant with a comparison between them, in either order.
+-- A condition says so if it is exactly a scalar and a constant of its type with a comparison between them, in either
+-- order.
 abbrev pub test_of : List Entry → Expression → Option Tested
 test_of es (Paired (pair.Comparison c) a b) = first_of (tested es c a b) (tested es (turned c) b a)
 test_of es e = None

@@ -3,14 +3,15 @@
 ghost use Rattle.std.specs.Prelude.{◌≡◌, option_map};
 ghost use Rattle.word_arithmetic.specs.Range.{ends_of};
 ghost use Rattle.occam_parser.specs.Views.{expression_of, term_of};
-ghost use Rattle.scalar_ranges.specs.Narrowing.{is_narrowed, constant_in, tested, turned, as_holds, test_of};
+ghost use Rattle.scalar_ranges.specs.Narrowing.{is_narrowed, are_alike, constant_in, tested, turned};
+ghost use Rattle.scalar_ranges.specs.Narrowing.{as_holds, test_of};
 ghost use Rattle.scalar_ranges.specs.Narrowing.{left_of, with_range, narrow};
 ghost use Rattle.scalar_ranges.specs.Scopes.{meaning_of, entries_of, blocks_of};
 ghost use Rattle.scalar_ranges.specs.Tests.{tested_of, changed_by};
 
-use crate::bounds::Bound;
 use crate::reading::read_operand;
 use crate::scope::{Meaning, ScalarKind, Scope};
+use crate::types::{ExprType, named_type};
 use occam_parser::{Comparison, Expr, Operand, Operation, PairOperator};
 use word_arithmetic::Range;
 
@@ -22,8 +23,8 @@ pub(crate) struct Test<'e> {
     pub(crate) constant: i32,
 }
 
-/// The scope where a condition has this truth. Only a condition that is exactly a scalar, a comparison and a constant,
-/// in either order, tells more than was known. It takes no memory.
+/// The scope where a condition has this truth. Only a condition that is exactly a scalar, a comparison and a constant of
+/// the scalar's type, in either order, tells more than was known. It takes no memory.
 pub fn narrow_by(scope: &mut Scope, condition: &Expr, holds: bool)
     ensures entries { entries_of scope.new ≡ narrow (entries_of scope.old) (expression_of condition.now) holds }
     ensures blocks { blocks_of scope.new ≡ blocks_of scope.old }
@@ -45,7 +46,7 @@ fn narrowed_by(scope: &Scope, condition: &Expr, holds: bool) -> Option<(usize, M
     Some((number, narrowed(meaning, comparison, test.constant)))
 }
 
-/// What a condition says, if it is exactly a scalar and a constant with a comparison between them.
+/// What a condition says, if it is exactly a scalar and a constant of its type with a comparison between them.
 pub(crate) fn test_of<'e>(scope: &Scope, condition: &'e Expr) -> Option<Test<'e>>
     ensures { option_map tested_of result ≡ test_of (entries_of scope.now) (expression_of condition.now) }
 {
@@ -73,10 +74,11 @@ fn tested<'e>(
 {
     match scalar {
         Operand::Name(name) => {
-            if !is_narrowed(scope.meaning(name)) {
+            let meaning = scope.meaning(name);
+            if !is_narrowed(meaning) {
                 return None;
             }
-            let constant = constant_in(scope, constant)?;
+            let constant = constant_in(scope, named_type(meaning), constant)?;
             Some(Test {
                 name,
                 comparison,
@@ -94,13 +96,25 @@ fn tested<'e>(
     }
 }
 
-/// The value of a constant operand.
-fn constant_in(scope: &Scope, operand: &Operand) -> Option<i32>
-    ensures { result ≡ constant_in (entries_of scope.now) (term_of operand.now) }
+/// Whether both are numbers of one type.
+fn are_alike(first: Result<ExprType, u8>, second: Result<ExprType, u8>) -> bool
+    ensures { result ≡ are_alike first second }
 {
-    match read_operand(scope, operand).bound {
-        Ok(Bound::Exactly(value)) => Some(value),
-        _ => None,
+    match (first, second) {
+        (Ok(ExprType::Int), Ok(ExprType::Int)) | (Ok(ExprType::Byte), Ok(ExprType::Byte)) => true,
+        _ => false,
+    }
+}
+
+/// The value of a constant operand of this type.
+fn constant_in(scope: &Scope, wanted: Result<ExprType, u8>, operand: &Operand) -> Option<i32>
+    ensures { result ≡ constant_in (entries_of scope.now) wanted (term_of operand.now) }
+{
+    let reading = read_operand(scope, operand);
+    if are_alike(wanted, reading.expr_type) {
+        reading.value()
+    } else {
+        None
     }
 }
 
