@@ -2,12 +2,14 @@
 lets through. docs/LANGUAGE.md says how sizes are counted. No rule is broken, so all is gone over to the end."""
 
 from itertools import chain, islice, product
-from string import ascii_lowercase, digits
+from string import ascii_letters, ascii_lowercase, digits
 
 MAX_SIZE = 8_388_608
 MAX_LEVEL = 64
 AROUND = 400  # at least the size of what is around a body, in each source that counts with `as_many`
 ENDS = 100_000
+SIGNS = ascii_lowercase + digits
+MASK = 2**64 - 1
 
 RELAY = r"""PROC relay{number}(CHAN OF INT left, CHAN OF INT right, VAL INT most)
   [16]INT table:
@@ -35,8 +37,30 @@ def as_many(size, others=0):
 
 def names(count):
     """The first so many names, the short ones before the long ones."""
-    spellings = (product(ascii_lowercase, *[ascii_lowercase + digits] * more) for more in range(4))
+    spellings = (product(ascii_lowercase, *[SIGNS] * more) for more in range(4))
     return ["".join(it) for it in islice(chain.from_iterable(spellings), count)]
+
+
+def folded(state, word, multiplier):
+    """The state of std's hasher with fixed seed, with one word more."""
+    product_of_both = (state ^ word) * multiplier
+    return (product_of_both & MASK) ^ (product_of_both >> 64)
+
+
+def colliding(count):
+    """Names of six signs that are side by side in std's hash table, of which each is passed to find the last ones."""
+    multiplier = 0x9E37_79B9_7F4A_7C15
+    words = {sign: 0x10101 * ord(sign) for sign in SIGNS}
+    start, found = folded(0x243F_6A88_85A3_08D3, 6, multiplier ^ 16), []
+    for front in product(ascii_lowercase, *[SIGNS] * 4):
+        state = start
+        for sign in front:
+            state = folded(state, words[sign], multiplier ^ 2)
+        ends = ((sign, folded(state, word, multiplier ^ 2)) for sign, word in words.items())
+        found += ["".join(front) + sign for sign, hash in ends if (hash ^ (hash >> 32)) % 16_384 < 1_024]
+        if len(found) >= count:
+            return found[:count]
+    raise ValueError("there are no such names any more")
 
 
 def deeper(lines, levels=1):
@@ -220,6 +244,64 @@ def nested_instances():
     return program(sender(), main(f"[{ENDS}]CHAN OF INT c:", *under([*heads, "SEQ"], calls)))
 
 
+def in_loops(levels, body, size, others=0, outside=(), declared=()):
+    """A body of a size in so many SEQs of one turn, below declarations, in turns of a PAR."""
+    heads = ["SEQ up = 0 FOR 1"] * levels
+    turns = as_many(size + 5 * levels + 60, others)
+    return main(*outside, *under([f"PAR turn = 0 FOR {turns}"], [*declared, *under(heads, body)]))
+
+
+def loops_alone(block):
+    heads = [f"{block} i = 0 FOR 1"] * (MAX_LEVEL - 3)
+    return program(main(*under([f"PAR turn = 0 FOR {as_many(5 * len(heads) + 1)}", *heads], ["SKIP"])))
+
+
+def loops_changing():
+    """Instances that pass 52 variables."""
+    scalars = ",".join(ascii_letters)
+    change = procedure(f"change({', '.join(f'INT {name}' for name in ascii_letters)})", ["SKIP"])
+    return program(change, in_loops(60, [f"change({scalars})"], 60, declared=[f"INT {scalars}:"]))
+
+
+def loops_declaring(count, levels):
+    """A line that declares so many names."""
+    fresh = names(count)
+    return program(in_loops(levels, [f"INT {','.join(fresh)}:", "SKIP"], 2 + sum(map(len, fresh))))
+
+
+def loops_of_lines():
+    """Short lines."""
+    lines = ["SEQ", *deeper(["x := 1"] * 7_000)]
+    return program(in_loops(60, lines, 1 + 7_000 * 3, declared=["INT x:"]))
+
+
+# ---- late names, some of which were made to collide in std's hash table
+
+
+def late_sum(known, operands, size):
+    """A long sum of such names."""
+    turns = as_many(size * len(operands) + 8, size * len(known))
+    body = ["INT x:", f"x := {'+'.join(operands)}"]
+    return program(main(f"INT {','.join(known)}:", *under([f"PAR i = 0 FOR {turns}"], body)))
+
+
+def late_name():
+    known = colliding(100_000)
+    return late_sum(known, known[-1:] * 40_000, 7)
+
+
+def late_names():
+    known = names(40_000)
+    return late_sum(known, known[20_000:] * 8, 4)
+
+
+def late_blocks():
+    """Blocks that declare the last two, in 60 SEQs."""
+    known = colliding(80_000)
+    blocks = ["SEQ", *deeper([f"INT {','.join(known[-2:])}:", "SKIP"] * 800)]
+    return program(in_loops(60, blocks, 1 + 800 * 14, 7 * len(known), [f"INT {','.join(known)}:"]))
+
+
 # What is made to be slow: the source, how many procedures it has, and what it is.
 SLOW = {
     "replicated": (replicated, 1, "a million lines in turns of a PAR, an IF and an ALT"),
@@ -242,4 +324,17 @@ SLOW = {
     "nested-lines-seq": (lambda: nested_variables("SEQ"), 1, "a line in 62 SEQs, in turns"),
     "nested-lines-par": (lambda: nested_variables("PAR"), 1, "a line in 62 PARs of one turn, in turns"),
     "nested-instances": (nested_instances, 2, "instances that use 100,000 ends, in 62 PARs of one turn"),
+    "late-name": (late_name, 1, "a sum of one name, made to collide with 100,000 others in a hash table"),
+    "late-names": (late_names, 1, "a sum of 20,000 short names, where 40,000 are known"),
+}
+
+# The same of deep nests, which cost their depth: what a body changes is found again at each level.
+NESTS = {
+    "loops-seq": (lambda: loops_alone("SEQ"), 1, "61 SEQs, in turns"),
+    "loops-par": (lambda: loops_alone("PAR"), 1, "61 PARs of one turn, in turns"),
+    "loops-changing": (loops_changing, 2, "instances that pass 52 variables in 60 SEQs, in turns"),
+    "loops-blocks": (lambda: loops_declaring(52, 60), 1, "blocks that declare 52 names in 60 SEQs, in turns"),
+    "loops-declaring": (lambda: loops_declaring(900, 61), 1, "a line that declares 900 names in 61 SEQs, in turns"),
+    "loops-lines": (loops_of_lines, 1, "7,000 short lines in 60 SEQs, in turns"),
+    "late-blocks": (late_blocks, 1, "blocks that declare two names, made to collide with 80,000 others, in 60 SEQs"),
 }

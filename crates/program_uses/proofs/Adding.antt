@@ -3,9 +3,7 @@ use Rattle.std.proofs.Common.{◌≡◌, ℕ, suc, ◌+◌, ◌<◌, ◌≤◌, 
 use Rattle.std.proofs.Common.{length, take, get_or, nat_eq, refl, sym, ap, subst, ◌∙◌, arith, append_assoc}
 use Rattle.std.proofs.Common.{add-zero}
 use Rattle.std.proofs.lemmas.List.{take_more, take_all, length-take, append-nil}
-use Rattle.std.proofs.Common.{IsPermutation}
 use Rattle.std.proofs.lemmas.Bool.{and_parts}
-use Rattle.std.proofs.lemmas.List.Sorted.{list_any-IsPermutation}
 use Rattle.std.proofs.lemmas.Bool.Decides.{nat_tests}
 use Rattle.program_uses.specs.declared.uses.Direction.{Direction}
 use Rattle.program_uses.specs.declared.uses.Direction.TheVariants as direction
@@ -77,13 +75,6 @@ adds_both {s = s} {us = us} {vs = vs} a b = record {
 
 pub adds_as : {s t : Uses} {us vs : List Use} → us ≡ vs → Adds s t us → Adds s t vs
 adds_as {s = s} {t = t} e a = subst (Adds s t) e a
-
--- the same uses in another order
-pub adds_reordered : (s t : Uses) → IsPermutation s.set.keys t.set.keys → t.complete ≡ s.complete → Adds s t []
-adds_reordered s t same complete = record {
-  complete = λ e. sym complete ∙ e;
-  has = λ e u. sym (list_any-IsPermutation (is_same u) s.set.keys t.set.keys same) ∙ or_none (has s u);
-}
 
 -- a set that began with nothing
 pub has_exactly : {s t : Uses} {us : List Use} → ((u : Use) → has s u ≡ false) → Adds s t us → t.complete ≡ true

@@ -49,7 +49,7 @@ end_exact d e h =
       end = record { element = (same i).1.0; direction = (same i).1.1 };
     }
 
-is_eq_then : (a b : Ordering) → is_eq (ordering_then a b) ≡ (is_eq a && is_eq b)
+pub is_eq_then : (a b : Ordering) → is_eq (ordering_then a b) ≡ (is_eq a && is_eq b)
 is_eq_then Less b = refl
 is_eq_then Equal b = refl
 is_eq_then Greater b = refl
@@ -59,7 +59,7 @@ either_is true b h = sym (h refl)
 either_is false true h = refl
 either_is false false h = refl
 
-is_eq_number : (m n : ℕ) → is_eq (nat_cmp m n) ≡ nat_eq m n
+pub is_eq_number : (m n : ℕ) → is_eq (nat_cmp m n) ≡ nat_eq m n
 is_eq_number m n = either_is (nat_lt m n) (nat_eq m n) (λ e. grind (arith, nat_tests))
 
 is_eq_way : (d e : Direction) → is_eq (nat_cmp (way_place d) (way_place e)) ≡ is_same_way d e

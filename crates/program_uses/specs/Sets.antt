@@ -1,6 +1,5 @@
 -- What a set of uses has.
-use Rattle.std.specs.Prelude.{◌≡◌, ℕ, Bool, true, false, ◌&&◌, ◌||◌, List, ◌++◌, nat_eq}
-use Rattle.std.specs.Hash as fed
+use Rattle.std.specs.Prelude.{◌≡◌, ℕ, Bool, true, false, ◌&&◌, ◌||◌, List, nat_eq}
 use Rattle.std.specs.List.{list_any}
 use Rattle.program_uses.specs.declared.uses.Direction.{Direction}
 use Rattle.program_uses.specs.declared.uses.Direction.TheVariants as direction
@@ -21,12 +20,6 @@ is_same u v = false
 
 abbrev pub is_among : List Use → Use → Bool
 is_among us u = list_any (is_same u) us
-
--- what a hash is made of
-abbrev pub numbers_fed : Use → List (List ℕ)
-numbers_fed (used.Read n) = fed.usize n
-numbers_fed (used.Change n) = fed.usize n
-numbers_fed (used.Channel n i d) = fed.usize n ++ fed.u32 i
 
 -- each use that a set has
 abbrev pub members_of : Uses → List Use

@@ -84,7 +84,6 @@ impl Uses {
     fn use_ends(&mut self, channel: usize, element: Option<u32>, ends: &[End])
         ensures { Adds self.old self.new (uses_ends channel element ends.now) }
     {
-        self.make_room(ends.len());
         for end in ends {
             self.add(Use::Channel {
                 channel,

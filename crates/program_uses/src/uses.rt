@@ -3,9 +3,8 @@
 ghost use Rattle.std.specs.Prelude.{◌≡◌, [], ◌∷◌, false};
 
 use std::alloc::Global;
-use std::collections::HashSet;
-use std::collections::hash_set::Iter;
-use std::hash::{Hash, Hasher};
+use std::collections::BTreeSet;
+use std::collections::btree_set::Iter;
 use std::mem;
 
 /// Which end of a channel is used.
@@ -23,7 +22,7 @@ pub struct End {
 }
 
 /// What is used, by the number of its declaration.
-#[derive(Clone, Copy, PartialEq, Eq)]
+#[derive(Clone, Copy, PartialEq, Eq, PartialOrd, Ord)]
 pub enum Use {
     /// A variable is read.
     Read(usize),
@@ -37,39 +36,12 @@ pub enum Use {
     },
 }
 
-/// By numbers alone: an end that is used one way is seldom used the other way too.
-impl Hash for Use {
-    ghost use Rattle.std.proofs.Common.{rules};
-    ghost use Rattle.std.specs.Cmp.Rules.{hashing};
-    ghost use Rattle.program_uses.specs.Sets.{numbers_fed};
-
-    ghost hash_input = { numbers_fed };
-
-    ghost respects_eq = { Prim.search (hashing, rules) };
-
-    fn hash<H: Hasher>(&self, state: &mut H) {
-        match self {
-            Use::Read(number) | Use::Change(number) => number.hash(state),
-            Use::Channel {
-                channel,
-                element,
-                ..
-            } => {
-                channel.hash(state);
-                element.hash(state);
-            }
-        }
-    }
-}
-
-/// For how many times as many uses as a set has there is to be room, where it gets more.
-const MORE_ROOM: usize = 7;
-
-/// What is used. It remembers whether memory ran out while something was added.
+/// What is used. It remembers whether memory ran out while something was added. It is in order, since whoever writes a
+/// source could choose uses that collide in a set that is hashed with a fixed seed.
 #[derive(Drop)]
 pub struct Uses {
     alloc: Global,
-    set: HashSet<Use>,
+    set: BTreeSet<Use>,
     complete: bool,
 }
 
@@ -82,7 +54,7 @@ impl Uses {
     {
         Uses {
             alloc,
-            set: HashSet::new(alloc),
+            set: BTreeSet::new(alloc),
             complete: true,
         }
     }
@@ -94,17 +66,6 @@ impl Uses {
         match self.set.insert(item) {
             Ok(_) => {}
             Err(_) => self.complete = false,
-        }
-    }
-
-    /// Room for so many uses more, and for many besides where there is none: to make room is to go over all that is
-    /// there. If memory does not suffice for it, a further use takes what it needs.
-    pub(crate) fn make_room(&mut self, count: usize)
-        ensures { Adds self.old self.new [] }
-    {
-        let len = self.set.len();
-        if self.set.capacity() - len < count {
-            let _ = self.set.reserve(count.max(len.saturating_mul(MORE_ROOM)));
         }
     }
 

@@ -151,6 +151,11 @@ keeps_by : (t : Bool) (number : Option ℕ) (new n : ℕ) → (t ≡ true → nu
 keeps_by true number new n none is = let no = none refl in absurd (cc)
 keeps_by false number new n none is = is
 
+pub keeps : (number after : List ℕ → Option ℕ) (name : List ℕ) (new : ℕ) (q : List ℕ) (n : ℕ)
+    → Gets number name new after → number q ≡ Some n → after q ≡ Some n
+keeps number after name new q n gets is =
+    gets.gives q ∙ keeps_by (bytes_eq name q) (number q) new n (had_none number after name new q gets) is
+
 pub spelled_new : (number after : List ℕ → Option ℕ) (name : List ℕ) (new : ℕ) (names : List (List ℕ)) (ns : List ℕ)
     → Gets number name new after → map number names ≡ map Some ns → map after names ≡ map Some ns
 spelled_new number after name new [] [] gets is = refl
@@ -158,8 +163,7 @@ spelled_new number after name new [] (n ∷ ns) gets is = absurd (cc)
 spelled_new number after name new (q ∷ qs) [] gets is = absurd (cc)
 spelled_new number after name new (q ∷ qs) (n ∷ ns) gets is =
     let first : number q ≡ Some n = cc in
-    let kept = gets.gives q
-    ∙ keeps_by (bytes_eq name q) (number q) new n (had_none number after name new q gets) first in
+    let kept = keeps number after name new q n gets first in
     let further = spelled_new number after name new qs ns gets (cc) in
     (λ i. kept i ∷ further i)
 

@@ -2,7 +2,9 @@
 use Rattle.std.specs.Prelude.{ℕ, List, [], ◌∷◌, map, reverse, length, bytes_eq, if◌then◌else◌, Option, Some, None}
 use Rattle.std.specs.Prelude.{slice_index_or}
 use Rattle.std.specs.Borrow.{Bor}
-use Rattle.std.specs.HashMap.{HashMap, get_by}
+use Rattle.std.specs.BTreeMap.{BTreeMap, get_by}
+use Rattle.std.specs.Cmp.Lexicographic.{slice_cmp}
+use Rattle.std.specs.Ordering.{nat_cmp}
 use Rattle.scalar_ranges.specs.declared.names.Row.{Row}
 
 -- the number of the innermost declaration of a name, counted from the outermost one
@@ -30,8 +32,8 @@ abbrev pub spellings_from : List Row → List ℕ
 spellings_from rows = reverse (map (λ r. r.spelling) rows)
 
 -- the number of a spelling, if it has one
-abbrev pub spelling_of : {S : Type 0} → List ℕ → HashMap (Bor (List ℕ)) ℕ S → Option ℕ
-spelling_of name spellings = get_by (λ k. bytes_eq name k.now) spellings
+abbrev pub spelling_of : List ℕ → BTreeMap (Bor (List ℕ)) ℕ → Option ℕ
+spelling_of name spellings = get_by (λ k. slice_cmp nat_cmp name k.now) spellings
 
 -- what a list has of the spelling with this number
 abbrev pub innermost_of : Option ℕ → List (Option ℕ) → Option ℕ

@@ -1,5 +1,7 @@
 //! Names in the order of their declarations, of which the innermost one is found at once.
 
+ghost use Rattle.std.specs.BTreeMap.{get};
+ghost use Rattle.std.specs.Ordering.{nat_cmp};
 ghost use Rattle.std.specs.Prelude.{◌≡◌, ◌<◌, ℕ, List, [], ◌∷◌, map, Some, None, vec_len, IfOk, OnOk, OnErr};
 ghost use Rattle.scalar_ranges.specs.Moves.{outermost};
 ghost use Rattle.scalar_ranges.specs.Naming.{number_of, hidden_by, names_from, hides_from, without_first};
@@ -7,7 +9,7 @@ ghost use Rattle.scalar_ranges.specs.Naming.{spelling_of, spellings_from, innerm
 ghost use Rattle.scalar_ranges.specs.declared.names.Spelling.{Spelling};
 
 use std::alloc::{AllocError, Global};
-use std::collections::HashMap;
+use std::collections::BTreeMap;
 
 /// A declaration of a name.
 #[derive(Clone, Copy)]
@@ -17,6 +19,18 @@ pub(crate) struct Row<'a> {
     pub(crate) spelling: usize,
     /// The number of the next outer declaration of the same name.
     pub(crate) hides: Option<usize>,
+}
+
+/// How many bytes a number is made of by which spellings are found.
+const HEAD_LENGTH: usize = 8;
+
+/// A number that is made of the first bytes of a spelling.
+fn head_of(name: &[u8]) -> u64 {
+    let mut head: u64 = 0;
+    for byte in name.iter().take(HEAD_LENGTH) {
+        head = head.wrapping_mul(256).wrapping_add(u64::from(*byte));
+    }
+    head
 }
 
 /// A spelling with its number.
@@ -29,13 +43,16 @@ pub(crate) struct Spelling<'a> {
 /// The names that are declared at a place, numbered from the outermost declaration on.
 ///
 /// A spelling gets a number with its first declaration and keeps it after its last one is left. So leaving a
-/// declaration hashes no name, and a spelling that is declared again is not put into the map again. The map never
-/// shrinks: it takes memory linear in the names of the source.
+/// declaration looks up no name, and a spelling that is declared again is not put into the maps again. The maps never
+/// shrink: they take memory linear in the names of the source. They are in order, since whoever writes a source could
+/// choose names that collide in a table that is hashed with a fixed seed.
 #[derive(Drop)]
 pub(crate) struct Names<'a> {
     pub(crate) rows: Vec<Row<'a>>,
     /// The number of each spelling.
-    pub(crate) spellings: HashMap<&'a [u8], usize>,
+    pub(crate) spellings: BTreeMap<&'a [u8], usize>,
+    /// By its first bytes a spelling of these, the last one that got a number. Numbers are compared faster than bytes.
+    pub(crate) heads: BTreeMap<u64, Spelling<'a>>,
     /// The number of the innermost declaration of each spelling, by the spelling's number.
     pub(crate) innermost: Vec<Option<usize>>,
     /// The spelling that was declared last. The index of a replicator is declared again in each turn.
@@ -49,6 +66,8 @@ pub(crate) struct Names<'a> {
         ≡ map Some (spellings_from rows.items) },
     ghost hides: { hides_from rows.items ≡ hidden_by (names_from rows.items) },
     ghost latest: { (s : Spelling) → last ≡ Some s → spelling_of s.name.now spellings ≡ Some s.number },
+    ghost headed: { (n : ℕ) (s : Spelling) → get nat_cmp heads n ≡ Some s
+        → spelling_of s.name.now spellings ≡ Some s.number },
 }
 
 impl<'a> Names<'a> {
@@ -58,7 +77,8 @@ impl<'a> Names<'a> {
     {
         Names {
             rows: Vec::new(alloc),
-            spellings: HashMap::new(alloc),
+            spellings: BTreeMap::new(alloc),
+            heads: BTreeMap::new(alloc),
             innermost: Vec::new(alloc),
             last: None,
         }
@@ -100,6 +120,16 @@ impl<'a> Names<'a> {
     {
         match self.last {
             Some(last) if last.name == name => Some(last.number),
+            _ => self.number_of(name),
+        }
+    }
+
+    /// The number that a spelling has.
+    fn number_of(&self, name: &[u8]) -> Option<usize>
+        ensures { result ≡ spelling_of name.now self.now.spellings }
+    {
+        match self.heads.get(&head_of(name)) {
+            Some(spelling) if spelling.name == name => Some(spelling.number),
             _ => self.spellings.get(name).copied(),
         }
     }
@@ -114,8 +144,19 @@ impl<'a> Names<'a> {
         self.innermost.reserve(1)?;
         self.spellings.insert(name, number)?;
         self.innermost.push_reserved(None);
-        self.last = Some(Spelling { name, number });
+        self.remember(Spelling { name, number });
         Ok(number)
+    }
+
+    /// A spelling that has just got its number is found by its first bytes. If memory does not suffice for that, it is
+    /// found by all of them.
+    fn remember(&mut self, spelling: Spelling<'a>)
+        requires { spelling_of spelling.name.now self.old.spellings ≡ Some spelling.number }
+        ensures spellings { self.new.spellings ≡ self.old.spellings }
+        ensures rows { self.new.rows ≡ self.old.rows }
+    {
+        let _ = self.heads.insert(head_of(spelling.name), spelling);
+        self.last = Some(spelling);
     }
 
     /// The innermost declaration is left, if there is one.
@@ -140,7 +181,7 @@ impl<'a> Names<'a> {
     pub(crate) fn find(&self, name: &[u8]) -> Option<usize>
         ensures { result ≡ number_of name.now (names_from self.now.rows.items) }
     {
-        let spelling = *self.spellings.get(name)?;
+        let spelling = self.number_of(name)?;
         self.innermost[spelling]
     }
 }

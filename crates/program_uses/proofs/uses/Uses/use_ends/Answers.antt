@@ -2,13 +2,12 @@ use Rattle.std.proofs.Common.{◌≤◌, ◌∷◌, [], length, get_or, arith, a
 use Rattle.program_uses.specs.declared.uses.Direction.TheVariants as direction
 use Rattle.program_uses.specs.declared.uses.End.{End}
 use Rattle.program_uses.specs.declared.uses.Use.TheVariants as used
-use Rattle.program_uses.proofs.Adding.{adds_as, adds_both, gathers_none, gathers_next, gathers_all}
+use Rattle.program_uses.proofs.Adding.{adds_as, gathers_none, gathers_next, gathers_all}
 use Rattle.program_uses.proofs.Gathering.{end_uses, ends_gathered}
 use Rattle.program_uses.proofs.uses.Uses.use_ends.Goals as goal
 
 pub loop-end-init : goal.loop-end-init
-loop-end-init c =
-    adds_both c.make_room.ensures (gathers_none (end_uses c.args.channel c.args.element) c.make_room.new.self)
+loop-end-init c = gathers_none (end_uses c.args.channel c.args.element) c.args.self.now
 
 pub loop-end-preserved : goal.loop-end-preserved
 loop-end-preserved c =

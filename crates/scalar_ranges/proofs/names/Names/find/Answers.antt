@@ -3,4 +3,4 @@ use Rattle.scalar_ranges.proofs.names.Names.find.Goals as goal
 
 pub index-requires : goal.index-requires
 index-requires c =
-    c.args.self.now.within c.args.name.now c.in_ok-spelling.field-0.now (sym c.in_ok-spelling.ensures.value)
+    c.args.self.now.within c.args.name.now c.in_ok-spelling.spelling (sym c.in_ok-spelling.ensures)

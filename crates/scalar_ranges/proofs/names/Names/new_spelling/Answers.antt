@@ -1,9 +1,7 @@
 use Rattle.std.proofs.Common.{◌≡◌, ℕ, List, [], ◌∷◌, ◌++◌, length, None, Some, cond, ◌∙◌, refl, sym, ap, subst, arith}
-use Rattle.std.proofs.lemmas.Map.Text.{hash_map_updates_str}
-use Rattle.std.proofs.lemmas.Slice.Eq.{bytes_eq-Decides}
-use Rattle.scalar_ranges.specs.declared.names.Spelling.{Spelling}
+use Rattle.std.proofs.lemmas.Map.Text.{btree_map_updates_str}
 use Rattle.scalar_ranges.specs.Naming.{names_from, spellings_from, spelling_of, innermost_of}
-use Rattle.scalar_ranges.proofs.Found.{numbered_of, Gets, found_new, numbered_new, spelled_new}
+use Rattle.scalar_ranges.proofs.Found.{numbered_of, Gets, found_new, numbered_new, spelled_new, keeps}
 use Rattle.scalar_ranges.proofs.names.Names.new_spelling.Goals as goal
 
 pub invariant_of-self-2 : goal.invariant_of-self-2
@@ -18,7 +16,7 @@ invariant_of-self-2 c =
     let gets : Gets number name (length innermost) after = subst (λ n. Gets number name n after) new
     (record {
       none = c.requires;
-      gives = hash_map_updates_str name old.spellings c.insert.new.self (Some c.len-number.result)
+      gives = btree_map_updates_str name old.spellings c.insert.new.self (Some c.len-number.result)
           c.in_ok-insert.ensures.updates;
     }) in
     let longer = c.push_reserved.ensures.items ∙ ap (λ items. items ++ None ∷ []) c.reserve.ensures.items in
@@ -33,11 +31,6 @@ invariant_of-self-2 c =
           omega arith;
       spelled = spelled_new number after name (length innermost) names (spellings_from old.rows.items) gets old.spelled;
       hides = old.hides;
-      latest = λ s h.
-          let itself = (bytes_eq-Decides name name).1 refl in
-          let own : after name ≡ Some (length innermost) =
-          gets.gives name ∙ ap (λ t. cond t (Some (length innermost)) (number name)) itself in
-          let this : Spelling = record { name = c.args.name; number = c.len-number.result } in
-          let same : this ≡ s = cc in
-          subst (λ (x : Spelling). after x.name.now ≡ Some x.number) same (own ∙ ap Some (sym new));
+      latest = λ s h. keeps number after name (length innermost) s.name.now s.number gets (old.latest s h);
+      headed = λ n s h. keeps number after name (length innermost) s.name.now s.number gets (old.headed n s h);
     }

@@ -20,4 +20,5 @@ invariant_of-self c =
       spelled = known.spelled;
       hides = known.further;
       latest = old.latest;
+      headed = old.headed;
     }
