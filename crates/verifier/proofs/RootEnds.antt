@@ -21,7 +21,7 @@ use Rattle.certificate.specs.Branches.{numbered_branch}
 use Rattle.certificate.specs.Rights as rights
 use Rattle.machine_state.specs.declared.holding.End.{End}
 use Rattle.machine_state.specs.Holding.{has_end, same_direction}
-use Rattle.machine_state.specs.World.{link_words, output_word, link_ends_from, root_holding}
+use Rattle.machine_state.specs.World.{link_word, link_words, output_word, link_ends_from, root_holding}
 use Rattle.states.proofs.RowFacts.{and-parts, and-both}
 use Rattle.facts.specs.Meaning.{Layout}
 use Rattle.facts.specs.Channels.{message_length}
@@ -168,15 +168,21 @@ module _ (m : Contents) (eight : length m.lengths ≡ 8) (layout : Layout) where
       subst (λ (kind : EndKind). message_length m 0 kind ≡ Some (layout.lengths (channel_address layout kind))) (sym e.is)
       (ap Some (sym (lengths e.link (few e.link e.used))))
 
+one_way : (a b : Direction) → same_direction a b ≡ true → a ≡ b
+one_way In In e = refl
+one_way Out Out e = refl
+one_way In Out e = absurd (cc)
+one_way Out In e = absurd (cc)
+
 -- each end that the root holds is that of a link
-pub record IsOfLink (address from end : ℕ) : Type 0 where
+pub record IsOfLink (e : End) (from end : ℕ) : Type 0 where
   pub link : ℕ
   pub low : from ≤ link
   pub high : link < end
-  pub is : address ≡ link_words + 4 * link
+  pub is : e ≡ record { address = link_word link; direction = if nat_lt link 4 then Out else In }
 
 pub held_link : (from : ℕ) (ns : List ℕ) (e : End) → is_there e.address e.direction (link_ends_from from ns) ≡ true
-    → IsOfLink e.address from (from + length ns)
+    → IsOfLink e from (from + length ns)
 held_link from [] e held = absurd (cc)
 held_link from (n ∷ ns) e held =
     on_head (n == 0) (λ rest. let r = held_link (from + 1) ns e rest in
@@ -184,19 +190,26 @@ held_link from (n ∷ ns) e held =
   where
     on_first : (b : Bool) → ((output_word from == e.address) && same_direction (way from) e.direction) ≡ b
         → (is_there e.address e.direction (link_ends_from (from + 1) ns) ≡ true
-        → IsOfLink e.address from (from + length (n ∷ ns)))
+        → IsOfLink e from (from + length (n ∷ ns)))
         → (b || is_there e.address e.direction (link_ends_from (from + 1) ns)) ≡ true
-        → IsOfLink e.address from (from + length (n ∷ ns))
+        → IsOfLink e from (from + length (n ∷ ns))
     on_first true here later held = elim (eqb_tells (output_word from) e.address) [
-      | inl t ↦ record { link = from; low = omega arith; high = omega arith; is = sym t.1 }
+      | inl t ↦
+          let goes = one_way (way from) e.direction (and-parts _ _ here).1 in
+          record {
+            link = from;
+            low = omega arith;
+            high = omega arith;
+            is = λ i. record { address = sym t.1 i; direction = sym goes i };
+          }
       | inr t ↦ let no' : false ≡ true = sym t.0 ∙ (and-parts _ _ here).0 in absurd (cc)
     ]
     on_first false here later held = later held
 
     on_head : (b : Bool) → (is_there e.address e.direction (link_ends_from (from + 1) ns) ≡ true
-        → IsOfLink e.address from (from + length (n ∷ ns)))
+        → IsOfLink e from (from + length (n ∷ ns)))
         → is_there e.address e.direction (cond b (link_ends_from (from + 1) ns)
         (record { address = output_word from; direction = way from } ∷ link_ends_from (from + 1) ns)) ≡ true
-        → IsOfLink e.address from (from + length (n ∷ ns))
+        → IsOfLink e from (from + length (n ∷ ns))
     on_head true later held = later held
     on_head false later held = on_first _ refl later held

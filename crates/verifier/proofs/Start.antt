@@ -27,6 +27,7 @@ use Rattle.verifier.specs.Point.{Began, Behind, nobody_waits, owed_behind, Decod
 use Rattle.verifier.specs.Lives.{Meets, it_lives}
 use Rattle.verifier.proofs.Tables.{IsSound, AreBytes, quietly}
 use Rattle.facts.specs.Regions.{kind_used, parameter_used}
+use Rattle.machine_state.specs.declared.holding.End.{End}
 use Rattle.machine_state.specs.declared.process.Task.{Task}
 use Rattle.machine_state.specs.declared.link.InputLink.{InputLink}
 use Rattle.module_format.specs.declared.rows.Parameter.{Parameter}
@@ -217,7 +218,7 @@ module _ (m : Contents) (d : Decodes m) (wf : IsWellFormed m) (c : IsCertified m
       (subst (λ (x : Role). has_end x.own e ≡ true) (sym r.1) held) in
       let low : link.link < 8 = let high = link.high in let eight = wf.eight in omega arith in
       at_link link.link low link.is (subst (λ (x : Began). link_length m link.link ≡ x.layout.lengths e.address) b.1
-      (ap (link_length m) (let is = link.is in omega arith)))
+      (ap (link_length m) (let is = ap (λ (x : End). x.address) link.is in omega arith)))
 
   pub loaded_holds : IsSound m (loaded m)
   loaded_holds =
@@ -243,6 +244,7 @@ module _ (m : Contents) (d : Decodes m) (wf : IsWellFormed m) (c : IsCertified m
               has_start = ap (λ n. slice_get (root_began ∷ []) n) x.0;
               due = owed en.state en.act + owed_behind [];
               has_due = ap (λ n. slice_get (due ∷ []) n) x.0;
+              root = λ none. refl;
               meets = subst (λ u. Meets m (root_holding m) root_began (loaded_memory m) u (due)) x.1 (it_lives lives);
             };
       }) root_agrees quiet_links_keep_nothing

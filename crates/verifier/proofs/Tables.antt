@@ -197,7 +197,6 @@ quietly m w dues pending_dues began quiet table lengths kept owed well = record 
     began = began;
     table = table;
     pending = λ p role j here is. let no' : None ≡ Some j = sym (quiet.roles p role here).0 ∙ is in absurd (cc);
-    members = λ p o role here is over. let no' : None ≡ Some o = sym (quiet.roles p role here).1 ∙ is in absurd (cc);
     lengths = lengths;
     alternating = λ p t here alternates. absurd (no_alternation t (quiet.plain p t here) alternates);
     kept = kept;
@@ -225,6 +224,7 @@ module _ (m : Contents) (w : World) (h : IsSound m w) (apart : AreApart w.roles)
           due = later;
           has_due = subst (λ n. slice_get (slice_set h.holds.dues p later) n ≡ Some later) itself.0
               (got_set h.holds.dues p row.due later row.has_due);
+          root = row.root;
           meets = subst (λ x. Meets m (held row.role) row.start new x later) (sym itself.1) meets;
         }
         | inr other ↦
@@ -236,6 +236,7 @@ module _ (m : Contents) (w : World) (h : IsSound m w) (apart : AreApart w.roles)
               has_start = old.has_start;
               due = old.due;
               has_due = got_other h.holds.dues p q later other.0 ∙ old.has_due;
+              root = old.root;
               meets = meets_elsewhere (apart p q row.role old.role other.0 row.has_role old.has_role) changes
                   old.meets;
             }

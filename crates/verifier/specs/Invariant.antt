@@ -1,7 +1,11 @@
--- What holds of every world that a certified module comes to, in parts: each reads only some parts of the world. Who
--- runs and who waits, and that holdings are apart, are laws of every module.
-use Rattle.std.specs.Prelude.{◌≡◌, ℕ, ◌+◌, ◌*◌, ◌≤◌, ◌<◌, ⊤, true, List, [], ◌∷◌, Option, Some, None, slice_get}
+-- What holds of every world that a certified module comes to, in parts: but for alternations, each reads only some parts
+-- of the world. Who runs and who waits, and that holdings are apart, are laws of every module.
+use Rattle.std.specs.Prelude.{◌≡◌, ℕ, ◌+◌, ◌≤◌, ◌<◌, ⊤, true, if◌then◌else◌, List, [], ◌∷◌, Option, Some, None, nat_lt}
+use Rattle.std.specs.Prelude.{slice_get}
 use Rattle.module_format.specs.Contents.{Contents, link_length}
+use Rattle.module_format.specs.declared.rows.ChannelRow.{ChannelRow}
+use Rattle.module_format.specs.declared.rows.Direction.TheVariants.{In, Out}
+use Rattle.module_format.specs.declared.rows.EndKind.TheVariants.{FrameWord}
 use Rattle.machine_state.specs.declared.holding.End.{End}
 use Rattle.machine_state.specs.declared.link.InputLink.{InputLink}
 use Rattle.machine_state.specs.declared.process.Task.{Task}
@@ -10,8 +14,9 @@ use Rattle.machine_state.specs.EnabledLaws.{Alternates}
 use Rattle.machine_state.specs.Memory.{Memory}
 use Rattle.machine_state.specs.Holding.{Holding, has_end}
 use Rattle.machine_state.specs.Moves.{cell_of}
-use Rattle.machine_state.specs.Waiting.{IsOver}
-use Rattle.machine_state.specs.World.{World, Role, Join, held, link_words}
+use Rattle.machine_state.specs.Waiting.{IsGone}
+use Rattle.machine_state.specs.World.{World, Role, Join, held, link_word}
+use Rattle.facts.specs.Regions.{channel_address}
 use Rattle.verifier.specs.Point.{Began}
 use Rattle.verifier.specs.Lives.{Meets, it_lives, it_stopped, it_ended}
 use Rattle.verifier.specs.Pending.{Pending, IsMember, StartsHere}
@@ -19,7 +24,7 @@ use Rattle.verifier.specs.Alternating.{AlternatesHere}
 
 -- ---- processes
 
--- a process with its role, what it began with, and what it owes
+-- A process with its role, what it began with, and what it owes. Who is no branch began as the root.
 pub record Process (m : Contents) (memory : Memory) (roles : List Role) (began : List Began) (dues : List ℕ) (p : ℕ)
     (t : Task) : Type 0 where
   pub role : Role
@@ -28,6 +33,7 @@ pub record Process (m : Contents) (memory : Memory) (roles : List Role) (began :
   pub has_start : slice_get began p ≡ Some start
   pub due : ℕ
   pub has_due : slice_get dues p ≡ Some due
+  pub root : role.opener ≡ None → start.context ≡ 0
   pub meets : Meets m (held role) start memory t due
 
 pub record Table (m : Contents) (memory : Memory) (tasks : List Task) (roles : List Role) (began : List Began)
@@ -38,8 +44,8 @@ pub record Table (m : Contents) (memory : Memory) (tasks : List Task) (roles : L
 
 -- the messages at an end are as long as who began with it knows
 pub data LengthAgrees (m : Contents) (channels : List (Option Channel)) (began : Began) (e : End) : Type 0 where
-  at_link : (k : ℕ) → k < 8 → e.address ≡ link_words + 4 * k → link_length m k ≡ began.layout.lengths e.address
-      → LengthAgrees m channels began e
+  at_link : (k : ℕ) → k < 8 → e ≡ record { address = link_word k; direction = if nat_lt k 4 then Out else In }
+      → link_length m k ≡ began.layout.lengths e.address → LengthAgrees m channels began e
   at_channel : (c : Channel) → slice_get channels (cell_of e.address) ≡ Some (Some c)
       → c.length ≡ began.layout.lengths e.address → LengthAgrees m channels began e
 
@@ -50,36 +56,31 @@ LengthsAgree m roles channels began =
 
 -- ---- PARs
 
--- for a process that has a join open: its role, and what it goes on with
-pub record Opener (m : Contents) (memory : Memory) (tasks : List Task) (roles : List Role) (began : List Began)
-    (dues pending_dues : List ℕ) (table : Table m memory tasks roles began dues) (p : ℕ) (role : Role)
-    (j : Join) : Type 0 where
-  pub task : Task
-  pub here : slice_get tasks p ≡ Some task
-  pub due : ℕ
-  pub has_due : slice_get pending_dues p ≡ Some due
-  pub pending : Pending m role.own (table.each p task here).start began memory j due
-  pub starter : StartsHere (table.each p task here).meets pending.par j pending.act
-
--- a branch that is not over is a member of the join that its opener has open
-pub record Member (m : Contents) (memory : Memory) (tasks : List Task) (roles : List Role) (began : List Began)
-    (dues pending_dues : List ℕ) (table : Table m memory tasks roles began dues) (p o : ℕ) : Type 0 where
-  pub role : Role
-  pub has_role : slice_get roles o ≡ Some role
-  pub join : Join
-  pub is_open : role.opened ≡ Some join
-  pub opener : Opener m memory tasks roles began dues pending_dues table o role join
+-- A process that has a join open: what it goes on with; its branches that are not over; and its channels, which are as
+-- its row says.
+pub record Opener (m : Contents) (memory : Memory) (tasks : List Task) (roles : List Role)
+    (cells : List (Option Channel)) (began : List Began) (dues pending_dues : List ℕ)
+    (table : Table m memory tasks roles began dues) (p : ℕ) (role : Role) (j : Join) : Type 0 where
   pub start : Began
   pub has_start : slice_get began p ≡ Some start
-  pub is_member : IsMember m role.own (table.each o opener.task opener.here).start began memory join opener.due
-      opener.pending start
+  pub due : ℕ
+  pub has_due : slice_get pending_dues p ≡ Some due
+  pub pending : Pending m role.own start began memory j due
+  pub starter : (task : Task) (here : slice_get tasks p ≡ Some task)
+      → StartsHere (table.each p task here).meets pending.par j pending.act
+  pub members : (q : ℕ) (branch : Role) (first : Began) → slice_get roles q ≡ Some branch → branch.opener ≡ Some p
+      → (IsGone tasks branch q → ⊥) → slice_get began q ≡ Some first
+      → IsMember m role.own start began memory j due pending first
+  pub channels : (n : ℕ) (row : ChannelRow) → slice_get pending.par.channels n ≡ Some row
+      → (c : Channel) × (slice_get cells (cell_of (channel_address pending.act.layout (FrameWord row.word)))
+      ≡ Some (Some c)) × (c.length ≡ row.length)
 
 -- ---- alternations
 
 -- who has stopped or ended is in none
 abbrev pub AlternatesIn : {m : Contents} {h : Holding} {start : Began} {memory : Memory} {t : Task} {due : ℕ} → World → ℕ
     → Meets m h start memory t due → Type 0
-AlternatesIn {t = t} w p (it_lives l) = AlternatesHere w p t l.point.state l.point.act
+AlternatesIn {m = m} {t = t} w p (it_lives l) = AlternatesHere m w p t l.point.state l.point.act
 AlternatesIn w p (it_stopped e) = ⊤
 AlternatesIn w p (it_ended e) = ⊤
 
@@ -95,9 +96,7 @@ pub record Holds (m : Contents) (w : World) : Type 0 where
   pub began : List Began
   pub table : Table m w.memory w.tasks w.roles began dues
   pub pending : (p : ℕ) (role : Role) (j : Join) → slice_get w.roles p ≡ Some role → role.opened ≡ Some j
-      → Opener m w.memory w.tasks w.roles began dues pending_dues table p role j
-  pub members : (p o : ℕ) (role : Role) → slice_get w.roles p ≡ Some role → role.opener ≡ Some o
-      → (IsOver w.tasks p → ⊥) → Member m w.memory w.tasks w.roles began dues pending_dues table p o
+      → Opener m w.memory w.tasks w.roles w.channels began dues pending_dues table p role j
   pub lengths : LengthsAgree m w.roles w.channels began
   pub alternating : (p : ℕ) (t : Task) (here : slice_get w.tasks p ≡ Some t) → Alternates t.mode t.condition
       → AlternatesIn w p (table.each p t here).meets

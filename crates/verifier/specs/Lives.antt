@@ -49,7 +49,7 @@ pub record Fills (h : Holding) (condition : Condition) (old new : Memory) : Type
 
 -- Whatever the awaited bytes are, and whatever happens to bytes that the process may not read, it is at its point when
 -- it goes on. It may write what it waits for, and that changes nothing else of what its activation has; what it sends
--- are bytes that it may read; a message has the length that it knows for the channel.
+-- are bytes that it may read; a message has the length that who began with its channel knows.
 pub record Lives (m : Contents) (h : Holding) (began : Began) (memory : Memory) (t : Task) (due : ℕ) : Type 0 where
   pub point : Point m t
   pub claim : (later : Memory) → length later ≡ length memory
@@ -63,7 +63,7 @@ pub record Lives (m : Contents) (h : Holding) (began : Began) (memory : Memory) 
   pub fills : (old new : Memory) → Fills h t.condition old new
       → Keeps m h (scope_in m point.state point.act.layout) old new
   pub named : HoldsNamed m h (scope_in m point.state point.act.layout) memory
-  pub known_length : (e : Exchange) → IsExchanging t.condition e → e.length ≡ point.act.layout.lengths e.channel
+  pub known_length : (e : Exchange) → IsExchanging t.condition e → e.length ≡ began.layout.lengths e.channel
   pub paid : due + point.taken ≡ owed_at point.state.mode point.state point.act point.callers
 
 -- a process lives on, or is over

@@ -1,10 +1,11 @@
 -- What holds while branches of a PAR run: what its opener goes on with once all are joined, and what each branch began
 -- with.
-use Rattle.std.specs.Prelude.{◌≡◌, ◌⊎◌, ⊤, ℕ, ◌+◌, ◌≤◌, ℤ, pos, ◌+ℤ◌, true, false, List, length}
+use Rattle.std.specs.Prelude.{◌≡◌, ◌⊎◌, ℕ, ◌+◌, ◌≤◌, ◌<◌, ◌%◌, ◌^◌, ℤ, pos, ◌+ℤ◌, true, false, List, length}
 use Rattle.std.specs.Prelude.{Some, slice_get}
 use Rattle.std.specs.Int.{w32, cast_unsigned}
 use Rattle.module_format.specs.declared.rows.EndKind.TheVariants.{FrameWord}
 use Rattle.module_format.specs.Contents.{Contents, Par, Branch, Label, label_at}
+use Rattle.module_format.specs.Contexts.{parameters_at}
 use Rattle.module_format.specs.Stack.{of_empty}
 use Rattle.module_format.specs.declared.fact.Fact.TheVariants.{Unknown}
 use Rattle.certificate.specs.Branches.{numbered_branch}
@@ -12,6 +13,7 @@ use Rattle.certificate.specs.Rights.{is_among}
 use Rattle.machine_state.specs.declared.process.Task.{Task}
 use Rattle.machine_state.specs.Memory.{Memory, data_start}
 use Rattle.machine_state.specs.Holding.{Holding}
+use Rattle.machine_state.specs.JoinLookups.{row_names}
 use Rattle.machine_state.specs.World.{Join}
 use Rattle.machine_state.specs.Waiting.{is_member}
 use Rattle.states.specs.declared.known.Mode.TheVariants.{Starting}
@@ -48,12 +50,12 @@ pub record IsStarter (m : Contents) (t : Task) (point : Point m t) (par : Par) (
     pub starts : (n : ℕ) → point.act.layout.starts n ≡ act.layout.starts n
     pub back : point.act.layout.back ≡ act.layout.back
 
--- who has done its own endp is over
+-- who has done its own endp is over, and has started all branches
 abbrev pub StartsHere : {m : Contents} {h : Holding} {b : Began} {memory : Memory} {t : Task} {due : ℕ}
     → Meets m h b memory t due → Par → Join → Activation → Type 0
 StartsHere {m = m} {t = t} (it_lives l) par j act = IsStarter m t l.point par j act
 StartsHere (it_stopped e) par j act = ⊥
-StartsHere (it_ended e) par j act = ⊤
+StartsHere (it_ended e) par j act = j.started ≡ length par.branches
 
 -- What a process goes on with after a PAR that it has opened, of which it has not all parts now: the state of the label
 -- of the successor, of all words but those that branches still have.
@@ -74,7 +76,8 @@ pub record Pending (m : Contents) (own : Holding) (began : Began) (all : List Be
   pub callers : List Caller
   pub base : j.base ≡ cast_unsigned w32 (word_of (pos data_start +ℤ place_in act.layout.origin (pos 0)))
   pub block : j.block ≡ channel_address act.layout (FrameWord par.block)
-  pub parameters : (n a : ℕ) → slice_get j.parameters n ≡ Some (Some a) → a ≡ act.layout.starts n
+  pub parameters : (n : ℕ) → row_names par n ≡ true → n < length (parameters_at m par.context)
+      → slice_get j.parameters n ≡ Some (Some (act.layout.starts n % 2 ^ 32))
   pub frame : HasFrame own (length memory) (words_in m par.context) act.layout.origin par.block j.block
   pub named : HoldsNamed m own (scope_of m par.context act.layout) memory
   pub behind : Behind m own began par.context act.layout memory callers
