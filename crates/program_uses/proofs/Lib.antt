@@ -12,3 +12,4 @@ pub mod ComponentsShared
 pub mod EndsInOrder
 pub mod EndsPushed
 pub mod ScopesExtended
+pub mod ChangesAlike

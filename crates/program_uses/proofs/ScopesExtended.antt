@@ -36,7 +36,7 @@ cut_long : (count : ℕ) (es : List Entry) → length (outermost count es) ≤ l
 cut_long count [] = omega arith
 cut_long count (e ∷ es) = cut_by (nat_lt (length es) count) count e es (cut_long count es)
 
-begun_within : (es : List Entry) (bs : List Block) → AreNested es bs → begun_with bs ≤ length es
+pub begun_within : (es : List Entry) (bs : List Block) → AreNested es bs → begun_with bs ≤ length es
 begun_within es [] nested = omega arith
 begun_within es (b ∷ bs) nested =
     let same = sym (shape_long b.start) ∙ ap length nested.0 ∙ shape_long (outermost (length b.start) es) in
@@ -48,7 +48,7 @@ all_outermost (e ∷ es) =
     let t : nat_lt (length es) (suc (length es)) ≡ true = grind (arith, nat_tests) in
     ap (λ t. cond t (e ∷ es) (outermost (suc (length es)) es)) t
 
-inner_cut : (inner es : List Entry) → outermost (length es) (inner ++ es) ≡ es
+pub inner_cut : (inner es : List Entry) → outermost (length es) (inner ++ es) ≡ es
 inner_cut [] es = all_outermost es
 inner_cut (e ∷ inner) es =
     let long = length-append inner es in

@@ -14,6 +14,7 @@ pub mod Indices
 pub mod Entering
 pub mod Extending
 pub mod Changes
+pub mod Outlines
 pub mod Processes
 pub mod Components
 pub mod Lowest

@@ -11,6 +11,7 @@ mod extending;
 mod faults;
 mod indices;
 mod instances;
+mod laws;
 mod mentions;
 mod par_rules;
 mod places;
@@ -34,6 +35,7 @@ pub use faults::{
 };
 pub use indices::{Repeats, Turns, index_meaning, is_sequence, repeats_of, turns_of};
 pub use instances::{array_at, place_in, variable_at};
+pub use laws::{changes_follow_outlines, declaring_keeps_outlines};
 pub use mentions::is_variable;
 pub use places::{PlaceRef, Spot, place_ref, spot_of};
 pub use signature::{Parameter, Passing, Signature, count_of_parameters, parameter_at, passing_of};

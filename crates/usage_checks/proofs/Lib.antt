@@ -20,3 +20,4 @@ pub mod KnownValues
 pub mod LinesHold
 pub mod PlacesHold
 pub mod NothingShared
+pub mod OutlinesStay

@@ -25,3 +25,4 @@ pub mod Whole
 pub mod Holding
 pub mod Reaching
 pub mod Unshared
+pub mod Outlines

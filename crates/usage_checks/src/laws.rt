@@ -1,4 +1,5 @@
-//! The laws of programs that break no rule, each the contract of a function that does nothing.
+//! The laws of the walk and of programs that break no rule, each the contract of a function that does nothing.
+ghost use Rattle.usage_checks.specs.Outlines.{OutlinesStay};
 ghost use Rattle.usage_checks.specs.Reaching.{PlacesHold, ItemsHold, SignaturesStay};
 ghost use Rattle.usage_checks.specs.Unshared.{NothingShared};
 
@@ -30,4 +31,13 @@ pub fn signatures_stay()
 #[tactic(auto, using(crate::proofs::NothingShared::nothing_shared))]
 pub fn nothing_shared()
     ensures { NothingShared }
+{}
+
+/// Where the walk goes on behind a process or a component of a block, the same names are in scope as before, and stand
+/// for the same but for ranges, values and sizes. So it is where a component begins, and where a turn of a replicator
+/// does, which has its index besides. So what hangs on the outline of a scope alone, as what a process changes, can be
+/// found before the walk.
+#[tactic(auto, using(crate::proofs::OutlinesStay::outlines_stay))]
+pub fn outlines_stay()
+    ensures { OutlinesStay }
 {}
