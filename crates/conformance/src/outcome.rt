@@ -1,26 +1,31 @@
 //! What comes of a statement.
 
+ghost use Rattle.std.specs.Prelude.{◌≡◌, ◌⊎◌, ◌↔◌, if◌then◌else◌};
+
 use crate::answer::Answer;
 
 /// What comes of a statement.
 #[derive(Clone, Copy, PartialEq)]
-pub(crate) enum Outcome {
+pub enum Outcome {
     /// It asks nothing.
     Set,
     /// The answer is the expected one.
     Held,
-    /// The answer agrees with the expected one up to an instruction that has no rule or no step yet.
+    /// The answer agrees with the expected one up to something that is not there yet.
     Pending,
     /// The answer is another one.
     Differs,
     /// The statement cannot be read.
     Unreadable,
+    /// Memory ran out.
     OutOfMemory,
 }
 
 impl Outcome {
     /// What comes of a question whose answer is the expected one, or is not.
-    pub(crate) fn of(is_expected: bool) -> Self {
+    pub fn of(is_expected: bool) -> Self
+        ensures { result ≡ (if is_expected then Outcome.Held else Outcome.Differs) }
+    {
         if is_expected {
             Outcome::Held
         } else {
@@ -28,8 +33,10 @@ impl Outcome {
         }
     }
 
-    /// What comes of a question whose answer is another one, where an instruction is not there yet or is.
-    pub(crate) fn pending(is_pending: bool) -> Self {
+    /// What comes of a question whose answer is another one, because something is not there yet or for another reason.
+    pub fn pending(is_pending: bool) -> Self
+        ensures { result ≡ (if is_pending then Outcome.Pending else Outcome.Differs) }
+    {
         if is_pending {
             Outcome::Pending
         } else {
@@ -38,7 +45,9 @@ impl Outcome {
     }
 
     /// What comes of a statement that asks nothing and can be read, or cannot.
-    pub(crate) fn set(is_read: bool) -> Self {
+    pub fn set(is_read: bool) -> Self
+        ensures { result ≡ (if is_read then Outcome.Set else Outcome.Unreadable) }
+    {
         if is_read {
             Outcome::Set
         } else {
@@ -48,6 +57,9 @@ impl Outcome {
 }
 
 /// Compares an answer with the expected one.
-pub(crate) fn judged(answer: &Answer, expected: &str) -> Outcome {
+pub fn judged(answer: &Answer, expected: &str) -> Outcome
+    ensures held { (result ≡ Outcome.Held) ↔ (answer.now.text ≡ expected.now) }
+    ensures cases { (result ≡ Outcome.Held) ⊎ (result ≡ Outcome.Differs) }
+{
     Outcome::of(answer.as_str() == expected)
 }

@@ -1,15 +1,21 @@
 //! The statements of a text of cases.
 
+ghost use Rattle.std.specs.Prelude.{◌≡◌, IfSome};
+ghost use Rattle.conformance.specs.Statements.{IsUnindented};
+
 use std::alloc::{AllocError, Global};
 
 /// A word at the start of a line, what follows on the line, and the indented lines below it.
 #[derive(Clone, Copy)]
-pub(crate) struct Statement<'l, 't> {
+pub struct Statement<'l, 't> {
     /// The number of its line, from 1 on.
-    pub(crate) line: usize,
-    pub(crate) word: &'t str,
-    pub(crate) rest: &'t str,
-    pub(crate) block: &'l [&'t str],
+    pub line: usize,
+    /// What it begins with.
+    pub word: &'t str,
+    /// What follows the word and a space on its line.
+    pub rest: &'t str,
+    /// The lines below it, with their indentation.
+    pub block: &'l [&'t str],
 }
 
 /// How each line of a block begins.
@@ -35,7 +41,9 @@ fn block<'l, 't>(lines: &'l [&'t str]) -> &'l [&'t str] {
 pub(crate) fn first_statement<'l, 't>(
     lines: &'l [&'t str],
     line: usize,
-) -> Option<Statement<'l, 't>> {
+) -> Option<Statement<'l, 't>>
+    ensures { IfSome result (λ statement. statement.line ≡ line) }
+{
     let (first, others) = lines.split_first()?;
     if is_skipped(first) {
         return None;
@@ -50,20 +58,10 @@ pub(crate) fn first_statement<'l, 't>(
 }
 
 /// A line of a block without its indentation.
-pub(crate) fn unindented<'t>(line: &'t str) -> &'t str {
+pub fn unindented(line: &str) -> &str
+    ensures { IsUnindented line.now result.now }
+{
     line.strip_prefix(INDENT).unwrap_or(line)
-}
-
-/// Whether a text has these lines.
-pub(crate) fn has_lines(text: &str, block: &[&str]) -> bool {
-    let mut lines = block.iter();
-    for found in text.lines() {
-        match lines.next() {
-            Some(line) if unindented(line) == found => {}
-            _ => return false,
-        }
-    }
-    lines.next().is_none()
 }
 
 /// The lines of a text.

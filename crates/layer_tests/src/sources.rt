@@ -1,5 +1,5 @@
 //! The limits of sources, and the bytes of a string. The tokens of sources, and which sources are refused with which
-//! fault, are asked by the cases of `conformance`.
+//! fault, are asked by the cases of `language_conformance`.
 
 use occam_layout::{Line, MAX_BYTES, MAX_LINES, Text, TokenKind, lines};
 use std::alloc::Global;

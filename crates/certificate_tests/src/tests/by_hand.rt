@@ -1,5 +1,6 @@
 //! Tables by hand, of which no file can be the only question: such as have no file, and such as are as long as the
-//! format allows. Whether other tables keep the format is asked of their files, by the cases of `conformance`.
+//! format allows. Whether other tables keep the format is asked of their files, by the cases of
+//! `machine_conformance`.
 
 use super::JUMP;
 use bitflags::Flags;

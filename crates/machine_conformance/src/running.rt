@@ -1,12 +1,11 @@
 //! What machines answer.
 
-use crate::answer::Answer;
 use crate::events::{LINKS, event, letter, names_effect};
 use crate::modules::is_unruled;
-use crate::outcome::{Outcome, judged};
 use crate::setting::Setting;
 use crate::words::Words;
 use certificate::Module;
+use conformance::{Answer, Outcome, judged};
 use machine::{Checked, Replay, Stop, replay};
 use machine_state::{Event, Fault, UNKNOWN_OPERATION};
 use std::alloc::Global;
@@ -44,8 +43,8 @@ fn all_events(machine: &mut Checked, setting: &Setting) -> Course {
         fault: None,
         outcome: Outcome::Held,
     };
-    let mut events = Words::of(setting.events);
-    let mut effects = Words::of(setting.effects);
+    let mut events = Words::of(setting.events.as_str());
+    let mut effects = Words::of(setting.effects.as_str());
     for _ in 0..u64::MAX {
         let Some(word) = events.next() else {
             break;
@@ -111,7 +110,7 @@ fn judge_run(
     if course.outcome != Outcome::Held {
         return course.outcome;
     }
-    if out.as_str() != setting.fault {
+    if out.as_str() != setting.fault.as_str() {
         return Outcome::pending(is_pending(module, course.fault));
     }
     match course.differing {
@@ -132,7 +131,7 @@ pub(crate) fn run(
     expected: &str,
     out: &mut Answer,
 ) -> Outcome {
-    if Words::of(setting.effects).count() > Words::of(setting.events).count() {
+    if Words::of(setting.effects.as_str()).count() > Words::of(setting.events.as_str()).count() {
         return Outcome::Unreadable;
     }
     match Checked::load(alloc, module) {

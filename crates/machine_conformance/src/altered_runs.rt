@@ -1,13 +1,12 @@
 //! A file altered in many ways, and what the machine answers to events where the altered files are read.
 
 use crate::alterations::{Tally, Ways, alter};
-use crate::answer::Answer;
 use crate::events::event;
-use crate::outcome::{Outcome, judged};
 use crate::setting::Setting;
 use crate::watching::watch;
 use crate::words::Words;
 use certificate::{MEMORY, Module};
+use conformance::{Answer, Outcome, judged};
 use machine_state::Event;
 use std::alloc::Global;
 
@@ -117,7 +116,7 @@ pub(crate) fn altered_runs(
     expected: &str,
     out: &mut Answer,
 ) -> Outcome {
-    let events = match repeated(alloc, setting.events) {
+    let events = match repeated(alloc, setting.events.as_str()) {
         Ok(events) => events,
         Err(outcome) => return outcome,
     };

@@ -1,8 +1,8 @@
 //! A file altered in many ways, and how many of the altered files are read.
 
-use crate::answer::Answer;
 use crate::modules::{READ, reading};
 use certificate::{FormatFault, MAGIC, TRUNCATED};
+use conformance::Answer;
 use std::alloc::Global;
 
 /// The ways in which a file is altered.

@@ -6,7 +6,7 @@ use Rattle.module_format.specs.Rows.{LabelRow}
 use Rattle.module_format.specs.Contents.{Contents, label_of}
 use Rattle.std.specs.List.{AllByRecursion}
 use Rattle.states.specs.Rows.{IsRowOf}
-use Rattle.conformance.proofs.following.first_label.Goals as goal
+use Rattle.machine_conformance.proofs.following.first_label.Goals as goal
 
 first_of : (m : Contents) (rows : List LabelRow) (found : Option (Bor LabelRow))
     → AllByRecursion (IsRowOf m) (map label_of rows) → option_copied found ≡ slice_get rows 0

@@ -1,10 +1,9 @@
 //! What one instruction of one process does.
 
-use crate::answer::Answer;
-use crate::outcome::{Outcome, judged};
 use crate::running::put_fault;
 use crate::words::{Words, question};
 use certificate::{Module, Stack, Tables};
+use conformance::{Answer, Outcome, judged};
 use direct_functions::direct;
 use machine_state::{
     Cpu, DATA_START, Fault, FaultKind, Flow, Mode, Registers, Request, Store, TaggedStore, Word,

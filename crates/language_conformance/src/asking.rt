@@ -1,14 +1,25 @@
-//! What is answered of a source.
+//! Asks the layers what statements ask of a source.
 
-use crate::answer::Answer;
-use crate::outcome::{Outcome, judged};
-use crate::statements::{Statement, has_lines};
+use crate::setting::Setting;
 use crate::tokens::write_lines;
 use crate::trees::write_items;
+use conformance::{Answer, Outcome, Statement, Subject, judged, unindented};
 use occam_layout::{Line, lines};
 use occam_parser::{Item, Program, parse};
 use std::alloc::Global;
 use usage_checks::check;
+
+/// Whether a text has these lines.
+fn has_lines(text: &str, block: &[&str]) -> bool {
+    let mut lines = block.iter();
+    for found in text.lines() {
+        match lines.next() {
+            Some(line) if unindented(line) == found => {}
+            _ => return false,
+        }
+    }
+    lines.next().is_none()
+}
 
 /// What comes of the lines of a source: how many there are, or the tokens of each.
 fn judge_lines(found: &[Line], statement: Statement, out: &mut Answer) -> Outcome {
@@ -60,18 +71,29 @@ fn judge_program(
 }
 
 /// What is asked of the lines of a source, of its program, or of the usage rules.
-pub(crate) fn ask_source(
-    alloc: Global,
-    source: &[u8],
-    statement: Statement,
-    out: &mut Answer,
-) -> Outcome {
+fn ask_source(alloc: Global, source: &[u8], statement: Statement, out: &mut Answer) -> Outcome {
     match lines(alloc, source) {
         Ok(rows) if statement.word == "lines" => judge_lines(&rows, statement, out),
         Ok(rows) => judge_program(alloc, &rows, source, statement, out),
         Err(fault) => {
             out.fault("O", fault.number, u64::from(fault.line));
             judged(out, statement.rest)
+        }
+    }
+}
+
+impl Subject for Setting {
+    fn begin(alloc: Global) -> Self {
+        Setting::new(alloc)
+    }
+
+    fn perform(&mut self, statement: Statement, out: &mut Answer) -> Outcome {
+        if let Some(outcome) = self.take(statement) {
+            return outcome;
+        }
+        match statement.word {
+            "lines" | "parse" | "check" => ask_source(self.alloc, &self.source, statement, out),
+            _ => Outcome::Unreadable,
         }
     }
 }

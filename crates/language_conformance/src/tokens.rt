@@ -1,6 +1,6 @@
 //! Lines and tokens as text.
 
-use crate::answer::Answer;
+use conformance::Answer;
 use occam_layout::{Line, Text, Token, TokenKind};
 
 /// A byte of a character or a string, as a source spells it.
@@ -53,7 +53,7 @@ fn write_kind(out: &mut Answer, kind: TokenKind) {
             out.number(i64::from(byte));
             out.put(")");
         }
-        TokenKind::Mark(mark) => out.mark(mark),
+        TokenKind::Mark(mark) => out.debug(&mark),
     }
 }
 

@@ -1,21 +1,17 @@
-//! Asks the layers what the cases of a text ask.
+//! Asks the layers what statements ask of a file, a draft or a module.
 
 use crate::alterations::{Ways, altered_sums, cuts};
 use crate::altered_runs::altered_runs;
-use crate::answer::Answer;
 use crate::assembling::ask_draft;
 use crate::following::follow;
 use crate::lookups::look_up;
 use crate::modules::{put_fault, read, verdict};
-use crate::outcome::{Outcome, judged};
-use crate::report::Report;
 use crate::running::{replayed, run};
 use crate::setting::Setting;
-use crate::sources::ask_source;
-use crate::statements::{Statement, first_statement, lines_of};
 use crate::stepping::step;
 use crate::words::{Words, question};
 use certificate::Module;
+use conformance::{Answer, Outcome, Statement, Subject, judged};
 use std::alloc::Global;
 
 /// What is asked of a module.
@@ -30,9 +26,9 @@ fn ask_module<'a>(
     match statement.word {
         "verify" => verdict(alloc, module, rest, out),
         "then" => run(alloc, module, setting, rest, out),
-        "replay" => replayed(alloc, module, setting.events, rest, out),
-        "step" => step(alloc, module, setting.process, rest, out),
-        "follow" => follow(alloc, module, setting.state, rest, out),
+        "replay" => replayed(alloc, module, setting.events.as_str(), rest, out),
+        "step" => step(alloc, module, setting.process.as_str(), rest, out),
+        "follow" => follow(alloc, module, setting.state.as_str(), rest, out),
         name => look_up(module, name, rest, out),
     }
 }
@@ -69,7 +65,7 @@ fn ask_bytes(
     judged(out, expected)
 }
 
-/// What is asked of a file or a source, and else of a module.
+/// What is asked of a file or a draft, and else of a module.
 fn ask(alloc: Global, setting: &mut Setting, statement: Statement, out: &mut Answer) -> Outcome {
     match statement.word {
         "read" => read(alloc, &setting.file, out),
@@ -77,48 +73,21 @@ fn ask(alloc: Global, setting: &mut Setting, statement: Statement, out: &mut Ans
         "bits" => altered_sums(alloc, &mut setting.file, Ways::Bits, out),
         "run_bits" => return altered_runs(alloc, setting, Ways::Bits, statement.rest, out),
         "bytes" | "run_bytes" => return ask_bytes(alloc, setting, statement, out),
-        "lines" | "parse" | "check" => return ask_source(alloc, &setting.source, statement, out),
         "assemble" | "spell" => return ask_draft(alloc, &setting.file, statement, out),
         _ => return ask_file(alloc, setting, statement, out),
     }
     judged(out, statement.rest)
 }
 
-/// What comes of a statement.
-fn perform<'t>(
-    alloc: Global,
-    setting: &mut Setting<'t>,
-    statement: Statement<'_, 't>,
-    out: &mut Answer,
-) -> Outcome {
-    out.clear();
-    let outcome = match setting.take(statement) {
-        Some(outcome) => outcome,
-        None => ask(alloc, setting, statement, out),
-    };
-    if out.is_out_of_memory() {
-        Outcome::OutOfMemory
-    } else {
-        outcome
+impl Subject for Setting {
+    fn begin(alloc: Global) -> Self {
+        Setting::new(alloc)
     }
-}
 
-/// Runs the cases of these lines of a text with this name.
-fn run_lines(alloc: Global, name: &str, lines: &[&str], report: &mut Report) {
-    let mut setting = Setting::new(alloc);
-    let mut out = Answer::new(alloc);
-    for place in 0..lines.len() {
-        if let Some(statement) = first_statement(&lines[place..], place + 1) {
-            let outcome = perform(alloc, &mut setting, statement, &mut out);
-            report.add(name, statement, outcome, out.as_str());
+    fn perform(&mut self, statement: Statement, out: &mut Answer) -> Outcome {
+        match self.take(statement) {
+            Some(outcome) => outcome,
+            None => ask(self.alloc, self, statement, out),
         }
-    }
-}
-
-/// Runs the cases of a text. Its name is said with each that differs.
-pub(crate) fn run_cases(alloc: Global, name: &str, text: &str, report: &mut Report) {
-    match lines_of(alloc, text) {
-        Ok(lines) => run_lines(alloc, name, &lines, report),
-        Err(_) => report.fail(),
     }
 }

@@ -1,9 +1,8 @@
 //! What reading a file and the verdict answer.
 
-use crate::answer::Answer;
-use crate::outcome::{Outcome, judged};
 use crate::words::Words;
 use certificate::{FormatFault, Module, write};
+use conformance::{Answer, Outcome, judged};
 use facts::has_rule;
 use prefix_decoder::fetch;
 use states::SPELLING;

@@ -5,14 +5,13 @@ ghost use Rattle.module_format.specs.Contents.{label_of};
 ghost use Rattle.states.specs.Rows.{IsRowOf};
 ghost use Rattle.states.specs.Views.{BelongsTo};
 
-use crate::answer::Answer;
-use crate::outcome::{Outcome, judged};
 use crate::stepping::function;
 use crate::words::{Words, question};
 use certificate::{Fact, LabelRow, Module};
+use conformance::{Answer, Outcome, judged};
 use facts::{Successor, Successors, advance, has_rule, transfer};
 use prefix_decoder::{Fun, Instr};
-use states::{label_rows_are_sound, Known, Loop, Source, State, WordFact};
+use states::{Known, Loop, Source, State, WordFact, label_rows_are_sound};
 use std::alloc::Global;
 
 /// A fact as a word: `?` where nothing is known, `@OFFSET`, or a number as `LO..HI` or alone.

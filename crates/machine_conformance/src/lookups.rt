@@ -1,9 +1,8 @@
 //! What a module answers to look-ups.
 
-use crate::answer::Answer;
-use crate::outcome::{Outcome, judged};
 use crate::words::{Words, question};
 use certificate::{Direction, EndKind, EndRow, Module};
+use conformance::{Answer, Outcome, judged};
 
 /// `word WORD`, `parameter NUMBER ELEMENT` or `link LINK`.
 fn end_kind(words: &mut Words) -> EndKind {

@@ -2,9 +2,9 @@
 
 use crate::draft_code::{add_code, label, make_labels};
 use crate::draft_rows::add_row;
-use crate::statements::unindented;
 use crate::words::Words;
 use certificate::Version;
+use conformance::unindented;
 use module_builder::Draft;
 use std::alloc::Global;
 

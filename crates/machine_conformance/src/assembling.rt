@@ -2,12 +2,10 @@
 
 ghost use Rattle.module_builder.specs.Drafts.{IsComplete};
 
-use crate::answer::Answer;
 use crate::drafts::add_lines;
-use crate::outcome::{Outcome, judged};
-use crate::statements::Statement;
 use crate::words::Words;
 use certificate::Version;
+use conformance::{Answer, Outcome, Statement, judged};
 use module_builder::{Draft, GenFault, assemble, is_whole, layout, spell};
 use std::alloc::Global;
 

@@ -1,7 +1,7 @@
 //! Programs printed again as sources.
 
-use crate::answer::Answer;
 use crate::tokens::{write_character, write_name, write_text};
+use conformance::Answer;
 use occam_parser::{
     Action, ArithmeticChain, ArithmeticPair, Body, Branch, ChainOperator, Choice, Comparison,
     Constant, ConstantValue, Construct, Declaration, Expr, Formal, FormalKind, Guard, Item, Logic,

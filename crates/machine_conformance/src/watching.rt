@@ -1,7 +1,7 @@
 //! Whether what a machine answers to events is what a machine may answer to them, as far as that is seen from outside.
 
-use crate::outcome::Outcome;
 use certificate::Module;
+use conformance::Outcome;
 use machine::{Checked, Stop};
 use machine_state::{COUNT_RANGE, ERROR_FLAG, Effect, Event, Fault, Link};
 use std::alloc::Global;

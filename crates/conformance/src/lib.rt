@@ -1,0 +1,21 @@
+//! Cases in text: how they are written and judged, and the whole of a program that tries them but what they ask.
+//!
+//! A case is a statement in a text: a word at the start of a line, what follows on the line, and the indented lines
+//! below it. The statements of a text are taken one after the other by a `Subject`, which is what they are about. One
+//! of them may say something that the later ones read, as which file they are about, or ask something and say the
+//! answer that is expected. Each answer is a text too, so that it is judged by comparing two texts. Blank lines and
+//! lines that begin with `#` say nothing.
+#![tactic(auto)]
+
+mod answer;
+mod cases;
+mod outcome;
+mod report;
+mod statements;
+mod subject;
+
+pub use answer::Answer;
+pub use cases::try_cases;
+pub use outcome::{Outcome, judged};
+pub use statements::{Statement, unindented};
+pub use subject::Subject;

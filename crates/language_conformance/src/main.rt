@@ -1,0 +1,20 @@
+//! Asks the layers of sources what cases in text say that they answer, and prints each case that differs.
+//!
+//! The arguments name files of cases; without any, the cases are read from standard input. The last line has the
+//! counts. The status is 1 if a case differs or cannot be read.
+#![tactic(auto)]
+
+mod asking;
+mod quoted;
+mod setting;
+mod tokens;
+mod trees;
+
+use conformance::try_cases;
+use setting::Setting;
+use std::io;
+use std::process::ExitCode;
+
+fn main(rt: HostRuntime) -> io::Result<ExitCode> {
+    try_cases::<Setting, HostRuntime>(&rt)
+}
