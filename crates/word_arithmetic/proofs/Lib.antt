@@ -7,5 +7,7 @@ pub mod RemainderLaws
 pub mod ModularLaws
 pub mod BitLaws
 pub mod NarrowingLaws
+pub mod TestLaws
 pub mod BinaryLaws
 pub mod UnaryLaws
+pub mod RangesOfRanges

@@ -190,7 +190,7 @@ same_left P Q r l e h = record {
 }
 
 -- facts that say the same of the members narrow alike
-same_narrows : (P Q : ℤ → Type 0) (r new : Ends) → ((v : ℤ) → InRange r v → P v ↔ Q v) → Narrows P r new
+pub same_narrows : (P Q : ℤ → Type 0) (r new : Ends) → ((v : ℤ) → InRange r v → P v ↔ Q v) → Narrows P r new
     → Narrows Q r new
 same_narrows P Q r new e h = record {
   members = λ v m q. h.members v m ((e v m).1 q);

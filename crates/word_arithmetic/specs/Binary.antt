@@ -58,3 +58,7 @@ BinaryHolds = (op : Binary) (r s t : Ends) → IsRange r → IsRange s
 abbrev pub BinaryFails : Type 0
 BinaryFails = (op : Binary) (r s : Ends) → IsRange r → IsRange s
     → result_range op r s ≡ None → Reaches (computed op) r s None
+
+-- the range that an operation has of two ranges is one: its ends are words, in order
+abbrev pub BinaryGivesRanges : Type 0
+BinaryGivesRanges = (op : Binary) (r s t : Ends) → IsRange r → IsRange s → result_range op r s ≡ Some t → IsRange t

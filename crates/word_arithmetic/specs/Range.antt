@@ -1,6 +1,7 @@
 -- Ranges of words, and the range of the results of each operation: the rules by which the certificate's checker
 -- and the compiler bound numbers. The rules are our own choice; they are exact where the ends decide.
-use Rattle.std.specs.Prelude.{◌≡◌, ℕ, ◌-◌, ◌^◌, max, ◌&&◌, ◌||◌, Bool, Option, Some, None, if◌then◌else◌, IfSome}
+use Rattle.std.specs.Prelude.{◌≡◌, ℕ, ◌-◌, ◌^◌, max, ◌&&◌, ◌||◌, Bool, true, false, Option, Some, None}
+use Rattle.std.specs.Prelude.{if◌then◌else◌, IfSome}
 use Rattle.std.specs.Prelude.{IfNone, IsSomeAnd, unwrap_or, ◌↔◌, ℤ, pos, negsuc, ◌+ℤ◌, ◌-ℤ◌, ◌*ℤ◌, ◌≤ℤ◌, int_le}
 use Rattle.std.specs.Prelude.{int_div, unsigned_abs, FitsSigned}
 use Rattle.std.specs.Int.{w32, w64, cast_signed, cast_unsigned, int_min, int_max, leading_zeros}
@@ -261,11 +262,44 @@ at_least v = record { lo = v; hi = greatest_word }
 abbrev pub at_most : ℤ → Ends
 at_most v = record { lo = least_word; hi = v }
 
+-- what is left of the range by a test whether a number lies in another one: the part inside where it does, else the part
+-- outside
+abbrev pub left_by : Bool → Ends → Ends → Ends
+left_by true r other = inside r other
+left_by false r other = outside r other
+
 -- what is left by a comparison with a constant
 abbrev pub narrowed : Comparison → ℤ → Ends → Ends
-narrowed Equal v r = inside r (constant v)
-narrowed NotEqual v r = outside r (constant v)
-narrowed Less v r = outside r (at_least v)
-narrowed LessOrEqual v r = inside r (at_most v)
-narrowed Greater v r = outside r (at_most v)
-narrowed GreaterOrEqual v r = inside r (at_least v)
+narrowed Equal v r = left_by true r (constant v)
+narrowed NotEqual v r = left_by false r (constant v)
+narrowed Less v r = left_by false r (at_least v)
+narrowed LessOrEqual v r = left_by true r (at_most v)
+narrowed Greater v r = left_by false r (at_most v)
+narrowed GreaterOrEqual v r = left_by true r (at_least v)
+
+-- the words above a word, and those below it, where there are some
+abbrev pub words_above : ℤ → Option Ends
+words_above v = range_between (v +ℤ pos 1) greatest_word
+
+abbrev pub words_below : ℤ → Option Ends
+words_below v = range_between least_word (v -ℤ pos 1)
+
+-- A comparison with a word as a test: whether a number lies in a range, or, by false, whether it does not. No number lies
+-- in a range that is not there.
+abbrev pub as_test : Comparison → ℤ → Bool × Option Ends
+as_test Equal v = (true, Some (constant v))
+as_test NotEqual v = (false, Some (constant v))
+as_test Less v = (true, words_below v)
+as_test LessOrEqual v = (false, words_above v)
+as_test Greater v = (true, words_above v)
+as_test GreaterOrEqual v = (false, words_below v)
+
+-- what is left of the range by such a test
+abbrev pub left_by_test : Bool × Option Ends → Ends → Ends
+left_by_test (is_inside, None) r = r
+left_by_test (is_inside, Some other) r = left_by is_inside r other
+
+-- a comparison with a word leaves of a range what the test that it is leaves
+abbrev pub ComparisonsAreTests : Type 0
+ComparisonsAreTests = (c : Comparison) (v : ℤ) (r : Ends) → FitsSigned w32 v → IsRange r
+    → narrowed c v r ≡ left_by_test (as_test c v) r

@@ -22,3 +22,7 @@ UnaryGivesWords = (op : Unary) (x : ℤ) → FitsSigned w32 x → IfSome (unary_
 abbrev pub UnaryHolds : Type 0
 UnaryHolds = (op : Unary) (r t : Ends) → IsRange r → unary_result_range op r ≡ Some t
     → (x : ℤ) → InRange r x → IsSomeAnd (unary_computed op x) (IsWordIn t)
+
+-- the range that an operation has of a range is one: its ends are words, in order
+abbrev pub UnaryGivesRanges : Type 0
+UnaryGivesRanges = (op : Unary) (r t : Ends) → IsRange r → unary_result_range op r ≡ Some t → IsRange t

@@ -1,8 +1,8 @@
 //! The laws of the operations and their ranges, each the contract of a function that does nothing.
 ghost use Rattle.word_arithmetic.specs.Word.{WordsFit, WordsLieBetween, CheckedGivesWords};
-ghost use Rattle.word_arithmetic.specs.Range.{WordsInOrderAreRanges, MembersLieBetween};
-ghost use Rattle.word_arithmetic.specs.Binary.{BinaryGivesWords, BinaryHolds, BinaryFails};
-ghost use Rattle.word_arithmetic.specs.Unary.{UnaryGivesWords, UnaryHolds};
+ghost use Rattle.word_arithmetic.specs.Range.{WordsInOrderAreRanges, MembersLieBetween, ComparisonsAreTests};
+ghost use Rattle.word_arithmetic.specs.Binary.{BinaryGivesWords, BinaryHolds, BinaryFails, BinaryGivesRanges};
+ghost use Rattle.word_arithmetic.specs.Unary.{UnaryGivesWords, UnaryHolds, UnaryGivesRanges};
 
 /// The words are the numbers of 32 bits with a sign, from the least to the greatest.
 #[tactic(auto, using(crate::proofs::WordLaws::words_fit, crate::proofs::WordLaws::words_lie_between))]
@@ -32,6 +32,12 @@ pub fn ranges_hold_results()
     ensures unary { UnaryHolds }
 {}
 
+/// Where the results of an operation on ranges have a range, its ends are words, in order.
+pub fn results_have_ranges_of_words()
+    ensures binary { BinaryGivesRanges }
+    ensures unary { UnaryGivesRanges }
+{}
+
 /// The results of an operation have no range only if some members set the error flag.
 #[tactic(auto, using(crate::proofs::BinaryLaws::binary_fails))]
 pub fn no_range_means_failure()
@@ -44,4 +50,10 @@ pub fn no_range_means_failure()
 pub fn words_in_order_are_ranges()
     ensures ends { WordsInOrderAreRanges }
     ensures members { MembersLieBetween }
+{}
+
+/// A comparison with a word leaves of a range what a test leaves whether a number lies in some range, or outside it.
+#[tactic(auto, using(crate::proofs::TestLaws::comparisons_are_tests))]
+pub fn comparisons_are_tests()
+    ensures { ComparisonsAreTests }
 {}

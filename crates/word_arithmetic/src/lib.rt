@@ -18,8 +18,9 @@ pub use bits::{and, not, or, shift_left, shift_right, xor};
 pub use checked::{checked_add, checked_div, checked_mul, checked_rem, checked_sub};
 pub use compare::{Comparison, is_below_unsigned, is_greater};
 pub use laws::{
-    checked_results_are_words, no_range_means_failure, operations_give_words, ranges_hold_results,
-    words_have_32_bits, words_in_order_are_ranges,
+    checked_results_are_words, comparisons_are_tests, no_range_means_failure,
+    operations_give_words, ranges_hold_results, results_have_ranges_of_words, words_have_32_bits,
+    words_in_order_are_ranges,
 };
 pub use long::{LongResult, long_difference, long_product, long_sum};
 pub use modular::{minus, plus, times};

@@ -2,6 +2,7 @@
 ghost use Rattle.std.specs.Prelude.{◌≡◌, IsTrue};
 ghost use Rattle.word_arithmetic.specs.Comparison.{compares};
 ghost use Rattle.word_arithmetic.specs.Range.{ends_of, InRange, Narrows, inside, outside, at_least, at_most, narrowed};
+ghost use Rattle.word_arithmetic.specs.Range.{in_range, left_by};
 
 use crate::compare::Comparison;
 use crate::ranges::Range;
@@ -44,6 +45,26 @@ impl Range {
         }
         // Two ranges are left, or all of this one.
         self
+    }
+
+    /// What is left of the range by a test whether a number lies in another one, where that is one range; else the range
+    /// itself.
+    pub fn left_by(self, is_inside: bool, other: Range) -> Range
+        ensures rule { ends_of result ≡ left_by is_inside (ends_of self) (ends_of other) }
+        ensures narrows { Narrows (λ v. in_range (ends_of other) v ≡ is_inside) (ends_of self) (ends_of result) }
+    {
+        self.part_left(is_inside, other)
+    }
+
+    /// The same by its rule alone.
+    fn part_left(self, is_inside: bool, other: Range) -> Range
+        ensures { ends_of result ≡ left_by is_inside (ends_of self) (ends_of other) }
+    {
+        if is_inside {
+            self.inside(other)
+        } else {
+            self.outside(other)
+        }
     }
 
     /// What is left of the range by a comparison with a constant, where that is one range; else the range itself.
