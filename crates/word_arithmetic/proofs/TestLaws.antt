@@ -21,7 +21,7 @@ false_from : (b : Bool) → (b ≡ true → ⊥) → b ≡ false
 false_from true n = absurd (n refl)
 false_from false n = refl
 
-left_narrows : (is_inside : Bool) (r other : Ends) → r.lo ≤ℤ r.hi
+pub left_narrows : (is_inside : Bool) (r other : Ends) → r.lo ≤ℤ r.hi
     → Narrows (λ v. in_range other v ≡ is_inside) r (left_by is_inside r other)
 left_narrows true r other ordered =
     same_narrows (λ v. InRange other v) (λ v. in_range other v ≡ true) r (inside r other)
