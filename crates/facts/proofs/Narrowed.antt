@@ -4,7 +4,7 @@ use Rattle.std.proofs.Common.{sym}
 use Rattle.std.proofs.Common.{ap, ◌∙◌}
 use Rattle.std.specs.Prelude.{int_le}
 use std.Path.{fun_ext}
-use Rattle.word_arithmetic.specs.Range.{Ends, range_between, shift_right_range}
+use Rattle.word_arithmetic.specs.Range.{Ends, range_between, shift_right_range, left_by}
 use Rattle.word_arithmetic.proofs.EndsLaws.{le_test}
 use Rattle.module_format.specs.Rows.{Fact}
 use Rattle.module_format.specs.declared.fact.Fact.TheVariants.{Unknown, Number, Pointer, CodeAddress, Loop}
@@ -21,7 +21,7 @@ use Rattle.states.specs.Frames.{with_alone}
 use Rattle.facts.specs.declared.narrowing.Narrowing.{Narrowing}
 use Rattle.facts.specs.Narrowings.{narrowed_by}
 use Rattle.facts.specs.Rulings.{pop, with_a}
-use Rattle.facts.specs.WordRules.{constant, number_in, own_range, left_of, same, narrowed, where_false, where_true}
+use Rattle.facts.specs.WordRules.{constant, number_in, own_range, same, narrowed, where_false, where_true}
 use Rattle.facts.specs.WordRules.{shift_range}
 
 -- a word that has a range is known
@@ -38,7 +38,7 @@ ranged-known (Count loop) r is = absurd (cc)
 -- what a test of a word that is a number tells
 pub narrowed-is : (source : Source) (word w lo l hi h : ℤ) (within holds : Bool) (facts : Facts) (said : WordFact)
     (r t : Ends) (fact : Fact) → source ≡ Test word lo hi within → w ≡ word → l ≡ lo → h ≡ hi → said ≡ facts w
-    → Some r ≡ own_range said → Some t ≡ range_between l h → fact ≡ number_in (left_of (same within holds) r t)
+    → Some r ≡ own_range said → Some t ≡ range_between l h → fact ≡ number_in (left_by (same within holds) r t)
     → narrowed source holds facts ≡ with_alone w fact facts
 unfolding narrowed
 narrowed-is source word w lo l hi h within holds facts said r t fact source_is w_is l_is h_is said_is r_is
@@ -48,12 +48,12 @@ narrowed-is source word w lo l hi h within holds facts said r t fact source_is w
       | None ↦ facts
       | Some r ↦ elim (range_between lo hi) as (λ o. Facts) [
         | None ↦ facts
-        | Some t ↦ with_alone word (number_in (left_of (same within holds) r t)) facts
+        | Some t ↦ with_alone word (number_in (left_by (same within holds) r t)) facts
       ]
     ]) (ap (λ (k : ℤ). own_range (facts k)) (sym w_is) ∙ ap own_range (sym said_is) ∙ sym r_is)
     ∙ ap (λ (o : Option Ends). elim o as (λ o. Facts) [
       | None ↦ facts
-      | Some t ↦ with_alone word (number_in (left_of (same within holds) r t)) facts
+      | Some t ↦ with_alone word (number_in (left_by (same within holds) r t)) facts
     ]) (ap (λ (z : ℤ). range_between z hi) (sym l_is) ∙ ap (λ (z : ℤ). range_between l z) (sym h_is) ∙ sym t_is)
     ∙ ap (λ (f : Fact). with_alone word f facts) (sym fact_is) ∙ ap (λ (k : ℤ). with_alone k fact facts) (sym w_is)
 

@@ -3,9 +3,9 @@ use Rattle.std.proofs.Common.{◌≡◌, ◌≢◌, zero, suc, ◌≤◌, ℕ, �
 use Rattle.std.specs.Prelude.{int_le}
 use Rattle.std.proofs.Common.{◌&&◌, inl, inr, Option, Some, None, refl, sym, ap, ◌∙◌, subst, arith}
 use Rattle.word_arithmetic.specs.Word.{truth}
-use Rattle.word_arithmetic.specs.Range.{Ends, InRange, IsRange, in_range, range_between}
-use Rattle.word_arithmetic.proofs.EndsLaws.{in_range_out, not_in_range, words_in_order_are_ranges}
-use Rattle.word_arithmetic.proofs.NarrowingLaws.{inside_narrows, outside_narrows}
+use Rattle.word_arithmetic.specs.Range.{Ends, in_range, range_between, left_by}
+use Rattle.word_arithmetic.proofs.EndsLaws.{words_in_order_are_ranges}
+use Rattle.word_arithmetic.proofs.TestLaws.{left_narrows}
 use Rattle.module_format.specs.Rows.{Fact}
 use Rattle.module_format.specs.declared.fact.Fact.TheVariants.{Unknown, Number, Pointer, CodeAddress, Loop}
 use Rattle.module_format.specs.declared.fact.Fact.TheVariants.{ReturnAddress}
@@ -19,16 +19,9 @@ use Rattle.states.specs.State.{Facts, is_word}
 use Rattle.states.specs.Frames.{with_alone}
 use Rattle.facts.specs.Meaning.{Activation, Means, is_number, MeansWord, is_fact, frame_word, ComesFrom, from_test}
 use Rattle.facts.specs.Meaning.{is_tested, loop_due, dues_from, farthest_word, dues}
-use Rattle.facts.specs.WordRules.{range_of, number_in, own_range, left_of, same, narrowed}
+use Rattle.facts.specs.WordRules.{range_of, number_in, own_range, same, narrowed}
 use Rattle.facts.proofs.Words.{word_test, means_same}
 use Rattle.facts.proofs.Results.{lies}
-
--- a number that lies in a range, and in the other one or not, lies in what is left
-left_member : (b : Bool) (r other : Ends) (x : ℤ) → IsRange r → InRange r x → in_range other x ≡ b
-    → InRange (left_of b r other) x
-left_member true r other x range member e = (inside_narrows r other).members x member (in_range_out other x e)
-left_member false r other x range member e =
-    (outside_narrows r other range.ordered).members x member (not_in_range other x e)
 
 -- what the outcome of a test says of the word that it speaks of
 tested_so : (within holds b : Bool) (v : ℤ) → v ≡ truth (cond within b (not b)) → (holds ≡ true → v ≢ pos 0)
@@ -45,10 +38,10 @@ tested_so false false false v is so not_so = let e : pos 1 ≡ pos 0 = sym is �
 module _ (m : Contents) (act : Activation) where
   -- a number with what is left of its range
   left_means : (fact : Fact) (r other : Ends) (b : Bool) (x : ℤ) → Means m act.layout fact (Some x)
-      → range_of fact ≡ Some r → in_range other x ≡ b → Means m act.layout (number_in (left_of b r other)) (Some x)
+      → range_of fact ≡ Some r → in_range other x ≡ b → Means m act.layout (number_in (left_by b r other)) (Some x)
   left_means (Number lo hi) r other b x (is_number low high fits) is e =
       let here = lies m act.layout (Number lo hi) x r (is_number low high fits) is in
-      let member = left_member b r other x here.range here.member e in
+      let member = (left_narrows b r other here.range.ordered).members x here.member e in
       is_number member.from_lo member.to_hi fits
   left_means Unknown r other b x means is e = absurd (cc)
   left_means (Pointer region lo hi step) r other b x means is e = absurd (cc)
@@ -58,9 +51,9 @@ module _ (m : Contents) (act : Activation) where
 
   own_means : (said : WordFact) (r other : Ends) (b : Bool) (k : ℤ) (v : Option ℤ) (x : ℤ) → v ≡ Some x
       → MeansWord m act k said v → own_range said ≡ Some r → in_range other x ≡ b
-      → MeansWord m act k (Alone (number_in (left_of b r other))) v
+      → MeansWord m act k (Alone (number_in (left_by b r other))) v
   own_means (Alone fact) r other b k v x here (is_fact means) is e =
-      subst (λ (u : Option ℤ). MeansWord m act k (Alone (number_in (left_of b r other))) u) (sym here)
+      subst (λ (u : Option ℤ). MeansWord m act k (Alone (number_in (left_by b r other))) u) (sym here)
       (is_fact (left_means fact r other b x (subst (λ (u : Option ℤ). Means m act.layout fact u) here means) is e))
   own_means (Index loop) r other b k v x here means is e = absurd (cc)
   own_means (Count loop) r other b k v x here means is e = absurd (cc)
@@ -85,28 +78,28 @@ module _ (m : Contents) (act : Activation) where
       value = let e : Some v ≡ Some (truth (is_tested lo hi within x)) = tested in cc
 
       known_at : (r t : Ends) → own_range (facts word) ≡ Some r → (lo ≡ t.lo) × (hi ≡ t.hi)
-          → MeansWord m act k (with_alone word (number_in (left_of (same within holds) r t)) facts k)
+          → MeansWord m act k (with_alone word (number_in (left_by (same within holds) r t)) facts k)
           (frame_word memory act.layout.origin k)
       known_at r t e ends = elim (word_test k word) [
         | inl p ↦ means_same
-            (subst (λ (j : ℤ). MeansWord m act j (Alone (number_in (left_of (same within holds) r t)))
+            (subst (λ (j : ℤ). MeansWord m act j (Alone (number_in (left_by (same within holds) r t)))
             (frame_word memory act.layout.origin j)) (sym p.1)
             (own_means (facts word) r t (same within holds) word (frame_word memory act.layout.origin word) x is
             (words word counted) e
             (ap (λ (z : ℤ). int_le z x && int_le x t.hi) (sym ends.0)
             ∙ ap (λ (z : ℤ). int_le lo x && int_le x z) (sym ends.1)
             ∙ tested_so within holds (in_range other x) v value so not_so)))
-            (sym (ap (λ (b : Bool). cond b (Alone (number_in (left_of (same within holds) r t))) (facts k)) p.0))
+            (sym (ap (λ (b : Bool). cond b (Alone (number_in (left_by (same within holds) r t))) (facts k)) p.0))
             refl
         | inr p ↦ means_same (words k within_frame)
-            (sym (ap (λ (b : Bool). cond b (Alone (number_in (left_of (same within holds) r t))) (facts k)) p.0))
+            (sym (ap (λ (b : Bool). cond b (Alone (number_in (left_by (same within holds) r t))) (facts k)) p.0))
             refl
       ]
 
       on_other : (r : Ends) → own_range (facts word) ≡ Some r → (o : Option Ends) → range_between lo hi ≡ o
           → MeansWord m act k (elim o as (λ o. Facts) [
             | None ↦ facts
-            | Some t ↦ with_alone word (number_in (left_of (same within holds) r t)) facts
+            | Some t ↦ with_alone word (number_in (left_by (same within holds) r t)) facts
           ] k) (frame_word memory act.layout.origin k)
       on_other r e None f = words k within_frame
       on_other r e (Some t) f =
@@ -118,7 +111,7 @@ module _ (m : Contents) (act : Activation) where
             | None ↦ facts
             | Some r ↦ elim (range_between lo hi) as (λ o. Facts) [
               | None ↦ facts
-              | Some t ↦ with_alone word (number_in (left_of (same within holds) r t)) facts
+              | Some t ↦ with_alone word (number_in (left_by (same within holds) r t)) facts
             ]
           ] k) (frame_word memory act.layout.origin k)
       on_range None e = words k within_frame
@@ -152,17 +145,17 @@ narrowed_dues (Test word lo hi within) holds facts turns = on_range (own_range (
 
     on_other : (r : Ends) (o : Option Ends) → dues_from (elim o as (λ o. Facts) [
       | None ↦ facts
-      | Some t ↦ with_alone word (number_in (left_of (same within holds) r t)) facts
+      | Some t ↦ with_alone word (number_in (left_by (same within holds) r t)) facts
     ]) turns first (2 * farthest_word) ≤ dues_from facts turns first (2 * farthest_word)
     on_other r None = omega arith
     on_other r (Some t) =
-        alone_from word (number_in (left_of (same within holds) r t)) facts turns first (2 * farthest_word)
+        alone_from word (number_in (left_by (same within holds) r t)) facts turns first (2 * farthest_word)
 
     on_range : (o : Option Ends) → dues_from (elim o as (λ o. Facts) [
       | None ↦ facts
       | Some r ↦ elim (range_between lo hi) as (λ o. Facts) [
         | None ↦ facts
-        | Some t ↦ with_alone word (number_in (left_of (same within holds) r t)) facts
+        | Some t ↦ with_alone word (number_in (left_by (same within holds) r t)) facts
       ]
     ]) turns first (2 * farthest_word) ≤ dues_from facts turns first (2 * farthest_word)
     on_range None = omega arith

@@ -10,7 +10,7 @@ use Rattle.std.specs.Int.{w32}
 use Rattle.word_arithmetic.specs.declared.binary.Binary.{Binary as BinaryOperation}
 use Rattle.word_arithmetic.specs.declared.binary.Binary.TheVariants as binary
 use Rattle.word_arithmetic.specs.Word.{truth, least_word, greatest_word}
-use Rattle.word_arithmetic.specs.Range.{Ends, range_between, constant_of, is_constant}
+use Rattle.word_arithmetic.specs.Range.{Ends, range_between, constant_of, is_constant, words_above, words_below}
 use Rattle.word_arithmetic.specs.Binary.{computed}
 use Rattle.word_arithmetic.proofs.EndsLaws.{words_in_order_are_ranges}
 use Rattle.module_format.specs.Rows.{Fact}
@@ -115,7 +115,7 @@ module _ (m : Contents) (counts : ℤ → Bool) (layout : Layout) (memory : Memo
     where
       on_second : (o : Option (ℤ × ℤ)) → word_and_constant right left ≡ o
           → ComesFrom counts memory layout.origin (elim o as (λ o. Source) [
-            | Some found ↦ test_of found.0 (range_between least_word (found.1 -ℤ pos 1))
+            | Some found ↦ test_of found.0 (words_below found.1)
             | None ↦ Nowhere
           ]) (Some (truth (int_lt y x)))
       on_second None e = from_nowhere
@@ -126,9 +126,9 @@ module _ (m : Contents) (counts : ℤ → Bool) (layout : Layout) (memory : Memo
 
       on_first : (o : Option (ℤ × ℤ)) → word_and_constant left right ≡ o
           → ComesFrom counts memory layout.origin (elim o as (λ o. Source) [
-            | Some found ↦ test_of found.0 (range_between (found.1 +ℤ pos 1) greatest_word)
+            | Some found ↦ test_of found.0 (words_above found.1)
             | None ↦ elim (word_and_constant right left) as (λ o. Source) [
-              | Some found ↦ test_of found.0 (range_between least_word (found.1 -ℤ pos 1))
+              | Some found ↦ test_of found.0 (words_below found.1)
               | None ↦ Nowhere
             ]
           ]) (Some (truth (int_lt y x)))

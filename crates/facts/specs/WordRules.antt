@@ -1,14 +1,13 @@
 -- What the rules say of words: what is loaded, the results of operations and where they come from, and what a condition
 -- tells of a word.
-use Rattle.std.specs.Prelude.{Bool, true, false, not, ◌&&◌, if◌then◌else◌, ℤ, pos, ◌+ℤ◌, ◌-ℤ◌, int_le}
+use Rattle.std.specs.Prelude.{Bool, true, false, not, ◌&&◌, if◌then◌else◌, ℤ, pos, int_le}
 use Rattle.std.specs.Prelude.{int_lt, Option, Some, None, is_some}
 use Rattle.std.specs.Option.{option_map, option_and_then}
 use Rattle.word_arithmetic.specs.declared.binary.Binary.{Binary as BinaryOperation}
 use Rattle.word_arithmetic.specs.declared.binary.Binary.TheVariants as binary
 use Rattle.word_arithmetic.specs.declared.unary.Unary.{Unary as UnaryOperation}
-use Rattle.word_arithmetic.specs.Word.{least_word, greatest_word}
 use Rattle.word_arithmetic.specs.Range.{Ends, range_between, constant_of, full, truths, shift_left_range}
-use Rattle.word_arithmetic.specs.Range.{shift_right_range, inside, outside}
+use Rattle.word_arithmetic.specs.Range.{shift_right_range, left_by, words_above, words_below}
 use Rattle.word_arithmetic.specs.Binary.{result_range}
 use Rattle.word_arithmetic.specs.Unary.{unary_result_range}
 use Rattle.module_format.specs.Rows.{Fact}
@@ -150,9 +149,9 @@ word_and_constant one other = elim one.source [
 -- whether the first is greater tells where a word lies, if the other one is a constant
 unfoldable pub greater_source : Known → Known → Source
 greater_source left right = elim (word_and_constant left right) [
-  | Some found ↦ test_of found.0 (range_between (found.1 +ℤ pos 1) greatest_word)
+  | Some found ↦ test_of found.0 (words_above found.1)
   | None ↦ elim (word_and_constant right left) [
-    | Some found ↦ test_of found.0 (range_between least_word (found.1 -ℤ pos 1))
+    | Some found ↦ test_of found.0 (words_below found.1)
     | None ↦ Nowhere
   ]
 ]
@@ -185,11 +184,6 @@ abbrev pub own_range : WordFact → Option Ends
 own_range (Alone fact) = range_of fact
 own_range _ = None
 
--- what is left of a range inside another, or outside it
-abbrev pub left_of : Bool → Ends → Ends → Ends
-left_of true r other = inside r other
-left_of false r other = outside r other
-
 -- both or neither
 abbrev pub same : Bool → Bool → Bool
 same within holds = if within then holds else not holds
@@ -201,7 +195,7 @@ narrowed (Test word lo hi within) holds facts = elim (own_range (facts word)) [
   | None ↦ facts
   | Some r ↦ elim (range_between lo hi) [
     | None ↦ facts
-    | Some other ↦ with_alone word (number_in (left_of (same within holds) r other)) facts
+    | Some other ↦ with_alone word (number_in (left_by (same within holds) r other)) facts
   ]
 ]
 narrowed _ holds facts = facts

@@ -3,7 +3,7 @@
 ghost use Rattle.std.specs.Prelude.{◌≡◌, ◌+ℤ◌, ◌-ℤ◌, pos, IfOk};
 ghost use Rattle.std.specs.Option.{option_map};
 ghost use Rattle.word_arithmetic.specs.Word.{least_word, greatest_word};
-ghost use Rattle.word_arithmetic.specs.Range.{ends_of, range_between};
+ghost use Rattle.word_arithmetic.specs.Range.{ends_of, words_above, words_below};
 ghost use Rattle.states.specs.Rows.{LoopFits};
 ghost use Rattle.facts.specs.Rulings.{outside_alternation, outside_starts, alone, uses, forward};
 ghost use Rattle.facts.specs.WordRules.{source_of, loaded, range_of, number_in, constant_in, has_range, in_bounds};
@@ -246,14 +246,14 @@ fn test_of(word: i32, range: Option<Range>) -> Source
 
 /// The words above a word; `None` where there are none.
 fn above(word: i32) -> Option<Range>
-    ensures { option_map ends_of result ≡ range_between (word +ℤ pos 1) greatest_word }
+    ensures { option_map ends_of result ≡ words_above word }
 {
     Range::between(word.checked_add(1)?, i32::MAX)
 }
 
 /// The words below a word; `None` where there are none.
 fn below(word: i32) -> Option<Range>
-    ensures { option_map ends_of result ≡ range_between least_word (word -ℤ pos 1) }
+    ensures { option_map ends_of result ≡ words_below word }
 {
     Range::between(i32::MIN, word.checked_sub(1)?)
 }

@@ -3,9 +3,9 @@
 ghost use Rattle.std.specs.Prelude.{◌≡◌, IfSome, true, false};
 ghost use Rattle.std.specs.Option.{option_map};
 ghost use Rattle.module_format.specs.Contents.{Contents};
-ghost use Rattle.word_arithmetic.specs.Range.{ends_of};
+ghost use Rattle.word_arithmetic.specs.Range.{ends_of, left_by};
 ghost use Rattle.states.specs.Views.{state_of, CanWrite, BelongsTo};
-ghost use Rattle.facts.specs.WordRules.{number_in, own_range, left_of, same, narrowed};
+ghost use Rattle.facts.specs.WordRules.{number_in, own_range, same, narrowed};
 ghost use Rattle.facts.specs.Narrowings.{narrowed_by};
 
 use crate::combinators::{number_in, range_of};
@@ -31,23 +31,12 @@ fn own_range(fact: WordFact) -> Option<Range>
     }
 }
 
-/// What is left of a range inside another, or outside it.
-fn left_of(is_inside: bool, range: Range, other: Range) -> Range
-    ensures { ends_of result ≡ left_of is_inside (ends_of range) (ends_of other) }
-{
-    if is_inside {
-        range.inside(other)
-    } else {
-        range.outside(other)
-    }
-}
-
 /// What is known of a word in a range, where a test whether it lies in the other one came out so.
 fn left_fact(is_inside: bool, holds: bool, range: Range, other: Range) -> Fact
-    ensures { result ≡ number_in (left_of (same is_inside holds) (ends_of range) (ends_of other)) }
+    ensures { result ≡ number_in (left_by (same is_inside holds) (ends_of range) (ends_of other)) }
 {
     let is_within = if is_inside { holds } else { !holds };
-    number_in(left_of(is_within, range, other))
+    number_in(range.left_by(is_within, other))
 }
 
 /// What a condition that comes from there tells of a word. `None`: nothing more than is known.
