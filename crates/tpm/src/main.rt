@@ -10,18 +10,24 @@ mod names;
 mod report;
 mod running;
 mod telling;
+mod words;
 
 use acting::act;
 use files::SystemFiles;
 use report::{MISUSED, STARVED};
+use std::io;
 use std::process::ExitCode;
 use std::rt::{Env, Files};
-use std::{env, io};
+use words::{WordFault, texts};
 
 /// Hands the words and the files of the system to `act`, and the two streams.
-fn run<R: Env + Files + AllocGlobal>(rt: &R, out: &impl Print, err: &impl Print) -> io::Result<u8> {
+fn run<R: Env + Files + AllocGlobal>(
+    rt: &R,
+    out: &impl Print,
+    err: &impl Print,
+) -> Result<u8, WordFault> {
     let alloc = rt.alloc();
-    let texts: Vec<String> = env::args(rt)?.collect(alloc)?;
+    let texts = texts(rt)?;
     let mut words = Vec::new(alloc);
     for text in &texts {
         words.push(text.as_str())?;
@@ -34,13 +40,12 @@ fn run<R: Env + Files + AllocGlobal>(rt: &R, out: &impl Print, err: &impl Print)
 fn main(rt: HostRuntime) -> ExitCode {
     let status = match run(&rt, &rt.stdout(), &rt.stderr()) {
         Ok(status) => status,
-        Err(error) if error.kind() == io::ErrorKind::OutOfMemory => {
-            let _ = eprintln!(rt; "out of memory");
-            STARVED
-        }
-        Err(_) => {
-            let _ = eprintln!(rt; "a word of the command line is no text");
-            MISUSED
+        Err(fault) => {
+            let _ = eprintln!(rt; "{fault}");
+            match fault {
+                WordFault::OutOfMemory => STARVED,
+                WordFault::NoText { .. } => MISUSED,
+            }
         }
     };
     ExitCode::from(status)
