@@ -9,8 +9,8 @@ ghost use Rattle.traffic.specs.Settling.{IsAsked};
 use crate::{begin, disable_channel, disable_skip, enable_channel, enable_skip, end, wait};
 use certificate::{Tables, Version};
 use machine_state::{
-    ALTERNATION_ORDER, Channel, DATA_START, END_NOT_HELD, Exchange, Fault, Link, Mode,
-    OUTSIDE_CODE, Store, TaggedStore, local_address,
+    ALTERNATION_ORDER, Channel, DATA_START, END_NOT_HELD, Exchange, Fault, Link, LoadStore, Mode,
+    OUTSIDE_CODE, TaggedStore, local_address,
 };
 use process_queue::ListQueue;
 use std::alloc::Global;

@@ -12,7 +12,7 @@ pub(crate) fn with_constant<S: Store>(
     op: Binary,
     operand: i32,
 ) -> Result<Flow, FaultKind>
-    ensures { PerformsInstruction S.Store (instruction.WithConstant op) operand cpu.old cpu.new result }
+    ensures { PerformsInstruction S.LoadStore (instruction.WithConstant op) operand cpu.old cpu.new result }
 {
     cpu.alone()?;
     let left = cpu.used(cpu.registers.stack.a)?;

@@ -9,7 +9,7 @@ use machine_state::{Cpu, FaultKind, Flow, Store};
 /// `j`: the process goes on at the distance of the operand from the next instruction. It may be sent to the
 /// back of the ready list, so the words that scheduling takes and the registers are undefined then.
 pub(crate) fn jump<S: Store>(cpu: &mut Cpu<S>, operand: i32) -> Result<Flow, FaultKind>
-    ensures { PerformsInstruction S.Store instruction.Jump operand cpu.old cpu.new result }
+    ensures { PerformsInstruction S.LoadStore instruction.Jump operand cpu.old cpu.new result }
 {
     cpu.alone()?;
     cpu.schedulable()?;

@@ -9,7 +9,7 @@ use machine_state::{Cpu, FaultKind, Flow, Store, local_address};
 /// `cj`: where A is 0, the process goes on at the distance of the operand from the next instruction, and the registers
 /// stay. Otherwise A is popped.
 pub(crate) fn conditional_jump<S: Store>(cpu: &mut Cpu<S>, operand: i32) -> Result<Flow, FaultKind>
-    ensures { PerformsInstruction S.Store instruction.ConditionalJump operand cpu.old cpu.new result }
+    ensures { PerformsInstruction S.LoadStore instruction.ConditionalJump operand cpu.old cpu.new result }
 {
     cpu.alone()?;
     let condition = cpu.used(cpu.registers.stack.a)?;
@@ -25,7 +25,7 @@ pub(crate) fn conditional_jump<S: Store>(cpu: &mut Cpu<S>, operand: i32) -> Resu
 
 /// `ajw`: the workspace moves by this number of words.
 pub(crate) fn adjust_workspace<S: Store>(cpu: &mut Cpu<S>, operand: i32) -> Result<Flow, FaultKind>
-    ensures { PerformsInstruction S.Store instruction.AdjustWorkspace operand cpu.old cpu.new result }
+    ensures { PerformsInstruction S.LoadStore instruction.AdjustWorkspace operand cpu.old cpu.new result }
 {
     cpu.alone()?;
     cpu.in_code(cpu.next())?;
@@ -36,7 +36,7 @@ pub(crate) fn adjust_workspace<S: Store>(cpu: &mut Cpu<S>, operand: i32) -> Resu
 /// `call`: the four words below the workspace take C, B, A and the address of the next instruction. The process goes on
 /// at the distance of the operand from it, with the lowest of them as its workspace.
 pub(crate) fn call<S: Store>(cpu: &mut Cpu<S>, operand: i32) -> Result<Flow, FaultKind>
-    ensures { PerformsInstruction S.Store instruction.Call operand cpu.old cpu.new result }
+    ensures { PerformsInstruction S.LoadStore instruction.Call operand cpu.old cpu.new result }
 {
     cpu.alone()?;
     let workspace = cpu.registers.workspace;

@@ -19,7 +19,7 @@ use prefix_decoder::Fun;
 /// begins. After a fault nothing has changed, and what is asked of others has changed the registers alone.
 #[tactic(auto, unfolding(machine_state::specs::LocalStep::local_step, machine_state::specs::LocalStep::step_of, machine_state::specs::LocalStep::instruction_step))]
 pub fn direct<S: Store>(cpu: &mut Cpu<S>, fun: Fun, operand: i32) -> Result<Flow, FaultKind>
-    ensures { PerformsFunction S.Store fun operand cpu.old cpu.new result }
+    ensures { PerformsFunction S.LoadStore fun operand cpu.old cpu.new result }
 {
     match Instruction::of(fun, operand) {
         Some(Instruction::LoadConstant) => locals::load_constant(cpu, operand),

@@ -7,7 +7,7 @@ use machine_state::{Cpu, FaultKind, Flow, Store, local_address};
 
 /// `ldc`: the operand is pushed.
 pub(crate) fn load_constant<S: Store>(cpu: &mut Cpu<S>, operand: i32) -> Result<Flow, FaultKind>
-    ensures { PerformsInstruction S.Store instruction.LoadConstant operand cpu.old cpu.new result }
+    ensures { PerformsInstruction S.LoadStore instruction.LoadConstant operand cpu.old cpu.new result }
 {
     cpu.in_code(cpu.next())?;
     cpu.registers.stack.push(Some(operand));
@@ -16,7 +16,7 @@ pub(crate) fn load_constant<S: Store>(cpu: &mut Cpu<S>, operand: i32) -> Result<
 
 /// `ldl`: the word with this number from the workspace is pushed.
 pub(crate) fn load_local<S: Store>(cpu: &mut Cpu<S>, operand: i32) -> Result<Flow, FaultKind>
-    ensures { PerformsInstruction S.Store instruction.LoadLocal operand cpu.old cpu.new result }
+    ensures { PerformsInstruction S.LoadStore instruction.LoadLocal operand cpu.old cpu.new result }
 {
     cpu.outside_starts()?;
     let word = cpu.read(local_address(cpu.registers.workspace, operand))?;
@@ -27,7 +27,7 @@ pub(crate) fn load_local<S: Store>(cpu: &mut Cpu<S>, operand: i32) -> Result<Flo
 
 /// `stl`: A goes to the word with this number from the workspace, and is popped.
 pub(crate) fn store_local<S: Store>(cpu: &mut Cpu<S>, operand: i32) -> Result<Flow, FaultKind>
-    ensures { PerformsInstruction S.Store instruction.StoreLocal operand cpu.old cpu.new result }
+    ensures { PerformsInstruction S.LoadStore instruction.StoreLocal operand cpu.old cpu.new result }
 {
     cpu.alone()?;
     let value = cpu.used(cpu.registers.stack.a)?;

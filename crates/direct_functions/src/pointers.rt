@@ -10,7 +10,7 @@ pub(crate) fn load_local_pointer<S: Store>(
     cpu: &mut Cpu<S>,
     operand: i32,
 ) -> Result<Flow, FaultKind>
-    ensures { PerformsInstruction S.Store instruction.LoadLocalPointer operand cpu.old cpu.new result }
+    ensures { PerformsInstruction S.LoadStore instruction.LoadLocalPointer operand cpu.old cpu.new result }
 {
     cpu.in_code(cpu.next())?;
     let address = local_address(cpu.registers.workspace, operand);
@@ -23,7 +23,7 @@ pub(crate) fn load_non_local_pointer<S: Store>(
     cpu: &mut Cpu<S>,
     operand: i32,
 ) -> Result<Flow, FaultKind>
-    ensures { PerformsInstruction S.Store instruction.LoadNonLocalPointer operand cpu.old cpu.new result }
+    ensures { PerformsInstruction S.LoadStore instruction.LoadNonLocalPointer operand cpu.old cpu.new result }
 {
     cpu.outside_starts()?;
     let base = cpu.used(cpu.registers.stack.a)?;
@@ -35,7 +35,7 @@ pub(crate) fn load_non_local_pointer<S: Store>(
 
 /// `ldnl`: A becomes the word with this number from A.
 pub(crate) fn load_non_local<S: Store>(cpu: &mut Cpu<S>, operand: i32) -> Result<Flow, FaultKind>
-    ensures { PerformsInstruction S.Store instruction.LoadNonLocal operand cpu.old cpu.new result }
+    ensures { PerformsInstruction S.LoadStore instruction.LoadNonLocal operand cpu.old cpu.new result }
 {
     cpu.alone()?;
     let base = cpu.used(cpu.registers.stack.a)?;
@@ -48,7 +48,7 @@ pub(crate) fn load_non_local<S: Store>(cpu: &mut Cpu<S>, operand: i32) -> Result
 
 /// `stnl`: B goes to the word with this number from A, and both are popped.
 pub(crate) fn store_non_local<S: Store>(cpu: &mut Cpu<S>, operand: i32) -> Result<Flow, FaultKind>
-    ensures { PerformsInstruction S.Store instruction.StoreNonLocal operand cpu.old cpu.new result }
+    ensures { PerformsInstruction S.LoadStore instruction.StoreNonLocal operand cpu.old cpu.new result }
 {
     cpu.alone()?;
     let base = cpu.used(cpu.registers.stack.a)?;

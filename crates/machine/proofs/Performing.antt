@@ -6,7 +6,7 @@ use Rattle.machine_state.specs.declared.cpu.Cpu.{Cpu}
 use Rattle.machine_state.specs.declared.cpu.Flow.{Flow}
 use Rattle.machine_state.specs.declared.cpu.Flow.TheVariants.{Next, Jump, Land, Stop as Stops, Ask}
 use Rattle.machine_state.specs.declared.process.Registers.{Registers}
-use Rattle.machine_state.specs.declared.store.Store.{Ghosts}
+use Rattle.machine_state.specs.declared.store.LoadStore.{Ghosts}
 use Rattle.machine_state.specs.Memory.{Memory}
 use Rattle.machine_state.specs.Site.{Site, Outcome}
 use Rattle.machine_state.specs.Asking.{IsGrantable}

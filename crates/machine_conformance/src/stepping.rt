@@ -6,8 +6,8 @@ use certificate::{Module, Stack, Tables};
 use conformance::{Answer, Outcome, judged};
 use direct_functions::direct;
 use machine_state::{
-    Cpu, DATA_START, Fault, FaultKind, Flow, Mode, Registers, Request, Store, TaggedStore, Word,
-    local_address, place_of,
+    Cpu, DATA_START, Fault, FaultKind, Flow, LoadStore, Mode, Registers, Request, Store,
+    TaggedStore, Word, local_address, place_of,
 };
 use prefix_decoder::Fun;
 use std::alloc::Global;

@@ -5,7 +5,7 @@ use Rattle.machine_state.specs.declared.cpu.Flow.{Flow}
 use Rattle.machine_state.specs.declared.cpu.Flow.TheVariants.{Next, Jump, Land, Stop, Ask}
 use Rattle.machine_state.specs.declared.request.Request.{Request}
 use Rattle.machine_state.specs.declared.fault.FaultKind.{FaultKind}
-use Rattle.machine_state.specs.declared.store.Store.{Ghosts}
+use Rattle.machine_state.specs.declared.store.LoadStore.{Ghosts}
 use Rattle.machine_state.specs.Site.{Site, Local, Outcome, goes, jumps, lands, stops, fails}
 use Rattle.machine_state.specs.LocalStep.{local_step, instruction_step, operation_step, exchanges}
 use Rattle.machine_state.specs.LocalStep.{schedules, without_registers}
@@ -16,7 +16,7 @@ use Rattle.machine_state.specs.declared.op.Op.{Op}
 use Rattle.machine_state.specs.declared.instruction.Instruction.{Instruction}
 use Rattle.prefix_decoder.specs.declared.function.Fun.{Fun}
 
--- What the trait Store shows of a store, its ghosts, is the first argument of what follows: its memory, what the
+-- What the trait LoadStore shows of a store, its ghosts, is the first argument of what follows: its memory, what the
 -- running process may touch, and what each may.
 
 -- what an instruction may change of a processor

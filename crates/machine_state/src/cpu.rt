@@ -235,7 +235,7 @@ impl<S: Store> Cpu<S> {
     /// end is held, else `EndNotHeld`.
     #[tactic(auto, unfolding(crate::specs::LocalStep::channel, crate::specs::LocalStep::aligned, crate::specs::LocalStep::holds))]
     pub fn channel(&self, value: i32, direction: Direction) -> Result<u32, FaultKind>
-        ensures { Finds result (channel (site_of S.Store self.now) value direction) }
+        ensures { Finds result (channel (site_of S.LoadStore self.now) value direction) }
     {
         let address = self.aligned(value)?;
         self.check(

@@ -41,6 +41,6 @@ pub use process::{Channel, Condition, Exchange, Mode, Registers, Task, Word};
 pub use request::Request;
 pub use role::{Join, Role};
 pub use spans::{Stretch, all_lie_in, places_within, without};
-pub use store::Store;
+pub use store::{LoadStore, Store};
 pub use tagged::TaggedStore;
 pub use tagged::joining::Progress;

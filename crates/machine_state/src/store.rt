@@ -11,8 +11,9 @@ ghost use Rattle.machine_state.specs.Memory.{Memory, place_of, byte_at, with_byt
 use crate::holding::End;
 use crate::process::Word;
 
-/// Memory, and what the running process may touch of it. Bytes and words are named by their addresses.
-pub trait Store {
+/// Memory, and what the running process may touch of it. Bytes and words are named by their addresses. What it offers
+/// leaves no byte less defined than it was, so bytes without tags can keep it too.
+pub trait LoadStore {
     /// The bytes from the start of the data area on, each defined or not.
     ghost cells: { Self → Memory };
 
@@ -59,10 +60,10 @@ pub trait Store {
         requires { IsTrue (may_read (holding self.now) (place_of address)) }
         ensures { result ≡ byte_at (cells self.now) (place_of address) };
 
-    /// Writes the byte; none makes it undefined.
-    fn store_byte(&mut self, address: u32, byte: Option<u8>)
+    /// Writes the byte, which is defined from then on.
+    fn write_byte(&mut self, address: u32, byte: u8)
         requires { IsTrue (may_write (holding self.old) (place_of address)) }
-        ensures memory { cells self.new ≡ with_byte (cells self.old) (place_of address) byte }
+        ensures memory { cells self.new ≡ with_byte (cells self.old) (place_of address) (Some byte) }
         ensures holding { holding self.new ≡ holding self.old }
         ensures roles { roles self.new ≡ roles self.old };
 
@@ -71,10 +72,10 @@ pub trait Store {
         requires { IsTrue (may_read_word (holding self.now) (place_of address)) }
         ensures { result ≡ word_at (cells self.now) (place_of address) };
 
-    /// Writes the word; none makes its bytes undefined.
-    fn store_word(&mut self, address: u32, value: Word)
+    /// Writes the word, which is defined from then on.
+    fn write_word(&mut self, address: u32, value: i32)
         requires { IsTrue (may_write_word (holding self.old) (place_of address)) }
-        ensures memory { cells self.new ≡ with_word (cells self.old) (place_of address) value }
+        ensures memory { cells self.new ≡ with_word (cells self.old) (place_of address) (Some value) }
         ensures holding { holding self.new ≡ holding self.old }
         ensures roles { roles self.new ≡ roles self.old };
 
@@ -90,11 +91,38 @@ pub trait Store {
         requires { IsTrue (are_defined (cells self.now) address count) }
         ensures { result.now ≡ bytes_at (cells self.now) (place_of address) count };
 
-    /// So many bytes from one address on go to another, whoever holds them. Undefined bytes stay undefined. Where the
-    /// two blocks meet, each byte is copied as it was before; outside the memory nothing changes.
-    fn copy(&mut self, from: u32, to: u32, count: u32)
+    /// So many bytes from one address on, all of which are defined, go to another, whoever holds them. Where the two
+    /// blocks meet, each byte is copied as it was before; outside the memory nothing changes.
+    fn copy_defined(&mut self, from: u32, to: u32, count: u32)
+        requires { IsTrue (are_defined (cells self.old) from count) }
         ensures memory { let before = cells self.old in
             cells self.new ≡ copied before (place_of from) (place_of to) count before }
         ensures holding { holding self.new ≡ holding self.old }
         ensures roles { roles self.new ≡ roles self.old };
+}
+
+/// A memory whose bytes can become undefined again.
+pub trait Store: LoadStore {
+    /// Writes the byte; none makes it undefined.
+    fn store_byte(&mut self, address: u32, byte: Option<u8>)
+        requires { IsTrue (may_write (Self.holding self.old) (place_of address)) }
+        ensures memory { Self.cells self.new ≡ with_byte (Self.cells self.old) (place_of address) byte }
+        ensures holding { Self.holding self.new ≡ Self.holding self.old }
+        ensures roles { Self.roles self.new ≡ Self.roles self.old };
+
+    /// Writes the word; none makes its bytes undefined.
+    fn store_word(&mut self, address: u32, value: Word)
+        requires { IsTrue (may_write_word (Self.holding self.old) (place_of address)) }
+        ensures memory { Self.cells self.new ≡ with_word (Self.cells self.old) (place_of address) value }
+        ensures holding { Self.holding self.new ≡ Self.holding self.old }
+        ensures roles { Self.roles self.new ≡ Self.roles self.old };
+
+    /// So many bytes from one address on go to another, whoever holds them. Undefined bytes stay undefined, and those
+    /// from outside the memory are undefined too. Where the two blocks meet, each byte is copied as it was before;
+    /// outside the memory nothing changes.
+    fn copy(&mut self, from: u32, to: u32, count: u32)
+        ensures memory { let before = Self.cells self.old in
+            Self.cells self.new ≡ copied before (place_of from) (place_of to) count before }
+        ensures holding { Self.holding self.new ≡ Self.holding self.old }
+        ensures roles { Self.roles self.new ≡ Self.roles self.old };
 }

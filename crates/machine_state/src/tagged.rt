@@ -8,7 +8,7 @@ use crate::address::place_of;
 use crate::holding::{End, Holding};
 use crate::process::Word;
 use crate::role::Role;
-use crate::store::Store;
+use crate::store::{LoadStore, Store};
 use crate::{cells, loading};
 use certificate::Tables;
 use std::alloc::{AllocError, Global};
@@ -77,7 +77,7 @@ impl TaggedStore {
     }
 }
 
-impl Store for TaggedStore {
+impl LoadStore for TaggedStore {
     ghost use Rattle.machine_state.specs.World.{holding_at};
 
     ghost cells = { λ s. s.cells };
@@ -145,26 +145,16 @@ impl Store for TaggedStore {
         cells::byte_at(&self.bytes, &self.tags, place_of(address) as usize)
     }
 
-    fn store_byte(&mut self, address: u32, byte: Option<u8>) {
-        cells::set_byte(
-            &mut self.bytes,
-            &mut self.tags,
-            place_of(address) as usize,
-            byte,
-        );
+    fn write_byte(&mut self, address: u32, byte: u8) {
+        self.store_byte(address, Some(byte));
     }
 
     fn load_word(&self, address: u32) -> Word {
         cells::word_at(&self.bytes, &self.tags, place_of(address) as usize)
     }
 
-    fn store_word(&mut self, address: u32, value: Word) {
-        cells::set_word(
-            &mut self.bytes,
-            &mut self.tags,
-            place_of(address) as usize,
-            value,
-        );
+    fn write_word(&mut self, address: u32, value: i32) {
+        self.store_word(address, Some(value));
     }
 
     fn put_byte(&mut self, address: u32, byte: u8) {
@@ -182,6 +172,30 @@ impl Store for TaggedStore {
             Some(bytes) => bytes,
             None => &[],
         }
+    }
+
+    fn copy_defined(&mut self, from: u32, to: u32, count: u32) {
+        self.copy(from, to, count);
+    }
+}
+
+impl Store for TaggedStore {
+    fn store_byte(&mut self, address: u32, byte: Option<u8>) {
+        cells::set_byte(
+            &mut self.bytes,
+            &mut self.tags,
+            place_of(address) as usize,
+            byte,
+        );
+    }
+
+    fn store_word(&mut self, address: u32, value: Word) {
+        cells::set_word(
+            &mut self.bytes,
+            &mut self.tags,
+            place_of(address) as usize,
+            value,
+        );
     }
 
     fn copy(&mut self, from: u32, to: u32, count: u32) {

@@ -6,7 +6,7 @@ use Rattle.machine_state.specs.declared.cpu.Cpu.{Cpu}
 use Rattle.machine_state.specs.declared.fault.FaultKind.{FaultKind}
 use Rattle.machine_state.specs.declared.fault.FaultKind.TheVariants.{NotOwn}
 use Rattle.machine_state.specs.declared.process.Exchange.{Exchange}
-use Rattle.machine_state.specs.declared.store.Store.{Ghosts}
+use Rattle.machine_state.specs.declared.store.LoadStore.{Ghosts}
 use Rattle.machine_state.specs.Site.{Site, Local, Outcome, fails}
 use Rattle.machine_state.specs.LocalStep.{alone, exchanges, holds, schedules, apart_from_scheduling, operation_step}
 use Rattle.machine_state.specs.LocalStep.{holds_scheduling_words, without_registers}

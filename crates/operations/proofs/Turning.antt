@@ -7,7 +7,7 @@ use Rattle.machine_state.specs.declared.cpu.Flow.{Flow}
 use Rattle.machine_state.specs.declared.fault.FaultKind.{FaultKind}
 use Rattle.machine_state.specs.declared.op.Op.TheVariants as ops
 use Rattle.machine_state.specs.declared.op.Shift.{Shift}
-use Rattle.machine_state.specs.declared.store.Store.{Ghosts}
+use Rattle.machine_state.specs.declared.store.LoadStore.{Ghosts}
 use Rattle.machine_state.specs.Site.{Site, Local, Outcome, fails, waits}
 use Rattle.machine_state.specs.declared.fault.FaultKind.TheVariants.{NotOwn, OutsideCode, Unaligned, CountRange}
 use Rattle.machine_state.specs.LocalStep.{alone, while_enabling, uses, aligned, address, leads_to, turned}

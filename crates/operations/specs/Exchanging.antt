@@ -8,7 +8,7 @@ use Rattle.machine_state.specs.declared.fault.FaultKind.TheVariants.{Undefined}
 use Rattle.machine_state.specs.declared.op.Op.{Op}
 use Rattle.machine_state.specs.declared.op.Op.TheVariants.{Input, Output}
 use Rattle.machine_state.specs.declared.process.Exchange.{Exchange}
-use Rattle.machine_state.specs.declared.store.Store.{Ghosts}
+use Rattle.machine_state.specs.declared.store.LoadStore.{Ghosts}
 use Rattle.machine_state.specs.Holding.{Holding}
 use Rattle.machine_state.specs.Site.{Local, Outcome, receives, sends, fails}
 use Rattle.machine_state.specs.LocalStep.{may_read_bytes, may_write_bytes, are_defined, holds, operation_step}

@@ -18,7 +18,7 @@ fn guard_holds(guard: i32) -> bool
 
 /// `alt`: an alternation begins.
 pub(crate) fn alternate<S: Store>(cpu: &mut Cpu<S>) -> Result<Flow, FaultKind>
-    ensures { PerformsOperation S.Store operation.Alternate cpu.old cpu.new result }
+    ensures { PerformsOperation S.LoadStore operation.Alternate cpu.old cpu.new result }
 {
     cpu.alone()?;
     cpu.schedulable()?;
@@ -28,7 +28,7 @@ pub(crate) fn alternate<S: Store>(cpu: &mut Cpu<S>) -> Result<Flow, FaultKind>
 
 /// `enbc`: channel B is to be enabled, if the guard A holds. A alone is handed on.
 pub(crate) fn enable_channel<S: Store>(cpu: &mut Cpu<S>) -> Result<Flow, FaultKind>
-    ensures { PerformsOperation S.Store operation.EnableChannel cpu.old cpu.new result }
+    ensures { PerformsOperation S.LoadStore operation.EnableChannel cpu.old cpu.new result }
 {
     cpu.while_enabling()?;
     let guard = cpu.used(cpu.registers.stack.a)?;
@@ -45,7 +45,7 @@ pub(crate) fn enable_channel<S: Store>(cpu: &mut Cpu<S>) -> Result<Flow, FaultKi
 
 /// `enbs`: a skip is to be enabled, if the guard A holds. A alone is handed on.
 pub(crate) fn enable_skip<S: Store>(cpu: &mut Cpu<S>) -> Result<Flow, FaultKind>
-    ensures { PerformsOperation S.Store operation.EnableSkip cpu.old cpu.new result }
+    ensures { PerformsOperation S.LoadStore operation.EnableSkip cpu.old cpu.new result }
 {
     cpu.while_enabling()?;
     let guard = cpu.used(cpu.registers.stack.a)?;
@@ -61,7 +61,7 @@ pub(crate) fn enable_skip<S: Store>(cpu: &mut Cpu<S>) -> Result<Flow, FaultKind>
 
 /// `altwt`: the process waits until something that it has enabled is ready.
 pub(crate) fn alternation_wait<S: Store>(cpu: &mut Cpu<S>) -> Result<Flow, FaultKind>
-    ensures { PerformsOperation S.Store operation.AlternationWait cpu.old cpu.new result }
+    ensures { PerformsOperation S.LoadStore operation.AlternationWait cpu.old cpu.new result }
 {
     cpu.while_enabling()?;
     cpu.schedulable()?;
@@ -73,7 +73,7 @@ pub(crate) fn alternation_wait<S: Store>(cpu: &mut Cpu<S>) -> Result<Flow, Fault
 
 /// `disc`: channel C is to be disabled, if the guard B holds, which may select A.
 pub(crate) fn disable_channel<S: Store>(cpu: &mut Cpu<S>) -> Result<Flow, FaultKind>
-    ensures { PerformsOperation S.Store operation.DisableChannel cpu.old cpu.new result }
+    ensures { PerformsOperation S.LoadStore operation.DisableChannel cpu.old cpu.new result }
 {
     cpu.while_disabling()?;
     let distance = cpu.used(cpu.registers.stack.a)?;
@@ -90,7 +90,7 @@ pub(crate) fn disable_channel<S: Store>(cpu: &mut Cpu<S>) -> Result<Flow, FaultK
 
 /// `diss`: a skip is to be disabled, if the guard B holds, which may select A.
 pub(crate) fn disable_skip<S: Store>(cpu: &mut Cpu<S>) -> Result<Flow, FaultKind>
-    ensures { PerformsOperation S.Store operation.DisableSkip cpu.old cpu.new result }
+    ensures { PerformsOperation S.LoadStore operation.DisableSkip cpu.old cpu.new result }
 {
     cpu.while_disabling()?;
     let distance = cpu.used(cpu.registers.stack.a)?;
@@ -103,7 +103,7 @@ pub(crate) fn disable_skip<S: Store>(cpu: &mut Cpu<S>) -> Result<Flow, FaultKind
 /// `altend`: the alternation is to end, and the process to go on at the selected distance from the next instruction. If
 /// nothing is selected, the fault is `AlternationOrder`.
 pub(crate) fn alternation_end<S: Store>(cpu: &mut Cpu<S>) -> Result<Flow, FaultKind>
-    ensures { PerformsOperation S.Store operation.AlternationEnd cpu.old cpu.new result }
+    ensures { PerformsOperation S.LoadStore operation.AlternationEnd cpu.old cpu.new result }
 {
     let selection = cpu.while_disabling()?;
     let distance = selection.ok_or(FaultKind::AlternationOrder)?;

@@ -10,7 +10,7 @@ use word_arithmetic::{Binary, Unary};
 /// An operation of two operands: A and B are popped, and the result of B and A is pushed, unless that sets the error
 /// flag.
 pub(crate) fn binary<S: Store>(cpu: &mut Cpu<S>, op: Binary) -> Result<Flow, FaultKind>
-    ensures { PerformsOperation S.Store (operation.Binary op) cpu.old cpu.new result }
+    ensures { PerformsOperation S.LoadStore (operation.Binary op) cpu.old cpu.new result }
 {
     let right = operand(cpu)?;
     let left = cpu.used(cpu.registers.stack.b)?;
@@ -20,7 +20,7 @@ pub(crate) fn binary<S: Store>(cpu: &mut Cpu<S>, op: Binary) -> Result<Flow, Fau
 
 /// An operation of one operand: A becomes the result of A, unless that sets the error flag.
 pub(crate) fn unary<S: Store>(cpu: &mut Cpu<S>, op: Unary) -> Result<Flow, FaultKind>
-    ensures { PerformsOperation S.Store (operation.Unary op) cpu.old cpu.new result }
+    ensures { PerformsOperation S.LoadStore (operation.Unary op) cpu.old cpu.new result }
 {
     let operand = operand(cpu)?;
     let value = cpu.computed(op.apply(operand))?;

@@ -8,7 +8,7 @@ use machine_state::{Cpu, FaultKind, Flow, Store};
 
 /// `lb`: A becomes the byte at A.
 pub(crate) fn load_byte<S: Store>(cpu: &mut Cpu<S>) -> Result<Flow, FaultKind>
-    ensures { PerformsOperation S.Store operation.LoadByte cpu.old cpu.new result }
+    ensures { PerformsOperation S.LoadStore operation.LoadByte cpu.old cpu.new result }
 {
     let address = operand(cpu)?.cast_unsigned();
     let byte = cpu.read_byte(address)?;
@@ -19,7 +19,7 @@ pub(crate) fn load_byte<S: Store>(cpu: &mut Cpu<S>) -> Result<Flow, FaultKind>
 
 /// `sb`: the byte at A becomes the low byte of B, and both are popped.
 pub(crate) fn store_byte<S: Store>(cpu: &mut Cpu<S>) -> Result<Flow, FaultKind>
-    ensures { PerformsOperation S.Store operation.StoreByte cpu.old cpu.new result }
+    ensures { PerformsOperation S.LoadStore operation.StoreByte cpu.old cpu.new result }
 {
     let address = operand(cpu)?.cast_unsigned();
     let value = cpu.used(cpu.registers.stack.b)?;

@@ -24,7 +24,7 @@ use machine_state::{Cpu, FaultKind, Flow, Op, Store};
 /// has changed the registers alone.
 #[tactic(auto)]
 pub fn operate<S: Store>(cpu: &mut Cpu<S>, op: Op) -> Result<Flow, FaultKind>
-    ensures { PerformsOperation S.Store op cpu.old cpu.new result }
+    ensures { PerformsOperation S.LoadStore op cpu.old cpu.new result }
 {
     match op {
         Op::Reverse => registers::reverse(cpu),

@@ -12,7 +12,7 @@ const MOST_SHIFT: u32 = 31;
 
 /// `shl`, `shr`: A and B are popped, and B, shifted by A bits, is pushed.
 pub(crate) fn shift<S: Store>(cpu: &mut Cpu<S>, op: Shift) -> Result<Flow, FaultKind>
-    ensures { PerformsOperation S.Store (operation.Shift op) cpu.old cpu.new result }
+    ensures { PerformsOperation S.LoadStore (operation.Shift op) cpu.old cpu.new result }
 {
     let count = operand(cpu)?;
     let word = cpu.used(cpu.registers.stack.b)?;
@@ -23,7 +23,7 @@ pub(crate) fn shift<S: Store>(cpu: &mut Cpu<S>, op: Shift) -> Result<Flow, Fault
 
 /// `lsum`, `ldiff`, `lmul`: A becomes the low word of the result of B, A and C, and B the high one or the carry.
 pub(crate) fn long<S: Store>(cpu: &mut Cpu<S>, op: LongOp) -> Result<Flow, FaultKind>
-    ensures { PerformsOperation S.Store (operation.Long op) cpu.old cpu.new result }
+    ensures { PerformsOperation S.LoadStore (operation.Long op) cpu.old cpu.new result }
 {
     cpu.check(cpu.has_long_operations, FaultKind::UnknownOperation)?;
     let right = operand(cpu)?;

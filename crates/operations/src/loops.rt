@@ -26,7 +26,7 @@ fn landing<S>(cpu: &Cpu<S>, offset: u64) -> Result<u32, FaultKind>
 /// Where the process goes on: as many bytes back as the distance says while turns are left, else after the
 /// instruction.
 fn loop_target<S: Store>(cpu: &Cpu<S>, distance: i32, count: i32) -> u64
-    ensures { result ≡ loop_target (site_of S.Store cpu.now) distance count }
+    ensures { result ≡ loop_target (site_of S.LoadStore cpu.now) distance count }
 {
     if count > 1 {
         let back = distance.cast_unsigned().wrapping_neg();
@@ -39,8 +39,8 @@ fn loop_target<S: Store>(cpu: &Cpu<S>, distance: i32, count: i32) -> u64
 /// Counts a turn: the count of the block goes down, and while turns are left its index goes up.
 fn count_turn<S: Store>(cpu: &mut Cpu<S>, block: u32, index: i32, count: i32)
     requires block { IsTrue (holds_block (S.holding cpu.old.store) block) }
-    ensures turned { local_of S.Store cpu.new ≡ turned block index count (local_of S.Store cpu.old) }
-    ensures elsewhere { IsSameElsewhere S.Store cpu.old cpu.new }
+    ensures turned { local_of S.LoadStore cpu.new ≡ turned block index count (local_of S.LoadStore cpu.old) }
+    ensures elsewhere { IsSameElsewhere S.LoadStore cpu.old cpu.new }
 {
     let left = count.cast_unsigned().wrapping_sub(1);
     cpu.store
@@ -61,8 +61,8 @@ fn turn<S: Store>(
 ) -> Result<Flow, FaultKind>
     requires block { IsTrue (holds_block (S.holding cpu.old.store) block) }
     requires scheduling { IsTrue (holds_scheduling_words (S.holding cpu.old.store) cpu.old.registers.workspace) }
-    ensures { let step = counts_turn (site_of S.Store cpu.old) distance block index count (local_of S.Store cpu.old) in
-        Performs S.Store step cpu.old cpu.new result }
+    ensures { let step = counts_turn (site_of S.LoadStore cpu.old) distance block index count (local_of S.LoadStore cpu.old) in
+        Performs S.LoadStore step cpu.old cpu.new result }
 {
     let to = landing(cpu, loop_target(cpu, distance, count))?;
     count_turn(cpu, block, index, count);
@@ -75,8 +75,8 @@ fn turn<S: Store>(
 fn turn_block<S: Store>(cpu: &mut Cpu<S>, distance: i32, block: u32) -> Result<Flow, FaultKind>
     requires block { IsTrue (holds_block (S.holding cpu.old.store) block) }
     requires scheduling { IsTrue (holds_scheduling_words (S.holding cpu.old.store) cpu.old.registers.workspace) }
-    ensures { let step = turns_block (site_of S.Store cpu.old) distance block (local_of S.Store cpu.old) in
-        Performs S.Store step cpu.old cpu.new result }
+    ensures { let step = turns_block (site_of S.LoadStore cpu.old) distance block (local_of S.LoadStore cpu.old) in
+        Performs S.LoadStore step cpu.old cpu.new result }
 {
     let index = cpu.own_word(block)?;
     let count = cpu.own_word(local_address(block, 1))?;
@@ -85,8 +85,8 @@ fn turn_block<S: Store>(cpu: &mut Cpu<S>, distance: i32, block: u32) -> Result<F
 
 /// Turns the loop of a block, or ends it, where its words and those that scheduling takes may be written.
 fn test_block<S: Store>(cpu: &mut Cpu<S>, distance: i32, block: u32) -> Result<Flow, FaultKind>
-    ensures { let step = tests_block (site_of S.Store cpu.old) distance block (local_of S.Store cpu.old) in
-        Performs S.Store step cpu.old cpu.new result }
+    ensures { let step = tests_block (site_of S.LoadStore cpu.old) distance block (local_of S.LoadStore cpu.old) in
+        Performs S.LoadStore step cpu.old cpu.new result }
 {
     let second = local_address(block, 1);
     let is_own = cpu.store.can_store_word(block) && cpu.store.can_store_word(second);
@@ -98,7 +98,7 @@ fn test_block<S: Store>(cpu: &mut Cpu<S>, distance: i32, block: u32) -> Result<F
 /// `lend`: the loop of block B, its index and its count, turns at A bytes back, or ends. It may be sent to the back of
 /// the ready list, so the words that scheduling takes and the registers are undefined then.
 pub(crate) fn loop_end<S: Store>(cpu: &mut Cpu<S>) -> Result<Flow, FaultKind>
-    ensures { PerformsOperation S.Store operation.LoopEnd cpu.old cpu.new result }
+    ensures { PerformsOperation S.LoadStore operation.LoopEnd cpu.old cpu.new result }
 {
     let distance = operand(cpu)?;
     let block = cpu.used(cpu.registers.stack.b)?;

@@ -12,7 +12,7 @@ use machine_state::{Cpu, Exchange, FaultKind, Flow, Request, Store};
 /// The message of A bytes at C over channel B, of which the process holds this end.
 #[tactic(auto, unfolding(machine_state::specs::LocalStep::exchanges, machine_state::specs::LocalStep::uses, machine_state::specs::LocalStep::counts))]
 fn exchange<S: Store>(cpu: &Cpu<S>, direction: Direction) -> Result<Exchange, FaultKind>
-    ensures asks { AsksFor S.Store cpu.now direction result }
+    ensures asks { AsksFor S.LoadStore cpu.now direction result }
     ensures length { IfOk result (λ e. 1 ≤ e.length) }
 {
     let length = cpu.used(cpu.registers.stack.a)?;
@@ -42,7 +42,7 @@ fn may_use<S: Store>(cpu: &Cpu<S>, direction: Direction, exchange: Exchange) -> 
 /// words that scheduling takes.
 #[tactic(auto, using(machine_state::proofs::Scheduling::schedules_is, crate::proofs::Exchanging::message_step), unfolding(machine_state::specs::LocalStep::holds))]
 fn message<S: Store>(cpu: &Cpu<S>, direction: Direction) -> Result<Exchange, FaultKind>
-    ensures asks { AsksForMessage S.Store cpu.now direction result }
+    ensures asks { AsksForMessage S.LoadStore cpu.now direction result }
     ensures length { IfOk result (λ e. 1 ≤ e.length) }
     ensures words { let workspace = cpu.now.registers.workspace in
         OnOk result (IsTrue (holds_scheduling_words (S.holding cpu.now.store) workspace)) }
@@ -58,7 +58,7 @@ fn message<S: Store>(cpu: &Cpu<S>, direction: Direction) -> Result<Exchange, Fau
 
 /// `in`: a message of A bytes from channel B is to go to C.
 pub(crate) fn input<S: Store>(cpu: &mut Cpu<S>) -> Result<Flow, FaultKind>
-    ensures { PerformsOperation S.Store operation.Input cpu.old cpu.new result }
+    ensures { PerformsOperation S.LoadStore operation.Input cpu.old cpu.new result }
 {
     let exchange = message(cpu, Direction::In)?;
     cpu.registers.stack = Stack::of_empty(None);
@@ -67,7 +67,7 @@ pub(crate) fn input<S: Store>(cpu: &mut Cpu<S>) -> Result<Flow, FaultKind>
 
 /// `out`: a message of A bytes at C is to go to channel B.
 pub(crate) fn output<S: Store>(cpu: &mut Cpu<S>) -> Result<Flow, FaultKind>
-    ensures { PerformsOperation S.Store operation.Output cpu.old cpu.new result }
+    ensures { PerformsOperation S.LoadStore operation.Output cpu.old cpu.new result }
 {
     let exchange = message(cpu, Direction::Out)?;
     let is_defined = cpu.stays_defined(exchange.address, exchange.length);

@@ -12,7 +12,7 @@ const MOST_MOVED: u32 = 65_536;
 
 /// `move`: A bytes go from C to B. The two blocks do not meet, and undefined bytes stay undefined.
 pub(crate) fn move_bytes<S: Store>(cpu: &mut Cpu<S>) -> Result<Flow, FaultKind>
-    ensures { PerformsOperation S.Store operation.Move cpu.old cpu.new result }
+    ensures { PerformsOperation S.LoadStore operation.Move cpu.old cpu.new result }
 {
     let count = operand(cpu)?;
     let to = cpu.used(cpu.registers.stack.b)?.cast_unsigned();

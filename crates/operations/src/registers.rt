@@ -7,7 +7,7 @@ use machine_state::{Cpu, FaultKind, Flow, Store};
 
 /// `rev`: A and B change places.
 pub(crate) fn reverse<S: Store>(cpu: &mut Cpu<S>) -> Result<Flow, FaultKind>
-    ensures { PerformsOperation S.Store Reverse cpu.old cpu.new result }
+    ensures { PerformsOperation S.LoadStore Reverse cpu.old cpu.new result }
 {
     cpu.alone()?;
     cpu.in_code(cpu.next())?;
@@ -17,7 +17,7 @@ pub(crate) fn reverse<S: Store>(cpu: &mut Cpu<S>) -> Result<Flow, FaultKind>
 
 /// `mint`: the least word is pushed.
 pub(crate) fn minimum_integer<S: Store>(cpu: &mut Cpu<S>) -> Result<Flow, FaultKind>
-    ensures { PerformsOperation S.Store MinimumInteger cpu.old cpu.new result }
+    ensures { PerformsOperation S.LoadStore MinimumInteger cpu.old cpu.new result }
 {
     cpu.outside_starts()?;
     cpu.in_code(cpu.next())?;

@@ -9,7 +9,7 @@ use machine_state::{Cpu, FaultKind, Flow, Store, local_address};
 /// `ret`: the process goes on at the address in the word at its workspace, and leaves four words. No register is
 /// handed back.
 pub(crate) fn return_from_call<S: Store>(cpu: &mut Cpu<S>) -> Result<Flow, FaultKind>
-    ensures { PerformsOperation S.Store operation.Return cpu.old cpu.new result }
+    ensures { PerformsOperation S.LoadStore operation.Return cpu.old cpu.new result }
 {
     cpu.alone()?;
     let workspace = cpu.registers.workspace;

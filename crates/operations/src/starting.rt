@@ -8,7 +8,7 @@ use machine_state::{Cpu, FaultKind, Flow, Request, Store};
 
 /// `startp`: the branch that begins B bytes after the instruction is to start, with a workspace at A.
 pub(crate) fn start_process<S: Store>(cpu: &mut Cpu<S>) -> Result<Flow, FaultKind>
-    ensures { PerformsOperation S.Store operation.StartProcess cpu.old cpu.new result }
+    ensures { PerformsOperation S.LoadStore operation.StartProcess cpu.old cpu.new result }
 {
     cpu.outside_alternation()?;
     let workspace = cpu.used(cpu.registers.stack.a)?;
@@ -21,7 +21,7 @@ pub(crate) fn start_process<S: Store>(cpu: &mut Cpu<S>) -> Result<Flow, FaultKin
 
 /// `endp`: the process is to end in the join of block A.
 pub(crate) fn end_process<S: Store>(cpu: &mut Cpu<S>) -> Result<Flow, FaultKind>
-    ensures { PerformsOperation S.Store operation.EndProcess cpu.old cpu.new result }
+    ensures { PerformsOperation S.LoadStore operation.EndProcess cpu.old cpu.new result }
 {
     cpu.outside_alternation()?;
     let block = cpu.used(cpu.registers.stack.a)?;

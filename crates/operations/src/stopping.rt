@@ -7,7 +7,7 @@ use machine_state::{Cpu, FaultKind, Flow, Store};
 
 /// `stopp`: the process stops for good. The words that scheduling takes are undefined then.
 pub(crate) fn stop_process<S: Store>(cpu: &mut Cpu<S>) -> Result<Flow, FaultKind>
-    ensures { PerformsOperation S.Store StopProcess cpu.old cpu.new result }
+    ensures { PerformsOperation S.LoadStore StopProcess cpu.old cpu.new result }
 {
     cpu.alone()?;
     cpu.schedulable()?;

@@ -9,7 +9,7 @@ use word_arithmetic::is_below_unsigned;
 
 /// `bsub`: A and B are popped, and the address B bytes after A is pushed.
 pub(crate) fn byte_subscript<S: Store>(cpu: &mut Cpu<S>) -> Result<Flow, FaultKind>
-    ensures { PerformsOperation S.Store operation.ByteSubscript cpu.old cpu.new result }
+    ensures { PerformsOperation S.LoadStore operation.ByteSubscript cpu.old cpu.new result }
 {
     let base = operand(cpu)?;
     let subscript = cpu.used(cpu.registers.stack.b)?;
@@ -19,7 +19,7 @@ pub(crate) fn byte_subscript<S: Store>(cpu: &mut Cpu<S>) -> Result<Flow, FaultKi
 
 /// `wsub`: A and B are popped, and the address B words after A is pushed.
 pub(crate) fn word_subscript<S: Store>(cpu: &mut Cpu<S>) -> Result<Flow, FaultKind>
-    ensures { PerformsOperation S.Store operation.WordSubscript cpu.old cpu.new result }
+    ensures { PerformsOperation S.LoadStore operation.WordSubscript cpu.old cpu.new result }
 {
     let base = operand(cpu)?;
     let subscript = cpu.used(cpu.registers.stack.b)?;
@@ -29,7 +29,7 @@ pub(crate) fn word_subscript<S: Store>(cpu: &mut Cpu<S>) -> Result<Flow, FaultKi
 
 /// `csub0`: A is popped, unless B is not below it, which sets the error flag.
 pub(crate) fn check_subscript<S: Store>(cpu: &mut Cpu<S>) -> Result<Flow, FaultKind>
-    ensures { PerformsOperation S.Store operation.CheckSubscript cpu.old cpu.new result }
+    ensures { PerformsOperation S.LoadStore operation.CheckSubscript cpu.old cpu.new result }
 {
     let bound = operand(cpu)?;
     let subscript = cpu.used(cpu.registers.stack.b)?;
@@ -39,7 +39,7 @@ pub(crate) fn check_subscript<S: Store>(cpu: &mut Cpu<S>) -> Result<Flow, FaultK
 
 /// `ccnt1`: A is popped, unless B is 0 or above it, which sets the error flag.
 pub(crate) fn check_count<S: Store>(cpu: &mut Cpu<S>) -> Result<Flow, FaultKind>
-    ensures { PerformsOperation S.Store operation.CheckCount cpu.old cpu.new result }
+    ensures { PerformsOperation S.LoadStore operation.CheckCount cpu.old cpu.new result }
 {
     let most = operand(cpu)?;
     let count = cpu.used(cpu.registers.stack.b)?;
@@ -52,7 +52,7 @@ pub(crate) fn check_count<S: Store>(cpu: &mut Cpu<S>) -> Result<Flow, FaultKind>
 
 /// `ldpi`: A becomes the address A bytes after the instruction.
 pub(crate) fn load_pointer_to_instruction<S: Store>(cpu: &mut Cpu<S>) -> Result<Flow, FaultKind>
-    ensures { PerformsOperation S.Store operation.LoadPointerToInstruction cpu.old cpu.new result }
+    ensures { PerformsOperation S.LoadStore operation.LoadPointerToInstruction cpu.old cpu.new result }
 {
     let distance = operand(cpu)?;
     cpu.in_code(cpu.next())?;

@@ -5,7 +5,7 @@ ghost use Rattle.std.specs.List.{remove};
 ghost use Rattle.process_queue.specs.Picking.{place_of_pick};
 
 use crate::ready_queue::ReadyQueue;
-use machine_state::Store;
+use machine_state::LoadStore;
 use std::alloc::{AllocError, Global};
 use std::collections::VecDeque;
 use std::marker::Model;
@@ -41,7 +41,7 @@ impl ListQueue {
     }
 }
 
-impl<S: Store> ReadyQueue<S> for ListQueue {
+impl<S: LoadStore> ReadyQueue<S> for ListQueue {
     ghost use Rattle.std.specs.Prelude.{⊤, false, refl};
 
     ghost waiting = { λ q s. q.processes };

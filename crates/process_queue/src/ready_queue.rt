@@ -6,12 +6,12 @@ ghost use Rattle.std.specs.List.{remove};
 ghost use Rattle.process_queue.specs.Keeping.{Keeping, ChangesKept, AgreesOnKept};
 ghost use Rattle.process_queue.specs.Picking.{place_of_pick};
 
-use machine_state::Store;
+use machine_state::LoadStore;
 use std::alloc::AllocError;
 
 /// The processes that wait for their turn. A queue and the store together are seen as a list: a queue may keep a
 /// process in words of its workspace, which nobody else may write while the process is in the queue.
-pub trait ReadyQueue<S: Store> {
+pub trait ReadyQueue<S: LoadStore> {
     /// The processes in the queue, the first in front.
     ghost waiting: { Self → S → List ℕ };
 

@@ -2,12 +2,12 @@
 
 use crate::tests::memory::loaded;
 use crate::tests::text::Found;
-use machine_state::{Store, TaggedStore};
+use machine_state::{LoadStore, TaggedStore};
 use process_queue::{ListQueue, ReadyQueue};
 use std::alloc::{AllocError, Global};
 
 /// Pushes a process, once there is room.
-fn push<S: Store, Q: ReadyQueue<S>>(
+fn push<S: LoadStore, Q: ReadyQueue<S>>(
     queue: &mut Q,
     store: &mut S,
     process: u64,
@@ -22,7 +22,7 @@ fn push<S: Store, Q: ReadyQueue<S>>(
 }
 
 /// Takes a process out, if there is one.
-fn take<S: Store, Q: ReadyQueue<S>>(queue: &mut Q, store: &mut S, pick: usize) -> Option<u64>
+fn take<S: LoadStore, Q: ReadyQueue<S>>(queue: &mut Q, store: &mut S, pick: usize) -> Option<u64>
     requires { Q.is_intact queue.old store.old }
     ensures { Q.is_intact queue.new store.new }
 {

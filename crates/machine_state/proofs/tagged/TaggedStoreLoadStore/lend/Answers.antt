@@ -3,7 +3,7 @@ use Rattle.std.specs.List.{slice_range}
 use Rattle.machine_state.specs.Memory.{place_of}
 use Rattle.machine_state.specs.Tagged.{Tagged}
 use Rattle.machine_state.proofs.TaggedCells.{lent, lent_outside}
-use Rattle.machine_state.proofs.tagged.TaggedStoreStore.lend.Goals as goal
+use Rattle.machine_state.proofs.tagged.TaggedStoreLoadStore.lend.Goals as goal
 
 pub returns-in-Some : goal.returns-in-Some
 returns-in-Some c =
