@@ -1,0 +1,3 @@
+pub mod InsideMemory
+pub mod Filling
+pub mod TasksCounted

@@ -1,0 +1,2 @@
+pub mod InsideMemory
+pub mod TasksCounted
