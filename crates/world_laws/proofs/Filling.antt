@@ -1,5 +1,5 @@
 -- What a byte that arrives for a process leaves alone.
-use Rattle.std.proofs.Common.{◌≡◌, ℕ, ◌+◌, Bool, true, false, if◌then◌else◌, List, length, Option, Some, None, refl}
+use Rattle.std.proofs.Common.{◌≡◌, ℕ, ◌+◌, Bool, true, false, if◌then◌else◌, length, Option, Some, None, refl}
 use Rattle.std.proofs.Common.{slice_get}
 use Rattle.std.specs.Prelude.{◌%◌, ◌^◌, ◌==◌}
 use Rattle.machine_state.specs.declared.link.InputLink.{InputLink}
@@ -8,7 +8,7 @@ use Rattle.machine_state.specs.declared.process.Condition.{Condition}
 use Rattle.machine_state.specs.declared.process.Condition.TheVariants.{OnLink}
 use Rattle.machine_state.specs.Memory.{place_of, with_byte}
 use Rattle.machine_state.specs.World.{World}
-use Rattle.machine_state.specs.Moves.{wake, fill, fill_condition, with_condition, with_input}
+use Rattle.machine_state.specs.Moves.{fill, fill_condition, with_input}
 use Rattle.machine_state.proofs.Moving.{OnlyTasks, on_task_only, wake_only}
 
 -- roles and channels are as they were, and no task has come or gone

@@ -1,5 +1,5 @@
 -- Holdings lie in memory, in every world.
-use Rattle.std.proofs.Common.{◌≡◌, ℕ, zero, suc, ◌+◌, ◌*◌, ◌<◌, Bool, true, false, ◌⊎◌, inl, inr, List, [], ◌∷◌, ◌++◌, length, Option, Some}
+use Rattle.std.proofs.Common.{◌≡◌, ℕ, zero, suc, ◌+◌, ◌*◌, Bool, true, false, inl, inr, List, [], ◌∷◌, ◌++◌, length, Option, Some}
 use Rattle.std.proofs.Common.{None, Result, Ok, Err, refl, sym, ap, ◌∙◌, subst, slice_get, arith}
 use Rattle.std.specs.Prelude.{slice_set}
 use Rattle.module_format.specs.Contents.{Contents, Par}
@@ -7,7 +7,7 @@ use Rattle.machine_state.specs.declared.event.Event.{Event}
 use Rattle.machine_state.specs.declared.event.Event.TheVariants.{Step, Arrive, Acknowledge}
 use Rattle.machine_state.specs.declared.fault.Fault.{Fault}
 use Rattle.machine_state.specs.Memory.{Memory}
-use Rattle.machine_state.specs.Holding.{Holding, nothing, may_read, may_write, covers}
+use Rattle.machine_state.specs.Holding.{Holding, nothing, may_write, covers}
 use Rattle.machine_state.specs.World.{World, Role, Join, held, holding_at, loaded, loaded_memory, root_role}
 use Rattle.machine_state.specs.World.{root_holding, constants_start}
 use Rattle.machine_state.specs.Spans.{Share, less, runs}
@@ -24,7 +24,7 @@ use Rattle.machine_state.specs.Endings as turns
 use Rattle.machine_state.specs.Endings.{Moved, Ends, Happened, plan_of}
 use Rattle.machine_state.proofs.SpanLaws.{among, or_true, runs_tell, covers_tells}
 use Rattle.machine_state.proofs.Writing.{steps_write_own, arrivals_write_one, acknowledgements_write_nothing}
-use Rattle.machine_state.proofs.Moving.{on_task_only, on_role_only, wake_only, rouse_only, chooses, joined_either}
+use Rattle.machine_state.proofs.Moving.{on_task_only, wake_only, rouse_only, chooses, joined_either}
 use Rattle.machine_state.proofs.Moving.{with_opened, without, member_gone}
 use Rattle.machine_state.proofs.Lines.{set_either, got_either}
 use Rattle.machine_state.proofs.Roles.{told_of}
@@ -32,7 +32,7 @@ use Rattle.machine_state.proofs.EveryWorld.{every_world}
 use Rattle.machine_state.proofs.Turns.{turn_happens}
 use Rattle.std.proofs.lemmas.List.{length-append, length-replicate, length-map}
 use Rattle.world_laws.proofs.Filling.{fill_only}
-use Rattle.world_laws.specs.InsideMemory.{LiesIn, LiesInMemory, HoldingsLieInMemory}
+use Rattle.world_laws.specs.InsideMemory.{LiesIn, HoldingsLieInMemory}
 
 -- ---- memory keeps its length
 
@@ -63,7 +63,7 @@ runs_lie n h f g writes reads x read = elim (or_true (may_write h x) _ read) [
       omega (arith, low)
 ]
 
-less_lies : (n : ℕ) (h : Holding) (share : Share) → LiesIn n (less n h share)
+pub less_lies : (n : ℕ) (h : Holding) (share : Share) → LiesIn n (less n h share)
 unfolding less
 less_lies n h share = runs_lie n (less n h share) _ _ refl refl
 
@@ -115,7 +115,7 @@ module _ (h : Here) (w : World) (all : AllLie (length w.memory) w.roles) where
   n = length w.memory
 
   -- what the open join of a process has not given
-  rest_lies : (p : ℕ) (j : Join) → opened_by w p ≡ Some j → LiesIn n j.rest
+  pub rest_lies : (p : ℕ) (j : Join) → opened_by w p ≡ Some j → LiesIn n j.rest
   rest_lies p j is =
       let x = told_of (λ (r : Role). r.opened) w.roles p j is in
       (all p x.0 x.1).rest j x.2

@@ -1,3 +1,10 @@
 pub mod InsideMemory
 pub mod Filling
 pub mod TasksCounted
+pub mod Blank
+pub mod StepLeaves
+pub mod Parking
+pub mod Reaching
+pub mod ParkedLaws
+pub mod Holdings
+pub mod ParkedSteps

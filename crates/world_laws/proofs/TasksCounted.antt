@@ -1,5 +1,5 @@
 -- Tasks are at most the bytes executed and one, in every world.
-use Rattle.std.proofs.Common.{◌≡◌, ℕ, ◌+◌, ◌≤◌, Option, List, [], ◌∷◌, ◌++◌, length, refl, ◌∙◌, arith}
+use Rattle.std.proofs.Common.{◌≡◌, ℕ, ◌+◌, ◌≤◌, Option, List, [], ◌∷◌, length, refl, ◌∙◌, arith}
 use Rattle.std.proofs.lemmas.List.{length-append, length-set}
 use Rattle.std.specs.Prelude.{slice_set}
 use Rattle.module_format.specs.Contents.{Contents}
@@ -21,7 +21,7 @@ use Rattle.machine_state.proofs.Moving.{rouse_only, wake_only}
 use Rattle.machine_state.proofs.EventLaws.{events_count_bytes}
 use Rattle.machine_state.proofs.EveryWorld.{every_world}
 use Rattle.machine_state.proofs.Turns.{turn_happens}
-use Rattle.machine_state.proofs.Waiting.{WaitsIn, reached}
+use Rattle.machine_state.proofs.Waiting.{reached}
 use Rattle.world_laws.proofs.Filling.{fill_only}
 use Rattle.world_laws.specs.TasksCounted.{TasksAreCounted}
 

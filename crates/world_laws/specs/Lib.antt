@@ -1,2 +1,3 @@
 pub mod InsideMemory
 pub mod TasksCounted
+pub mod Parked

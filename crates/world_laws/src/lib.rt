@@ -3,4 +3,7 @@
 
 mod laws;
 
-pub use laws::{holdings_lie_in_memory, tasks_are_counted};
+pub use laws::{
+    buffers_are_held, holdings_lie_in_memory, parked_processes_are_at_rest, parked_words_are_blank,
+    tasks_are_counted, workspaces_differ,
+};
