@@ -6,6 +6,7 @@ use Rattle.machine_state.specs.declared.process.Channel.{Channel}
 use Rattle.machine_state.specs.Holding.{Holding, nothing, may_write}
 use Rattle.machine_state.specs.World.{Role, Join, held, holding_at}
 use Rattle.machine_state.specs.Ownership.{HoldersIn}
+use Rattle.machine_state.specs.Roles.{own_in, opened_in}
 use Rattle.machine_state.specs.Apart.{AllApart}
 use Rattle.machine_state.proofs.Claims.{written_is_read}
 use Rattle.machine_state.proofs.Holders.{held_write}
@@ -42,3 +43,16 @@ written_is_data m roles channels t p x = on (slice_get roles p) refl
         → x < 4 * m.data_words
     on None here own = absurd (cc)
     on (Some r) here own = of_role r here r.opened refl own
+
+-- what a process holds now, by what it has for good and by its open join
+pub now_is : (roles : List Role) (q : ℕ) → elim (opened_in roles q) as (λ o. Holding)
+    [ None ↦ own_in roles q | Some join ↦ join.rest ] ≡ holding_at roles q
+now_is roles q = on (slice_get roles q)
+  where
+    on : (o : Option Role) → elim (elim o as (λ o. Option Join) [ None ↦ None | Some role ↦ role.opened ])
+        as (λ o. Holding) [
+          | None ↦ elim o as (λ o. Holding) [ None ↦ nothing | Some role ↦ role.own ]
+          | Some join ↦ join.rest
+        ] ≡ elim o as (λ o. Holding) [ None ↦ nothing | Some role ↦ held role ]
+    on None = refl
+    on (Some r) = refl

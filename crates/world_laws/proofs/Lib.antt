@@ -8,3 +8,4 @@ pub mod Reaching
 pub mod ParkedLaws
 pub mod Holdings
 pub mod ParkedSteps
+pub mod KeptWords

@@ -206,7 +206,7 @@ module _ (m : Contents) (w : World) (g : Ground w) where
 -- ---- every world
 
 module _ (m : Contents) (format : Keeps m) where
-  ground : (es : List Event) → AllIn (Aside (world_after m es)) (world_after m es) → Ground (world_after m es)
+  pub ground : (es : List Event) → AllIn (Aside (world_after m es)) (world_after m es) → Ground (world_after m es)
   ground es all =
       let w = world_after m es in
       let small = format_is_small m format in

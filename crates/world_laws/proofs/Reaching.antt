@@ -29,6 +29,8 @@ use Rattle.machine_state.proofs.Combining.{and_true}
 use Rattle.machine_state.proofs.Turns.{turn_happens}
 use Rattle.machine_state.proofs.Waiting.{arrivals_fill_buffers}
 use Rattle.machine_state.proofs.Writing.{of_waiting_is, outcome_is, steps_write_own, arrivals_write_one}
+use Rattle.machine_state.proofs.Writing.{acknowledgements_write_nothing}
+use Rattle.machine_state.specs.Memory.{Memory}
 use Rattle.world_laws.specs.Parked.{InBuffer}
 
 -- the next byte that a process waits for on an input link comes here
@@ -138,3 +140,11 @@ stays_unreached m es slice pick x never =
     let w = world_after m es in
     step_stays m w x never (Step slice pick) (turn m w (Step slice pick)) (turn_happens m w (Step slice pick))
     (steps_write_own m w slice pick)
+
+-- any event
+pub stays : (m : Contents) (es : List Event) (e : Event) (x : ℕ) → (Reaches (world_after m es) x → ⊥)
+    → byte_at (turn m (world_after m es) e).world.memory x ≡ byte_at (world_after m es).memory x
+stays m es (Step slice pick) x never = stays_unreached m es slice pick x never
+stays m es (Arrive link byte) x never = stays_unarrived m es link byte x (λ a. never (by_arrival a))
+stays m es (Acknowledge link) x never =
+    ap (λ (y : Memory). byte_at y x) (acknowledgements_write_nothing m (world_after m es) link)

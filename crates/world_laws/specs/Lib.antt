@@ -1,3 +1,4 @@
 pub mod InsideMemory
 pub mod TasksCounted
 pub mod Parked
+pub mod KeptWords

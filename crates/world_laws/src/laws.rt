@@ -1,6 +1,7 @@
 //! Laws of the definitions.
 
 ghost use Rattle.world_laws.specs.InsideMemory.{HoldingsLieInMemory};
+ghost use Rattle.world_laws.specs.KeptWords.{BlocksAreBlank, ChannelWordsAreBlank};
 ghost use Rattle.world_laws.specs.Parked.{WhoIsParkedIsAtRest, ParkedWordsAreBlank, SelectionsAreBlank};
 ghost use Rattle.world_laws.specs.Parked.{BuffersAreHeld, WorkspacesDiffer};
 ghost use Rattle.world_laws.specs.TasksCounted.{TasksAreCounted};
@@ -41,4 +42,10 @@ pub fn buffers_are_held()
 /// No two processes that do not run, or are in alternations, have one workspace.
 pub fn workspaces_differ()
     ensures { WorkspacesDiffer }
+{}
+
+/// The block of an open join and the words of its channels are data, and undefined.
+pub fn kept_words_are_blank()
+    ensures blocks { BlocksAreBlank }
+    ensures channels { ChannelWordsAreBlank }
 {}
