@@ -3,12 +3,12 @@ use Rattle.std.proofs.Common.{◌≡◌, ℕ, ◌+◌, Bool, true, false, if◌t
 use Rattle.std.proofs.Common.{slice_get}
 use Rattle.std.specs.Prelude.{◌%◌, ◌^◌, ◌==◌}
 use Rattle.machine_state.specs.declared.link.InputLink.{InputLink}
-use Rattle.machine_state.specs.declared.process.Task.{Task}
 use Rattle.machine_state.specs.declared.process.Condition.{Condition}
 use Rattle.machine_state.specs.declared.process.Condition.TheVariants.{OnLink}
+use Rattle.machine_state.specs.declared.process.Task.{Task}
 use Rattle.machine_state.specs.Memory.{place_of, with_byte}
-use Rattle.machine_state.specs.World.{World}
 use Rattle.machine_state.specs.Moves.{fill, fill_condition, with_input}
+use Rattle.machine_state.specs.World.{World}
 use Rattle.machine_state.proofs.Moving.{OnlyTasks, on_task_only, wake_only}
 
 -- roles and channels are as they were, and no task has come or gone
@@ -29,7 +29,9 @@ fill_only p k byte link w = on (slice_get w.tasks p)
   where
     on_condition : (c : Condition) → FillOnly w (fill_condition p k byte link c w)
     on_condition (OnLink e done) =
-        let filled : World = record w { memory = with_byte w.memory (place_of ((e.address + done) % 2 ^ 32)) (Some byte) } in
+        let filled : World = record w {
+          memory = with_byte w.memory (place_of ((e.address + done) % 2 ^ 32)) (Some byte);
+        } in
         let x = wake_only p (with_input k (record link { waiting = None }) filled) in
         let y = on_task_only p (λ task. record task { condition = OnLink e (done + 1) }) filled in
         by_test (done + 1 == e.length) w _ _

@@ -1,38 +1,40 @@
 -- Holdings lie in memory, in every world.
-use Rattle.std.proofs.Common.{◌≡◌, ℕ, zero, suc, ◌+◌, ◌*◌, Bool, true, false, inl, inr, List, [], ◌∷◌, ◌++◌, length, Option, Some}
-use Rattle.std.proofs.Common.{None, Result, Ok, Err, refl, sym, ap, ◌∙◌, subst, slice_get, arith}
+use Rattle.std.proofs.Common.{◌≡◌, ℕ, zero, suc, ◌+◌, ◌*◌, Bool, true, false, inl, inr, List, [], ◌∷◌, ◌++◌, length}
+use Rattle.std.proofs.Common.{Option, Some, None, Result, Ok, Err, refl, sym, ap, ◌∙◌, subst, slice_get, arith}
+use Rattle.std.proofs.lemmas.List.{length-append, length-replicate, length-map}
 use Rattle.std.specs.Prelude.{slice_set}
 use Rattle.module_format.specs.Contents.{Contents, Par}
 use Rattle.machine_state.specs.declared.event.Event.{Event}
 use Rattle.machine_state.specs.declared.event.Event.TheVariants.{Step, Arrive, Acknowledge}
 use Rattle.machine_state.specs.declared.fault.Fault.{Fault}
-use Rattle.machine_state.specs.Memory.{Memory}
+use Rattle.machine_state.specs.declared.holding.Span.{Span}
+use Rattle.machine_state.specs.BranchShares.{holding_of}
+use Rattle.machine_state.specs.Endings.{Moved, Ends, Happened, plan_of}
+use Rattle.machine_state.specs.Endings as turns
+use Rattle.machine_state.specs.Happens.{turn, world_after}
 use Rattle.machine_state.specs.Holding.{Holding, nothing, may_write, covers}
+use Rattle.machine_state.specs.JoinLookups.{Found, opened_by}
+use Rattle.machine_state.specs.Joins.{on_role, joined, started, opened, ended, given_back, join_after}
+use Rattle.machine_state.specs.Memory.{Memory}
+use Rattle.machine_state.specs.Moves.{dispatch, link_index}
+use Rattle.machine_state.specs.Roles.{own_in}
+use Rattle.machine_state.specs.Site.{Local, Outcome}
+use Rattle.machine_state.specs.Spans.{Share, less, runs}
+use Rattle.machine_state.specs.StartPlans.{Plan, later_plan, share_by}
+use Rattle.machine_state.specs.Turn.{Here, Turn, Effect, at_here, idle}
 use Rattle.machine_state.specs.World.{World, Role, Join, held, holding_at, loaded, loaded_memory, root_role}
 use Rattle.machine_state.specs.World.{root_holding, constants_start}
-use Rattle.machine_state.specs.Spans.{Share, less, runs}
-use Rattle.machine_state.specs.BranchShares.{holding_of}
-use Rattle.machine_state.specs.Site.{Local, Outcome}
-use Rattle.machine_state.specs.Turn.{Here, Turn, Effect, at_here, idle}
-use Rattle.machine_state.specs.Moves.{dispatch, link_index}
 use Rattle.machine_state.specs.Writing.{Delivery, StepWrites}
-use Rattle.machine_state.specs.Joins.{on_role, joined, started, opened, ended, given_back, join_after}
-use Rattle.machine_state.specs.JoinLookups.{Found, opened_by}
-use Rattle.machine_state.specs.StartPlans.{Plan, later_plan, share_by}
-use Rattle.machine_state.specs.Happens.{turn, world_after}
-use Rattle.machine_state.specs.Endings as turns
-use Rattle.machine_state.specs.Endings.{Moved, Ends, Happened, plan_of}
-use Rattle.machine_state.proofs.SpanLaws.{among, or_true, runs_tell, covers_tells}
-use Rattle.machine_state.proofs.Writing.{steps_write_own, arrivals_write_one, acknowledgements_write_nothing}
-use Rattle.machine_state.proofs.Moving.{on_task_only, wake_only, rouse_only, chooses, joined_either}
-use Rattle.machine_state.proofs.Moving.{with_opened, without, member_gone}
-use Rattle.machine_state.proofs.Lines.{set_either, got_either}
-use Rattle.machine_state.proofs.Roles.{told_of}
 use Rattle.machine_state.proofs.EveryWorld.{every_world}
+use Rattle.machine_state.proofs.Lines.{set_either, got_either}
+use Rattle.machine_state.proofs.Moving.{on_task_only, wake_only, rouse_only, chooses, joined_either, with_opened}
+use Rattle.machine_state.proofs.Moving.{without, member_gone}
+use Rattle.machine_state.proofs.Roles.{told_of}
+use Rattle.machine_state.proofs.SpanLaws.{among, or_true, runs_tell, covers_tells}
 use Rattle.machine_state.proofs.Turns.{turn_happens}
-use Rattle.std.proofs.lemmas.List.{length-append, length-replicate, length-map}
-use Rattle.world_laws.proofs.Filling.{fill_only}
+use Rattle.machine_state.proofs.Writing.{steps_write_own, arrivals_write_one, acknowledgements_write_nothing}
 use Rattle.world_laws.specs.InsideMemory.{LiesIn, HoldingsLieInMemory}
+use Rattle.world_laws.proofs.Filling.{fill_only}
 
 -- ---- memory keeps its length
 
@@ -221,13 +223,16 @@ root_lies m = record { own = own; rest = λ j is. absurd (cc) }
     size : length (loaded_memory m) ≡ constants_start m + length m.constants
     size = simp (length-append, length-replicate, length-map) (omega arith)
 
+    constants : Span
+    constants = record { start = constants_start m; end = constants_start m + length m.constants }
+
     own : LiesIn (length (loaded_memory m)) (root_holding m)
     own x read = elim (or_true (may_write (root_holding m) x) _ read) [
       | inl written ↦ elim (or_true (covers (record { start = 0; end = 4 * m.data_words }) x) false written) [
         | inl here ↦ let inside = (covers_tells _ x here).1 in omega (arith, size, inside)
         | inr none ↦ absurd (cc)
       ]
-      | inr only ↦ elim (or_true (covers (record { start = constants_start m; end = constants_start m + length m.constants }) x) false only) [
+      | inr only ↦ elim (or_true (covers constants x) false only) [
         | inl here ↦ let inside = (covers_tells _ x here).1 in omega (arith, size, inside)
         | inr none ↦ absurd (cc)
       ]
@@ -248,7 +253,9 @@ all_inside m = every_world m (Inside m)
     })
   where
     root_alone : AllLie (length (loaded_memory m)) (loaded m).roles
-    root_alone zero r here = let same : root_role m ≡ r = cc in subst (RoleLies (length (loaded_memory m))) same (root_lies m)
+    root_alone zero r here =
+        let same : root_role m ≡ r = cc in
+        subst (RoleLies (length (loaded_memory m))) same (root_lies m)
     root_alone (suc p) r here = absurd (cc)
 
 -- what a process holds now is what it has for good, or what its open join has not given
@@ -265,7 +272,19 @@ holding_lies n roles all p = on (slice_get roles p) refl
     on None is = nothing_lies n
     on (Some r) is = of_role r (all p r is) r.opened refl
 
+own_lies : (n : ℕ) (roles : List Role) → AllLie n roles → (p : ℕ) → LiesIn n (own_in roles p)
+own_lies n roles all p = on (slice_get roles p) refl
+  where
+    on : (o : Option Role) → slice_get roles p ≡ o
+        → LiesIn n (elim o as (λ o. Holding) [ None ↦ nothing | Some role ↦ role.own ])
+    on None is = nothing_lies n
+    on (Some r) is = (all p r is).own
+
 pub holdings_lie : HoldingsLieInMemory
 holdings_lie m es =
     let inside = all_inside m es in
-    record { size = inside.size; holdings = holding_lies _ _ inside.roles }
+    record {
+      size = inside.size;
+      holdings = holding_lies _ _ inside.roles;
+      for_good = own_lies _ _ inside.roles;
+    }

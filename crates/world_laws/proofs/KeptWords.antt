@@ -4,32 +4,33 @@ use Rattle.std.proofs.Common.{◌++◌, length, Option, Some, None, is_some, ref
 use Rattle.std.proofs.Common.{eqb-true}
 use Rattle.std.proofs.lemmas.Bool.{cases_lt}
 use Rattle.std.specs.Prelude.{◌%◌, slice_set}
-use Rattle.module_format.specs.declared.rows.ChannelRow.{ChannelRow}
 use Rattle.module_format.specs.Contents.{Contents, Par}
 use Rattle.module_format.specs.Keeping.{Keeps}
+use Rattle.module_format.specs.declared.rows.ChannelRow.{ChannelRow}
 use Rattle.machine_state.specs.declared.event.Event.{Event}
 use Rattle.machine_state.specs.declared.process.Channel.{Channel}
-use Rattle.machine_state.specs.declared.process.Mode.TheVariants.{Starting}
 use Rattle.machine_state.specs.declared.process.Condition.TheVariants.{Sending}
-use Rattle.machine_state.specs.Memory.{Memory, place_of, byte_at, with_word}
-use Rattle.machine_state.specs.Holding.{Holding, nothing, may_write, may_read, may_write_word}
-use Rattle.machine_state.specs.World.{World, Role, Join, holding_at, loaded}
+use Rattle.machine_state.specs.declared.process.Mode.TheVariants.{Starting}
 use Rattle.machine_state.specs.BranchShares.{frame_address, holding_of}
-use Rattle.machine_state.specs.Site.{Local, Outcome}
-use Rattle.machine_state.specs.Turn.{Here, Turn, at_here, between}
-use Rattle.machine_state.specs.Moves.{cell_of, on_task, dispatch, link_index}
-use Rattle.machine_state.specs.Exchanges.{waits_at}
 use Rattle.machine_state.specs.ChannelLaws.{HaveTheirWaiters}
+use Rattle.machine_state.specs.Endings.{Moved, Ends, Happened, plan_of}
+use Rattle.machine_state.specs.Endings as turns
+use Rattle.machine_state.specs.Exchanges.{waits_at}
+use Rattle.machine_state.specs.Happens.{turn, world_after}
+use Rattle.machine_state.specs.Holding.{Holding, nothing, may_write, may_read, may_write_word}
+use Rattle.machine_state.specs.JoinLookups.{Found}
 use Rattle.machine_state.specs.Joins.{on_role, joined, started, opened, ended, given_back, join_after, without_words}
 use Rattle.machine_state.specs.Joins.{closed_task, with_channels}
+use Rattle.machine_state.specs.Memory.{Memory, place_of, byte_at, with_word}
+use Rattle.machine_state.specs.Moves.{cell_of, on_task, dispatch, link_index}
+use Rattle.machine_state.specs.Ownership.{InBlock, IsAmong, KeepsPlace, in_block, in_channel, owner_in, owner_of}
+use Rattle.machine_state.specs.Ownership.{HoldersIn}
 use Rattle.machine_state.specs.Roles.{opened_in, branch_role}
-use Rattle.machine_state.specs.JoinLookups.{Found}
+use Rattle.machine_state.specs.Site.{Local, Outcome}
 use Rattle.machine_state.specs.StartPlans.{Plan, later_plan, share_by, block_addresses, channel_addresses}
 use Rattle.machine_state.specs.StartPlans.{scheduling_addresses}
-use Rattle.machine_state.specs.Ownership.{InBlock, IsAmong, KeepsPlace, in_block, in_channel, owner_in, owner_of, HoldersIn}
-use Rattle.machine_state.specs.Happens.{turn, world_after}
-use Rattle.machine_state.specs.Endings as turns
-use Rattle.machine_state.specs.Endings.{Moved, Ends, Happened, plan_of}
+use Rattle.machine_state.specs.Turn.{Here, Turn, at_here, between}
+use Rattle.machine_state.specs.World.{World, Role, Join, holding_at, loaded}
 use Rattle.machine_state.proofs.ApartLaws.{all_stand, format_is_small, AllEven}
 use Rattle.machine_state.proofs.Changes.{channel_there}
 use Rattle.machine_state.proofs.ChannelWaiters.{same_channel, channels_have_their_waiters}
@@ -47,14 +48,13 @@ use Rattle.machine_state.proofs.StartedApart.{found_row}
 use Rattle.machine_state.proofs.Starting.{first_tests}
 use Rattle.machine_state.proofs.Turns.{turn_happens}
 use Rattle.world_laws.specs.KeptWords.{IsBlankData, BlocksAreBlank, ChannelWordsAreBlank}
-use Rattle.world_laws.specs.Parked.{InWord}
-use Rattle.world_laws.proofs.Blank.{blank_word, word_own}
+use Rattle.world_laws.specs.Parked.{InWord, on_channel}
+use Rattle.world_laws.proofs.BlankWords.{blank_word, word_own}
 use Rattle.world_laws.proofs.Filling.{fill_only}
-use Rattle.world_laws.proofs.Holdings.{now_is}
+use Rattle.world_laws.proofs.HeldNow.{now_is}
 use Rattle.world_laws.proofs.ParkedLaws.{ground, all_parked}
 use Rattle.world_laws.proofs.ParkedSteps.{Ground, arrives_inside}
 use Rattle.world_laws.proofs.Reaching.{Reaches, by_runner, by_message, by_arrival, stays}
-use Rattle.world_laws.specs.Parked.{on_channel}
 
 abbrev Kept : List Role → List (Option Channel) → ℕ → ℕ → Type 0
 Kept roles cells p x = KeepsPlace (opened_in roles) (owner_in cells) p x
@@ -181,14 +181,16 @@ module _ (h : Here) (w : World) where
       let shut = on_role_only o (with_opened None) (on_task o (closed_task j par) gone) in
       let over = on_task_only o (closed_task j par) gone in
       λ p x k. inl (kept_before w.roles _ w.channels _
-      (blocks_more w.roles gone.roles _ fewer (subst (λ (rs : List Role). Blocks rs (on_role o (with_opened None) (on_task o (closed_task j par) gone)).roles)
+      (blocks_more w.roles gone.roles _ fewer (subst (λ (rs : List Role). Blocks rs
+      (on_role o (with_opened None) (on_task o (closed_task j par) gone)).roles)
       over.roles
       (on_role_blocks o (with_opened None) (on_task o (closed_task j par) gone) (λ r i here none. absurd (cc)))))
       (λ n q owned. subst (λ (cs : List (Option Channel)). owner_in cs n ≡ Some q)
       (shut.channels ∙ (over.channels ∙ (only.channels ∙ cells)))
       (taken_owner o _ n q owned).0) p x k))
       (λ some p x k. inl (kept_before w.roles gone.roles w.channels gone.channels fewer
-      (λ n q owned. subst (λ (cs : List (Option Channel)). owner_in cs n ≡ Some q) (only.channels ∙ cells) owned) p x k))
+      (λ n q owned. subst (λ (cs : List (Option Channel)). owner_in cs n ≡ Some q) (only.channels ∙ cells) owned)
+      p x k))
     where
       gone : World
       gone = member_gone h o j v
@@ -197,7 +199,8 @@ module _ (h : Here) (w : World) where
       only = on_role_only o (with_opened (Some (without h.process j))) v
 
       fewer : Blocks w.roles gone.roles
-      fewer = blocks_more w.roles v.roles gone.roles before (on_role_blocks o (with_opened (Some (without h.process j))) v
+      fewer = blocks_more w.roles v.roles gone.roles before
+          (on_role_blocks o (with_opened (Some (without h.process j))) v
           (λ r i here opened. (j, is, let z : without h.process j ≡ i = cc in ap (λ (y : Join). y.block) z)))
 
   -- ---- a branch starts
@@ -224,7 +227,8 @@ module _ (h : Here) (w : World) where
         → (opened_in w.roles p ≡ Some i) ⊎ ((r : Role) × (slice_get w.roles h.process ≡ Some r) × (h.process ≡ p)
         × (Some new_join ≡ Some i))
     start_tells p i is =
-        on_role_tells h.process (with_opened (Some new_join)) before p i (pushed_tells (on_role h.process (with_opened (Some new_join)) before).roles
+        on_role_tells h.process (with_opened (Some new_join)) before p i
+        (pushed_tells (on_role h.process (with_opened (Some new_join)) before).roles
         (branch_role h.process (holding_of h.contents (length w.memory) (share_by plan found.branch))) p i refl is)
 
     -- the block is that of the join that was open
@@ -239,7 +243,8 @@ module _ (h : Here) (w : World) where
             block ∙ (let z : new_join ≡ n = (let y = new.3 in cc) in ap (λ (y : Join). y.block) z),
           )
         ])
-        (λ n q owned. subst (λ (cs : List (Option Channel)). owner_in cs n ≡ Some q) (only.channels ∙ as_cells) owned) p x
+        (λ n q owned. subst (λ (cs : List (Option Channel)). owner_in cs n ≡ Some q) (only.channels ∙ as_cells) owned)
+        p x
         k)
 
     -- the words of the new block and of the new channels are blank
@@ -272,7 +277,8 @@ module _ (h : Here) (w : World) where
     hold = holding_at w.roles h.process
 
     -- the words of a new block, of which the first is data
-    block_blank : (base : ℕ) (par : Par) (m : Memory) → may_write_word hold (place_of (frame_address base par.block)) ≡ true
+    block_blank : (base : ℕ) (par : Par) (m : Memory)
+        → may_write_word hold (place_of (frame_address base par.block)) ≡ true
         → (x : ℕ) → place_of (frame_address base par.block) ≤ x → x < place_of (frame_address base par.block) + 8
         → byte_at (without_words (block_addresses base par ++ channel_addresses base par) m) x ≡ None
     block_blank base par m own x low high =
@@ -339,7 +345,8 @@ module _ (h : Here) (w : World) where
         let at = holders.places h.process j is_open in
         let number : found.row ≡ j.row = eqb-true found.row j.row same in
         let par = only_one (slice_get h.contents.pars j.row) found.par at.par
-        (subst (λ n. slice_get h.contents.pars n ≡ Some found.par) number (found_row h.contents target found is)) at.row in
+        (subst (λ n. slice_get h.contents.pars n ≡ Some found.par) number (found_row h.contents target found is))
+        at.row in
         starts_later (later_plan h.contents j found.par) found workspace l w.channels j is_open
         (at.block ∙ ap (λ (y : Par). frame_address j.base y.block) (sym par)) refl p x k
     moved o v (turns.joins_own block l j par is row whole) p x k =
@@ -416,7 +423,8 @@ module _ (m : Contents) (w : World) (g : Ground w) (even : AllEven w.tasks)
           free q ((g.all q task here).buffer.writable e x (on_channel is) inside)
       on (by_arrival a) =
           let inside = arrives_inside w g x a in
-          free a.process ((g.all a.process a.waits.task a.waits.here).buffer.writable a.waits.exchange x inside.0 inside.1)
+          let buffer = (g.all a.process a.waits.task a.waits.here).buffer in
+          free a.process (buffer.writable a.waits.exchange x inside.0 inside.1)
 
 -- ---- every world
 
@@ -450,7 +458,7 @@ module _ (m : Contents) (format : Keeps m) where
       → IsBlankData m w.memory x
   kept_blank es p x k =
       let t = (all_stand m (format_is_small m format) es).holders in
-      record { data_byte = t.inside p x (t.kept p x k); undefined = all_kept es p x k }
+      record { inside = t.inside p x (t.kept p x k); undefined = all_kept es p x k }
 
 pub blocks_are_blank : BlocksAreBlank
 blocks_are_blank m es p j x format is inside = kept_blank m format es p x (in_block j is inside)

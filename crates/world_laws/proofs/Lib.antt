@@ -1,11 +1,11 @@
 pub mod InsideMemory
 pub mod Filling
 pub mod TasksCounted
-pub mod Blank
+pub mod BlankWords
 pub mod StepLeaves
-pub mod Parking
+pub mod ParkedTasks
 pub mod Reaching
 pub mod ParkedLaws
-pub mod Holdings
+pub mod HeldNow
 pub mod ParkedSteps
 pub mod KeptWords

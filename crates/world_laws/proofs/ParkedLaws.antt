@@ -1,6 +1,6 @@
 -- Every process is in order in every world: what is so of those that are parked, and of those in an alternation.
-use Rattle.std.proofs.Common.{◌≡◌, ◌≢◌, ℕ, zero, suc, ◌+◌, Bool, true, false, if◌then◌else◌, inl, inr}
-use Rattle.std.proofs.Common.{List, Option, Some, None, refl, sym, ap, ◌∙◌, subst, slice_get, arith}
+use Rattle.std.proofs.Common.{◌≡◌, ◌≢◌, ℕ, zero, suc, ◌+◌, Bool, true, false, if◌then◌else◌, inl, inr, List, Option}
+use Rattle.std.proofs.Common.{Some, None, refl, sym, ap, ◌∙◌, subst, slice_get, arith, [], ◌∷◌}
 use Rattle.std.specs.Prelude.{⊤, ◌%◌, ◌^◌, ◌==◌, slice_set}
 use Rattle.prefix_decoder.specs.Functions.{nibble}
 use Rattle.prefix_decoder.specs.Operand.{with_nibble}
@@ -10,25 +10,27 @@ use Rattle.machine_state.specs.declared.event.Event.{Event}
 use Rattle.machine_state.specs.declared.event.Event.TheVariants.{Step, Arrive, Acknowledge}
 use Rattle.machine_state.specs.declared.link.InputLink.{InputLink}
 use Rattle.machine_state.specs.declared.process.Channel.{Channel}
+use Rattle.machine_state.specs.declared.process.Condition.{Condition}
+use Rattle.machine_state.specs.declared.process.Condition.TheVariants.{Ready, OnLink, Alternating, Ended}
 use Rattle.machine_state.specs.declared.process.Exchange.{Exchange}
 use Rattle.machine_state.specs.declared.process.Mode.{Mode}
 use Rattle.machine_state.specs.declared.process.Mode.TheVariants.{Enabling}
-use Rattle.machine_state.specs.declared.process.Condition.{Condition}
-use Rattle.machine_state.specs.declared.process.Condition.TheVariants.{Ready, OnLink, Alternating, Ended}
 use Rattle.machine_state.specs.declared.process.Task.{Task}
-use Rattle.machine_state.specs.Memory.{Memory, place_of, scheduling_word, byte_at, with_byte}
-use Rattle.machine_state.specs.Holding.{Holding}
-use Rattle.machine_state.specs.World.{World, Role, Links, Queue, holding_at, loaded, root_task, input_word, output_word}
-use Rattle.machine_state.specs.Moves.{on_task, wake, rouse, rouse_enabling, rouse_task, dispatch, picked, fill, link_index}
-use Rattle.machine_state.specs.Moves.{with_input, with_output}
-use Rattle.machine_state.specs.Turn.{Turn, at_here}
-use Rattle.machine_state.specs.Waiting.{WaitsOn}
-use Rattle.machine_state.specs.Happens.{site_of, turn, world_after}
-use Rattle.machine_state.specs.Endings as turns
 use Rattle.machine_state.specs.Endings.{Happened, local_here}
+use Rattle.machine_state.specs.Endings as turns
+use Rattle.machine_state.specs.Happens.{site_of, turn, world_after}
+use Rattle.machine_state.specs.Holding.{Holding}
+use Rattle.machine_state.specs.Memory.{Memory, place_of, scheduling_word, byte_at, with_byte}
+use Rattle.machine_state.specs.Moves.{on_task, wake, rouse, rouse_enabling, rouse_task, dispatch, picked, fill}
+use Rattle.machine_state.specs.Moves.{link_index, with_input, with_output}
+use Rattle.machine_state.specs.Ownership.{IsAmong}
+use Rattle.machine_state.specs.Turn.{Turn, at_here}
+use Rattle.machine_state.specs.Waiting.{WaitsOn, IsReadyAt, AllReady, IsAbsent, AllDiffer, line_of}
+use Rattle.machine_state.specs.World.{World, Role, Links, Queue, holding_at, loaded, root_task, input_word}
+use Rattle.machine_state.specs.World.{output_word}
 use Rattle.machine_state.proofs.ApartLaws.{all_stand, format_is_small, holdings_stay_apart}
+use Rattle.machine_state.proofs.Changes.{Passed, passes, running_is_ready}
 use Rattle.machine_state.proofs.Changes as change
-use Rattle.machine_state.proofs.Changes.{Passed, passes}
 use Rattle.machine_state.proofs.Claims.{only_one}
 use Rattle.machine_state.proofs.EveryWorld.{every_world}
 use Rattle.machine_state.proofs.Modes.{steps_fit}
@@ -36,14 +38,14 @@ use Rattle.machine_state.proofs.OthersHold.{others_hold}
 use Rattle.machine_state.proofs.Reading.{byte_at-with_byte_other}
 use Rattle.machine_state.proofs.Turns.{turn_happens}
 use Rattle.machine_state.proofs.Waiting.{reached, filled}
-use Rattle.world_laws.specs.Parked.{IsLive, IsReceiving, on_channel, on_link, message_of}
-use Rattle.world_laws.specs.Parked.{WhoIsParkedIsAtRest, ParkedWordsAreBlank, SelectionsAreBlank}
-use Rattle.world_laws.specs.Parked.{BuffersAreHeld, WorkspacesDiffer, HasWords}
-use Rattle.world_laws.proofs.Holdings.{apart_at, written_is_data}
+use Rattle.world_laws.specs.Parked.{IsParked, IsLive, IsReceiving, on_channel, on_link, message_of}
+use Rattle.world_laws.specs.Parked.{WhoIsParkedIsAtRest, ParkedWordsAreBlank, SelectionsAreBlank, WhoIsReadyIsParked}
+use Rattle.world_laws.specs.Parked.{WhoWaitsIsParked, ArrivalsFollow, BuffersAreHeld, WorkspacesDiffer, HasWords}
+use Rattle.world_laws.proofs.HeldNow.{apart_at, written_is_data}
 use Rattle.world_laws.proofs.InsideMemory.{all_inside}
-use Rattle.world_laws.proofs.Parking.{Fine, AllIn, fine_outside, fine_still, all_weaker, all_on_task, all_woken}
-use Rattle.world_laws.proofs.Parking.{all_roused}
-use Rattle.world_laws.proofs.ParkedSteps.{Aside, Ground, ends, prefixed, not_arriving, wake_running}
+use Rattle.world_laws.proofs.ParkedSteps.{Aside, Ground, arrives_at, ends, prefixed, not_arriving, wake_running}
+use Rattle.world_laws.proofs.ParkedTasks.{IsInOrder, AllInOrder, outside_in_order, still_in_order, all_weaker}
+use Rattle.world_laws.proofs.ParkedTasks.{all_on_task, all_woken, all_roused}
 use Rattle.world_laws.proofs.Reaching.{Reaches, stays_unreached}
 use Rattle.world_laws.proofs.StepLeaves.{steps_leave, plain_is_outside}
 
@@ -83,28 +85,28 @@ picked_keeps pick queue q runs = on queue.running runs _ ∙ runs
     on (Some p) is other = refl
 
 -- whoever is taken to run
-dispatched : (w v : World) (pick : ℕ) → v.queue.running ≡ w.queue.running → AllIn (Aside w) v
-    → AllIn (Aside (dispatch pick v)) (dispatch pick v)
+dispatched : (w v : World) (pick : ℕ) → v.queue.running ≡ w.queue.running → AllInOrder (Aside w) v
+    → AllInOrder (Aside (dispatch pick v)) (dispatch pick v)
 unfolding dispatch
 dispatched w v pick same all = all_weaker (Aside w) (Aside (dispatch pick v)) v.tasks v.roles v.memory
     (λ q aside e. aside (picked_keeps pick v.queue q (same ∙ e))) all
 
 -- a process that waits on a link has one byte more
-filled_more : (h : Holding) (memory : Memory) (aside : Type 0) (t : Task) (e : Exchange) (done : ℕ)
-    → t.condition ≡ OnLink e done → Fine h memory aside t
-    → Fine h memory aside (record t { condition = OnLink e (done + 1) })
-filled_more h memory aside t e done is fine = record {
-  modes = λ inside. elim (fine.modes inside) [
+filled_in_order : (h : Holding) (memory : Memory) (aside : Type 0) (t : Task) (e : Exchange) (done : ℕ)
+    → t.condition ≡ OnLink e done → IsInOrder h memory aside t
+    → IsInOrder h memory aside (record t { condition = OnLink e (done + 1) })
+filled_in_order h memory aside t e done is order = record {
+  modes = λ inside. elim (order.modes inside) [
     | inl ready ↦ absurd (let z : OnLink e done ≡ Ready = sym is ∙ ready in cc)
     | inr waits ↦ absurd (let z : OnLink e done ≡ Alternating = sym is ∙ waits in cc)
   ];
-  words = λ either. fine.words (elim either [ inl inside ↦ inl inside | inr idle ↦ inr (live, idle.1) ]);
-  selection = fine.selection;
-  rest = λ more idle. fine.rest live idle;
+  words = λ either. order.words (elim either [ inl inside ↦ inl inside | inr idle ↦ inr (live, idle.1) ]);
+  selection = order.selection;
+  rest = λ more idle. order.rest live idle;
   buffer = record {
-    readable = λ f x at inside. fine.buffer.readable f x (ap message_of is ∙ at) inside;
-    writable = λ f x at inside. fine.buffer.writable f x (received f at) inside;
-    beside = λ f x at inside there. fine.buffer.beside f x (ap message_of is ∙ at) inside there;
+    readable = λ f x at inside. order.buffer.readable f x (ap message_of is ∙ at) inside;
+    writable = λ f x at inside. order.buffer.writable f x (received f at) inside;
+    beside = λ f x at inside there. order.buffer.beside f x (ap message_of is ∙ at) inside there;
   };
 }
   where
@@ -128,7 +130,8 @@ waiter_is_live w p word x t at =
 
 module _ (m : Contents) (w : World) (g : Ground w) where
   -- what who has not ended holds
-  hold_on : (ts : List Task) (rs : List Role) (cs : List (Option Channel)) (ls : Links) → Passed m w ts rs cs ls → (p : ℕ)
+  hold_on : (ts : List Task) (rs : List Role) (cs : List (Option Channel)) (ls : Links) → Passed m w ts rs cs ls
+      → (p : ℕ)
       → w.queue.running ≡ Some p → (q : ℕ) (t : Task) → slice_get w.tasks q ≡ Some t → p ≢ q
       → (t.condition ≡ Ended → ⊥)
       → holding_at rs q ≡ holding_at w.roles q
@@ -143,8 +146,8 @@ module _ (m : Contents) (w : World) (g : Ground w) where
 
   -- a byte arrives for a process that waits
   taken : (p k byte : ℕ) (link : InputLink) (x : WaitsOn w.tasks p (input_word k))
-      → let v = fill p k byte link w in AllIn (Aside (dispatch 0 v)) (dispatch 0 v)
-  taken p k byte link x = subst (λ (v : World). AllIn (Aside (dispatch 0 v)) (dispatch 0 v))
+      → let v = fill p k byte link w in AllInOrder (Aside (dispatch 0 v)) (dispatch 0 v)
+  taken p k byte link x = subst (λ (v : World). AllInOrder (Aside (dispatch 0 v)) (dispatch 0 v))
       (sym (filled w p (input_word k) k byte link x)) (on (x.done + 1 == x.exchange.length))
     where
       place : ℕ
@@ -153,8 +156,9 @@ module _ (m : Contents) (w : World) (g : Ground w) where
       with_it : World
       with_it = record w { memory = with_byte w.memory place (Some byte) }
 
-      all_with : AllIn (Aside w) with_it
-      all_with q t at = fine_still (holding_at w.roles q) (holding_at w.roles q) w.memory with_it.memory (Aside w q) t
+      all_with : AllInOrder (Aside w) with_it
+      all_with q t at =
+          still_in_order (holding_at w.roles q) (holding_at w.roles q) w.memory with_it.memory (Aside w q) t
           refl (λ y own elsewhere. byte_at-with_byte_other w.memory place y (Some byte) (λ same.
           not_arriving w g q t y at own elsewhere (record { process = p; link = k; waits = x; is = same })))
           (g.all q t at)
@@ -162,7 +166,7 @@ module _ (m : Contents) (w : World) (g : Ground w) where
       on : (b : Bool) → let v = if b
           then wake p (with_input k (record link { waiting = None }) with_it)
           else on_task p (λ task. record task { condition = OnLink x.exchange (x.done + 1) }) with_it
-          in AllIn (Aside (dispatch 0 v)) (dispatch 0 v)
+          in AllInOrder (Aside (dispatch 0 v)) (dispatch 0 v)
       on true =
           let v = with_input k (record link { waiting = None }) with_it in
           dispatched w (wake p v) 0 (wake_running p v)
@@ -170,9 +174,10 @@ module _ (m : Contents) (w : World) (g : Ground w) where
       on false =
           let f : Task → Task = λ task. record task { condition = OnLink x.exchange (x.done + 1) } in
           dispatched w (on_task p f with_it) 0 (on_task_running p f with_it)
-          (all_on_task (Aside w) p f with_it (λ t at fine.
-          filled_more (holding_at w.roles p) with_it.memory (Aside w p) t x.exchange x.done
-          (ap (λ (y : Task). y.condition) (only_one (slice_get w.tasks p) t x.task at x.here) ∙ x.waits) fine) all_with)
+          (all_on_task (Aside w) p f with_it (λ t at order.
+          filled_in_order (holding_at w.roles p) with_it.memory (Aside w p) t x.exchange x.done
+          (ap (λ (y : Task). y.condition) (only_one (slice_get w.tasks p) t x.task at x.here) ∙ x.waits) order)
+          all_with)
 
   abbrev Still : Event → Turn → Type 0
   Still (Step slice pick) t = (x : ℕ) → (Reaches w x → ⊥) → byte_at t.world.memory x ≡ byte_at w.memory x
@@ -180,7 +185,7 @@ module _ (m : Contents) (w : World) (g : Ground w) where
   Still (Acknowledge link) t = ⊤
 
   happened : (e : Event) (t : Turn) → Happened m w e t → Still e t
-      → Passed m w t.world.tasks t.world.roles t.world.channels t.world.links → AllIn (Aside t.world) t.world
+      → Passed m w t.world.tasks t.world.roles t.world.channels t.world.links → AllInOrder (Aside t.world) t.world
   happened e t (turns.was_at_fault f is) still passed = g.all
   happened e t (turns.it_rests rests) still passed = g.all
   happened e t (turns.is_outside p task why runs here) still passed = g.all
@@ -196,7 +201,8 @@ module _ (m : Contents) (w : World) (g : Ground w) where
       taken p (link_index link) byte input (g.keeps.rest.waiters.inputs (link_index link) input p here waiting)
   happened e t (turns.is_kept {link = link} {byte = byte} input here none empty) still passed =
       let v = with_input (link_index link) (record input { kept = Some byte }) w in
-      dispatched w (rouse input.enabled v) 0 (rouse_running input.enabled v) (all_roused (Aside w) input.enabled v g.all)
+      dispatched w (rouse input.enabled v) 0 (rouse_running input.enabled v)
+      (all_roused (Aside w) input.enabled v g.all)
   happened e t (turns.is_acknowledged {link = link} output p here waiting) still passed =
       let k = link_index link in
       let v = with_output k (record { waiting = None }) w in
@@ -206,7 +212,7 @@ module _ (m : Contents) (w : World) (g : Ground w) where
 -- ---- every world
 
 module _ (m : Contents) (format : Keeps m) where
-  pub ground : (es : List Event) → AllIn (Aside (world_after m es)) (world_after m es) → Ground (world_after m es)
+  pub ground : (es : List Event) → AllInOrder (Aside (world_after m es)) (world_after m es) → Ground (world_after m es)
   ground es all =
       let w = world_after m es in
       let small = format_is_small m format in
@@ -221,28 +227,67 @@ module _ (m : Contents) (format : Keeps m) where
         all = all;
       }
 
-  root_alone : AllIn (Aside (loaded m)) (loaded m)
+  root_alone : AllInOrder (Aside (loaded m)) (loaded m)
   root_alone zero t at =
       let same : root_task m ≡ t = cc in
-      subst (Fine (holding_at (loaded m).roles 0) (loaded m).memory (Aside (loaded m) 0)) same
-      (fine_outside (holding_at (loaded m).roles 0) (loaded m).memory (Aside (loaded m) 0) (root_task m) refl
+      subst (IsInOrder (holding_at (loaded m).roles 0) (loaded m).memory (Aside (loaded m) 0)) same
+      (outside_in_order (holding_at (loaded m).roles 0) (loaded m).memory (Aside (loaded m) 0) (root_task m) refl
       (λ aside. aside refl) (plain_is_outside (root_task m).mode refl))
   root_alone (suc p) t at = absurd (cc)
 
-  next : (es : List Event) (e : Event) → AllIn (Aside (world_after m es)) (world_after m es)
-      → let t = turn m (world_after m es) e in AllIn (Aside t.world) t.world
+  next : (es : List Event) (e : Event) → AllInOrder (Aside (world_after m es)) (world_after m es)
+      → let t = turn m (world_after m es) e in AllInOrder (Aside t.world) t.world
   next es e all =
       let w = world_after m es in
       let t = turn m w e in
-      happened m w (ground es all) e t (turn_happens m w e) (still e) (passes m w (reached m es) e t (turn_happens m w e))
+      happened m w (ground es all) e t (turn_happens m w e) (still e)
+      (passes m w (reached m es) e t (turn_happens m w e))
     where
       still : (e : Event) → Still m (world_after m es) (ground es all) e (turn m (world_after m es) e)
       still (Step slice pick) = stays_unreached m es slice pick
       still (Arrive link byte) = tt
       still (Acknowledge link) = tt
 
-  pub all_parked : (es : List Event) → AllIn (Aside (world_after m es)) (world_after m es)
-  all_parked = every_world m (λ w. AllIn (Aside w) w) root_alone next
+  pub all_parked : (es : List Event) → AllInOrder (Aside (world_after m es)) (world_after m es)
+  all_parked = every_world m (λ w. AllInOrder (Aside w) w) root_alone next
+
+-- ---- who is parked
+
+among_absent : (p : ℕ) (ps : List ℕ) → IsAmong p ps → IsAbsent p ps → ⊥
+among_absent p [] among absent = among
+among_absent p (q ∷ qs) (inl here) absent = absent.0 (sym here)
+among_absent p (q ∷ qs) (inr there) absent = among_absent p qs there absent.1
+
+among_ready : (tasks : List Task) (p : ℕ) (ps : List ℕ) → IsAmong p ps → AllReady tasks ps → IsReadyAt tasks p
+among_ready tasks p [] among all = absurd among
+among_ready tasks p (q ∷ qs) (inl here) all = subst (IsReadyAt tasks) here all.0
+among_ready tasks p (q ∷ qs) (inr there) all = among_ready tasks p qs there all.1
+
+pub who_is_ready_is_parked : WhoIsReadyIsParked
+who_is_ready_is_parked m es p among = on w.queue.running refl (reached m es).line.ready (reached m es).line.once
+  where
+    w : World
+    w = world_after m es
+
+    parked : AllReady w.tasks w.queue.ready → (w.queue.running ≡ Some p → ⊥) → (task : Task) × IsParked w p task
+    parked all aside =
+        let x = among_ready w.tasks p w.queue.ready among all in
+        (x.task, record { here = x.here; live = subst IsLive (sym x.ready) tt; aside = aside })
+
+    on : (o : Option ℕ) → w.queue.running ≡ o → AllReady w.tasks (line_of o w.queue.ready)
+        → AllDiffer (line_of o w.queue.ready) → (task : Task) × IsParked w p task
+    on None runs all once = parked all (λ also. let z : None ≡ Some p = sym runs ∙ also in cc)
+    on (Some q) runs all once = parked all.1 (λ also. among_absent p w.queue.ready among
+        (subst (λ n. IsAbsent n w.queue.ready) (only_one w.queue.running q p runs also) once.0))
+
+pub who_waits_is_parked : WhoWaitsIsParked
+who_waits_is_parked m es p task here live waits =
+    let w = world_after m es in
+    record {
+      here = here;
+      live = live;
+      aside = λ runs. waits (running_is_ready (at_here m p task 0) w runs here (reached m es));
+    }
 
 -- ---- the laws
 
@@ -271,3 +316,8 @@ workspaces_differ m es p q t u format differ one other same =
     (parked_words_are_blank m es q u format other) in
     let theirs = (words x (0, omega arith, (omega arith, omega arith))).own in
     apart_at w.roles w.channels (holdings_stay_apart m es format) p q x differ mine theirs
+
+pub arrivals_follow : ArrivalsFollow
+arrivals_follow m es k place format x =
+    arrives_at (world_after m es) (ground m format es (all_parked m format es)) place
+    (record { process = x.process; link = k; waits = x.waits; is = x.is })

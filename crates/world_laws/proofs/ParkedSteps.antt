@@ -3,42 +3,42 @@ use Rattle.std.proofs.Common.{◌≡◌, ◌≢◌, ℕ, zero, suc, ◌+◌, ◌
 use Rattle.std.proofs.Common.{length, Option, Some, None, refl, sym, ap, ◌∙◌, subst, slice_get, arith}
 use Rattle.std.proofs.lemmas.Bool.{cases_eq}
 use Rattle.std.proofs.lemmas.List.{length-set}
-use Rattle.std.specs.Prelude.{⊤, ◌%◌, ◌^◌, ◌&&◌, if◌then◌else◌, slice_set}
 use Rattle.std.specs.List.{list_all}
+use Rattle.std.specs.Prelude.{⊤, ◌%◌, ◌^◌, ◌&&◌, if◌then◌else◌, slice_set}
 use Rattle.module_format.specs.Contents.{Par}
 use Rattle.machine_state.specs.declared.process.Channel.{Channel}
-use Rattle.machine_state.specs.declared.process.Exchange.{Exchange}
-use Rattle.machine_state.specs.declared.process.Registers.{Registers}
-use Rattle.machine_state.specs.declared.process.Task.{Task}
-use Rattle.machine_state.specs.declared.process.Mode.{Mode}
-use Rattle.machine_state.specs.declared.process.Mode.TheVariants.{Plain, Enabling, Disabling, Starting}
 use Rattle.machine_state.specs.declared.process.Condition.{Condition}
 use Rattle.machine_state.specs.declared.process.Condition.TheVariants.{Ready, Sending, Receiving, OnLink, Alternating}
 use Rattle.machine_state.specs.declared.process.Condition.TheVariants.{Stopped, Ended}
-use Rattle.machine_state.specs.Memory.{Memory, place_of, scheduling_word, byte_at, with_byte}
-use Rattle.machine_state.specs.Holding.{Holding, nothing, may_write, may_read}
-use Rattle.machine_state.specs.World as parts
-use Rattle.machine_state.specs.World.{World, Role, Join, Queue, holding_at, input_word, output_word}
-use Rattle.machine_state.specs.Spans.{writes_place}
-use Rattle.machine_state.specs.BranchShares.{holding_of}
-use Rattle.machine_state.specs.Site.{Local, Outcome}
-use Rattle.machine_state.specs.LocalStep.{with_a_alone}
-use Rattle.machine_state.specs.Moves.{on_task, wake, leave, dispatch}
-use Rattle.machine_state.specs.Turn.{Here, Turn, between, continued}
-use Rattle.machine_state.specs.Exchanges.{condition_of, waits_at, output_link}
+use Rattle.machine_state.specs.declared.process.Exchange.{Exchange}
+use Rattle.machine_state.specs.declared.process.Mode.{Mode}
+use Rattle.machine_state.specs.declared.process.Mode.TheVariants.{Plain, Enabling, Disabling, Starting}
+use Rattle.machine_state.specs.declared.process.Registers.{Registers}
+use Rattle.machine_state.specs.declared.process.Task.{Task}
 use Rattle.machine_state.specs.Alternations.{chosen, selected, in_mode, ready_or}
+use Rattle.machine_state.specs.Apart.{AllApart}
+use Rattle.machine_state.specs.BranchShares.{holding_of}
+use Rattle.machine_state.specs.EnabledLaws.{Enables, Disables}
+use Rattle.machine_state.specs.Endings.{Moved, Ends, local_here, plan_of}
+use Rattle.machine_state.specs.Endings as turns
+use Rattle.machine_state.specs.Exchanges.{condition_of, waits_at, output_link}
+use Rattle.machine_state.specs.Happens.{site_of}
+use Rattle.machine_state.specs.Holding.{Holding, nothing, may_write, may_read}
+use Rattle.machine_state.specs.JoinLookups.{Found}
 use Rattle.machine_state.specs.Joins.{joined, started, opened, ended, given_back, join_after, new_task, closed_task}
 use Rattle.machine_state.specs.Joins.{without_words}
 use Rattle.machine_state.specs.Joins as join
+use Rattle.machine_state.specs.LocalStep.{with_a_alone}
+use Rattle.machine_state.specs.Memory.{Memory, place_of, scheduling_word, byte_at, with_byte}
+use Rattle.machine_state.specs.Moves.{on_task, wake, leave, dispatch}
 use Rattle.machine_state.specs.Roles.{branch_role}
-use Rattle.machine_state.specs.JoinLookups.{Found}
+use Rattle.machine_state.specs.Site.{Local, Outcome}
+use Rattle.machine_state.specs.Spans.{writes_place}
 use Rattle.machine_state.specs.StartPlans.{Plan, later_plan, share_by, share_is_there, scheduling_places, word_passes}
 use Rattle.machine_state.specs.StartPlans.{scheduling_addresses}
-use Rattle.machine_state.specs.Apart.{AllApart}
-use Rattle.machine_state.specs.EnabledLaws.{Enables, Disables}
-use Rattle.machine_state.specs.Happens.{site_of}
-use Rattle.machine_state.specs.Endings as turns
-use Rattle.machine_state.specs.Endings.{Moved, Ends, local_here, plan_of}
+use Rattle.machine_state.specs.Turn.{Here, Turn, between, continued}
+use Rattle.machine_state.specs.World.{World, Role, Join, Queue, holding_at, input_word, output_word}
+use Rattle.machine_state.specs.World as parts
 use Rattle.machine_state.proofs.Changes.{running_is_ready}
 use Rattle.machine_state.proofs.Claims.{only_one, written_is_read}
 use Rattle.machine_state.proofs.Combining.{and_true}
@@ -52,14 +52,15 @@ use Rattle.machine_state.proofs.SpanLaws.{runs_have}
 use Rattle.machine_state.proofs.Starting.{first_tests, later_tests}
 use Rattle.machine_state.proofs.Waiting.{WaitsIn, link_found, link_low}
 use Rattle.world_laws.specs.InsideMemory.{LiesIn}
-use Rattle.world_laws.specs.Parked.{IsLive, IsInside, InWord, IsSchedulingPlace, HasWords, HasSelection}
-use Rattle.world_laws.specs.Parked.{IsReceiving, on_channel, on_link, InBuffer, message_of}
-use Rattle.world_laws.proofs.Blank.{first_of, blank_scheduled, words_with, selection_taken}
-use Rattle.world_laws.proofs.Holdings.{apart_at}
+use Rattle.world_laws.specs.Parked.{IsLive, IsInside, InWord, IsSchedulingPlace, HasWords, HasSelection, IsReceiving}
+use Rattle.world_laws.specs.Parked.{on_channel, on_link, InBuffer, message_of}
+use Rattle.world_laws.proofs.BlankWords.{first_of, blank_scheduled, words_with, selection_taken}
+use Rattle.world_laws.proofs.HeldNow.{apart_at}
 use Rattle.world_laws.proofs.InsideMemory.{AllLie, less_lies, rest_lies}
-use Rattle.world_laws.proofs.Parking.{Fine, All, AllIn, IsData, fine_runs, fine_outside, fine_over, fine_waits, weaker}
-use Rattle.world_laws.proofs.Parking.{fine_still, all_weaker, all_set, all_woken, all_roused, no_buffer, has_buffer, is_beside}
-use Rattle.world_laws.proofs.Parking.{starting_is_outside, InOwn}
+use Rattle.world_laws.proofs.ParkedTasks.{IsInOrder, EachInOrder, AllInOrder, IsData, runs_in_order, outside_in_order}
+use Rattle.world_laws.proofs.ParkedTasks.{over_in_order, waits_in_order, weaker, still_in_order, all_weaker, all_set}
+use Rattle.world_laws.proofs.ParkedTasks.{all_woken, all_roused, no_buffer, has_buffer, is_beside}
+use Rattle.world_laws.proofs.ParkedTasks.{starting_is_outside, InOwn}
 use Rattle.world_laws.proofs.Reaching.{Reaches, by_runner, by_message, by_arrival, Arrives}
 use Rattle.world_laws.proofs.StepLeaves.{Leaves, IsSame, Selects, Messages, plain_is_outside}
 
@@ -76,7 +77,7 @@ pub record Ground (w : World) : Type 0 where
   pub apart : AllApart w.roles w.channels
   pub data_alone : (p : ℕ) → IsData (holding_at w.roles p)
   pub lies : AllLie (length w.memory) w.roles
-  pub all : AllIn (Aside w) w
+  pub all : AllInOrder (Aside w) w
 
 ended_or : (c : Condition) → (c ≡ Ended) ⊎ (c ≡ Ended → ⊥)
 ended_or Ended = inl refl
@@ -94,20 +95,27 @@ unfolding place_of
 next_byte address done low = omega (arith, low)
 
 module _ (w : World) (g : Ground w) where
-  -- it is a byte of the buffer of the process that waits there
+  -- the process that waits there receives
+  receives_there : (x : ℕ) (a : Arrives w x) → IsReceiving a.waits.task.condition a.waits.exchange
+  receives_there x a = on_link a.link a.waits.done a.waits.waits a.waits.on
+
+  -- the byte follows those that have come
+  pub arrives_at : (x : ℕ) (a : Arrives w x) → x ≡ place_of a.waits.exchange.address + a.waits.done
+  arrives_at x a =
+      let e = a.waits.exchange in
+      let place = place_of e.address + a.waits.done in
+      let more = a.waits.more in
+      let own = (g.all a.process a.waits.task a.waits.here).buffer.writable e place (receives_there x a)
+      (omega arith, omega (arith, more)) in
+      a.is ∙ next_byte e.address a.waits.done (g.data_alone a.process place own)
+
+  -- it is one of the buffer
   pub arrives_inside : (x : ℕ) (a : Arrives w x)
       → IsReceiving a.waits.task.condition a.waits.exchange × InBuffer a.waits.exchange x
   arrives_inside x a =
-      let waits = a.waits in
-      let e = waits.exchange in
-      let receives : IsReceiving waits.task.condition e = on_link a.link waits.done waits.waits waits.on in
-      let more = waits.more in
-      let place = place_of e.address + waits.done in
-      let own = (g.all a.process waits.task waits.here).buffer.writable e place receives
-      (omega arith, omega (arith, more)) in
-      let low = g.data_alone a.process place own in
-      let is : x ≡ place = a.is ∙ next_byte e.address waits.done low in
-      (receives, (omega (arith, is), omega (arith, is, more)))
+      let more = a.waits.more in
+      let is = arrives_at x a in
+      (receives_there x a, (omega (arith, is), omega (arith, is, more)))
 
   -- who may write a byte that is not of its buffer is not overwritten by messages
   pub not_arriving : (q : ℕ) (t : Task) (x : ℕ) → slice_get w.tasks q ≡ Some t
@@ -160,15 +168,15 @@ on_role_size q f w = on (slice_get w.roles q)
     on (Some r) = length-set w.roles q (f r)
 
 -- what a task becomes
-set_parts : (aside : ℕ → Type 0) (q : ℕ) (f : Task → Task) (w : World) (roles : List Role) (memory : Memory)
-    → ((t : Task) → Fine (holding_at roles q) memory (aside q) (f t)) → All aside w.tasks roles memory
-    → All aside (on_task q f w).tasks roles memory
-set_parts aside q f w roles memory fine all = on (slice_get w.tasks q)
+becomes : (aside : ℕ → Type 0) (q : ℕ) (f : Task → Task) (w : World) (roles : List Role) (memory : Memory)
+    → ((t : Task) → IsInOrder (holding_at roles q) memory (aside q) (f t)) → EachInOrder aside w.tasks roles memory
+    → EachInOrder aside (on_task q f w).tasks roles memory
+becomes aside q f w roles memory order all = on (slice_get w.tasks q)
   where
-    on : (o : Option Task) → All aside (elim o as (λ o. World)
+    on : (o : Option Task) → EachInOrder aside (elim o as (λ o. World)
         [ None ↦ w | Some task ↦ record w { tasks = slice_set w.tasks q (f task) } ]).tasks roles memory
     on None = all
-    on (Some t) = all_set aside w.tasks roles memory q (f t) (fine t) (λ p u differ at. all p u at)
+    on (Some t) = all_set aside w.tasks roles memory q (f t) (order t) (λ p u differ at. all p u at)
 
 -- a mode that enables is not one that disables
 still_enables : (mode : Mode) (b : Bool) → Enables mode → Disables (ready_or mode b) → ⊥
@@ -217,7 +225,7 @@ module _ (h : Here) (w : World) (runs : w.queue.running ≡ Some h.process)
   HoldOn roles = (q : ℕ) (t : Task) → slice_get w.tasks q ≡ Some t → h.process ≢ q → (t.condition ≡ Ended → ⊥)
       → holding_at roles q ≡ holding_at w.roles q
 
-  mine : Fine hold w.memory (Aside w h.process) h.from
+  mine : IsInOrder hold w.memory (Aside w h.process) h.from
   mine = g.all h.process h.from there
 
   ready : h.from.condition ≡ Ready
@@ -241,26 +249,26 @@ module _ (h : Here) (w : World) (runs : w.queue.running ≡ Some h.process)
 
   -- the others are as they were
   others : (roles : List Role) (memory : Memory) → HoldOn roles → Steady memory → (q : ℕ) (t : Task) → h.process ≢ q
-      → slice_get w.tasks q ≡ Some t → Fine (holding_at roles q) memory ⊤ t
+      → slice_get w.tasks q ≡ Some t → IsInOrder (holding_at roles q) memory ⊤ t
   others roles memory held steady q t differ at = elim (ended_or t.condition) [
-    | inl over ↦ fine_over (holding_at roles q) memory ⊤ t
+    | inl over ↦ over_in_order (holding_at roles q) memory ⊤ t
         (λ inside. elim (before.modes inside) [
           | inl is ↦ let z : Ended ≡ Ready = sym over ∙ is in cc
           | inr is ↦ let z : Ended ≡ Alternating = sym over ∙ is in cc
         ]) (λ live. subst IsLive over live) (ap message_of over)
-    | inr alive ↦ fine_still (holding_at w.roles q) (holding_at roles q) w.memory memory ⊤ t
+    | inr alive ↦ still_in_order (holding_at w.roles q) (holding_at roles q) w.memory memory ⊤ t
         (held q t at differ alive)
         (λ x own elsewhere. steady x (unreached q t x differ at own elsewhere)) before
   ]
     where
-      before : Fine (holding_at w.roles q) w.memory ⊤ t
+      before : IsInOrder (holding_at w.roles q) w.memory ⊤ t
       before = weaker (holding_at w.roles q) w.memory (Aside w q) ⊤ t
           (λ any also. differ (only_one w.queue.running h.process q runs also)) (g.all q t at)
 
   set : (aside : ℕ → Type 0) (u : Task) (roles : List Role) (memory : Memory) → HoldOn roles → Steady memory
-      → Fine (holding_at roles h.process) memory (aside h.process) u
-      → All aside (slice_set w.tasks h.process u) roles memory
-  set aside u roles memory held steady fine = all_set aside w.tasks roles memory h.process u fine
+      → IsInOrder (holding_at roles h.process) memory (aside h.process) u
+      → EachInOrder aside (slice_set w.tasks h.process u) roles memory
+  set aside u roles memory held steady order = all_set aside w.tasks roles memory h.process u order
       (λ q t differ at. weaker (holding_at roles q) memory ⊤ (aside q) t (λ a. tt)
       (others roles memory held steady q t differ at))
 
@@ -272,12 +280,12 @@ module _ (h : Here) (w : World) (runs : w.queue.running ≡ Some h.process)
   goes_on : (u : Task) (memory : Memory) → u.condition ≡ Ready → Steady memory
       → (IsInside u.mode → HasWords hold memory u.registers.workspace)
       → (Disables u.mode → HasSelection hold memory u.registers.workspace)
-      → All (Aside w) (slice_set w.tasks h.process u) w.roles memory
+      → EachInOrder (Aside w) (slice_set w.tasks h.process u) w.roles memory
   goes_on u memory is steady words selection = set (Aside w) u w.roles memory all_hold steady
-      (fine_runs hold memory (Aside w h.process) u is (λ aside. aside runs) words selection)
+      (runs_in_order hold memory (Aside w h.process) u is (λ aside. aside runs) words selection)
 
   goes_outside : (u : Task) (memory : Memory) → u.condition ≡ Ready → Steady memory → (IsInside u.mode → ⊥)
-      → All (Aside w) (slice_set w.tasks h.process u) w.roles memory
+      → EachInOrder (Aside w) (slice_set w.tasks h.process u) w.roles memory
   goes_outside u memory is steady outside = goes_on u memory is steady (λ inside. absurd (outside inside))
       (λ disables. absurd (outside (inr disables)))
 
@@ -317,15 +325,15 @@ module _ (h : Here) (w : World) (runs : w.queue.running ≡ Some h.process)
       → ((q : ℕ) → test q ≡ true → may_read hold q ≡ true)
       → ((q : ℕ) (f : Exchange) → IsReceiving c f → test q ≡ true → may_write hold q ≡ true)
       → HasWords hold memory l.registers.workspace → Steady memory
-      → All Anyone (slice_set w.tasks h.process (waiting l c)) w.roles memory
+      → EachInOrder Anyone (slice_set w.tasks h.process (waiting l c)) w.roles memory
   waits test l e c memory x plain is read write words steady =
       set Anyone (waiting l c) w.roles memory all_hold steady
-      (fine_waits hold memory ⊤ (waiting l c) (plain_is_outside h.from.mode plain) words
+      (waits_in_order hold memory ⊤ (waiting l c) (plain_is_outside h.from.mode plain) words
       (record { stack = x.gives.stack; operand = refl })
       (has_buffer hold (g.data_alone h.process) test l e x c is read write))
 
   -- everyone is in order, whoever runs now
-  anyone : (v : World) → AllIn Anyone v → AllIn (Aside v) v
+  anyone : (v : World) → AllInOrder Anyone v → AllInOrder (Aside v) v
   anyone v all = all_weaker Anyone (Aside v) v.tasks v.roles v.memory (λ q a. tt) all
 
   -- the first byte of a message is not one of the words that scheduling takes
@@ -355,7 +363,7 @@ module _ (h : Here) (w : World) (runs : w.queue.running ≡ Some h.process)
         memory = memory;
         tasks = slice_set w.tasks h.process u;
         channels = cells;
-      } in Steady (wake other before).memory → AllIn (Aside (wake other before)) (wake other before)
+      } in Steady (wake other before).memory → AllInOrder (Aside (wake other before)) (wake other before)
   meets u other c cells memory is outside waits live steady =
       let before : World = record w {
         memory = memory;
@@ -381,9 +389,9 @@ module _ (h : Here) (w : World) (runs : w.queue.running ≡ Some h.process)
       on false = is_not
 
   chooses : (b : Bool) (distance : ℤ) (l : Local) → Selects hold (local_here h.from w) l → Disables h.from.mode
-      → Steady (chosen h b distance l w).memory → let v = chosen h b distance l w in All (Aside w) v.tasks v.roles v.memory
+      → Steady (chosen h b distance l w).memory → AllInOrder (Aside w) (chosen h b distance l w)
   chooses b distance l x disables steady =
-      chosen_either (λ (v : World). All (Aside w) v.tasks v.roles v.memory) b distance l
+      chosen_either (λ (v : World). EachInOrder (Aside w) v.tasks v.roles v.memory) b distance l
       (goes_on _ l.memory ready still (λ inside. selects_words l x (inr disables)) (λ d. selects_selection l x))
       (goes_on _ l.memory ready still (λ inside. selects_words l x (inr disables)) (λ d. selects_selection l x))
     where
@@ -393,19 +401,19 @@ module _ (h : Here) (w : World) (runs : w.queue.running ≡ Some h.process)
   chosen_queue : (b : Bool) (distance : ℤ) (l : Local) → (chosen h b distance l w).queue ≡ w.queue
   chosen_queue b distance l = chosen_either (λ (v : World). v.queue ≡ w.queue) b distance l refl refl
 
-  still_aside : (v : World) → v.queue ≡ w.queue → AllIn (Aside w) v → AllIn (Aside v) v
+  still_aside : (v : World) → v.queue ≡ w.queue → AllInOrder (Aside w) v → AllInOrder (Aside v) v
   still_aside v same all = all_weaker (Aside w) (Aside v) v.tasks v.roles v.memory
       (λ q aside e. aside (ap (λ (y : Queue). y.running) same ∙ e)) all
 
   -- ---- a branch starts
 
   -- the words below its workspace are its own, and taken
-  child_fine : (plan : Plan) (found : Found) (workspace : ℕ) (l : Local) → LiesIn (length w.memory) plan.rest
+  child_in_order : (plan : Plan) (found : Found) (workspace : ℕ) (l : Local) → LiesIn (length w.memory) plan.rest
       → share_is_there (length w.memory) plan workspace found.branch ≡ true
-      → Fine (holding_of h.contents (length w.memory) (share_by plan found.branch))
+      → IsInOrder (holding_of h.contents (length w.memory) (share_by plan found.branch))
       (without_words (scheduling_addresses workspace) l.memory) ⊤ (new_task found.branch workspace)
-  child_fine plan found workspace l lies share =
-      fine_waits given after ⊤ (new_task found.branch workspace) (plain_is_outside Plain refl) words
+  child_in_order plan found workspace l lies share =
+      waits_in_order given after ⊤ (new_task found.branch workspace) (plain_is_outside Plain refl) words
       (record { stack = refl; operand = refl }) (no_buffer given workspace Ready refl)
     where
       given : Holding
@@ -428,12 +436,12 @@ module _ (h : Here) (w : World) (runs : w.queue.running ≡ Some h.process)
   starts : (plan : Plan) (found : Found) (workspace : ℕ) (l : Local) (cells : List (Option Channel))
       → LiesIn (length w.memory) plan.rest → share_is_there (length w.memory) plan workspace found.branch ≡ true
       → let v = started h plan found workspace l (record w { channels = cells }) in
-      Steady v.memory → HoldOn v.roles → AllIn (Aside v) v
+      Steady v.memory → HoldOn v.roles → AllInOrder (Aside v) v
   starts plan found workspace l cells lies share steady held q t at =
       elim (got_either given.tasks child q t at) [
         | inl old ↦ elim (set_either w.tasks h.process opener q t
             (subst (λ (ts : List Task). slice_get ts q ≡ Some t) only.tasks old)) [
-              | inl itself ↦ fine_outside (holding_at v.roles q) v.memory (Aside v q) t
+              | inl itself ↦ outside_in_order (holding_at v.roles q) v.memory (Aside v q) t
                   (ap (λ (y : Task). y.condition) itself.1 ∙ ready)
                   (λ aside. aside (subst (λ n. v.queue.running ≡ Some n) itself.0 running))
                   (starting_is_outside t.mode (ap (λ (y : Task). y.mode) itself.1))
@@ -441,10 +449,10 @@ module _ (h : Here) (w : World) (runs : w.queue.running ≡ Some h.process)
                   (others v.roles v.memory held steady q t other.0 other.1)
             ]
         | inr last ↦ weaker (holding_at v.roles q) v.memory ⊤ (Aside v q) t (λ a. tt)
-            (subst (Fine (holding_at v.roles q) v.memory ⊤) (sym last.1)
-            (subst (λ (g : Holding). Fine g v.memory ⊤ child) (sym (new_holding q last.0))
-            (subst (λ (y : Memory). Fine own y ⊤ child) (sym only.quiet.memory)
-            (child_fine plan found workspace l lies share))))
+            (subst (IsInOrder (holding_at v.roles q) v.memory ⊤) (sym last.1)
+            (subst (λ (g : Holding). IsInOrder g v.memory ⊤ child) (sym (new_holding q last.0))
+            (subst (λ (y : Memory). IsInOrder own y ⊤ child) (sym only.quiet.memory)
+            (child_in_order plan found workspace l lies share))))
       ]
     where
       child : Task
@@ -490,16 +498,18 @@ module _ (h : Here) (w : World) (runs : w.queue.running ≡ Some h.process)
 
   joins : (o : ℕ) (j : Join) (par : Par) (u : Task) (v : World) → v.tasks ≡ slice_set w.tasks h.process u
       → u.condition ≡ Ended → u.mode ≡ Plain → let after = joined h o j par v in
-      Steady after.memory → HoldOn after.roles → AllIn (Aside after) after
+      Steady after.memory → HoldOn after.roles → AllInOrder (Aside after) after
   unfolding dispatch
   joins o j par u v tasks over plain =
-      joined_either (λ (after : World). Steady after.memory → HoldOn after.roles → AllIn (Aside after) after) h o j par v
+      joined_either (λ (after : World). Steady after.memory → HoldOn after.roles → AllInOrder (Aside after) after) h o j
+      par v
       (λ none steady held.
       let shut = on_role_only o (with_opened None) (on_task o (closed_task j par) gone) in
       let v = join.closed o j par gone in
-      subst (λ (ts : List Task). All (Aside v) ts v.roles v.memory) (sym shut.tasks)
-      (set_parts (Aside v) o (closed_task j par) gone v.roles v.memory
-      (λ t. fine_outside (holding_at v.roles o) v.memory (Aside v o) (closed_task j par t) refl (λ aside. aside refl)
+      subst (λ (ts : List Task). EachInOrder (Aside v) ts v.roles v.memory) (sym shut.tasks)
+      (becomes (Aside v) o (closed_task j par) gone v.roles v.memory
+      (λ t. outside_in_order (holding_at v.roles o) v.memory (Aside v o) (closed_task j par t) refl
+      (λ aside. aside refl)
       (plain_is_outside Plain refl)) (ended_all (Aside v) v.roles v.memory held steady)))
       (λ some steady held.
       let v = dispatch h.pick (leave gone) in
@@ -509,12 +519,12 @@ module _ (h : Here) (w : World) (runs : w.queue.running ≡ Some h.process)
       gone = member_gone h o j v
 
       ended_all : (aside : ℕ → Type 0) (roles : List Role) (memory : Memory) → HoldOn roles → Steady memory
-          → All aside gone.tasks roles memory
+          → EachInOrder aside gone.tasks roles memory
       ended_all aside roles memory held steady =
-          subst (λ (ts : List Task). All aside ts roles memory)
+          subst (λ (ts : List Task). EachInOrder aside ts roles memory)
           (sym ((on_role_only o (with_opened (Some (without h.process j))) v).tasks ∙ tasks))
           (set aside u roles memory held steady
-          (fine_over (holding_at roles h.process) memory (aside h.process) u (plain_is_outside u.mode plain)
+          (over_in_order (holding_at roles h.process) memory (aside h.process) u (plain_is_outside u.mode plain)
           (λ live. subst IsLive over live) (ap message_of over)))
 
   -- ---- by the way in which the world has moved
@@ -534,7 +544,7 @@ module _ (h : Here) (w : World) (runs : w.queue.running ≡ Some h.process)
       omega (arith, word, low, input)
 
   pub moved : (o : Outcome) (v : World) → Moved h w o v → Leaves (site_of h w) (local_here h.from w) o
-      → Fits h.from.mode o → Steady v.memory → HoldOn v.roles → AllIn (Aside v) v
+      → Fits h.from.mode o → Steady v.memory → HoldOn v.roles → AllInOrder (Aside v) v
   unfolding dispatch
   moved o v (turns.it_goes l) leaves fits steady held =
       goes_on _ l.memory ready steady (λ inside. same_words l (leaves inside) inside)
@@ -544,14 +554,14 @@ module _ (h : Here) (w : World) (runs : w.queue.running ≡ Some h.process)
   moved o v (turns.it_is_sliced to l) leaves fits steady held =
       let u = record h.from { registers = between to l.registers } in
       set (Aside v) u w.roles l.memory all_hold steady
-      (fine_waits hold l.memory (Aside v h.process) u (plain_is_outside h.from.mode leaves.0) leaves.1.words
+      (waits_in_order hold l.memory (Aside v h.process) u (plain_is_outside h.from.mode leaves.0) leaves.1.words
       (record { stack = leaves.1.stack; operand = refl })
       (no_buffer hold l.registers.workspace u.condition (ap message_of ready)))
   moved o v (turns.it_lands to l) leaves fits steady held =
       goes_outside _ l.memory ready steady (plain_is_outside h.from.mode leaves)
   moved o v (turns.it_stops l) leaves fits steady held =
       set (Aside v) _ w.roles l.memory all_hold steady
-      (fine_over hold l.memory (Aside v h.process) _ (plain_is_outside h.from.mode fits) (λ live. live) refl)
+      (over_in_order hold l.memory (Aside v h.process) _ (plain_is_outside h.from.mode fits) (λ live. live) refl)
   moved o v (turns.receives_first e l c inside here none) leaves fits steady held =
       anyone v (waits (may_write hold) l e (Receiving e) l.memory leaves fits refl (written_is_read hold)
       (λ q f is own. own) leaves.gives.words steady)
@@ -627,7 +637,7 @@ module _ (h : Here) (w : World) (runs : w.queue.running ≡ Some h.process)
       goes_outside _ l.memory ready steady (plain_is_outside Plain refl)
 
   pub ends : (o : Outcome) (t : Turn) → Ends h w o t → Leaves (site_of h w) (local_here h.from w) o
-      → Fits h.from.mode o → Steady t.world.memory → HoldOn t.world.roles → AllIn (Aside t.world) t.world
+      → Fits h.from.mode o → Steady t.world.memory → HoldOn t.world.roles → AllInOrder (Aside t.world) t.world
   unfolding dispatch
   ends o t (turns.at_fault refused) leaves fits steady held = g.all
   ends o t (turns.has_run {after = v} x) leaves fits steady held = moved o v x leaves fits steady held
@@ -637,7 +647,7 @@ module _ (h : Here) (w : World) (runs : w.queue.running ≡ Some h.process)
 
   -- a prefix
   pub prefixed : (r : Registers) → r.workspace ≡ h.from.registers.workspace
-      → All (Aside w) (slice_set w.tasks h.process (record h.from { registers = r })) w.roles w.memory
+      → EachInOrder (Aside w) (slice_set w.tasks h.process (record h.from { registers = r })) w.roles w.memory
   prefixed r same = goes_on (record h.from { registers = r }) w.memory ready (λ x never. refl)
       (λ inside. subst (HasWords hold w.memory) (sym same) (mine.words (inl inside)))
       (λ d. subst (HasSelection hold w.memory) (sym same) (mine.selection d))

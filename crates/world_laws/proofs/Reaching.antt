@@ -1,36 +1,35 @@
 -- A byte stays that neither the running process may write nor anybody waits to receive.
-use Rattle.std.proofs.Common.{◌≡◌, ℕ, ◌+◌, ◌<◌, Bool, true, false, List, Option, Some, None, refl, sym, ap}
-use Rattle.std.proofs.Common.{◌∙◌, subst, slice_get}
+use Rattle.std.proofs.Common.{◌≡◌, ℕ, ◌+◌, ◌<◌, Bool, true, false, List, Option, Some, None, refl, sym, ap, ◌∙◌}
+use Rattle.std.proofs.Common.{subst, slice_get}
 use Rattle.std.proofs.lemmas.Bool.{leb-true, ltb-true, eqb-true}
 use Rattle.std.specs.Prelude.{◌%◌, ◌^◌, ◌==◌, ⊤}
 use Rattle.module_format.specs.Contents.{Contents}
 use Rattle.machine_state.specs.declared.event.Event.{Event}
 use Rattle.machine_state.specs.declared.event.Event.TheVariants.{Step, Arrive, Acknowledge}
 use Rattle.machine_state.specs.declared.link.Link.{Link}
-use Rattle.machine_state.specs.declared.process.Exchange.{Exchange}
-use Rattle.machine_state.specs.declared.process.Task.{Task}
 use Rattle.machine_state.specs.declared.process.Condition.{Condition}
 use Rattle.machine_state.specs.declared.process.Condition.TheVariants.{Ready, Receiving}
-use Rattle.machine_state.specs.Memory.{place_of, byte_at}
+use Rattle.machine_state.specs.declared.process.Exchange.{Exchange}
+use Rattle.machine_state.specs.declared.process.Task.{Task}
+use Rattle.machine_state.specs.Endings.{Moved, Ends, Happened, local_here}
+use Rattle.machine_state.specs.Endings as turns
+use Rattle.machine_state.specs.Exchanges.{condition_of}
+use Rattle.machine_state.specs.Happens.{turn, world_after}
 use Rattle.machine_state.specs.Holding.{may_write}
-use Rattle.machine_state.specs.World.{World, holding_at, input_word}
+use Rattle.machine_state.specs.Memory.{place_of, byte_at, Memory}
+use Rattle.machine_state.specs.Moves.{link_index}
 use Rattle.machine_state.specs.Site.{Outcome}
 use Rattle.machine_state.specs.Turn.{Here, Turn, at_here}
-use Rattle.machine_state.specs.Moves.{link_index}
-use Rattle.machine_state.specs.Exchanges.{condition_of}
 use Rattle.machine_state.specs.Waiting.{WaitsOn}
+use Rattle.machine_state.specs.World.{World, holding_at, input_word}
 use Rattle.machine_state.specs.Writing.{Delivery, delivered_to, of_waiting, delivery_on, delivery_by, delivery}
 use Rattle.machine_state.specs.Writing.{is_delivered, is_own, StepWrites}
-use Rattle.machine_state.specs.Happens.{turn, world_after}
-use Rattle.machine_state.specs.Endings as turns
-use Rattle.machine_state.specs.Endings.{Moved, Ends, Happened, local_here}
 use Rattle.machine_state.proofs.Claims.{not_true}
 use Rattle.machine_state.proofs.Combining.{and_true}
 use Rattle.machine_state.proofs.Turns.{turn_happens}
 use Rattle.machine_state.proofs.Waiting.{arrivals_fill_buffers}
 use Rattle.machine_state.proofs.Writing.{of_waiting_is, outcome_is, steps_write_own, arrivals_write_one}
 use Rattle.machine_state.proofs.Writing.{acknowledgements_write_nothing}
-use Rattle.machine_state.specs.Memory.{Memory}
 use Rattle.world_laws.specs.Parked.{InBuffer}
 
 -- the next byte that a process waits for on an input link comes here

@@ -2,33 +2,33 @@
 use Rattle.std.proofs.Common.{◌≡◌, ℕ, ◌≤◌, ℤ, pos, Bool, true, inl, inr, Option, Some, None, refl, sym, ◌∙◌, cond}
 use Rattle.std.specs.Prelude.{⊤, ◌==◌, not}
 use Rattle.prefix_decoder.specs.declared.function.Fun.{Fun}
+use Rattle.module_format.specs.Stack.{of_empty}
+use Rattle.module_format.specs.declared.limits.TheConstants.{MAX_MESSAGE}
 use Rattle.module_format.specs.declared.rows.Direction.{Direction}
 use Rattle.module_format.specs.declared.rows.Direction.TheVariants.{In, Out}
-use Rattle.module_format.specs.declared.limits.TheConstants.{MAX_MESSAGE}
-use Rattle.module_format.specs.Stack.{of_empty}
 use Rattle.machine_state.specs.declared.fault.FaultKind.{FaultKind}
 use Rattle.machine_state.specs.declared.fault.FaultKind.TheVariants.{AlternationOrder, NotOwn, Undefined, ErrorFlag}
 use Rattle.machine_state.specs.declared.fault.FaultKind.TheVariants.{UnknownOperation, JoinOrder}
-use Rattle.machine_state.specs.declared.process.Mode.{Mode}
-use Rattle.machine_state.specs.declared.process.Mode.TheVariants.{Plain, Enabling, Disabling, Starting}
-use Rattle.machine_state.specs.declared.process.Exchange.{Exchange}
-use Rattle.machine_state.specs.declared.op.Op.{Op}
-use Rattle.machine_state.specs.declared.op.Op.TheVariants as ops
 use Rattle.machine_state.specs.declared.instruction.Instruction.{Instruction}
 use Rattle.machine_state.specs.declared.instruction.Instruction.TheVariants as instructions
-use Rattle.machine_state.specs.Instructions.{instruction_of}
-use Rattle.machine_state.specs.Memory.{place_of, local_address, word_at, with_word, scheduling_word}
+use Rattle.machine_state.specs.declared.op.Op.{Op}
+use Rattle.machine_state.specs.declared.op.Op.TheVariants as ops
+use Rattle.machine_state.specs.declared.process.Exchange.{Exchange}
+use Rattle.machine_state.specs.declared.process.Mode.{Mode}
+use Rattle.machine_state.specs.declared.process.Mode.TheVariants.{Plain, Enabling, Disabling, Starting}
 use Rattle.machine_state.specs.Holding.{Holding, may_write, may_read, may_write_word}
-use Rattle.machine_state.specs.Spans.{all_places}
+use Rattle.machine_state.specs.Instructions.{instruction_of}
 use Rattle.machine_state.specs.LocalStep as step
+use Rattle.machine_state.specs.Memory.{place_of, local_address, word_at, with_word, scheduling_word}
 use Rattle.machine_state.specs.Site.{Site, Local, Outcome, goes, jumps, lands, stops, fails, receives, sends, starts}
 use Rattle.machine_state.specs.Site.{joins, begins, enables_channel, enables_skip, waits, disables_channel}
 use Rattle.machine_state.specs.Site.{disables_skip, ends_alternation}
-use Rattle.machine_state.proofs.Combining as each
+use Rattle.machine_state.specs.Spans.{all_places}
 use Rattle.machine_state.proofs.Combining.{and_true}
+use Rattle.machine_state.proofs.Combining as each
 use Rattle.machine_state.proofs.Scheduling.{schedules-is}
 use Rattle.world_laws.specs.Parked.{IsInside, HasWords, HasSelection}
-use Rattle.world_laws.proofs.Blank.{words_taken, words_with, selection_taken}
+use Rattle.world_laws.proofs.BlankWords.{words_taken, words_with, selection_taken}
 
 -- ---- what is left
 
@@ -195,7 +195,8 @@ module _ (s : Site) (before : Local) where
       → (HasWords s.holding (scheduled l).memory l.registers.workspace → L (k (scheduled l))) → L (step.schedules s l k)
   schedules l k h = rw (schedules-is s l k)
       (each.by_test R fault (step.holds_scheduling_words s.holding l.registers.workspace) (k (scheduled l))
-      (k (scheduled l)) (fails NotOwn) (fails NotOwn) (λ own. h (words_taken s.holding l.memory l.registers.workspace own)) (λ none. tt))
+      (k (scheduled l)) (fails NotOwn) (fails NotOwn)
+      (λ own. h (words_taken s.holding l.memory l.registers.workspace own)) (λ none. tt))
 
   -- ---- messages
 

@@ -5,25 +5,25 @@ use Rattle.std.specs.Prelude.{slice_set}
 use Rattle.module_format.specs.Contents.{Contents}
 use Rattle.machine_state.specs.declared.event.Event.{Event}
 use Rattle.machine_state.specs.declared.process.Channel.{Channel}
-use Rattle.machine_state.specs.declared.process.Task.{Task}
 use Rattle.machine_state.specs.declared.process.Mode.TheVariants.{Starting}
-use Rattle.machine_state.specs.World.{World, Role, Links}
-use Rattle.machine_state.specs.Site.{Outcome}
-use Rattle.machine_state.specs.Turn.{Here, Turn}
-use Rattle.machine_state.specs.Moves.{dispatch, link_index}
+use Rattle.machine_state.specs.declared.process.Task.{Task}
+use Rattle.machine_state.specs.Endings.{Ends, Happened}
+use Rattle.machine_state.specs.Endings as turns
 use Rattle.machine_state.specs.EventLaws.{bytes_of}
 use Rattle.machine_state.specs.Happens.{turn, world_after}
-use Rattle.machine_state.specs.Endings as turns
-use Rattle.machine_state.specs.Endings.{Ends, Happened}
-use Rattle.machine_state.proofs.Changes as change
+use Rattle.machine_state.specs.Moves.{dispatch, link_index}
+use Rattle.machine_state.specs.Site.{Outcome}
+use Rattle.machine_state.specs.Turn.{Here, Turn}
+use Rattle.machine_state.specs.World.{World, Role, Links}
 use Rattle.machine_state.proofs.Changes.{Changed, Passed, Roused, passes, going}
-use Rattle.machine_state.proofs.Moving.{rouse_only, wake_only}
+use Rattle.machine_state.proofs.Changes as change
 use Rattle.machine_state.proofs.EventLaws.{events_count_bytes}
 use Rattle.machine_state.proofs.EveryWorld.{every_world}
+use Rattle.machine_state.proofs.Moving.{rouse_only, wake_only}
 use Rattle.machine_state.proofs.Turns.{turn_happens}
 use Rattle.machine_state.proofs.Waiting.{reached}
-use Rattle.world_laws.proofs.Filling.{fill_only}
 use Rattle.world_laws.specs.TasksCounted.{TasksAreCounted}
+use Rattle.world_laws.proofs.Filling.{fill_only}
 
 roused_size : (tasks later : List Task) (o : Option ℕ) → Roused tasks o later → length later ≡ length tasks
 roused_size tasks later o (change.nobody deaf) = refl

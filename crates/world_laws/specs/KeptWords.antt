@@ -4,16 +4,16 @@ use Rattle.module_format.specs.Contents.{Contents}
 use Rattle.module_format.specs.Keeping.{Keeps}
 use Rattle.machine_state.specs.declared.event.Event.{Event}
 use Rattle.machine_state.specs.declared.process.Channel.{Channel}
-use Rattle.machine_state.specs.Memory.{Memory, byte_at}
-use Rattle.machine_state.specs.World.{Join}
-use Rattle.machine_state.specs.JoinLookups.{opened_by}
-use Rattle.machine_state.specs.Ownership.{InBlock}
 use Rattle.machine_state.specs.Happens.{world_after}
+use Rattle.machine_state.specs.JoinLookups.{opened_by}
+use Rattle.machine_state.specs.Memory.{Memory, byte_at}
+use Rattle.machine_state.specs.Ownership.{InBlock}
+use Rattle.machine_state.specs.World.{Join}
 use Rattle.world_laws.specs.Parked.{InWord}
 
 -- a byte of the data that is undefined
 pub record IsBlankData (m : Contents) (memory : Memory) (x : ℕ) : Type 0 where
-  pub data_byte : x < 4 * m.data_words
+  pub inside : x < 4 * m.data_words
   pub undefined : byte_at memory x ≡ None
 
 -- so is each byte of the block of an open join

@@ -5,17 +5,20 @@ use Rattle.module_format.specs.Contents.{Contents}
 use Rattle.module_format.specs.Keeping.{Keeps}
 use Rattle.module_format.specs.Stack.{of_empty}
 use Rattle.machine_state.specs.declared.event.Event.{Event}
+use Rattle.machine_state.specs.declared.process.Condition.{Condition}
+use Rattle.machine_state.specs.declared.process.Condition.TheVariants.{Ready, Sending, Receiving, OnLink, Stopped}
+use Rattle.machine_state.specs.declared.process.Condition.TheVariants.{Ended}
+use Rattle.machine_state.specs.declared.process.Exchange.{Exchange}
+use Rattle.machine_state.specs.declared.process.Mode.{Mode}
 use Rattle.machine_state.specs.declared.process.Registers.{Registers}
 use Rattle.machine_state.specs.declared.process.Task.{Task}
-use Rattle.machine_state.specs.declared.process.Mode.{Mode}
-use Rattle.machine_state.specs.declared.process.Exchange.{Exchange}
-use Rattle.machine_state.specs.declared.process.Condition.{Condition}
-use Rattle.machine_state.specs.declared.process.Condition.TheVariants.{Sending, Receiving, OnLink, Stopped, Ended}
-use Rattle.machine_state.specs.Memory.{Memory, place_of, scheduling_word, byte_at}
-use Rattle.machine_state.specs.Holding.{Holding, may_write, may_read}
-use Rattle.machine_state.specs.World.{World, holding_at, input_word}
 use Rattle.machine_state.specs.EnabledLaws.{Enables, Disables}
 use Rattle.machine_state.specs.Happens.{world_after}
+use Rattle.machine_state.specs.Holding.{Holding, may_write, may_read}
+use Rattle.machine_state.specs.Memory.{Memory, place_of, scheduling_word, byte_at}
+use Rattle.machine_state.specs.Ownership.{IsAmong}
+use Rattle.machine_state.specs.Waiting.{IsAwaited}
+use Rattle.machine_state.specs.World.{World, holding_at, input_word}
 
 -- ---- who is parked
 
@@ -92,7 +95,17 @@ pub record HasBuffer (h : Holding) (workspace : ℕ) (c : Condition) : Type 0 wh
 
 -- ---- in every world that a list of events leads to
 
--- who is parked has no register, and is between two instructions
+-- who waits for its turn is parked, and so is who waits for anything else
+abbrev pub WhoIsReadyIsParked : Type 0
+WhoIsReadyIsParked = (m : Contents) (es : List Event) (p : ℕ)
+    → let w = world_after m es in IsAmong p w.queue.ready → (task : Task) × IsParked w p task
+
+abbrev pub WhoWaitsIsParked : Type 0
+WhoWaitsIsParked = (m : Contents) (es : List Event) (p : ℕ) (task : Task)
+    → let w = world_after m es in slice_get w.tasks p ≡ Some task → IsLive task.condition → task.condition ≢ Ready
+    → IsParked w p task
+
+-- who is parked has no defined register, and is between two instructions
 abbrev pub WhoIsParkedIsAtRest : Type 0
 WhoIsParkedIsAtRest = (m : Contents) (es : List Event) (p : ℕ) (task : Task) → Keeps m
     → IsParked (world_after m es) p task → IsAtRest task.registers
@@ -109,10 +122,16 @@ SelectionsAreBlank = (m : Contents) (es : List Event) (p : ℕ) (task : Task) �
     → let w = world_after m es in slice_get w.tasks p ≡ Some task → Disables task.mode
     → HasSelection (holding_at w.roles p) w.memory task.registers.workspace
 
+-- who waits for a message has its buffer
 abbrev pub BuffersAreHeld : Type 0
 BuffersAreHeld = (m : Contents) (es : List Event) (p : ℕ) (task : Task) → Keeps m
     → let w = world_after m es in slice_get w.tasks p ≡ Some task
     → HasBuffer (holding_at w.roles p) task.registers.workspace task.condition
+
+-- the next byte on an input link goes to the buffer of the process that waits there, after those that have come
+abbrev pub ArrivalsFollow : Type 0
+ArrivalsFollow = (m : Contents) (es : List Event) (k place : ℕ) → Keeps m → (x : IsAwaited (world_after m es) k place)
+    → place ≡ place_of x.waits.exchange.address + x.waits.done
 
 -- no two of those who are parked, or in an alternation, have one workspace
 abbrev pub WorkspacesDiffer : Type 0

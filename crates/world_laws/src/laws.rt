@@ -1,15 +1,17 @@
-//! Laws of the definitions.
+//! Laws of every world that a list of events leads to.
 
-ghost use Rattle.world_laws.specs.InsideMemory.{HoldingsLieInMemory};
+ghost use Rattle.world_laws.specs.InsideMemory.{HoldingsLieInMemory, WrittenIsData};
 ghost use Rattle.world_laws.specs.KeptWords.{BlocksAreBlank, ChannelWordsAreBlank};
-ghost use Rattle.world_laws.specs.Parked.{WhoIsParkedIsAtRest, ParkedWordsAreBlank, SelectionsAreBlank};
-ghost use Rattle.world_laws.specs.Parked.{BuffersAreHeld, WorkspacesDiffer};
+ghost use Rattle.world_laws.specs.Parked.{WhoIsReadyIsParked, WhoWaitsIsParked, WhoIsParkedIsAtRest};
+ghost use Rattle.world_laws.specs.Parked.{ParkedWordsAreBlank, SelectionsAreBlank, BuffersAreHeld};
+ghost use Rattle.world_laws.specs.Parked.{ArrivalsFollow, WorkspacesDiffer};
 ghost use Rattle.world_laws.specs.TasksCounted.{TasksAreCounted};
 
-/// Memory keeps its length, and all that a process may read or write lies in it.
-#[tactic(auto, using(crate::proofs::InsideMemory::holdings_lie))]
+/// Memory keeps its length, and all that a process may read or write lies in it, now and for good. In all that a module
+/// that keeps the format does, what a process may write is data.
 pub fn holdings_lie_in_memory()
-    ensures { HoldingsLieInMemory }
+    ensures inside { HoldingsLieInMemory }
+    ensures written { WrittenIsData }
 {}
 
 /// There are at most as many processes as bytes were executed, and one.
@@ -18,33 +20,42 @@ pub fn tasks_are_counted()
     ensures { TasksAreCounted }
 {}
 
-/// Whoever will go on and does not run, whether it waits for its turn, a message or a guard, has no defined register
-/// and no part of an operand.
+/// Whoever waits for its turn, for a message or for a guard is parked: it will go on, and does not run.
+pub fn waiting_processes_are_parked()
+    ensures ready { WhoIsReadyIsParked }
+    ensures others { WhoWaitsIsParked }
+{}
+
+/// Whatever a module that keeps the format does, a parked process has no defined register, and is between two
+/// instructions.
 #[tactic(auto, using(crate::proofs::ParkedLaws::parked_are_at_rest))]
 pub fn parked_processes_are_at_rest()
     ensures { WhoIsParkedIsAtRest }
 {}
 
-/// Whoever will go on and does not run, and whoever is in an alternation, may write the three words below its
-/// workspace, which are undefined. From altwt to altend so is the word at the workspace.
+/// Whatever a module that keeps the format does, a parked process, and one in an alternation, may write the three words
+/// below its workspace, which are undefined. From altwt to altend so is the word at the workspace.
 pub fn parked_words_are_blank()
     ensures below { ParkedWordsAreBlank }
     ensures selection { SelectionsAreBlank }
 {}
 
-/// Whoever waits to send may read its buffer, and whoever waits to receive may write it. No buffer meets the words
-/// that scheduling takes of its process.
-#[tactic(auto, using(crate::proofs::ParkedLaws::buffers_are_held))]
+/// Whatever a module that keeps the format does, a process that waits to send may read its buffer, and one that waits
+/// to receive may write it. No buffer meets the words below its process's workspace. A byte that arrives on a link
+/// follows those that have come.
 pub fn buffers_are_held()
-    ensures { BuffersAreHeld }
+    ensures held { BuffersAreHeld }
+    ensures arrivals { ArrivalsFollow }
 {}
 
-/// No two processes that do not run, or are in alternations, have one workspace.
+/// Whatever a module that keeps the format does, no two processes that are parked, or in alternations, have one
+/// workspace.
 pub fn workspaces_differ()
     ensures { WorkspacesDiffer }
 {}
 
-/// The block of an open join and the words of its channels are data, and undefined.
+/// Whatever a module that keeps the format does, the block of an open join and the words of its channels are data, and
+/// undefined.
 pub fn kept_words_are_blank()
     ensures blocks { BlocksAreBlank }
     ensures channels { ChannelWordsAreBlank }

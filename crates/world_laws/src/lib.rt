@@ -5,5 +5,5 @@ mod laws;
 
 pub use laws::{
     buffers_are_held, holdings_lie_in_memory, kept_words_are_blank, parked_processes_are_at_rest,
-    parked_words_are_blank, tasks_are_counted, workspaces_differ,
+    parked_words_are_blank, tasks_are_counted, waiting_processes_are_parked, workspaces_differ,
 };

@@ -1,45 +1,45 @@
 -- What is so of every process, whether it runs or not, in every world.
-use Rattle.std.proofs.Common.{◌≡◌, ◌≢◌, ℕ, zero, suc, ◌+◌, ◌-◌, ◌<◌, ◌≤◌, Bool, true, false, ◌⊎◌, inl, inr}
-use Rattle.std.proofs.Common.{List, Option, Some, None, refl, sym, ap, ◌∙◌, subst, slice_get, arith}
+use Rattle.std.proofs.Common.{◌≡◌, ◌≢◌, ℕ, zero, suc, ◌+◌, ◌-◌, ◌<◌, ◌≤◌, Bool, true, false, ◌⊎◌, inl, inr, List}
+use Rattle.std.proofs.Common.{Option, Some, None, refl, sym, ap, ◌∙◌, subst, slice_get, arith}
 use Rattle.std.proofs.lemmas.Bool.{lt-ltb}
 use Rattle.std.specs.Prelude.{not, slice_set}
-use Rattle.machine_state.specs.declared.process.Task.{Task}
-use Rattle.machine_state.specs.declared.process.Mode.{Mode}
-use Rattle.machine_state.specs.declared.process.Mode.TheVariants.{Enabling, Disabling, Starting}
-use Rattle.machine_state.specs.declared.process.Exchange.{Exchange}
 use Rattle.machine_state.specs.declared.process.Condition.{Condition}
 use Rattle.machine_state.specs.declared.process.Condition.TheVariants.{Ready, Alternating}
-use Rattle.machine_state.specs.Memory.{Memory, place_of, local_address, scheduling_word, byte_at}
-use Rattle.machine_state.specs.Holding.{Holding, may_write, may_read}
-use Rattle.machine_state.specs.World.{World, Role, holding_at}
-use Rattle.machine_state.specs.Site.{Local}
-use Rattle.machine_state.specs.LocalStep.{meet}
-use Rattle.machine_state.specs.Moves.{on_task, wake, rouse}
+use Rattle.machine_state.specs.declared.process.Exchange.{Exchange}
+use Rattle.machine_state.specs.declared.process.Mode.{Mode}
+use Rattle.machine_state.specs.declared.process.Mode.TheVariants.{Enabling, Disabling, Starting}
+use Rattle.machine_state.specs.declared.process.Task.{Task}
 use Rattle.machine_state.specs.EnabledLaws.{Enables, Disables}
-use Rattle.machine_state.proofs.Changes as change
+use Rattle.machine_state.specs.Holding.{Holding, may_write, may_read}
+use Rattle.machine_state.specs.LocalStep.{meet}
+use Rattle.machine_state.specs.Memory.{Memory, place_of, local_address, scheduling_word, byte_at}
+use Rattle.machine_state.specs.Moves.{on_task, wake, rouse}
+use Rattle.machine_state.specs.Site.{Local}
+use Rattle.machine_state.specs.World.{World, Role, holding_at}
 use Rattle.machine_state.proofs.Changes.{Roused, rouses}
+use Rattle.machine_state.proofs.Changes as change
 use Rattle.machine_state.proofs.Lines.{set_either}
 use Rattle.machine_state.proofs.Moving.{rouse_only}
 use Rattle.machine_state.proofs.SpanLaws.{both_true}
 use Rattle.machine_state.proofs.Writing.{all_at}
-use Rattle.world_laws.specs.Parked.{IsLive, IsInside, IsSchedulingPlace, HasWords, HasSelection}
-use Rattle.world_laws.specs.Parked.{IsAtRest, message_of, IsReceiving, on_channel, on_link, InBuffer, HasBuffer}
+use Rattle.world_laws.specs.Parked.{IsLive, IsInside, IsSchedulingPlace, HasWords, HasSelection, IsAtRest, message_of}
+use Rattle.world_laws.specs.Parked.{IsReceiving, on_channel, on_link, InBuffer, HasBuffer}
 use Rattle.world_laws.proofs.StepLeaves.{Messages}
 
 -- what is so of a process that holds this, and of which `aside` says that it does not run
-pub record Fine (h : Holding) (memory : Memory) (aside : Type 0) (t : Task) : Type 0 where
+pub record IsInOrder (h : Holding) (memory : Memory) (aside : Type 0) (t : Task) : Type 0 where
   pub modes : IsInside t.mode → (t.condition ≡ Ready) ⊎ (t.condition ≡ Alternating)
   pub words : IsInside t.mode ⊎ (IsLive t.condition × aside) → HasWords h memory t.registers.workspace
   pub selection : Disables t.mode → HasSelection h memory t.registers.workspace
   pub rest : IsLive t.condition → aside → IsAtRest t.registers
   pub buffer : HasBuffer h t.registers.workspace t.condition
 
-abbrev pub All : (ℕ → Type 0) → List Task → List Role → Memory → Type 0
-All aside tasks roles memory =
-    (p : ℕ) (t : Task) → slice_get tasks p ≡ Some t → Fine (holding_at roles p) memory (aside p) t
+abbrev pub EachInOrder : (ℕ → Type 0) → List Task → List Role → Memory → Type 0
+EachInOrder aside tasks roles memory =
+    (p : ℕ) (t : Task) → slice_get tasks p ≡ Some t → IsInOrder (holding_at roles p) memory (aside p) t
 
-abbrev pub AllIn : (ℕ → Type 0) → World → Type 0
-AllIn aside w = All aside w.tasks w.roles w.memory
+abbrev pub AllInOrder : (ℕ → Type 0) → World → Type 0
+AllInOrder aside w = EachInOrder aside w.tasks w.roles w.memory
 
 -- ---- conditions and modes
 
@@ -62,10 +62,10 @@ no_buffer h workspace c none = record {
 -- ---- what is so of one process
 
 -- it runs
-pub fine_runs : (h : Holding) (memory : Memory) (aside : Type 0) (t : Task) → t.condition ≡ Ready → (aside → ⊥)
+pub runs_in_order : (h : Holding) (memory : Memory) (aside : Type 0) (t : Task) → t.condition ≡ Ready → (aside → ⊥)
     → (IsInside t.mode → HasWords h memory t.registers.workspace)
-    → (Disables t.mode → HasSelection h memory t.registers.workspace) → Fine h memory aside t
-fine_runs h memory aside t ready runs words selection = record {
+    → (Disables t.mode → HasSelection h memory t.registers.workspace) → IsInOrder h memory aside t
+runs_in_order h memory aside t ready runs words selection = record {
   modes = λ inside. inl ready;
   words = λ either. elim either [ inl inside ↦ words inside | inr idle ↦ absurd (runs idle.1) ];
   selection = selection;
@@ -74,15 +74,15 @@ fine_runs h memory aside t ready runs words selection = record {
 }
 
 -- it runs, outside an alternation
-pub fine_outside : (h : Holding) (memory : Memory) (aside : Type 0) (t : Task) → t.condition ≡ Ready → (aside → ⊥)
-    → (IsInside t.mode → ⊥) → Fine h memory aside t
-fine_outside h memory aside t ready runs outside = fine_runs h memory aside t ready runs
+pub outside_in_order : (h : Holding) (memory : Memory) (aside : Type 0) (t : Task) → t.condition ≡ Ready → (aside → ⊥)
+    → (IsInside t.mode → ⊥) → IsInOrder h memory aside t
+outside_in_order h memory aside t ready runs outside = runs_in_order h memory aside t ready runs
     (λ inside. absurd (outside inside)) (λ disables. absurd (outside (inr disables)))
 
 -- it has stopped or ended
-pub fine_over : (h : Holding) (memory : Memory) (aside : Type 0) (t : Task) → (IsInside t.mode → ⊥)
-    → (IsLive t.condition → ⊥) → message_of t.condition ≡ None → Fine h memory aside t
-fine_over h memory aside t outside over none = record {
+pub over_in_order : (h : Holding) (memory : Memory) (aside : Type 0) (t : Task) → (IsInside t.mode → ⊥)
+    → (IsLive t.condition → ⊥) → message_of t.condition ≡ None → IsInOrder h memory aside t
+over_in_order h memory aside t outside over none = record {
   modes = λ inside. absurd (outside inside);
   words = λ either. elim either [ inl inside ↦ absurd (outside inside) | inr idle ↦ absurd (over idle.0) ];
   selection = λ disables. absurd (outside (inr disables));
@@ -91,10 +91,10 @@ fine_over h memory aside t outside over none = record {
 }
 
 -- it waits outside an alternation
-pub fine_waits : (h : Holding) (memory : Memory) (aside : Type 0) (t : Task) → (IsInside t.mode → ⊥)
+pub waits_in_order : (h : Holding) (memory : Memory) (aside : Type 0) (t : Task) → (IsInside t.mode → ⊥)
     → HasWords h memory t.registers.workspace → IsAtRest t.registers → HasBuffer h t.registers.workspace t.condition
-    → Fine h memory aside t
-fine_waits h memory aside t outside words rest buffer = record {
+    → IsInOrder h memory aside t
+waits_in_order h memory aside t outside words rest buffer = record {
   modes = λ inside. absurd (outside inside);
   words = λ either. words;
   selection = λ disables. absurd (outside (inr disables));
@@ -103,66 +103,67 @@ fine_waits h memory aside t outside words rest buffer = record {
 }
 
 pub weaker : (h : Holding) (memory : Memory) (before after : Type 0) (t : Task) → (after → before)
-    → Fine h memory before t → Fine h memory after t
-weaker h memory before after t less fine = record {
-  modes = fine.modes;
-  words = λ either. fine.words (elim either [ inl inside ↦ inl inside | inr idle ↦ inr (idle.0, less idle.1) ]);
-  selection = fine.selection;
-  rest = λ live idle. fine.rest live (less idle);
-  buffer = fine.buffer;
+    → IsInOrder h memory before t → IsInOrder h memory after t
+weaker h memory before after t less order = record {
+  modes = order.modes;
+  words = λ either. order.words (elim either [ inl inside ↦ inl inside | inr idle ↦ inr (idle.0, less idle.1) ]);
+  selection = order.selection;
+  rest = λ live idle. order.rest live (less idle);
+  buffer = order.buffer;
 }
 
 -- it becomes ready
-pub fine_woken : (h : Holding) (memory : Memory) (aside : Type 0) (t : Task) → IsLive t.condition
-    → Fine h memory aside t → Fine h memory aside (record t { condition = Ready })
-fine_woken h memory aside t live fine = record {
+pub woken_in_order : (h : Holding) (memory : Memory) (aside : Type 0) (t : Task) → IsLive t.condition
+    → IsInOrder h memory aside t → IsInOrder h memory aside (record t { condition = Ready })
+woken_in_order h memory aside t live order = record {
   modes = λ inside. inl refl;
-  words = λ either. fine.words (elim either [ inl inside ↦ inl inside | inr idle ↦ inr (live, idle.1) ]);
-  selection = fine.selection;
-  rest = λ ready idle. fine.rest live idle;
+  words = λ either. order.words (elim either [ inl inside ↦ inl inside | inr idle ↦ inr (live, idle.1) ]);
+  selection = order.selection;
+  rest = λ ready idle. order.rest live idle;
   buffer = no_buffer h t.registers.workspace Ready refl;
 }
 
 -- it will not wait at altwt
-fine_enabled : (h : Holding) (memory : Memory) (aside : Type 0) (t : Task) → Enables t.mode
-    → Fine h memory aside t → Fine h memory aside (record t { mode = Enabling true })
-fine_enabled h memory aside t enables fine = record {
-  modes = λ inside. fine.modes (inl enables);
-  words = λ either. fine.words (elim either [ inl inside ↦ inl (inl enables) | inr idle ↦ inr idle ]);
+enabled_in_order : (h : Holding) (memory : Memory) (aside : Type 0) (t : Task) → Enables t.mode
+    → IsInOrder h memory aside t → IsInOrder h memory aside (record t { mode = Enabling true })
+enabled_in_order h memory aside t enables order = record {
+  modes = λ inside. order.modes (inl enables);
+  words = λ either. order.words (elim either [ inl inside ↦ inl (inl enables) | inr idle ↦ inr idle ]);
   selection = λ disables. absurd (let z : Enabling true ≡ Disabling disables.0 = disables.1 in cc);
-  rest = fine.rest;
-  buffer = fine.buffer;
+  rest = order.rest;
+  buffer = order.buffer;
 }
 
 -- bytes elsewhere change, or in its own buffer
 abbrev pub InOwn : Task → ℕ → Type 0
 InOwn t x = (e : Exchange) × IsReceiving t.condition e × InBuffer e x
 
-pub fine_still : (h later : Holding) (memory after : Memory) (aside : Type 0) (t : Task) → later ≡ h
+pub still_in_order : (h later : Holding) (memory after : Memory) (aside : Type 0) (t : Task) → later ≡ h
     → ((x : ℕ) → may_write h x ≡ true → (InOwn t x → ⊥) → byte_at after x ≡ byte_at memory x)
-    → Fine h memory aside t → Fine later after aside t
-fine_still h later memory after aside t same still fine =
-    subst (λ (g : Holding). Fine g after aside t) (sym same) (record {
-      modes = fine.modes;
+    → IsInOrder h memory aside t → IsInOrder later after aside t
+still_in_order h later memory after aside t same still order =
+    subst (λ (g : Holding). IsInOrder g after aside t) (sym same) (record {
+      modes = order.modes;
       words = λ either x there.
-          let blank = fine.words either x there in
+          let blank = order.words either x there in
           record {
             own = blank.own;
             undefined = still x blank.own (λ mine.
-                fine.buffer.beside mine.0 x (received_message t.condition mine.0 mine.1) mine.2 there) ∙ blank.undefined;
+                order.buffer.beside mine.0 x (received_message t.condition mine.0 mine.1) mine.2 there)
+                ∙ blank.undefined;
           };
       selection = λ disables x inside.
-          let blank = fine.selection disables x inside in
+          let blank = order.selection disables x inside in
           record {
             own = blank.own;
             undefined = still x blank.own (λ mine. no_message disables mine.0 mine.1) ∙ blank.undefined;
           };
-      rest = fine.rest;
-      buffer = fine.buffer;
+      rest = order.rest;
+      buffer = order.buffer;
     })
   where
     no_message : Disables t.mode → (e : Exchange) → IsReceiving t.condition e → ⊥
-    no_message disables e receives = elim (fine.modes (inr disables)) [
+    no_message disables e receives = elim (order.modes (inr disables)) [
       | inl ready ↦
           let z : None ≡ Some e = sym (ap message_of ready) ∙ received_message t.condition e receives in cc
       | inr waits ↦
@@ -172,51 +173,52 @@ fine_still h later memory after aside t same still fine =
 -- ---- tasks are changed
 
 pub all_weaker : (before after : ℕ → Type 0) (tasks : List Task) (roles : List Role) (memory : Memory)
-    → ((p : ℕ) → after p → before p) → All before tasks roles memory → All after tasks roles memory
+    → ((p : ℕ) → after p → before p) → EachInOrder before tasks roles memory → EachInOrder after tasks roles memory
 all_weaker before after tasks roles memory less all p t at =
     weaker _ memory (before p) (after p) t (less p) (all p t at)
 
 pub all_set : (aside : ℕ → Type 0) (tasks : List Task) (roles : List Role) (memory : Memory) (q : ℕ) (u : Task)
-    → Fine (holding_at roles q) memory (aside q) u
-    → ((p : ℕ) (t : Task) → q ≢ p → slice_get tasks p ≡ Some t → Fine (holding_at roles p) memory (aside p) t)
-    → All aside (slice_set tasks q u) roles memory
-all_set aside tasks roles memory q u fine others p t at = elim (set_either tasks q u p t at) [
-  | inl new ↦ subst (λ n. Fine (holding_at roles n) memory (aside n) t) new.0
-      (subst (Fine (holding_at roles q) memory (aside q)) (sym new.1) fine)
+    → IsInOrder (holding_at roles q) memory (aside q) u
+    → ((p : ℕ) (t : Task) → q ≢ p → slice_get tasks p ≡ Some t → IsInOrder (holding_at roles p) memory (aside p) t)
+    → EachInOrder aside (slice_set tasks q u) roles memory
+all_set aside tasks roles memory q u order others p t at = elim (set_either tasks q u p t at) [
+  | inl new ↦ subst (λ n. IsInOrder (holding_at roles n) memory (aside n) t) new.0
+      (subst (IsInOrder (holding_at roles q) memory (aside q)) (sym new.1) order)
   | inr old ↦ others p t old.0 old.1
 ]
 
 pub all_on_task : (aside : ℕ → Type 0) (q : ℕ) (f : Task → Task) (w : World)
-    → ((t : Task) → slice_get w.tasks q ≡ Some t → Fine (holding_at w.roles q) w.memory (aside q) t
-    → Fine (holding_at w.roles q) w.memory (aside q) (f t)) → AllIn aside w → AllIn aside (on_task q f w)
+    → ((t : Task) → slice_get w.tasks q ≡ Some t → IsInOrder (holding_at w.roles q) w.memory (aside q) t
+    → IsInOrder (holding_at w.roles q) w.memory (aside q) (f t)) → AllInOrder aside w → AllInOrder aside (on_task q f w)
 all_on_task aside q f w kept all = on (slice_get w.tasks q) refl
   where
-    on : (o : Option Task) → slice_get w.tasks q ≡ o → AllIn aside (elim o as (λ o. World)
+    on : (o : Option Task) → slice_get w.tasks q ≡ o → AllInOrder aside (elim o as (λ o. World)
         [ None ↦ w | Some task ↦ record w { tasks = slice_set w.tasks q (f task) } ])
     on None none = all
     on (Some t) here = all_set aside w.tasks w.roles w.memory q (f t) (kept t here (all q t here))
         (λ p u differ at. all p u at)
 
 pub all_woken : (aside : ℕ → Type 0) (q : ℕ) (w : World)
-    → ((t : Task) → slice_get w.tasks q ≡ Some t → IsLive t.condition) → AllIn aside w → AllIn aside (wake q w)
+    → ((t : Task) → slice_get w.tasks q ≡ Some t → IsLive t.condition) → AllInOrder aside w
+    → AllInOrder aside (wake q w)
 all_woken aside q w live all = all_on_task aside q (λ task. record task { condition = Ready }) w
-    (λ t here fine. fine_woken _ w.memory (aside q) t (live t here) fine) all
+    (λ t here order. woken_in_order _ w.memory (aside q) t (live t here) order) all
 
 live_as : (c d : Condition) → c ≡ d → IsLive d → IsLive c
 live_as c d same live = subst IsLive (sym same) live
 
-pub all_roused : (aside : ℕ → Type 0) (o : Option ℕ) (w : World) → AllIn aside w → AllIn aside (rouse o w)
+pub all_roused : (aside : ℕ → Type 0) (o : Option ℕ) (w : World) → AllInOrder aside w → AllInOrder aside (rouse o w)
 all_roused aside o w all =
     let only = rouse_only o w in
-    subst (λ (rs : List Role). All aside (rouse o w).tasks rs (rouse o w).memory) (sym only.roles)
-    (subst (All aside (rouse o w).tasks w.roles) (sym only.memory) (on (rouse o w).tasks o (rouses o w)))
+    subst (λ (rs : List Role). EachInOrder aside (rouse o w).tasks rs (rouse o w).memory) (sym only.roles)
+    (subst (EachInOrder aside (rouse o w).tasks w.roles) (sym only.memory) (on (rouse o w).tasks o (rouses o w)))
   where
-    on : (later : List Task) (o : Option ℕ) → Roused w.tasks o later → All aside later w.roles w.memory
+    on : (later : List Task) (o : Option ℕ) → Roused w.tasks o later → EachInOrder aside later w.roles w.memory
     on later o (change.nobody deaf) = all
     on later o (change.who_enables q t here is awake) = all_set aside w.tasks w.roles w.memory q _
-        (fine_enabled _ w.memory (aside q) t is (all q t here)) (λ p u differ at. all p u at)
+        (enabled_in_order _ w.memory (aside q) t is (all q t here)) (λ p u differ at. all p u at)
     on later o (change.who_waits q t here is) = all_set aside w.tasks w.roles w.memory q _
-        (fine_woken _ w.memory (aside q) t (live_as t.condition Alternating is tt) (all q t here))
+        (woken_in_order _ w.memory (aside q) t (live_as t.condition Alternating is tt) (all q t here))
         (λ p u differ at. all p u at)
 
 -- ---- where the buffer of a message lies

@@ -1,16 +1,18 @@
 -- What two processes may write, and where it lies.
-use Rattle.std.proofs.Common.{◌≡◌, ◌≢◌, ℕ, ◌*◌, ◌<◌, true, List, Option, Some, None, refl, sym, ◌∙◌, subst}
-use Rattle.std.proofs.Common.{slice_get}
+use Rattle.std.proofs.Common.{◌≡◌, ◌≢◌, ℕ, ◌*◌, ◌<◌, true, List, Option, Some, None, refl, sym, ◌∙◌, subst, slice_get}
 use Rattle.module_format.specs.Contents.{Contents}
 use Rattle.machine_state.specs.declared.process.Channel.{Channel}
+use Rattle.machine_state.specs.Apart.{AllApart}
+use Rattle.machine_state.specs.Happens.{world_after}
 use Rattle.machine_state.specs.Holding.{Holding, nothing, may_write}
-use Rattle.machine_state.specs.World.{Role, Join, held, holding_at}
 use Rattle.machine_state.specs.Ownership.{HoldersIn}
 use Rattle.machine_state.specs.Roles.{own_in, opened_in}
-use Rattle.machine_state.specs.Apart.{AllApart}
+use Rattle.machine_state.specs.World.{Role, Join, held, holding_at}
+use Rattle.machine_state.proofs.ApartLaws.{all_stand, format_is_small}
 use Rattle.machine_state.proofs.Claims.{written_is_read}
 use Rattle.machine_state.proofs.Holders.{held_write}
 use Rattle.machine_state.proofs.Roles.{field_at}
+use Rattle.world_laws.specs.InsideMemory.{WrittenIsData}
 
 -- a place that one process may write is no other's to write
 pub apart_at : (roles : List Role) (channels : List (Option Channel)) → AllApart roles channels → (p q x : ℕ) → p ≢ q
@@ -34,7 +36,8 @@ written_is_data m roles channels t p x = on (slice_get roles p) refl
         → may_write (elim o as (λ o. Holding) [ None ↦ r.own | Some join ↦ join.rest ]) x ≡ true
         → x < 4 * m.data_words
     of_role r here None is own = t.inside p x
-        (subst (λ (g : Holding). may_write g x ≡ true) (sym (field_at (λ (r : Role). r.own) nothing roles p r here)) own)
+        (subst (λ (g : Holding). may_write g x ≡ true) (sym (field_at (λ (r : Role). r.own) nothing roles p r here))
+        own)
     of_role r here (Some j) is own = t.inside p x
         (held_write t p j x (field_at (λ (r : Role). r.opened) None roles p r here ∙ is) own)
 
@@ -56,3 +59,8 @@ now_is roles q = on (slice_get roles q)
         ] ≡ elim o as (λ o. Holding) [ None ↦ nothing | Some role ↦ held role ]
     on None = refl
     on (Some r) = refl
+
+pub all_written_is_data : WrittenIsData
+all_written_is_data m es p x format own =
+    let w = world_after m es in
+    written_is_data m w.roles w.channels (all_stand m (format_is_small m format) es).holders p x own

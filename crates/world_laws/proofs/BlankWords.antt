@@ -1,11 +1,10 @@
 -- What is undefined once words were taken, and stays so.
-use Rattle.std.proofs.Common.{◌≡◌, ◌≢◌, ℕ, zero, suc, ◌+◌, ◌<◌, ◌⊎◌, inl, inr, true, None, length, ap, ◌∙◌}
-use Rattle.std.proofs.Common.{arith}
+use Rattle.std.proofs.Common.{◌≡◌, ◌≢◌, ℕ, zero, suc, ◌+◌, ◌<◌, ◌⊎◌, inl, inr, true, None, length, ap, ◌∙◌, arith}
 use Rattle.std.proofs.lemmas.Bool.{cases_eq, cases_lt}
 use Rattle.std.proofs.lemmas.List.{get_or_past}
-use Rattle.machine_state.specs.Memory.{Memory, place_of, scheduling_word, byte_at, with_byte, with_word}
 use Rattle.machine_state.specs.Holding.{Holding, may_write, may_write_word}
 use Rattle.machine_state.specs.LocalStep.{holds_scheduling_words, without_scheduling_words}
+use Rattle.machine_state.specs.Memory.{Memory, place_of, scheduling_word, byte_at, with_byte, with_word}
 use Rattle.machine_state.proofs.Combining.{and_true}
 use Rattle.machine_state.proofs.Reading.{length-with_byte, byte_at-with_byte, byte_at-with_byte_other}
 use Rattle.world_laws.specs.Parked.{InWord, IsSchedulingPlace, HasWords, HasSelection}
