@@ -8,6 +8,7 @@ pub mod Lines
 pub mod LineReading
 pub mod LineViews
 pub mod Blocks
+pub mod Constructs
 pub mod BlockReading
 pub mod BlockViews
 pub mod Levels
