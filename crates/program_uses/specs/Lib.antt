@@ -5,6 +5,7 @@ pub mod Places
 pub mod PlaceViews
 pub mod Signatures
 pub mod Ends
+pub mod LinkNames
 pub mod Instances
 pub mod Actions
 pub mod ActionViews

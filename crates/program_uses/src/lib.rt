@@ -12,6 +12,7 @@ mod faults;
 mod indices;
 mod instances;
 mod laws;
+mod link_names;
 mod mentions;
 mod par_rules;
 mod places;
@@ -36,6 +37,7 @@ pub use faults::{
 pub use indices::{Repeats, Turns, index_meaning, is_sequence, repeats_of, turns_of};
 pub use instances::{array_at, place_in, variable_at};
 pub use laws::{changes_follow_outlines, declaring_keeps_outlines};
+pub use link_names::link_way;
 pub use mentions::is_variable;
 pub use places::{PlaceRef, Spot, place_ref, spot_of};
 pub use signature::{Parameter, Passing, Signature, count_of_parameters, parameter_at, passing_of};

@@ -9,7 +9,7 @@ use Rattle.occam_parser.specs.Blocks.{ProgramItem, GlobalConstant, GlobalProcedu
 use Rattle.program_uses.specs.declared.faults.TheConstants.{NO_MAIN}
 use Rattle.program_uses.specs.declared.uses.Direction.{Direction}
 use Rattle.program_uses.specs.declared.telling.UsageFault.{UsageFault}
-use Rattle.usage_checks.specs.ChannelRules.{link_way}
+use Rattle.program_uses.specs.LinkNames.{link_way}
 use Rattle.program_uses.specs.Telling.{At}
 
 abbrev pub is_link_name : Option Direction → Bool

@@ -4,13 +4,12 @@ ghost use Rattle.std.specs.Prelude.{◌≡◌, ◌&&◌};
 ghost use Rattle.occam_parser.specs.LineViews.{place_of};
 ghost use Rattle.scalar_ranges.specs.Scopes.{entries_of};
 ghost use Rattle.program_uses.specs.Lowest.{IsLowest};
-ghost use Rattle.usage_checks.specs.ChannelRules.{is_link, is_in, is_out, link_way, is_way, is_formal_of_main};
-ghost use Rattle.usage_checks.specs.ChannelRules.{is_inside, is_right_way};
+ghost use Rattle.usage_checks.specs.ChannelRules.{is_way, is_formal_of_main, is_inside, is_right_way};
 ghost use Rattle.usage_checks.specs.ChannelRules.{IsMisused, BreaksEnd};
 
 use crate::place_rules::{channel_at, fault_of_channel};
 use occam_parser::Place;
-use program_uses::{CHANNEL_USE, Direction, lower, place_ref, told_unless};
+use program_uses::{CHANNEL_USE, Direction, link_way, lower, place_ref, told_unless};
 use scalar_ranges::{ExprType, Scope};
 
 /// Where a process stands, by the numbers of declarations.
@@ -24,40 +23,6 @@ pub struct Position {
     pub parallel: usize,
     /// Whether the procedure is `main`.
     pub is_main: bool,
-}
-
-/// Whether a digit is that of a link.
-fn is_link(digit: u8) -> bool
-    ensures { result ≡ is_link digit }
-{
-    b'0' <= digit && digit <= b'3'
-}
-
-/// Whether this is `in` and the digit of a link.
-fn is_in(first: u8, second: u8, digit: u8) -> bool
-    ensures { result ≡ is_in first second digit }
-{
-    first == b'i' && second == b'n' && is_link(digit)
-}
-
-/// Whether this is `out` and the digit of a link.
-fn is_out(first: u8, second: u8, third: u8, digit: u8) -> bool
-    ensures { result ≡ is_out first second third digit }
-{
-    first == b'o' && second == b'u' && third == b't' && is_link(digit)
-}
-
-/// The direction in which `main` uses a link of this name.
-pub(crate) fn link_way(name: &[u8]) -> Option<Direction>
-    ensures { result ≡ link_way name.now }
-{
-    match name {
-        [first, second, digit] if is_in(*first, *second, *digit) => Some(Direction::Input),
-        [first, second, third, digit] if is_out(*first, *second, *third, *digit) => {
-            Some(Direction::Output)
-        }
-        _ => None,
-    }
 }
 
 fn is_way(way: Option<Direction>, direction: Direction) -> bool

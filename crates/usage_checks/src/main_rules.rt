@@ -7,9 +7,8 @@ ghost use Rattle.occam_parser.specs.LineViews.{any_of};
 ghost use Rattle.usage_checks.specs.MainRules.{is_link_as, are_links, is_main_name, is_main, IsNoMain, BreaksMain};
 ghost use Rattle.program_uses.specs.Telling.{IsFirst};
 
-use crate::channel_rules::link_way;
 use occam_parser::{Expr, Formal, FormalKind, Item};
-use program_uses::{NO_MAIN, UsageFault, fault_at, told_unless};
+use program_uses::{NO_MAIN, UsageFault, fault_at, link_way, told_unless};
 
 /// Whether a formal is a link of `main`.
 fn is_link_as(kind: FormalKind, size: &Option<Expr>, name: &[u8]) -> bool
