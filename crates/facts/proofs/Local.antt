@@ -1,6 +1,6 @@
--- The rule of an instruction and its step fit each other: where the rule is not broken, the step is no fault, and what
--- the rule says of the state behind holds.
-use Rattle.std.proofs.Common.{◌≡◌, ◌+◌, ◌≤◌, ◌-◌, ℤ, pos, negsuc, FitsSigned, Option, Some, None, arith, true, false, refl, sym, ap, ◌∙◌}
+-- The rule of an instruction and its step fit each other, by the law of its family: where the rule is not broken, the
+-- step is no fault, and what the rule says of the state behind holds.
+use Rattle.std.proofs.Common.{◌≡◌, ◌≤◌, ℤ, FitsSigned, Option, Some, None}
 use Rattle.std.specs.Int.{w32}
 use Rattle.prefix_decoder.specs.declared.function.Fun.{Fun}
 use Rattle.machine_state.specs.declared.op.Op.{Op}
@@ -9,147 +9,32 @@ use Rattle.machine_state.specs.declared.instruction.Instruction.{Instruction}
 use Rattle.machine_state.specs.declared.instruction.Instruction.TheVariants as instructions
 use Rattle.machine_state.specs.Instructions.{instruction_of}
 use Rattle.machine_state.specs.LocalStep as step
-use Rattle.machine_state.specs.LocalStep.{target}
 use Rattle.machine_state.specs.Site.{Local}
-use Rattle.states.specs.declared.known.Mode.TheVariants.{Plain}
 use Rattle.states.specs.State.{State}
-use Rattle.facts.specs.Rulings as rule
 use Rattle.facts.specs.Rules as table
-use Rattle.facts.specs.Meaning.{owed, IsWellFormed}
-use Rattle.facts.specs.Fitting.{Changes, After, Here, rule_site, step_site, it_ends, it_breaks, RulesFitSteps}
-use Rattle.facts.proofs.Combining.{FitsIf, unknown_means, schedules_fits, leads_fits, in_plain_rule, beside_plain_rule}
-use Rattle.facts.proofs.Combining.{in_plain_step, after_stack, pays_fits}
-use Rattle.facts.proofs.Within.{Within, ArePlain, AreStill, is_starting, whole_after, as_still, which, in_plain_mode}
-use Rattle.facts.proofs.Within.{in_alternation, among_starts}
-use Rattle.facts.proofs.OtherModes.{breaks_fit, operation_breaks, instruction_breaks, mint_breaks, ldl_breaks}
-use Rattle.facts.proofs.OtherModes.{ldnlp_breaks}
-use Rattle.facts.proofs.CallsFit.{call_fits, return_fits}
-use Rattle.facts.proofs.WordsFit.{ldc_fits, ldl_fits, stl_fits, constant_fits, reverse_fits, mint_fits, binary_fits}
-use Rattle.facts.proofs.WordsFit.{unary_fits, shift_fits, long_fits, subscript_fits, count_fits, pointer_fits}
-use Rattle.facts.proofs.WordsFit.{adjust_fits, cj_fits}
-use Rattle.facts.proofs.MemoryFits.{ldnlp_fits, bsub_fits, wsub_fits, ldpi_fits, ldnl_fits, lb_fits}
-use Rattle.facts.proofs.WritesFit.{stnl_fits, sb_fits}
-use Rattle.facts.proofs.MovesFit.{move_fits}
-use Rattle.facts.proofs.LoopsFit.{lend_fits}
-use Rattle.states.proofs.RowFacts.{and-parts}
-
--- ---- in plain mode
-
-module _ (x : Here) (wf : IsWellFormed x.m) (s : State) (l : Local) (a : Within ArePlain x.m x.h x.mode x.act s l)
-    (same : s.context ≡ x.context) (changes : Changes x l.memory) (n : owed s x.act ≤ x.owed) where
-  j_fits : (e : ℤ) → FitsSigned w32 e
-      → FitsIf x (table.instruction_rule (rule_site x) instructions.Jump e s)
-      (step.instruction_step (step_site x) instructions.Jump e l)
-  unfolding table.instruction_rule step.instruction_step rule.forward
-  j_fits (negsuc k) fits = in_plain_rule x s a.same_mode _ _ (λ next. it_breaks)
-  j_fits (pos k) fits =
-      in_plain_step x s a.same_mode _ _ (in_plain_rule x s a.same_mode _ _ (beside_plain_rule x s a.same_mode _ _
-      (schedules_fits x s l _ _ a same changes (λ s' memory b same' c e.
-      pays_fits x s' _ _ (omega (arith, e, n)) (λ left.
-      leads_fits x wf (target (x.at + x.len) (pos k))
-      (rule.without_registers (record s' { number = s'.number - x.len }))
-      (step.without_registers (record l { memory = memory }))
-      (after_stack x b (record { a = unknown_means; b = unknown_means; c = unknown_means })) same' c left)))))
-
-  stop_fits : FitsIf x (table.operation_rule (rule_site x) operations.StopProcess s)
-      (step.operation_step (step_site x) operations.StopProcess l)
-  unfolding table.operation_rule step.operation_step
-  stop_fits =
-      in_plain_step x s a.same_mode _ _ (in_plain_rule x s a.same_mode _ _ (beside_plain_rule x s a.same_mode _ _
-      (schedules_fits x s l _ _ a same changes
-      (λ s' memory b same' c e. pays_fits x s' _ _ (omega (arith, e, n)) (λ left next. it_ends c (omega arith))))))
-
-  operation_fits : (op : Op) → FitsIf x (table.operation_rule (rule_site x) op s)
-      (step.operation_step (step_site x) op l)
-  unfolding table.operation_rule
-  operation_fits operations.Reverse = reverse_fits x s l a same changes n
-  operation_fits operations.MinimumInteger = mint_fits x s l (as_still a) same changes n
-  operation_fits operations.StopProcess = stop_fits
-  operation_fits (operations.Binary op) = binary_fits x s l a same changes n op
-  operation_fits (operations.Unary op) = unary_fits x s l a same changes n op
-  operation_fits (operations.Shift op) = shift_fits x s l a same changes n op
-  operation_fits (operations.Long op) = long_fits x s l a same changes n op
-  operation_fits operations.CheckSubscript = subscript_fits x s l a same changes n
-  operation_fits operations.CheckCount = count_fits x s l a same changes n
-  operation_fits operations.ByteSubscript = bsub_fits x s l a same changes n
-  operation_fits operations.WordSubscript = wsub_fits x s l a same changes n
-  operation_fits operations.LoadPointerToInstruction = ldpi_fits x s l a same changes n
-  operation_fits operations.LoadByte = lb_fits x s l a same changes n wf
-  operation_fits operations.StoreByte = sb_fits x s l a same changes n
-  operation_fits operations.Move = move_fits x wf s l a same changes n
-  operation_fits operations.Return = return_fits x wf s l a same changes n
-  operation_fits operations.LoopEnd =
-      lend_fits x wf s l a a.named.even (λ k t. wf.frames s.context k (and-parts _ _ t).0) same changes n
-  operation_fits _ = λ next. it_breaks
-
-  plain_fits : (i : Instruction) (e : ℤ) → FitsSigned w32 e
-      → FitsIf x (table.instruction_rule (rule_site x) i e s)
-      (step.instruction_step (step_site x) i e l)
-  unfolding table.instruction_rule step.instruction_step
-  plain_fits instructions.LoadConstant e fits = ldc_fits x s l (whole_after a) same changes n e fits
-  plain_fits instructions.LoadLocal e fits = ldl_fits x s l (as_still a) same changes n e fits
-  plain_fits instructions.StoreLocal e fits = stl_fits x s l a same changes n e fits
-  plain_fits (instructions.WithConstant op) e fits = constant_fits x s l a same changes n op e fits
-  plain_fits instructions.LoadLocalPointer e fits = pointer_fits x s l (whole_after a) same changes n e fits
-  plain_fits instructions.AdjustWorkspace e fits = adjust_fits x s l a same changes n e fits
-  plain_fits instructions.Jump e fits = j_fits e fits
-  plain_fits instructions.ConditionalJump e fits = cj_fits x s l a same changes n wf e fits
-  plain_fits instructions.LoadNonLocalPointer e fits = ldnlp_fits x s l (as_still a) same changes n e fits
-  plain_fits instructions.LoadNonLocal e fits = ldnl_fits x s l a same changes n wf e fits
-  plain_fits instructions.StoreNonLocal e fits = stnl_fits x s l a same changes n e fits
-  plain_fits instructions.Call e fits = call_fits x wf s l a same changes n e
-  plain_fits (instructions.Operate op) e fits = operation_fits op
-
--- ---- in every mode
+use Rattle.rulings.specs.Meaning.{owed, IsWellFormed}
+use Rattle.rulings.specs.Fitting.{Changes, After, Here, rule_site, step_site, it_breaks}
+use Rattle.facts.specs.RulesFit.{RulesFitSteps}
+use Rattle.rulings.proofs.Combining.{FitsIf}
+use Rattle.local_rules.specs.LocalRules.{local_rule}
+use Rattle.local_rules.proofs.LocalFits.{local_rules_fit_steps}
+use Rattle.call_rules.proofs.CallFits.{call_fits_step, return_fits_step}
 
 module _ (x : Here) (wf : IsWellFormed x.m) (s : State) (l : Local) (a : After x.m x.h x.mode x.act s l)
     (same : s.context ≡ x.context) (changes : Changes x l.memory) (n : owed s x.act ≤ x.owed) where
-  -- in an alternation
-  module _ (busy : s.mode ≡ Plain → ⊥) (b : Within AreStill x.m x.h x.mode x.act s l) where
-    guard_operation_fits : (op : Op) → FitsIf x (table.operation_rule (rule_site x) op s)
-        (step.operation_step (step_site x) op l)
-    guard_operation_fits operations.MinimumInteger = mint_fits x s l b same changes n
-    guard_operation_fits op = breaks_fit (operation_breaks (rule_site x) s busy op refl)
-
-    guard_fits : (i : Instruction) (e : ℤ) → FitsSigned w32 e → FitsIf x (table.instruction_rule (rule_site x) i e s)
-        (step.instruction_step (step_site x) i e l)
-    unfolding table.instruction_rule step.instruction_step
-    guard_fits instructions.LoadConstant e fits = ldc_fits x s l a same changes n e fits
-    guard_fits instructions.LoadLocal e fits = ldl_fits x s l b same changes n e fits
-    guard_fits instructions.LoadLocalPointer e fits = pointer_fits x s l a same changes n e fits
-    guard_fits instructions.LoadNonLocalPointer e fits = ldnlp_fits x s l b same changes n e fits
-    guard_fits (instructions.Operate op) e fits = guard_operation_fits op
-    guard_fits i e fits = breaks_fit (instruction_breaks (rule_site x) s busy i e refl)
-
-  -- among the starts of a PAR
-  module _ (starting : is_starting s.mode ≡ true) where
-    busy_starting : s.mode ≡ Plain → ⊥
-    busy_starting e = let no' : true ≡ false = sym starting ∙ ap is_starting e in cc
-
-    start_operation_fits : (op : Op) → FitsIf x (table.operation_rule (rule_site x) op s)
-        (step.operation_step (step_site x) op l)
-    start_operation_fits operations.MinimumInteger = breaks_fit (mint_breaks (rule_site x) s busy_starting starting)
-    start_operation_fits op = breaks_fit (operation_breaks (rule_site x) s busy_starting op refl)
-
-    start_fits : (i : Instruction) (e : ℤ) → FitsSigned w32 e → FitsIf x (table.instruction_rule (rule_site x) i e s)
-        (step.instruction_step (step_site x) i e l)
-    unfolding table.instruction_rule step.instruction_step
-    start_fits instructions.LoadConstant e fits = ldc_fits x s l a same changes n e fits
-    start_fits instructions.LoadLocal e fits = breaks_fit (ldl_breaks (rule_site x) s busy_starting starting e)
-    start_fits instructions.LoadLocalPointer e fits = pointer_fits x s l a same changes n e fits
-    start_fits instructions.LoadNonLocalPointer e fits =
-        breaks_fit (ldnlp_breaks (rule_site x) s busy_starting starting e)
-    start_fits (instructions.Operate op) e fits = start_operation_fits op
-    start_fits i e fits = breaks_fit (instruction_breaks (rule_site x) s busy_starting i e refl)
+  operation_fits : (op : Op) (e : ℤ) → FitsSigned w32 e → FitsIf x (table.operation_rule (rule_site x) op s)
+      (step.operation_step (step_site x) op l)
+  unfolding table.operation_rule local_rule step.instruction_step
+  operation_fits operations.Return e fits = return_fits_step x s l wf a same changes n
+  operation_fits op e fits = local_rules_fit_steps x s l (instructions.Operate op) e wf a same changes n fits
 
   instruction_fits : (i : Instruction) (e : ℤ) → FitsSigned w32 e
       → FitsIf x (table.instruction_rule (rule_site x) i e s)
       (step.instruction_step (step_site x) i e l)
-  instruction_fits i e fits = elim (which a) [
-    | in_plain_mode b ↦ plain_fits x wf s l b same changes n i e fits
-    | in_alternation busy b ↦ guard_fits busy b i e fits
-    | among_starts starting ↦ start_fits starting i e fits
-  ]
+  unfolding table.instruction_rule step.instruction_step
+  instruction_fits instructions.Call e fits = call_fits_step x s l e wf a same changes n
+  instruction_fits (instructions.Operate op) e fits = operation_fits op e fits
+  instruction_fits i e fits = local_rules_fit_steps x s l i e wf a same changes n fits
 
   option_fits : (i : Option Instruction) (e : ℤ) → FitsSigned w32 e
       → FitsIf x (table.rule_of (rule_site x) i e s) (step.step_of (step_site x) i e l)

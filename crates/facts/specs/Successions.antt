@@ -1,6 +1,6 @@
 -- What follows an instruction, in terms of its ruling.
-use Rattle.std.specs.Prelude.{◌≡◌, ◌⊎◌, ℕ, ◌+◌, ◌%◌, ◌^◌, Bool, true, false, IfSome, Result, Ok, Err}
-use Rattle.std.specs.Prelude.{Some, None, option_map, List, [], ◌∷◌, map}
+use Rattle.std.specs.Prelude.{◌≡◌, ◌⊎◌, ℕ, ◌+◌, ◌%◌, ◌^◌, Bool, true, false, IfSome, Result, Ok, Err, Some, None}
+use Rattle.std.specs.Prelude.{option_map, List, [], ◌∷◌, map}
 use Rattle.std.specs.List.{AllByRecursion}
 use Rattle.module_format.specs.Contents.{Contents, label_at}
 use Rattle.states.specs.declared.rule.Rule.{Rule}
@@ -10,7 +10,7 @@ use Rattle.states.specs.State.{State, label_state}
 use Rattle.states.specs.Views.{state_of, BelongsTo}
 use Rattle.facts.specs.declared.following.Successor.{Successor}
 use Rattle.facts.specs.declared.following.Successors.{Successors}
-use Rattle.facts.specs.Rulings.{Ruling, breaks, falling, leading}
+use Rattle.rulings.specs.Rulings.{Ruling, breaks, falling, leading}
 
 -- the fault is that of the rule that is broken
 abbrev pub Reports : RuleFault → Ruling → Type 0

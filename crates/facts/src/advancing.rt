@@ -3,13 +3,14 @@
 ghost use Rattle.std.specs.Prelude.{◌≡◌};
 ghost use Rattle.states.specs.Views.{state_of, BelongsTo};
 ghost use Rattle.facts.specs.Rules.{op_has_rule, instruction_has_rule, has_rule, rule_at};
-ghost use Rattle.facts.specs.Telling.{Advances};
+ghost use Rattle.rulings.specs.Telling.{Advances};
 
-use crate::continuation::Continuation;
-use crate::place::Place;
+use call_rules::{call, return_to_caller};
 use certificate::Module;
+use local_rules::advance_locally;
 use machine_state::{Instruction, Op};
 use prefix_decoder::Instr;
+use rulings::{Continuation, Place};
 use states::{Rule, State};
 
 fn op_has_rule(module: &Module, op: Op) -> bool
@@ -60,7 +61,7 @@ pub fn has_rule(module: &Module, instr: Instr) -> bool
 /// Takes a state over the instruction at a code offset, by the rule of that instruction, and reports how a
 /// process goes on there: a jump leads to the label at its code offset. Where the rule is broken, the state is
 /// left part of the way.
-#[tactic(auto, unfolding(crate::specs::Rules::rule, crate::specs::Rules::rule_of, crate::specs::Rules::instruction_rule))]
+#[tactic(auto, unfolding(crate::specs::Rules::rule, crate::specs::Rules::rule_of, crate::specs::Rules::instruction_rule, crate::specs::Rules::operation_rule, local_rules::specs::LocalRules::local_rule))]
 pub fn advance(
     state: &mut State,
     module: &Module,
@@ -78,18 +79,8 @@ pub fn advance(
     };
     let instruction = Instruction::of(instr.fun, instr.operand).ok_or(Rule::Spelling)?;
     match instruction {
-        Instruction::LoadConstant => place.load_constant(state, instr.operand),
-        Instruction::LoadLocal => place.load_local(state, instr.operand),
-        Instruction::StoreLocal => place.store_local(state, instr.operand),
-        Instruction::WithConstant(op) => place.with_constant(state, op, instr.operand),
-        Instruction::LoadLocalPointer => place.load_local_pointer(state, instr.operand),
-        Instruction::AdjustWorkspace => place.adjust_workspace(state, instr.operand),
-        Instruction::Jump => place.jump(state, instr.operand),
-        Instruction::ConditionalJump => place.conditional_jump(state, instr.operand),
-        Instruction::LoadNonLocalPointer => place.load_non_local_pointer(state, instr.operand),
-        Instruction::LoadNonLocal => place.load_non_local(state, instr.operand),
-        Instruction::StoreNonLocal => place.store_non_local(state, instr.operand),
-        Instruction::Call => place.call(state, instr.operand),
-        Instruction::Operate(op) => place.operate(state, op),
+        Instruction::Call => call(&place, state, instr.operand),
+        Instruction::Operate(Op::Return) => return_to_caller(&place, state),
+        _ => advance_locally(&place, state, instruction, instr.operand),
     }
 }

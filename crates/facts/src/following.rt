@@ -2,16 +2,15 @@
 
 ghost use Rattle.std.specs.Prelude.{◌≡◌, ◌+◌, [], ◌∷◌, map, IfOk, IfErr};
 ghost use Rattle.std.specs.List.{AllByRecursion};
-ghost use Rattle.module_format.specs.Contents.{Contents};
 ghost use Rattle.states.specs.Views.{state_of, BelongsTo};
 ghost use Rattle.facts.specs.Rules.{rule_at};
 ghost use Rattle.states.specs.Numbers.{out_of_memory};
 ghost use Rattle.facts.specs.Successions.{placed_at, states_at_labels, offset_behind, Succeeds, Follow};
 
 use crate::advancing::advance;
-use crate::continuation::Continuation;
 use certificate::Module;
 use prefix_decoder::Instr;
+use rulings::Continuation;
 use states::{RuleFault, State, label_rows_are_sound};
 use std::alloc::Global;
 

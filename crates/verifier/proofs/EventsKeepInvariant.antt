@@ -12,7 +12,7 @@ use Rattle.machine_state.specs.Happens.{happens}
 use Rattle.machine_state.specs.Endings.{Happened, was_at_fault, it_rests, is_outside, is_prefix, is_step, is_taken}
 use Rattle.machine_state.specs.Endings.{is_kept, is_acknowledged}
 use Rattle.machine_state.proofs.Turns.{turn_happens}
-use Rattle.facts.specs.Meaning.{IsWellFormed}
+use Rattle.rulings.specs.Meaning.{IsWellFormed}
 use Rattle.verifier.specs.Certified.{IsCertified}
 use Rattle.verifier.specs.Point.{Decodes}
 use Rattle.verifier.specs.Headline.{IsEvent}

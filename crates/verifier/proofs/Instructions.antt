@@ -1,6 +1,6 @@
 -- What a byte of the running process does: it is in the code, is a prefix, or completes an instruction.
-use Rattle.std.proofs.Common.{◌≡◌, ℕ, zero, suc, ◌+◌, ◌≤◌, ◌<◌, true, false, ℤ, inl, inr, [], ◌∷◌, ◌++◌, length, Option}
-use Rattle.std.proofs.Common.{Some, None, refl, sym, ap, ◌∙◌, subst, arith}
+use Rattle.std.proofs.Common.{◌≡◌, ℕ, zero, suc, ◌+◌, ◌≤◌, ◌<◌, true, false, ℤ, inl, inr, [], ◌∷◌, ◌++◌, length}
+use Rattle.std.proofs.Common.{Option, Some, None, refl, sym, ap, ◌∙◌, subst, arith}
 use Rattle.std.proofs.lemmas.Bool.Decides.{leb_tells}
 use Rattle.std.proofs.lemmas.Option.{slice_get_within}
 use Rattle.std.specs.Prelude.{slice_get}
@@ -20,17 +20,17 @@ use Rattle.machine_state.specs.Frame.{ChangesOwn}
 use Rattle.machine_state.specs.Moves.{counted, put, picked, dispatch}
 use Rattle.machine_state.specs.Turn.{Here, Turn, at_here, between, continued}
 use Rattle.machine_state.specs.Happens.{site_of}
-use Rattle.machine_state.specs.Endings.{Ends, at_fault, has_run, has_emitted, it_goes, it_jumps, it_is_sliced, it_lands}
-use Rattle.machine_state.specs.Endings.{it_stops, Refused, no_code_follows, local_here, IsOutsideCode, no_byte}
-use Rattle.machine_state.specs.Endings.{no_byte_follows}
-use Rattle.facts.specs.Meaning.{IsWellFormed}
+use Rattle.machine_state.specs.Endings.{Ends, at_fault, has_run, has_emitted, it_goes, it_jumps, it_is_sliced}
+use Rattle.machine_state.specs.Endings.{it_lands, it_stops, Refused, no_code_follows, local_here, IsOutsideCode}
+use Rattle.machine_state.specs.Endings.{no_byte, no_byte_follows}
+use Rattle.rulings.specs.Meaning.{IsWellFormed}
 use Rattle.verifier.specs.Certified.{IsCertified}
-use Rattle.facts.proofs.Combining.{elsewhere}
+use Rattle.rulings.proofs.Combining.{elsewhere}
 use Rattle.verifier.specs.Point.{Began, Point, MeetsPoint, Decodes}
 use Rattle.verifier.specs.Lives.{awaits, Lives, Meets, it_lives, it_stopped}
 use Rattle.machine_state.specs.declared.process.Mode.TheVariants as modes
-use Rattle.verifier.proofs.Steps.{site_in, byte_here, owes, prefixed_point, Comes, comes_on, comes_to}
-use Rattle.verifier.proofs.Steps.{comes_straight, comes_down, comes_last}
+use Rattle.verifier.proofs.Steps.{site_in, byte_here, owes, prefixed_point, Comes, comes_on, comes_to, comes_straight}
+use Rattle.verifier.proofs.Steps.{comes_down, comes_last}
 use Rattle.verifier.proofs.Tables.{AreApart, IsSound, Puts, Living, holds_put}
 
 -- ---- no fault

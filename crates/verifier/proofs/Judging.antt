@@ -16,10 +16,10 @@ use Rattle.states.specs.declared.rule.Rule.{Rule}
 use Rattle.states.specs.declared.rule.Rule.TheVariants as rules
 use Rattle.states.specs.Numbers.{number_of}
 use Rattle.states.specs.State.{State, root_state}
-use Rattle.facts.specs.Rulings.{Ruling, falls, leads, falls_or_leads, calls, starts, selects, returns, ends, breaks}
-use Rattle.facts.specs.Rulings.{falling}
+use Rattle.rulings.specs.Rulings.{Ruling, falls, leads, falls_or_leads, calls, starts, selects, returns, ends, breaks}
+use Rattle.rulings.specs.Rulings.{falling}
 use Rattle.facts.specs.Rules.{rule_at, has_rule}
-use Rattle.facts.proofs.Steps.{unruled as breaks_one}
+use Rattle.facts.proofs.Unruled.{unruled as breaks_one}
 use Rattle.verifier.specs.declared.stop.Breach.{Breach}
 use Rattle.verifier.specs.Certified.{given, state_at, entering, Reaches, begins, follows, HoldsAt, HoldsBelow}
 use Rattle.verifier.specs.Certified.{IsCertified, IsRefused, IsBroken, misspelled, unruled, hidden, unreached}

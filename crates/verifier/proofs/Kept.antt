@@ -1,7 +1,8 @@
 -- What the format and the decoder say of a module's contents, as the theorems need it.
 use Rattle.std.proofs.Common.{◌≡◌, ◌<◌, ◌≤◌, Bool, true, false, cond, if◌then◌else◌, inl, inr, pos, List, [], ◌∷◌}
-use Rattle.std.proofs.Common.{length, drop, take, Some, Result, Ok, Err, sym, ap, ◌∙◌, subst, arith}
-use Rattle.std.specs.Prelude.{find, ◌==◌}
+use Rattle.std.proofs.Common.{length, drop, take, Some, Result, Ok, Err, sym, ap, ◌∙◌, subst, arith, ℕ, ◌+◌, ◌≢◌}
+use Rattle.std.proofs.Common.{Option, None, refl, ℤ, ◌≤ℤ◌}
+use Rattle.std.specs.Prelude.{find, ◌==◌, int_le, int_lt, neg_ℤ, ◌<ℤ◌}
 use Rattle.std.proofs.lemmas.Bool.Decides.{eqb_tells}
 use Rattle.prefix_decoder.specs.declared.decoding.Instr.{Instr}
 use Rattle.prefix_decoder.specs.declared.decoding.DecodeFault.{DecodeFault}
@@ -10,7 +11,6 @@ use Rattle.std.specs.Str.{bytes_eq}
 use Rattle.prefix_decoder.specs.Spelling.{spelling}
 use Rattle.prefix_decoder.specs.Fetching.{read, checked, fetched, StandsAt}
 use Rattle.prefix_decoder.proofs.Outcomes.{fetched-found, StandsAt-length}
-use Rattle.std.proofs.Common.{ℕ, ◌+◌, ◌≢◌, Option, None, refl}
 use Rattle.std.specs.List.{AllByRecursion}
 use Rattle.certificate.specs.Starts.{Entered, procedure_from, procedure_at}
 use Rattle.module_format.specs.Contents.{Contents, Procedure, Label, label_at}
@@ -20,17 +20,15 @@ use Rattle.module_format.specs.declared.tables.Version.{Version}
 use Rattle.module_format.specs.declared.tables.Version.TheVariants as versions
 use Rattle.module_format.specs.Keeping.{max_code, Keeps}
 use Rattle.states.proofs.LabelRows.{label_row_at}
-use Rattle.facts.specs.Meaning.{IsWellFormed, farthest_word}
+use Rattle.rulings.specs.Meaning.{IsWellFormed, farthest_word}
 use Rattle.states.proofs.FrameBounds.{frame-is-small}
 use Rattle.states.proofs.Procedures.{at-row}
 use Rattle.states.proofs.RowFacts.{and-parts, le-from, lt-from}
 use Rattle.certificate.specs.Rights.{has_word}
 use Rattle.module_format.specs.declared.contexts.Context.{Context}
 use Rattle.module_format.specs.Contexts.{context_at}
-use Rattle.std.specs.Prelude.{int_le, int_lt, neg_ℤ, ◌<ℤ◌}
 use Rattle.std.proofs.lemmas.Int.{ints}
-use Rattle.std.proofs.Common.{ℤ, ◌≤ℤ◌, Option, None, refl}
-use Rattle.facts.proofs.LabelRows.{label_pairs}
+use Rattle.rulings.proofs.LabelRows.{label_pairs}
 use Rattle.verifier.specs.Point.{Decodes}
 use Rattle.verifier.proofs.Judging.{Spans}
 

@@ -1,8 +1,6 @@
 -- The root holds the ends of the links that have a length.
-use Rattle.std.proofs.Common.{◌≡◌, ℕ, zero, suc, ◌+◌, ◌-◌, ◌*◌, ◌%◌, ◌<◌, ◌≤◌, Bool, true, false}
-use Rattle.std.proofs.Common.{cond}
-use Rattle.std.proofs.Common.{if◌then◌else◌, ◌&&◌, ◌||◌, List, [], ◌∷◌, length, get_or, Option, Some, None, inl, inr}
-use Rattle.std.proofs.Common.{refl, sym, ap}
+use Rattle.std.proofs.Common.{◌≡◌, ℕ, zero, suc, ◌+◌, ◌-◌, ◌*◌, ◌%◌, ◌<◌, ◌≤◌, Bool, true, false, cond, if◌then◌else◌}
+use Rattle.std.proofs.Common.{◌&&◌, ◌||◌, List, [], ◌∷◌, length, get_or, Option, Some, None, inl, inr, refl, sym, ap}
 use Rattle.std.proofs.Common.{◌∙◌, subst, arith}
 use Rattle.std.specs.Prelude.{nat_lt, ◌==◌, slice_get}
 use Rattle.std.specs.List.{list_any}
@@ -23,9 +21,9 @@ use Rattle.machine_state.specs.declared.holding.End.{End}
 use Rattle.machine_state.specs.Holding.{has_end, same_direction}
 use Rattle.machine_state.specs.World.{link_word, link_words, output_word, link_ends_from, root_holding}
 use Rattle.states.proofs.RowFacts.{and-parts, and-both}
-use Rattle.facts.specs.Meaning.{Layout}
-use Rattle.facts.specs.Channels.{message_length}
-use Rattle.facts.specs.Regions.{channel_address}
+use Rattle.rulings.specs.Meaning.{Layout}
+use Rattle.rulings.specs.Channels.{message_length}
+use Rattle.rulings.specs.Regions.{channel_address}
 
 -- the direction of a link
 abbrev way : ℕ → Direction

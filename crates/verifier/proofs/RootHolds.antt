@@ -1,8 +1,7 @@
 -- What the root holds where a module begins: the constants, and bytes.
 use Rattle.std.proofs.Common.{◌≡◌, ℕ, zero, suc, ◌+◌, ◌-◌, ◌*◌, ◌≤◌, ◌<◌, Bool, true, false, ◌&&◌, ◌||◌, List, [], ◌∷◌}
-use Rattle.std.proofs.Common.{◌++◌}
-use Rattle.std.proofs.Common.{length, map, replicate, get_or, Option, Some, None, refl, sym, ap, ◌∙◌, arith}
-use Rattle.std.proofs.Common.{◌⊎◌, inl, inr}
+use Rattle.std.proofs.Common.{◌++◌, length, map, replicate, get_or, Option, Some, None, refl, sym, ap, ◌∙◌, arith, ◌⊎◌}
+use Rattle.std.proofs.Common.{inl, inr}
 use Rattle.std.proofs.lemmas.List.{length-append, length-map, length-replicate, get_or-append-add, get_or_append_left}
 use Rattle.std.proofs.lemmas.Bool.{le-leb}
 use Rattle.std.proofs.lemmas.Bool.Decides.{leb_tells}
@@ -13,7 +12,7 @@ use Rattle.machine_state.specs.Memory.{byte_at}
 use Rattle.machine_state.specs.Holding.{may_read, may_write}
 use Rattle.machine_state.specs.World.{constants_start, padding, loaded_memory, root_holding}
 use Rattle.states.proofs.RowFacts.{and-parts, and-both}
-use Rattle.facts.specs.Regions.{HasConstants, HasBytes}
+use Rattle.rulings.specs.Regions.{HasConstants, HasBytes}
 
 or_cases : (a b : Bool) → (a || b) ≡ true → (a ≡ true) ⊎ (b ≡ true)
 or_cases true b h = inl refl

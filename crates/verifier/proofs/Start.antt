@@ -14,19 +14,17 @@ use Rattle.module_format.specs.Contexts.{parameters_at}
 use Rattle.machine_state.specs.declared.process.Mode.TheVariants as machine_modes
 use Rattle.machine_state.specs.Memory.{data_start}
 use Rattle.machine_state.specs.Holding.{may_write, may_write_word, has_end}
-use Rattle.machine_state.specs.World.{padding, loaded_memory, root_holding, root_task, root_role}
-use Rattle.machine_state.specs.World.{Role, loaded, link_words, quiet_links}
+use Rattle.machine_state.specs.World.{padding, loaded_memory, root_holding, root_task, root_role, Role, loaded}
+use Rattle.machine_state.specs.World.{link_words, quiet_links}
 use Rattle.machine_state.specs.Site.{Local}
 use Rattle.states.specs.State.{unknown, root_state}
 use Rattle.verifier.specs.Certified.{begins, IsCertified}
-use Rattle.facts.specs.Meaning.{owed, Activation, means_unknown, nothing_known, place_in, IsOwnWord, words_in, HasFrame}
-use Rattle.facts.specs.Meaning.{frame_lo, frame_hi}
-use Rattle.facts.specs.Meaning.{from_nowhere}
-use Rattle.facts.specs.Meaning.{MeansKnown, both_plain, IsWellFormed}
+use Rattle.rulings.specs.Meaning.{owed, Activation, means_unknown, nothing_known, place_in, IsOwnWord, words_in}
+use Rattle.rulings.specs.Meaning.{HasFrame, frame_lo, frame_hi, from_nowhere, MeansKnown, both_plain, IsWellFormed}
 use Rattle.verifier.specs.Point.{Began, Behind, nobody_waits, owed_behind, Decodes}
 use Rattle.verifier.specs.Lives.{Meets, it_lives}
 use Rattle.verifier.proofs.Tables.{IsSound, AreBytes, quietly}
-use Rattle.facts.specs.Regions.{kind_used, parameter_used}
+use Rattle.rulings.specs.Regions.{kind_used, parameter_used}
 use Rattle.machine_state.specs.declared.holding.End.{End}
 use Rattle.machine_state.specs.declared.process.Task.{Task}
 use Rattle.machine_state.specs.declared.link.InputLink.{InputLink}
@@ -34,10 +32,10 @@ use Rattle.module_format.specs.declared.rows.Parameter.{Parameter}
 use Rattle.verifier.specs.Invariant.{LengthsAgree, at_link}
 use Rattle.verifier.proofs.RootHolds.{root_constants, root_bytes}
 use Rattle.verifier.proofs.RootEnds.{root_ends, root_lengths, root_differ, held_link}
-use Rattle.facts.specs.Fitting.{After}
-use Rattle.facts.proofs.Addresses.{stepped}
-use Rattle.facts.proofs.Dues.{nothing_due}
-use Rattle.facts.proofs.Combining.{readable}
+use Rattle.rulings.specs.Fitting.{After}
+use Rattle.rulings.proofs.Addresses.{stepped}
+use Rattle.rulings.proofs.Dues.{nothing_due}
+use Rattle.rulings.proofs.Combining.{readable}
 use Rattle.states.proofs.RowFacts.{and-parts, le-from, lt-from}
 use Rattle.verifier.proofs.Steps.{enter, lives_at}
 

@@ -1,8 +1,7 @@
 -- One byte of one process.
 use Rattle.std.proofs.Common.{◌≡◌, ℕ, zero, suc, ◌+◌, ◌*◌, ◌≤◌, ◌<◌, Bool, true, cond, is_some, inl, inr, ℤ, List, []}
-use Rattle.std.proofs.Common.{◌∷◌}
-use Rattle.std.proofs.Common.{length, drop, Option, Some, None, Result, Ok, Err, refl, sym, ap, ◌∙◌, subst, arith}
-use Rattle.std.proofs.Common.{add-one, pos}
+use Rattle.std.proofs.Common.{◌∷◌, length, drop, Option, Some, None, Result, Ok, Err, refl, sym, ap, ◌∙◌, subst, arith}
+use Rattle.std.proofs.Common.{add-one, pos, ◌+ℤ◌}
 use Rattle.std.proofs.lemmas.Bool.{cases_lt}
 use Rattle.std.specs.Prelude.{slice_get}
 use Rattle.prefix_decoder.specs.declared.function.Fun.{Fun}
@@ -18,9 +17,8 @@ use Rattle.machine_state.specs.declared.process.Registers.{Registers}
 use Rattle.machine_state.specs.declared.process.Task.{Task}
 use Rattle.machine_state.specs.declared.process.Condition.TheVariants.{Ready}
 use Rattle.machine_state.specs.declared.process.Mode as machine
-use Rattle.machine_state.specs.Memory.{Memory, byte_at, word_at}
+use Rattle.machine_state.specs.Memory.{Memory, byte_at, word_at, data_start}
 use Rattle.machine_state.specs.Holding.{Holding, may_read, may_read_word}
-use Rattle.machine_state.specs.Memory.{data_start}
 use Rattle.machine_state.specs.Site.{Site, Local, Outcome, goes, jumps, lands, stops}
 use Rattle.machine_state.specs.LocalStep.{local_step}
 use Rattle.machine_state.specs.Happens.{between}
@@ -29,42 +27,38 @@ use Rattle.states.specs.declared.rule.Rule.TheVariants as rules
 use Rattle.states.specs.declared.known.Known.{Known}
 use Rattle.states.specs.declared.known.Source.{Source}
 use Rattle.states.specs.declared.known.Source.TheVariants.{Nowhere, From, Test}
-use Rattle.states.specs.State.{State, Facts, label_state}
+use Rattle.states.specs.State.{State, Facts, label_state, unknown, procedure_state}
 use Rattle.states.specs.Below.{below}
-use Rattle.facts.specs.Rulings.{Ruling, breaks, falling}
+use Rattle.rulings.specs.Rulings.{Ruling, breaks, falling}
 use Rattle.facts.specs.Rules.{rule_at}
 use Rattle.verifier.specs.Certified.{state_at, Reaches, follows, IsCertified}
-use Rattle.facts.specs.Meaning.{owed, Layout, Activation, with_turns, at_label, word_at_place, frame_word}
-use Rattle.facts.specs.Meaning.{words_in}
-use Rattle.facts.specs.Meaning.{ComesFrom, from_nowhere, from_word, from_test, MeansKnown, Knows, IsWellFormed}
+use Rattle.rulings.specs.Meaning.{owed, Layout, Activation, with_turns, at_label, word_at_place, frame_word, words_in}
+use Rattle.rulings.specs.Meaning.{ComesFrom, from_nowhere, from_word, from_test, MeansKnown, Knows, IsWellFormed}
+use Rattle.rulings.specs.Meaning.{HasFrame, place_in, SameMode, both_plain, both_enabling, both_disabling}
+use Rattle.rulings.specs.Meaning.{both_starting}
 use Rattle.machine_state.specs.Frame.{ChangesOwn}
 use Rattle.verifier.specs.Point.{IsReading, Began, Behind, nobody_waits, one_waits, owed_behind, Point, BehindIn}
 use Rattle.verifier.specs.Point.{owed_at, MeetsPoint, Decodes}
 use Rattle.verifier.specs.Lives.{Lives}
-use Rattle.facts.proofs.Words.{means_same, frame_word_is}
+use Rattle.rulings.proofs.Words.{means_same, frame_word_is}
 use Rattle.states.proofs.RowFacts.{and-parts}
-use Rattle.facts.specs.Fitting.{Described, After, Here, step_site, GoesTo, goes_behind, is_jump, is_landing, Fits, it_falls}
-use Rattle.facts.specs.Fitting.{it_leads, it_calls, it_returns, it_ends, it_asks, it_breaks}
-use Rattle.facts.proofs.Combining.{same_frame, elsewhere}
+use Rattle.rulings.specs.Fitting.{Described, After, Here, step_site, GoesTo, goes_behind, is_jump, is_landing, Fits}
+use Rattle.rulings.specs.Fitting.{it_falls, it_leads, it_calls, it_returns, it_ends, it_asks, it_breaks, Caller}
+use Rattle.rulings.proofs.Combining.{same_frame, elsewhere, unknown_means}
 use Rattle.facts.proofs.Local.{function_fits}
-use Rattle.facts.proofs.Entering.{below_tells, label_after}
-use Rattle.facts.proofs.Dues.{label_owed}
-use Rattle.facts.proofs.Regions.{keeps_all, keeps_more, named_left}
-use Rattle.facts.specs.Regions.{Scope, scope_of, scope_in, scope_among, Keeps, HoldsNamed}
-use Rattle.facts.proofs.Lending.{lift}
-use Rattle.facts.proofs.Within.{within}
+use Rattle.rulings.proofs.Entering.{below_tells, label_after}
+use Rattle.rulings.proofs.Dues.{label_owed}
+use Rattle.rulings.proofs.Regions.{keeps_all, keeps_more, named_left}
+use Rattle.rulings.specs.Regions.{Scope, scope_of, scope_in, scope_among, Keeps, HoldsNamed}
+use Rattle.rulings.proofs.Lending.{lift}
+use Rattle.rulings.proofs.Within.{within}
 use Rattle.verifier.proofs.Given.{nothing_given, is_given, given_label, given_none, label_is_start, given_procedure}
 use Rattle.verifier.proofs.Given.{procedure_is_start}
-use Rattle.std.proofs.Common.{◌+ℤ◌}
 use Rattle.std.proofs.lemmas.Int.{ints}
 use Rattle.module_format.specs.Stack.{of_empty, AreRelated}
 use Rattle.machine_state.specs.declared.process.Mode.TheVariants as machine_modes
 use Rattle.states.specs.declared.known.Mode as states
 use Rattle.states.specs.declared.known.Mode.TheVariants as states_modes
-use Rattle.states.specs.State.{unknown, procedure_state}
-use Rattle.facts.specs.Meaning.{HasFrame, place_in, SameMode, both_plain, both_enabling, both_disabling, both_starting}
-use Rattle.facts.specs.Fitting.{Caller}
-use Rattle.facts.proofs.Combining.{unknown_means}
 
 same_ok : {A E : Type 0} (r : Result A E) (x y : A) → r ≡ Ok x → r ≡ Ok y → x ≡ y
 same_ok {A} {E} r x y p q = let e : ◌≡◌ {A = Result A E} (Ok x) (Ok y) = sym p ∙ q in cc

@@ -1,6 +1,6 @@
 -- What the change of one process leaves of the others, and of the invariant.
-use Rattle.std.proofs.Common.{◌≡◌, ◌≢◌, ℕ, zero, suc, ◌+◌, ◌≤◌, ◌<◌, ◌⊎◌, true, false, inl, inr, List, []}
-use Rattle.std.proofs.Common.{◌∷◌, length, Some, None, refl, sym, ap, ◌∙◌, subst, arith}
+use Rattle.std.proofs.Common.{◌≡◌, ◌≢◌, ℕ, zero, suc, ◌+◌, ◌≤◌, ◌<◌, ◌⊎◌, true, false, inl, inr, List, [], ◌∷◌, length}
+use Rattle.std.proofs.Common.{Some, None, refl, sym, ap, ◌∙◌, subst, arith}
 use Rattle.std.specs.Prelude.{slice_get, slice_set}
 use Rattle.module_format.specs.Contents.{Contents}
 use Rattle.machine_state.specs.declared.process.Task.{Task}
@@ -16,9 +16,9 @@ use Rattle.machine_state.specs.World.{World, Role, Queue, Links, held}
 use Rattle.machine_state.specs.Frame.{ChangesOwn}
 use Rattle.machine_state.specs.Moves.{picked, dispatch}
 use Rattle.machine_state.proofs.Lines.{got_set, got_other, set_either}
-use Rattle.facts.proofs.Words.{bool_cases}
-use Rattle.facts.proofs.Combining.{readable_byte}
-use Rattle.facts.specs.Regions.{scope_in}
+use Rattle.rulings.proofs.Words.{bool_cases}
+use Rattle.rulings.proofs.Combining.{readable_byte}
+use Rattle.rulings.specs.Regions.{scope_in}
 use Rattle.verifier.specs.Point.{Began, Point}
 use Rattle.verifier.specs.Lives.{awaits, message_place, IsByte, IsExchanging, Lives, Meets, it_lives, it_stopped}
 use Rattle.verifier.specs.Lives.{it_ended}

@@ -23,8 +23,8 @@ use Rattle.states.specs.declared.known.Mode as states
 use Rattle.states.specs.declared.known.Mode.TheVariants as states_modes
 use Rattle.states.specs.declared.known.WordFact.TheVariants.{Alone}
 use Rattle.states.specs.State.{State}
-use Rattle.facts.specs.Meaning.{Activation, frame_word, words_in}
-use Rattle.facts.specs.Regions.{channel_address}
+use Rattle.rulings.specs.Meaning.{Activation, frame_word, words_in}
+use Rattle.rulings.specs.Regions.{channel_address}
 
 -- the value of a guard's name
 abbrev pub guard_value : Memory → Activation → GuardName → Option ℤ

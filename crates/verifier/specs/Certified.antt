@@ -12,7 +12,7 @@ use Rattle.states.specs.declared.rule.TheConstants.{MEMORY}
 use Rattle.states.specs.Numbers.{number_of}
 use Rattle.states.specs.State.{State, root_state, label_state, procedure_state}
 use Rattle.states.specs.Below.{below}
-use Rattle.facts.specs.Rulings.{breaks, falling}
+use Rattle.rulings.specs.Rulings.{breaks, falling}
 use Rattle.facts.specs.Rules.{rule_at, has_rule}
 use Rattle.verifier.specs.declared.Refusal.{Refusal}
 

@@ -16,7 +16,7 @@ use Rattle.machine_state.specs.Holding.{Holding, has_end}
 use Rattle.machine_state.specs.Moves.{cell_of}
 use Rattle.machine_state.specs.Waiting.{IsGone}
 use Rattle.machine_state.specs.World.{World, Role, Join, held, link_word}
-use Rattle.facts.specs.Regions.{channel_address}
+use Rattle.rulings.specs.Regions.{channel_address}
 use Rattle.verifier.specs.Point.{Began}
 use Rattle.verifier.specs.Lives.{Meets, it_lives, it_stopped, it_ended}
 use Rattle.verifier.specs.Pending.{Pending, IsMember, StartsHere}

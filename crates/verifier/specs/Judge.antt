@@ -1,6 +1,6 @@
 -- The verdict on a module, found in one pass.
-use Rattle.std.specs.Prelude.{ℕ, zero, suc, ◌+◌, ◌-◌, nat_le, nat_lt, if◌then◌else◌, length, Option, Some, None, Result}
-use Rattle.std.specs.Prelude.{Ok, Err}
+use Rattle.std.specs.Prelude.{ℕ, zero, suc, ◌+◌, ◌-◌, nat_le, nat_lt, if◌then◌else◌, length, Option, Some, None}
+use Rattle.std.specs.Prelude.{Result, Ok, Err}
 use Rattle.prefix_decoder.specs.declared.decoding.Instr.{Instr}
 use Rattle.prefix_decoder.specs.declared.decoding.DecodeFault.{DecodeFault}
 use Rattle.prefix_decoder.specs.Fetching.{fetched}
@@ -10,7 +10,7 @@ use Rattle.states.specs.declared.rule.Rule.{Rule}
 use Rattle.states.specs.declared.rule.Rule.TheVariants as rules
 use Rattle.states.specs.Numbers.{number_of}
 use Rattle.states.specs.State.{State, root_state}
-use Rattle.facts.specs.Rulings.{Ruling, breaks, falling}
+use Rattle.rulings.specs.Rulings.{Ruling, breaks, falling}
 use Rattle.facts.specs.Rules.{rule_at, has_rule}
 use Rattle.verifier.specs.declared.stop.Breach.{Breach}
 use Rattle.verifier.specs.Certified.{state_at, entering}

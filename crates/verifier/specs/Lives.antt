@@ -10,7 +10,7 @@ use Rattle.machine_state.specs.declared.process.Condition.TheVariants.{Stopped, 
 use Rattle.machine_state.specs.Memory.{Memory, byte_at, place_of}
 use Rattle.machine_state.specs.Holding.{Holding, may_write, may_read}
 use Rattle.machine_state.specs.World.{input_word}
-use Rattle.facts.specs.Regions.{scope_in, HoldsNamed, Keeps}
+use Rattle.rulings.specs.Regions.{scope_in, HoldsNamed, Keeps}
 use Rattle.verifier.specs.Point.{Began, Point, MeetsPoint, owed_at}
 
 -- the address of byte j of a message

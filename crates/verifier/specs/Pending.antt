@@ -1,7 +1,7 @@
 -- What holds while branches of a PAR run: what its opener goes on with once all are joined, and what each branch began
 -- with.
-use Rattle.std.specs.Prelude.{◌≡◌, ◌⊎◌, ℕ, ◌+◌, ◌≤◌, ◌<◌, ◌%◌, ◌^◌, ℤ, pos, ◌+ℤ◌, true, false, List, length}
-use Rattle.std.specs.Prelude.{Some, slice_get}
+use Rattle.std.specs.Prelude.{◌≡◌, ◌⊎◌, ℕ, ◌+◌, ◌≤◌, ◌<◌, ◌%◌, ◌^◌, ℤ, pos, ◌+ℤ◌, true, false, List, length, Some}
+use Rattle.std.specs.Prelude.{slice_get}
 use Rattle.std.specs.Int.{w32, cast_unsigned}
 use Rattle.module_format.specs.declared.rows.EndKind.TheVariants.{FrameWord}
 use Rattle.module_format.specs.Contents.{Contents, Par, Branch, Label, label_at}
@@ -19,11 +19,11 @@ use Rattle.machine_state.specs.Waiting.{is_member}
 use Rattle.states.specs.declared.known.Mode.TheVariants.{Starting}
 use Rattle.states.specs.declared.known.WordFact.TheVariants.{Alone}
 use Rattle.states.specs.State.{entry_fact, is_alone}
-use Rattle.facts.specs.Meaning.{Activation, MeansWord, HasFrame, frame_word, place_in, words_in, word_of, dues}
-use Rattle.facts.specs.Regions.{scope_of, channel_address, HoldsNamed}
-use Rattle.facts.specs.Remaining.{is_hidden, word_given_to_write}
-use Rattle.facts.specs.Lends.{Lends}
-use Rattle.facts.specs.Fitting.{Caller}
+use Rattle.rulings.specs.Meaning.{Activation, MeansWord, HasFrame, frame_word, place_in, words_in, word_of, dues}
+use Rattle.rulings.specs.Regions.{scope_of, channel_address, HoldsNamed}
+use Rattle.rulings.specs.Remaining.{is_hidden, word_given_to_write}
+use Rattle.rulings.specs.Lends.{Lends}
+use Rattle.rulings.specs.Fitting.{Caller}
 use Rattle.verifier.specs.Point.{Began, Behind, owed_behind, Point}
 use Rattle.verifier.specs.Lives.{Meets, it_lives, it_stopped, it_ended}
 

@@ -1,6 +1,5 @@
 -- A process at a point of the code.
-use Rattle.std.specs.Prelude.{◌≡◌, ℕ, ◌+◌, ◌≤◌, ◌<◌, ⊤, ℤ, pos, FitsSigned, List, [], ◌∷◌, length, drop, Option}
-use Rattle.std.specs.Prelude.{Some}
+use Rattle.std.specs.Prelude.{◌≡◌, ℕ, ◌+◌, ◌≤◌, ◌<◌, ⊤, ℤ, pos, FitsSigned, List, [], ◌∷◌, length, drop, Option, Some}
 use Rattle.std.specs.Prelude.{Ok}
 use Rattle.std.specs.Int.{w32}
 use Rattle.prefix_decoder.specs.declared.decoding.Instr.{Instr}
@@ -13,10 +12,10 @@ use Rattle.machine_state.specs.Holding.{Holding}
 use Rattle.states.specs.declared.known.Mode.{Mode}
 use Rattle.states.specs.declared.known.Mode.TheVariants.{Starting}
 use Rattle.states.specs.State.{State}
-use Rattle.facts.specs.Meaning.{Layout, Activation, owed}
-use Rattle.facts.specs.Regions.{scope_of, Keeps}
-use Rattle.facts.specs.Lends.{Lends}
-use Rattle.facts.specs.Fitting.{After, Caller, Resumes, GoesOn}
+use Rattle.rulings.specs.Meaning.{Layout, Activation, owed}
+use Rattle.rulings.specs.Regions.{scope_of, Keeps}
+use Rattle.rulings.specs.Lends.{Lends}
+use Rattle.rulings.specs.Fitting.{After, Caller, Resumes, GoesOn}
 use Rattle.verifier.specs.Certified.{Reaches, state_at}
 
 -- The bytes from here on, with the operand so far, are the rest of the instruction that began.

@@ -1,0 +1,9 @@
+pub mod CallFits
+pub mod CallOtherModes
+pub mod CallTests
+pub mod CallsFit
+pub mod EndRuns
+pub mod OneName
+pub mod Passing
+pub mod Resuming
+pub mod Touching

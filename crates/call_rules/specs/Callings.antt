@@ -1,0 +1,92 @@
+-- A call in memory, as the call that it is, and what its changes want.
+use Rattle.std.specs.Prelude.{◌≡◌, ⊤, ℕ, Bool, ◌≤◌, ◌<◌, ◌/◌, ℤ, pos, ◌+ℤ◌, ◌≤ℤ◌, ◌<ℤ◌, true, List, [], ◌∷◌, Option}
+use Rattle.std.specs.Prelude.{Some, None, map}
+use Rattle.std.specs.List.{AllByRecursion}
+use Rattle.module_format.specs.declared.rows.EndKind.{EndKind}
+use Rattle.module_format.specs.declared.rows.Direction.{Direction}
+use Rattle.module_format.specs.declared.rows.Parameter.{Parameter}
+use Rattle.module_format.specs.Rows.{ProcedureRow}
+use Rattle.module_format.specs.Contents.{Contents, procedure_of}
+use Rattle.module_format.specs.Contexts.{context_at}
+use Rattle.certificate.specs.Rights.{has_word}
+use Rattle.certificate.specs.Starts.{Entered}
+use Rattle.states.specs.declared.state.State.{State as InState}
+use Rattle.states.specs.State.{Facts}
+use Rattle.states.specs.declared.rule.Rule.TheVariants as rules
+use Rattle.states.specs.Views.{state_of}
+use Rattle.call_rules.specs.declared.lent.Lent.{Lent}
+use Rattle.call_rules.specs.declared.calling.Calling.{Calling as InMemory}
+use Rattle.rulings.specs.Reach.{word_of_byte}
+use Rattle.call_rules.specs.declared.calling.Touched.{Touched}
+use Rattle.call_rules.specs.declared.calling.Wanted.{Wanted}
+use Rattle.call_rules.specs.declared.calling.Wanted.TheVariants as wanted
+use Rattle.call_rules.specs.declared.calling.Pairwise.{Pairwise}
+use Rattle.call_rules.specs.declared.calling.Pairwise.TheVariants as pairwise
+use Rattle.rulings.specs.Rulings.{Ruling, alone, wants}
+use Rattle.call_rules.specs.CallRules.{Calling, callee_word, lent, passes_all, may_call, frame_is_own, frame_size}
+use Rattle.call_rules.specs.CallRules.{with_lent, are_apart, numbers_fit, pointers_fit, ends_are_held, lengths_fit}
+use Rattle.call_rules.specs.CallRules.{give_other_ends}
+use Rattle.rulings.specs.Channels.{has_end_further}
+
+abbrev pub calling_of : InMemory → Calling
+calling_of c =
+    record { contents = c.place.module.now; state = state_of c.state.now; callee = procedure_of c.callee.now }
+
+-- the call of a procedure, in the state in which its parameters are read
+abbrev pub call_in : Contents → InState → ProcedureRow → Calling
+call_in m s row = record { contents = m; state = state_of s; callee = procedure_of row }
+
+-- a procedure that is entered, with its number as a context
+abbrev pub entered : ℕ → ProcedureRow → Entered
+entered context row = record { context = context; procedure = procedure_of row }
+
+-- no region that is written meets another, of two parameters
+abbrev pub are_apart_from : Calling → Parameter → Parameter → Bool
+are_apart_from c p q = are_apart (lent c p) (lent c q)
+
+-- a parameter is passed what is wanted of each
+abbrev pub fits : Wanted → Calling → Parameter → Bool
+fits wanted.Numbers = numbers_fit
+fits wanted.Pointers = pointers_fit
+fits wanted.Ends = ends_are_held
+fits wanted.Lengths = lengths_fit
+
+-- two parameters are passed what is wanted of each two
+abbrev pub fit_together : Pairwise → Calling → Parameter → Parameter → Bool
+fit_together pairwise.Apart = are_apart_from
+fit_together pairwise.OtherEnds = give_other_ends
+
+-- a context that has an end of a channel has those of the channels before it
+pub record HasAllBefore (m : Contents) (context : ℕ) (first : EndKind) : Type 0 where
+  pub each : (more n : ℕ) (direction : Direction) → n ≤ more → has_end_further m context first direction more ≡ true
+      → has_end_further m context first direction n ≡ true
+
+-- what is known of the frame behind a call to which this was lent, parameter by parameter
+abbrev pub with_each : List (Option Lent) → Facts → Facts
+with_each [] facts = facts
+with_each (lent ∷ more) facts = with_each more (with_lent lent facts)
+
+-- words that are one of a context's frame each, one at least
+pub record OwnsWords (m : Contents) (context : ℕ) (first : ℤ) (count : ℕ) : Type 0 where
+  pub some : 0 < count
+  pub each : (k : ℤ) → first ≤ℤ k → k <ℤ (first +ℤ pos count) → has_word (context_at m context) k ≡ true
+
+-- what is lent of the frame to be written are words of the context's frame
+abbrev pub OwnsLent : Contents → ℕ → Option Lent → Type 0
+OwnsLent m context None = ⊤
+OwnsLent m context (Some l) =
+    l.is_written ≡ true → l.region ≡ 0 → OwnsWords m context (word_of_byte l.first) (l.size / 4)
+
+-- the caller may call the procedure, which has this number as a context, and pass it what it passes
+abbrev pub admits : Calling → ℕ → Ruling → Ruling
+admits c context next =
+    passes_all c (alone c.state.mode (wants (may_call c.contents c.state.context context) rules.Call
+    (wants (frame_is_own c) rules.OwnWord next)))
+
+-- a call may change the callee's frame and what it lends
+pub record Touches (c : Calling) (t : Touched) : Type 0 where
+  pub first : t.first ≡ callee_word c.state c.callee.lo
+  pub count : t.count ≡ frame_size c.callee
+  pub some : 0 < t.count
+  pub lent : t.lent.items ≡ map (lent c) c.callee.parameters
+  pub own : AllByRecursion (OwnsLent c.contents c.state.context) t.lent.items

@@ -1,0 +1,3 @@
+pub mod CallFitting
+pub mod CallRules
+pub mod Callings

@@ -1,0 +1,422 @@
+//! A call, and what it wants of what is passed.
+
+ghost use Rattle.std.specs.Prelude.{◌≡◌, IfOk, true};
+ghost use Rattle.rulings.specs.Rulings.{wants};
+ghost use Rattle.call_rules.specs.CallRules.{is_near_fact};
+ghost use Rattle.rulings.specs.Telling.{Admits};
+
+use crate::calls::may_call;
+use crate::lent::{Lent, lent_to};
+use arrayvec::ArrayVec;
+use certificate::{Fact, Parameter, ParameterKind, ProcedureRow};
+use rulings::Place;
+use rulings::combinators::{alone, wants};
+use rulings::pointers::{are_near, is_near};
+use states::{Rule, State, Together, WordFact, implies};
+
+/// The most parameters that a procedure has.
+pub(crate) const MAX_LENT: usize = 64;
+
+/// A call, once what is passed is in the words below the workspace: its place, the state in which the parameters
+/// are read, and the procedure.
+#[derive(Clone, Copy)]
+pub(crate) struct Calling<'c, 'm, 'a, 's> {
+    pub place: Place<'m, 'a>,
+    pub state: &'c State<'s>,
+    pub callee: &'c ProcedureRow,
+}
+
+/// What a call may change of the caller's frame: `count` words from `first` on, which are the callee's frame, and what
+/// each parameter is lent.
+#[derive(Drop)]
+pub(crate) struct Touched {
+    pub first: i32,
+    pub count: u32,
+    pub lent: ArrayVec<Option<Lent>, MAX_LENT>,
+}
+
+/// What a call wants of each parameter.
+#[derive(Clone, Copy)]
+pub(crate) enum Wanted {
+    /// A number in its range, or numbers that suit.
+    Numbers,
+    /// A region that may be lent.
+    Pointers,
+    /// Channels whose ends the caller has.
+    Ends,
+    /// Channels that have messages of the length.
+    Lengths,
+}
+
+/// What a call wants of each two parameters.
+#[derive(Clone, Copy)]
+pub(crate) enum Pairwise {
+    /// No region that is written meets another.
+    Apart,
+    /// No end is given to both.
+    OtherEnds,
+}
+
+/// Whether a pointer that is used is near.
+fn is_near_fact(fact: WordFact) -> bool
+    ensures { result ≡ is_near_fact fact }
+{
+    match fact {
+        WordFact::Alone(Fact::Pointer { lo, hi, .. }) => are_near(i64::from(lo), i64::from(hi)),
+        _ => true,
+    }
+}
+
+impl Calling<'_, '_, '_, '_> {
+    ghost use Rattle.std.specs.Prelude.{◌≡◌, ◌≤◌, ◌/◌, ℕ, length, map, slice_get, is_some, IfSome, IfOk, Some, true};
+    ghost use Rattle.std.specs.List.{list_all};
+    ghost use Rattle.module_format.specs.Contents.{procedure_of};
+    ghost use Rattle.module_format.specs.Contexts.{parameters_at};
+    ghost use Rattle.states.specs.Rows.{LoopFits};
+    ghost use Rattle.states.specs.Views.{state_of, BelongsTo, CanWriteSpan};
+    ghost use Rattle.rulings.specs.Reach.{word_of_byte, lie_in};
+    ghost use Rattle.call_rules.specs.CallRules.{callee_word, given, lent, lent_words, numbers_suit, numbers_fit};
+    ghost use Rattle.call_rules.specs.CallRules.{is_off_callee, may_use, words_fit, may_lend, pointers_fit, each_two};
+    ghost use Rattle.call_rules.specs.CallRules.{end_of, frame_size, frame_is_own, passes_all, parameter_suits};
+    ghost use Rattle.rulings.specs.Rulings.{wants};
+    ghost use Rattle.states.specs.declared.rule.Rule.TheVariants.{OwnWord};
+    ghost use Rattle.call_rules.specs.Callings.{calling_of, admits, Touches, are_apart_from, fits, fit_together};
+    ghost use Rattle.rulings.specs.Telling.{Admits};
+
+    /// The caller's word that is a word of the callee's frame.
+    fn callee_word(&self, word: i32) -> i64
+        ensures { result ≡ callee_word (state_of self.now.state.now) word }
+    {
+        i64::from(self.state.depth) - 4 + i64::from(word)
+    }
+
+    /// What is known of the word in which a parameter is passed: A, B and C come first.
+    pub fn given(&self, parameter: &Parameter) -> WordFact
+        ensures value { result ≡ given (calling_of self.now) parameter.now }
+        ensures fits { LoopFits result }
+    {
+        match parameter.word {
+            1 => WordFact::Alone(self.state.stack.a.fact),
+            2 => WordFact::Alone(self.state.stack.b.fact),
+            3 => WordFact::Alone(self.state.stack.c.fact),
+            word => self.state.fact_of(self.callee_word(i32::from(word))),
+        }
+    }
+
+    /// What a parameter is lent.
+    pub fn lent(&self, parameter: &Parameter) -> Option<Lent>
+        ensures { result ≡ lent (calling_of self.now) parameter.now }
+    {
+        lent_to(parameter.kind, self.given(parameter))
+    }
+
+    /// What is known together of the words of the frame that are lent.
+    fn lent_words(&self, lent: Lent) -> Together
+        ensures { result ≡ lent_words (calling_of self.now) lent }
+    {
+        self.state.together(lent.first_word(), lent.word_count())
+    }
+
+    /// Whether the range of the region of a parameter of the caller suits the callee.
+    fn parameter_suits(&self, lent: Lent, number: u16) -> bool
+        ensures { let parameters = parameters_at self.now.place.module.now self.now.state.now.context in
+            result ≡ parameter_suits lent (slice_get parameters number) }
+    {
+        let context = self.state.context;
+        match self
+            .place
+            .module
+            .parameters(context)
+            .get(usize::from(number))
+        {
+            Some(parameter) => lent.suits_parameter(parameter),
+            None => true,
+        }
+    }
+
+    /// Whether the numbers that are known of what is lent suit the callee.
+    #[tactic(auto, unfolding(crate::specs::CallRules::numbers_suit))]
+    fn numbers_suit(&self, lent: Lent) -> bool
+        ensures { result ≡ numbers_suit (calling_of self.now) lent }
+    {
+        if lent.region == 0 {
+            let words = self.lent_words(lent);
+            return lent.takes(words.lo, words.hi);
+        }
+        if lent.region == 1 {
+            let range = self.place.constant_range(lent.first, lent.end());
+            return lent.takes(range.lo, range.hi);
+        }
+        self.parameter_suits(lent, lent.region - 2)
+    }
+
+    /// Whether a parameter is passed a number in its range, or what it is lent has numbers that suit.
+    #[tactic(auto, unfolding(crate::specs::CallRules::numbers_fit))]
+    fn numbers_fit(&self, parameter: &Parameter) -> bool
+        ensures { result ≡ numbers_fit (calling_of self.now) parameter.now }
+    {
+        match parameter.kind {
+            ParameterKind::Value { lo, hi } => {
+                implies(self.given(parameter).plain(), Fact::Number { lo, hi })
+            }
+            _ => match self.lent(parameter) {
+                Some(lent) => self.numbers_suit(lent),
+                None => true,
+            },
+        }
+    }
+
+    /// Whether words of the frame that are lent are none of the callee's frame.
+    fn is_off_callee(&self, lent: Lent) -> bool
+        ensures { result ≡ is_off_callee (calling_of self.now) (word_of_byte lent.first) (lent.size / 4) }
+    {
+        let first = i64::from(lent.first_word());
+        let end = first + i64::from(lent.word_count());
+        end <= self.callee_word(self.callee.lo) || self.callee_word(self.callee.hi) <= first
+    }
+
+    /// Whether the caller may use each word of the frame that has a byte of what is lent.
+    #[tactic(auto, unfolding(rulings::specs::Reach::may_write_bytes, rulings::specs::Reach::may_read_bytes))]
+    fn may_use_words(&self, lent: Lent) -> bool
+        requires { BelongsTo self.now.place.module.now self.now.state.now }
+        ensures { lent.region ≡ 0 → result ≡ may_use (calling_of self.now) lent }
+    {
+        let (first, count) = (lent.first_word(), lent.words_touched());
+        if lent.is_written {
+            self.state.writes_words(first, count)
+        } else {
+            self.state.reads_words(first, count)
+        }
+    }
+
+    /// How many bytes the caller may use so of the region, other than the frame, of what is lent.
+    #[tactic(auto, unfolding(rulings::specs::Reach::may_write_bytes, rulings::specs::Reach::may_read_bytes))]
+    fn usable_bytes(&self, lent: Lent) -> Option<u32>
+        requires { 1 ≤ lent.region }
+        ensures { lie_in result lent.first (end_of lent) ≡ may_use (calling_of self.now) lent }
+    {
+        let context = self.state.context;
+        if lent.region == 1 {
+            if lent.is_written {
+                return None;
+            }
+            return Some(self.place.module.tables().constants.len() as u32);
+        }
+        if lent.is_written {
+            self.place.writable_bytes(context, lent.region - 2)
+        } else {
+            self.place.readable_bytes(context, lent.region - 2)
+        }
+    }
+
+    /// Whether the caller may use what is lent so.
+    fn may_use(&self, lent: Lent) -> bool
+        requires { BelongsTo self.now.place.module.now self.now.state.now }
+        ensures { result ≡ may_use (calling_of self.now) lent }
+    {
+        if lent.region == 0 {
+            return self.may_use_words(lent);
+        }
+        lent.lies_in(self.usable_bytes(lent))
+    }
+
+    /// Whether words of the frame that are lent are numbers, where they are written in no loop, and none of the
+    /// callee's frame.
+    #[tactic(auto, unfolding(crate::specs::CallRules::words_fit))]
+    fn words_fit(&self, lent: Lent) -> bool
+        ensures { result ≡ words_fit (calling_of self.now) lent }
+    {
+        let words = self.lent_words(lent);
+        words.are_numbers && (!lent.is_written || words.are_alone) && self.is_off_callee(lent)
+    }
+
+    /// Whether what is lent may be used so, and is of the frame only numbers that the callee's frame does not hold.
+    #[tactic(auto, unfolding(crate::specs::CallRules::may_lend))]
+    fn may_lend(&self, lent: Lent) -> bool
+        requires { BelongsTo self.now.place.module.now self.now.state.now }
+        ensures { result ≡ may_lend (calling_of self.now) lent }
+    {
+        if !is_near(i64::from(lent.first)) || !self.may_use(lent) {
+            return false;
+        }
+        lent.region != 0 || self.words_fit(lent)
+    }
+
+    /// Whether a parameter that names a region is lent one.
+    #[tactic(auto, unfolding(crate::specs::CallRules::pointers_fit))]
+    fn pointers_fit(&self, parameter: &Parameter) -> bool
+        requires { BelongsTo self.now.place.module.now self.now.state.now }
+        ensures { result ≡ pointers_fit (calling_of self.now) parameter.now }
+    {
+        match parameter.kind {
+            ParameterKind::Value { .. } => true,
+            ParameterKind::Channels { .. } => is_near_fact(self.given(parameter)),
+            _ => match self.lent(parameter) {
+                Some(lent) => self.may_lend(lent),
+                None => false,
+            },
+        }
+    }
+
+    /// Whether no region that is written meets another, of two parameters.
+    fn are_apart(&self, one: &Parameter, other: &Parameter) -> bool
+        ensures { result ≡ are_apart_from (calling_of self.now) one.now other.now }
+    {
+        match (self.lent(one), self.lent(other)) {
+            (Some(lent), Some(other)) => !lent.clashes(other),
+            _ => true,
+        }
+    }
+
+    /// Whether a parameter is passed what is wanted.
+    fn fits(&self, wanted: Wanted, parameter: &Parameter) -> bool
+        requires { BelongsTo self.now.place.module.now self.now.state.now }
+        ensures { result ≡ fits wanted (calling_of self.now) parameter.now }
+    {
+        match wanted {
+            Wanted::Numbers => self.numbers_fit(parameter),
+            Wanted::Pointers => self.pointers_fit(parameter),
+            Wanted::Ends => self.ends_are_held(parameter),
+            Wanted::Lengths => self.lengths_fit(parameter),
+        }
+    }
+
+    fn all_fit(&self, wanted: Wanted) -> bool
+        requires { BelongsTo self.now.place.module.now self.now.state.now }
+        ensures { let call = calling_of self.now in result ≡ list_all (fits wanted call) call.callee.parameters }
+    {
+        for parameter in &self.callee.parameters {
+            if !self.fits(wanted, parameter) {
+                return false;
+            }
+        }
+        true
+    }
+
+    /// Whether two parameters are passed what is wanted.
+    fn fit_together(&self, wanted: Pairwise, one: &Parameter, other: &Parameter) -> bool
+        ensures { result ≡ fit_together wanted (calling_of self.now) one.now other.now }
+    {
+        match wanted {
+            Pairwise::Apart => self.are_apart(one, other),
+            Pairwise::OtherEnds => self.give_other_ends(one, other),
+        }
+    }
+
+    fn fits_each(&self, wanted: Pairwise, one: &Parameter, others: &[Parameter]) -> bool
+        ensures { result ≡ list_all (fit_together wanted (calling_of self.now) one.now) others.now }
+    {
+        for other in others {
+            if !self.fit_together(wanted, one, other) {
+                return false;
+            }
+        }
+        true
+    }
+
+    fn each_two_fit(&self, wanted: Pairwise) -> bool
+        ensures { let call = calling_of self.now in
+            result ≡ each_two (fit_together wanted call) call.callee.parameters }
+    {
+        let mut rest = self.callee.parameters.as_slice();
+        while let Some((first, others)) = rest.split_first() {
+            if !self.fits_each(wanted, first, others) {
+                return false;
+            }
+            rest = others;
+        }
+        true
+    }
+
+    /// What is passed suits the parameters.
+    #[tactic(auto, unfolding(crate::specs::CallRules::regions_are_apart, crate::specs::CallRules::ends_are_given))]
+    fn passes_all(&self) -> Result<(), Rule>
+        requires { BelongsTo self.now.place.module.now self.now.state.now }
+        ensures test { Admits result (passes_all (calling_of self.now)) }
+        ensures pointers { let call = calling_of self.now in
+            IfOk result (λ _. list_all (pointers_fit call) call.callee.parameters ≡ true) }
+    {
+        wants(self.all_fit(Wanted::Numbers), Rule::Number)?;
+        wants(self.all_fit(Wanted::Pointers), Rule::Pointer)?;
+        wants(self.each_two_fit(Pairwise::Apart), Rule::RegionsMeet)?;
+        let ends = self.all_fit(Wanted::Ends) && self.each_two_fit(Pairwise::OtherEnds);
+        wants(ends, Rule::Channel)?;
+        wants(self.all_fit(Wanted::Lengths), Rule::MessageLength)
+    }
+
+    /// How many words the callee's frame has.
+    fn frame_size(&self) -> u32
+        ensures { result ≡ frame_size (procedure_of self.now.callee.now) }
+    {
+        self.callee.hi.abs_diff(self.callee.lo)
+    }
+
+    /// The first word of the callee's frame, if the caller may write each word of it.
+    #[tactic(auto, unfolding(crate::specs::CallRules::frame_is_own))]
+    fn own_frame(&self) -> Option<i32>
+        requires belongs { BelongsTo self.now.place.module.now self.now.state.now }
+        requires some { 1 ≤ frame_size (procedure_of self.now.callee.now) }
+        ensures own { is_some result ≡ frame_is_own (calling_of self.now) }
+        ensures first { IfSome result (λ k. k ≡ callee_word (state_of self.now.state.now) self.now.callee.now.lo) }
+        ensures room { IfSome result (λ k. CanWriteSpan self.now.state.now k
+            (frame_size (procedure_of self.now.callee.now))) }
+    {
+        let first = self.state.writable_word(self.callee_word(self.callee.lo))?;
+        if !self.state.writes_words(first, self.frame_size()) {
+            return None;
+        }
+        Some(first)
+    }
+
+    /// The caller may write each word of the callee's frame: the first of them.
+    #[tactic(auto, unfolding(rulings::specs::Rulings::wants))]
+    fn owns_frame(&self) -> Result<i32, Rule>
+        requires belongs { BelongsTo self.now.place.module.now self.now.state.now }
+        requires some { 1 ≤ frame_size (procedure_of self.now.callee.now) }
+        ensures test { Admits result (wants (frame_is_own (calling_of self.now)) OwnWord) }
+        ensures first { IfOk result (λ k. k ≡ callee_word (state_of self.now.state.now) self.now.callee.now.lo) }
+        ensures room { IfOk result (λ k. CanWriteSpan self.now.state.now k
+            (frame_size (procedure_of self.now.callee.now))) }
+    {
+        match self.own_frame() {
+            Some(first) => Ok(first),
+            None => Err(Rule::OwnWord),
+        }
+    }
+
+    /// What each parameter is lent.
+    fn all_lent(&self) -> ArrayVec<Option<Lent>, MAX_LENT>
+        requires { length self.now.callee.now.parameters.items ≤ 64 }
+        ensures { let call = calling_of self.now in result.items ≡ map (lent call) call.callee.parameters }
+    {
+        let mut all = ArrayVec::new();
+        for parameter in &self.callee.parameters {
+            all.push(self.lent(parameter));
+        }
+        all
+    }
+
+    /// The caller may call the procedure, which has this number as a context, and pass it what it passes. Returned is
+    /// what the call may change.
+    pub fn touched(&self, context: u32) -> Result<Touched, Rule>
+        requires belongs { BelongsTo self.now.place.module.now self.now.state.now }
+        requires row { let procedure = procedure_of self.now.callee.now in
+            (p : ℕ) × (slice_get self.now.place.module.now.procedures p ≡ Some procedure) }
+        ensures test { Admits result (admits (calling_of self.now) context) }
+        ensures touched { IfOk result (Touches (calling_of self.now)) }
+        ensures room { IfOk result (λ t. CanWriteSpan self.now.state.now t.first t.count) }
+    {
+        self.passes_all()?;
+        alone(self.state.mode)?;
+        wants(
+            may_call(&self.place, self.state.context, context),
+            Rule::Call,
+        )?;
+        let first = self.owns_frame()?;
+        Ok(Touched {
+            first,
+            count: self.frame_size(),
+            lent: self.all_lent(),
+        })
+    }
+}

@@ -1,0 +1,140 @@
+//! What a call wants of the channels that it passes.
+
+use crate::calling::Calling;
+use certificate::{Direction, EndKind, Ends, Parameter, ParameterKind};
+use rulings::channels::{are_disjoint, channel_of, channels_meet, has_direction};
+
+impl Calling<'_, '_, '_, '_> {
+    ghost use Rattle.std.specs.Prelude.{◌≡◌, true};
+    ghost use Rattle.module_format.specs.Keeping.{Keeps};
+    ghost use Rattle.rulings.specs.Channels.{further, has_end_further, has_length_further};
+    ghost use Rattle.call_rules.specs.CallRules.{all_below, holds_ends, ends_are_held, lengths_fit, give_other_ends};
+    ghost use Rattle.call_rules.specs.Callings.{calling_of, HasAllBefore};
+
+    /// Whether the caller has the ends of a channel if it has those of one behind it: of the channels of its own
+    /// parameters.
+    fn has_all_before(&self, first: EndKind) -> bool
+        ensures { result ≡ true → HasAllBefore self.now.place.module.now self.now.state.now.context first }
+    {
+        match first {
+            EndKind::Parameter { .. } => self.place.module.branch(self.state.context).is_none(),
+            _ => false,
+        }
+    }
+
+    /// Whether the caller has the ends, in a direction, of so many channels from the first one on. Where it has
+    /// those before the last if it has that of the last, this alone is looked up; else the first one that it does not
+    /// have ends it.
+    fn has_ends(&self, first: EndKind, count: u32, direction: Direction) -> bool
+        requires { Keeps self.now.place.module.now }
+        ensures { let has = has_end_further self.now.place.module.now self.now.state.now.context first direction in
+            result ≡ all_below count has }
+    {
+        let start = if self.has_all_before(first) {
+            count.saturating_sub(1)
+        } else {
+            0
+        };
+        for n in start..count {
+            if !self.place.has_end(self.state.context, first, n, direction) {
+                return false;
+            }
+        }
+        true
+    }
+
+    /// Whether the caller has the ends of so many channels from the first one on.
+    fn holds_ends(&self, first: EndKind, count: u32, ends: Ends) -> bool
+        requires { Keeps self.now.place.module.now }
+        ensures { let context = self.now.state.now.context in
+            result ≡ holds_ends self.now.place.module.now context first count ends.0 }
+    {
+        (!has_direction(ends, Direction::In) || self.has_ends(first, count, Direction::In))
+            && (!has_direction(ends, Direction::Out) || self.has_ends(first, count, Direction::Out))
+    }
+
+    /// Whether a parameter that brings channels is passed some whose ends the caller has.
+    #[tactic(auto, unfolding(crate::specs::CallRules::ends_are_held))]
+    pub fn ends_are_held(&self, parameter: &Parameter) -> bool
+        requires { Keeps self.now.place.module.now }
+        ensures { result ≡ ends_are_held (calling_of self.now) parameter.now }
+    {
+        let ParameterKind::Channels { count, ends, .. } = parameter.kind else {
+            return true;
+        };
+        match channel_of(self.given(parameter)) {
+            Some(first) => self.holds_ends(first, count, ends),
+            None => false,
+        }
+    }
+
+    /// Whether no end is given to both parameters.
+    #[tactic(auto, unfolding(crate::specs::CallRules::give_other_ends))]
+    pub fn give_other_ends(&self, one: &Parameter, other: &Parameter) -> bool
+        ensures { result ≡ give_other_ends (calling_of self.now) one.now other.now }
+    {
+        let ParameterKind::Channels { count, ends, .. } = one.kind else {
+            return true;
+        };
+        let ParameterKind::Channels {
+            count: more,
+            ends: others,
+            ..
+        } = other.kind
+        else {
+            return true;
+        };
+        match (channel_of(self.given(one)), channel_of(self.given(other))) {
+            (Some(first), Some(other)) => {
+                are_disjoint(ends, others) || !channels_meet(first, count, other, more)
+            }
+            _ => true,
+        }
+    }
+
+    /// Whether the channel so many further has messages of this length.
+    fn has_length(&self, first: EndKind, n: u32, length: u32) -> bool
+        requires { Keeps self.now.place.module.now }
+        ensures { let has = has_length_further self.now.place.module.now self.now.state.now.context first length in
+            result ≡ has n }
+    {
+        match self.place.message_length(self.state.context, first, n) {
+            Some(found) => found == length,
+            None => false,
+        }
+    }
+
+    /// Whether so many channels from the first one on have messages of this length. Those of one parameter have
+    /// messages of one length; else the first one that has another length ends it.
+    fn have_length(&self, first: EndKind, count: u32, length: u32) -> bool
+        requires { Keeps self.now.place.module.now }
+        ensures { let has = has_length_further self.now.place.module.now self.now.state.now.context first length in
+            result ≡ all_below count has }
+    {
+        let end = match first {
+            EndKind::Parameter { .. } => count.min(1),
+            _ => count,
+        };
+        for n in 0..end {
+            if !self.has_length(first, n, length) {
+                return false;
+            }
+        }
+        true
+    }
+
+    /// Whether the channels that a parameter is passed have messages of the length that it wants.
+    #[tactic(auto, unfolding(crate::specs::CallRules::lengths_fit))]
+    pub fn lengths_fit(&self, parameter: &Parameter) -> bool
+        requires { Keeps self.now.place.module.now }
+        ensures { result ≡ lengths_fit (calling_of self.now) parameter.now }
+    {
+        let ParameterKind::Channels { count, length, .. } = parameter.kind else {
+            return true;
+        };
+        match channel_of(self.given(parameter)) {
+            Some(first) => self.have_length(first, count, length),
+            None => true,
+        }
+    }
+}

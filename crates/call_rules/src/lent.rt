@@ -1,0 +1,161 @@
+//! Regions that a call lends to a procedure.
+
+ghost use Rattle.std.specs.Prelude.{◌≡◌, ◌/◌, Some, int_lt};
+ghost use Rattle.module_format.specs.declared.fact.Fact.TheVariants.{Number};
+ghost use Rattle.states.specs.declared.span.Leaving.TheVariants.{Become};
+ghost use Rattle.states.specs.Below.{lies_within};
+ghost use Rattle.rulings.specs.Reach.{word_of_byte, words_touched, lie_in};
+ghost use Rattle.call_rules.specs.CallRules.{end_of, lent_from, lent_to, suits, parameter_suits, clash};
+
+use certificate::{Fact, Parameter, ParameterKind, Step};
+use rulings::reach::{word_of_byte, word_of_offset};
+use states::{Leaving, WordFact};
+
+/// Bytes of a region that a parameter names: `size` of them, from the offset `first` on. The procedure wants each
+/// word of them to be a number from `lo` to `hi`.
+#[derive(Clone, Copy)]
+pub(crate) struct Lent {
+    pub region: u16,
+    pub first: i32,
+    pub size: u32,
+    pub lo: i32,
+    pub hi: i32,
+    pub is_written: bool,
+}
+
+impl Lent {
+    /// Where the bytes end, which is not included.
+    pub fn end(self) -> i64
+        ensures { result ≡ end_of self }
+    {
+        i64::from(self.first) + i64::from(self.size)
+    }
+
+    /// The word of the frame in which the first of the bytes lies.
+    pub fn first_word(self) -> i32
+        ensures { result ≡ word_of_byte self.first }
+    {
+        word_of_byte(self.first)
+    }
+
+    /// How many words the bytes are.
+    pub fn word_count(self) -> u32
+        ensures { result ≡ self.size / 4 }
+    {
+        self.size / 4
+    }
+
+    /// How many words of the frame have one of the bytes.
+    pub fn words_touched(self) -> u32
+        ensures { result ≡ words_touched self.first (end_of self) }
+    {
+        let last = word_of_offset(self.end() - 1);
+        last.abs_diff(i64::from(self.first_word())) as u32 + 1
+    }
+
+    /// Whether the bytes lie in so many.
+    pub fn lies_in(self, size: Option<u32>) -> bool
+        ensures { result ≡ lie_in size self.first (end_of self) }
+    {
+        match size {
+            Some(size) => 0 <= self.first && self.end() <= i64::from(size),
+            None => false,
+        }
+    }
+
+    /// Whether the numbers from `low` to `high` are among those that the procedure wants.
+    pub fn takes(self, low: i32, high: i32) -> bool
+        ensures { result ≡ lies_within low high self.lo self.hi }
+    {
+        self.lo <= low && high <= self.hi
+    }
+
+    /// Whether the range of a region's words suits the procedure: where it reads, it lies within the one that it
+    /// wants, and where it writes, it is the same.
+    fn suits(self, low: i32, high: i32) -> bool
+        ensures { result ≡ suits self low high }
+    {
+        if self.is_written {
+            low == self.lo && high == self.hi
+        } else {
+            self.takes(low, high)
+        }
+    }
+
+    /// Whether the range of a parameter's region suits the procedure.
+    pub fn suits_parameter(self, parameter: &Parameter) -> bool
+        ensures { result ≡ parameter_suits self (Some parameter.now) }
+    {
+        match parameter.kind {
+            ParameterKind::ReadRegion { lo, hi, .. } => self.suits(lo, hi),
+            ParameterKind::WrittenRegion { lo, hi, .. } => self.suits(lo, hi),
+            _ => true,
+        }
+    }
+
+    /// What is left of a word that the procedure may have written.
+    pub fn leaving(self) -> Leaving
+        ensures { result ≡ Become (Number self.lo self.hi) }
+    {
+        Leaving::Become(Fact::Number {
+            lo: self.lo,
+            hi: self.hi,
+        })
+    }
+
+    /// Whether the bytes begin before the other's end.
+    fn begins_before_end(self, other: Lent) -> bool
+        ensures { result ≡ int_lt self.first (end_of other) }
+    {
+        i64::from(self.first) < other.end()
+    }
+
+    /// Whether the two have bytes in common that one of them may write.
+    pub fn clashes(self, other: Lent) -> bool
+        ensures { result ≡ clash self other }
+    {
+        if !self.is_written && !other.is_written {
+            return false;
+        }
+        if self.region != other.region {
+            return false;
+        }
+        self.begins_before_end(other) && other.begins_before_end(self)
+    }
+}
+
+/// What an exact pointer to a word lends.
+#[tactic(auto, unfolding(crate::specs::CallRules::lent_from))]
+fn lent_from(size: u32, lo: i32, hi: i32, is_written: bool, fact: WordFact) -> Option<Lent>
+    ensures { result ≡ lent_from size lo hi is_written fact }
+{
+    match fact {
+        WordFact::Alone(
+            Fact::Pointer {
+                region,
+                lo: low,
+                hi: high,
+                step: Step::Word,
+            },
+        ) if low == high => Some(Lent {
+            region,
+            first: low,
+            size,
+            lo,
+            hi,
+            is_written,
+        }),
+        _ => None,
+    }
+}
+
+/// What a parameter of this kind is lent, in whose word this is passed.
+pub(crate) fn lent_to(kind: ParameterKind, fact: WordFact) -> Option<Lent>
+    ensures { result ≡ lent_to kind fact }
+{
+    match kind {
+        ParameterKind::ReadRegion { size, lo, hi } => lent_from(size, lo, hi, false, fact),
+        ParameterKind::WrittenRegion { size, lo, hi } => lent_from(size, lo, hi, true, fact),
+        _ => None,
+    }
+}

@@ -1,7 +1,0 @@
-use Rattle.std.proofs.Common.{◌≡◌, ℕ, ◌≤◌, ◌<◌, true}
-use Rattle.facts.specs.Callings.{has_end_further}
-use Rattle.facts.proofs.calling.Calling.has_ends.Given as goal
-
-abbrev pub invariant-loop-n : goal.invariant-loop-n
-invariant-loop-n l = (i : ℕ) → l.start ≤ i → i < l.n
-    → has_end_further l.self.place.module.now l.self.state.now.context l.first l.direction i ≡ true

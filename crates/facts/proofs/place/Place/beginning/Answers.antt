@@ -1,8 +1,0 @@
-use Rattle.module_format.specs.Contents.{label_of}
-use Rattle.facts.proofs.place.Place.beginning.Goals as goal
-
-pub returns-clause-apart : goal.returns-clause-apart
-returns-clause-apart c =
-    let e = c.in_ok-label_at.ensures in
-    (c.label_rows_are_sound.ensures.at_offsets c.args.self.now.module.now c.target-to.result (label_of c.in_ok-label_at.field-0.now) c.requires
-    e).apart

@@ -1,8 +1,0 @@
-use Rattle.std.proofs.Common.{arith}
-use Rattle.std.proofs.lemmas.Int.{ints}
-use Rattle.facts.proofs.Told.{near_told}
-use Rattle.facts.proofs.pointers.further.Goals as goal
-
-pub returns : goal.returns
-returns c =
-    near_told c.near_fact.result _ _ _ _ _ _ (omega (arith, ints)) (omega (arith, ints)) c.near_fact.ensures

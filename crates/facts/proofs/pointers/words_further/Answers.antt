@@ -1,7 +1,0 @@
-use Rattle.std.proofs.Common.{arith}
-use Rattle.std.proofs.lemmas.Int.{ints}
-use Rattle.facts.proofs.Told.{shifted_told}
-use Rattle.facts.proofs.pointers.words_further.Goals as goal
-
-pub returns : goal.returns
-returns c = shifted_told c.shifted.result c.args.fact _ _ (omega (arith, ints)) c.shifted.ensures

@@ -1,0 +1,15 @@
+pub mod Blocks
+pub mod LocalFits
+pub mod LocalOtherModes
+pub mod LocalSteps
+pub mod LoopsFit
+pub mod MemoryFits
+pub mod MovesFit
+pub mod Narrowed
+pub mod NarrowedWords
+pub mod Results
+pub mod RulesTold
+pub mod Sources
+pub mod Turning
+pub mod WordsFit
+pub mod WritesFit

@@ -1,0 +1,689 @@
+-- Bytes that are moved: where they lie, and what is left of what is known.
+use Rattle.std.proofs.Common.{◌≡◌, ℕ, zero, suc, ◌+◌, ◌-◌, ◌*◌, ◌/◌, ◌%◌, ◌≤◌, ◌<◌, ◌==◌, ℤ, pos, negsuc, ◌+ℤ◌, ◌-ℤ◌}
+use Rattle.std.proofs.Common.{◌*ℤ◌, ◌≤ℤ◌, ◌<ℤ◌, Bool, true, false, cond, length, Option, Some, None, refl, sym, ap}
+use Rattle.std.proofs.Common.{◌∙◌, subst, arith, ◌⊎◌, inl, inr}
+use Rattle.std.proofs.lemmas.Bool.{cases_lt, eqb-true}
+use Rattle.std.proofs.lemmas.Int.{ints}
+use Rattle.std.specs.Prelude.{int_le, int_lt}
+use Rattle.std.specs.Option.{option_map}
+use Rattle.module_format.specs.Rows.{Fact}
+use Rattle.module_format.specs.declared.fact.Fact.TheVariants.{Unknown, Number}
+use Rattle.module_format.specs.declared.rows.Parameter.{Parameter}
+use Rattle.module_format.specs.declared.rows.ParameterKind.{ParameterKind}
+use Rattle.module_format.specs.declared.rows.ParameterKind.TheVariants.{Value, ReadRegion, WrittenRegion, Channels}
+use Rattle.module_format.specs.Order.{least_word, greatest_word}
+use Rattle.module_format.specs.Contents.{Contents}
+use Rattle.certificate.specs.Rights.{may_write_word as context_writes, may_read_word as context_reads}
+use Rattle.machine_state.specs.declared.process.Mode as machine
+use Rattle.machine_state.specs.Memory.{Memory, byte_at, word_at, with_byte, place_of}
+use Rattle.machine_state.specs.Holding.{Holding, may_read, may_write}
+use Rattle.machine_state.specs.World.{constants_start}
+use Rattle.machine_state.specs.Spans.{all_places}
+use Rattle.machine_state.specs.LocalStep.{copied}
+use Rattle.machine_state.specs.Site.{Local}
+use Rattle.machine_state.proofs.Copying.{copied-none, copied-more, copied-beside}
+use Rattle.machine_state.proofs.Reading.{length-with_byte, byte_at-with_byte, word_at_same}
+use Rattle.states.specs.declared.span.Leaving.TheVariants.{Become}
+use Rattle.states.specs.State.{State}
+use Rattle.states.specs.Spans.{is_in_span, on_span, after_change}
+use Rattle.states.specs.Below.{lies_within}
+use Rattle.states.proofs.RowFacts.{and-both, and-parts, le-from, lt-from}
+use Rattle.states.proofs.SpanFacts.{in-span}
+use Rattle.rulings.specs.Meaning.{Layout, Activation, Means, says_nothing, place_in, frame_word, words_in, IsOwnWord}
+use Rattle.rulings.specs.Meaning.{IsWellFormed}
+use Rattle.rulings.specs.Regions.{parameter_used, Scope, scope_of, IsByteOf, IsRegion, IsNamed, IsWrittenAt, IsNamedAt}
+use Rattle.rulings.specs.Regions.{Keeps}
+use Rattle.rulings.specs.Reach.{word_of_byte, words_touched, all_touched, lie_in, may_read_bytes, may_write_bytes}
+use Rattle.rulings.specs.Reach.{readable_bytes, readable_size, writable_bytes, parameter_range, kept_range}
+use Rattle.rulings.specs.Pointers.{byte_read, stored_byte, is_full}
+use Rattle.rulings.specs.Filling.{word_behind, words_within}
+use Rattle.rulings.proofs.Within.{Within, ArePlain}
+use Rattle.rulings.proofs.Words.{frame_word_is, Follows}
+use Rattle.rulings.proofs.Regions.{frame_keeps, keeps_all, keeps_more, may_too, byte_of_own, bytes_read}
+use Rattle.rulings.proofs.ReadThrough.{readable_found}
+use Rattle.rulings.proofs.Reaching.{region_place, natural, word_of_byte_low, word_of_byte_high, touched_span}
+use Rattle.rulings.proofs.Reaching.{touched_passes, lies_inside}
+use Rattle.rulings.proofs.Through.{ByteThrough, byte_through}
+use Rattle.rulings.proofs.WriteThrough.{byte_left, number_wider, FrameWord, frame_written, after_followed}
+use Rattle.rulings.proofs.WriteThrough.{after_beside, Writable, writable_found, number_within, AltersRegion}
+use Rattle.rulings.proofs.WriteThrough.{region_keeps, word_beside, number_byte, number_of_bytes, byte_written}
+use Rattle.rulings.proofs.Combining.{written_readable}
+
+-- ---- blocks of bytes
+
+-- each of n places from one on passes a test
+pub all_held : (test : ℕ → Bool) (place n : ℕ) → ((i : ℕ) → i < n → test (place + i) ≡ true)
+    → all_places test place n ≡ true
+unfolding all_places
+all_held test place zero each = refl
+all_held test place (suc n) each =
+    and-both (test place) (all_places test (place + 1) n)
+    (ap test (let e : place ≡ place + 0 = omega arith in e) ∙ each 0 (omega arith))
+    (all_held test (place + 1) n (λ i less.
+    ap test (let e : place + 1 + i ≡ place + suc i = omega arith in e) ∙ each (suc i) (omega arith)))
+
+-- a block is as long as before
+pub length-copied : (from : Memory) (source to n : ℕ) (m : Memory) → length (copied from source to n m) ≡ length m
+unfolding copied
+length-copied from source to zero m = refl
+length-copied from source to (suc n) m =
+    length-copied from (source + 1) (to + 1) n (with_byte m to (byte_at from source))
+    ∙ length-with_byte m to (byte_at from source)
+
+-- the bytes of a block are those that were copied
+pub copied-inside : (from : Memory) (source to n : ℕ) (m : Memory) (i : ℕ) → i < n → to + n ≤ length m
+    → byte_at (copied from source to n m) (to + i) ≡ byte_at from (source + i)
+unfolding copied
+copied-inside from source to zero m i less inside = absurd (omega arith)
+copied-inside from source to (suc n) m zero less inside =
+    copied-beside from (source + 1) (to + 1) n (with_byte m to (byte_at from source)) (to + 0) (inl (omega arith))
+    ∙ (ap (byte_at (with_byte m to (byte_at from source))) (let e : to + 0 ≡ to = omega arith in e)
+    ∙ (byte_at-with_byte m to (byte_at from source) (omega arith)
+    ∙ ap (byte_at from) (let e : source ≡ source + 0 = omega arith in e)))
+copied-inside from source to (suc n) m (suc i) less inside =
+    let long = length-with_byte m to (byte_at from source) in
+    ap (byte_at (copied from (source + 1) (to + 1) n (with_byte m to (byte_at from source))))
+    (let e : to + suc i ≡ to + 1 + i = omega arith in e)
+    ∙ (copied-inside from (source + 1) (to + 1) n (with_byte m to (byte_at from source)) i (omega arith)
+    (omega (arith, long))
+    ∙ ap (byte_at from) (let e : source + 1 + i ≡ source + suc i = omega arith in e))
+
+-- ---- bytes that are read
+
+-- So many bytes of a region from an offset on, each of which may be read, and what is known of each.
+pub record Source (m : Contents) (h : Holding) (layout : Layout) (memory : Memory) (start offset : ℤ) (n : ℕ)
+    (said : Fact) : Type 0 where
+  pub place : ℕ
+  pub is : pos place ≡ start +ℤ offset
+  pub small : place < 4294967296
+  pub held : (i : ℕ) → i < n → may_read h (place + i) ≡ true
+  pub means : (i : ℕ) → i < n → Means m layout said (option_map pos (byte_at memory (place + i)))
+
+module _ {m : Contents} {h : Holding} {mode : machine.Mode} {act : Activation} {s : State} {l : Local}
+    (wf : IsWellFormed m) (a : Within ArePlain m h mode act s l) (region : ℕ) (lo : ℤ) (n : ℕ) (some : 0 < n)
+    (may : may_read_bytes m s.context region lo (lo +ℤ pos n) ≡ true) where
+  abbrev said : Fact
+  said = byte_read s region lo (lo +ℤ pos n -ℤ pos 1)
+
+  one : (i : ℕ) → i < n → ByteThrough m h act.layout l.memory (region_place m act.layout region) (lo +ℤ pos i) said
+  one i less =
+      byte_through wf a lo (lo +ℤ pos n -ℤ pos 1) (lo +ℤ pos i) (omega (arith, ints)) (omega (arith, ints)) region
+      (ap (may_read_bytes m s.context region lo)
+      (let e : lo +ℤ pos n -ℤ pos 1 +ℤ pos 1 ≡ lo +ℤ pos n = omega (arith, ints) in e) ∙ may)
+
+  pub source_read : Source m h act.layout l.memory (region_place m act.layout region) lo n said
+  source_read =
+      let first = one 0 some in
+      let is = first.is in
+      record {
+        place = first.place;
+        is = omega (arith, ints);
+        small = first.small;
+        held = λ i less. ap (may_read h) (sym (there i less)) ∙ (one i less).held;
+        means = λ i less. subst (λ (p : ℕ). Means m act.layout said (option_map pos (byte_at l.memory p)))
+            (there i less)
+            (one i less).means;
+      }
+    where
+      there : (i : ℕ) (less : i < n) → (one i less).place ≡ (one 0 some).place + i
+      there i less =
+          let is = (one i less).is in
+          let first = (one 0 some).is in
+          omega (arith, ints)
+
+-- ---- where bytes lie
+
+-- the byte at a place is one that may be read through a region
+pub data IsReadAt (m : Contents) (context : ℕ) (layout : Layout) (region place : ℕ) : Type 0 where
+  read_in_frame : (k : ℤ) → region ≡ 0 → context_reads m context k ≡ true → IsByteOf layout.origin k place
+      → IsReadAt m context layout region place
+  read_in_constants : (i : ℕ) → i < length m.constants → place ≡ constants_start m + i
+      → IsReadAt m context layout region place
+  read_in_parameter : (j : ℕ) (p : Parameter) → region ≡ j + 2 → parameter_used m context j ≡ Some p
+      → IsNamedAt p.kind (layout.starts j) place → IsReadAt m context layout region place
+
+-- it is one that may be written
+pub data IsWrittenIn (m : Contents) (context : ℕ) (layout : Layout) (region place : ℕ) : Type 0 where
+  written_in_frame : (k : ℤ) → region ≡ 0 → context_writes m context k ≡ true → IsByteOf layout.origin k place
+      → IsWrittenIn m context layout region place
+  written_in_parameter : (j : ℕ) (p : Parameter) → region ≡ j + 2 → parameter_used m context j ≡ Some p
+      → IsWrittenAt p.kind (layout.starts j) place → IsWrittenIn m context layout region place
+
+-- the number of the parameter that a region is
+parameter_of : (region : ℕ) → (region == 0) ≡ false → (region == 1) ≡ false → region ≡ region - 2 + 2
+parameter_of zero e f = absurd (cc)
+parameter_of (suc zero) e f = absurd (cc)
+parameter_of (suc (suc j)) e f = omega arith
+
+-- bytes that a region has so many of are some that its parameter names
+named_at : (kind : ParameterKind) (size start place : ℕ) → readable_size kind ≡ Some size → place_of start ≤ place
+    → place < place_of start + size → IsNamedAt kind start place
+named_at (Value lo hi) size start place e low high = absurd (cc)
+named_at (ReadRegion bytes lo hi) size start place e low high = let same : bytes ≡ size = cc in (low, omega arith)
+named_at (WrittenRegion bytes lo hi) size start place e low high = let same : bytes ≡ size = cc in (low, omega arith)
+named_at (Channels count len ends) size start place e low high = absurd (cc)
+
+module _ (m : Contents) (context : ℕ) (layout : Layout) (region : ℕ) (lo : ℤ) (n i place : ℕ) (less : i < n)
+    (is : pos place ≡ region_place m layout region +ℤ lo +ℤ pos i) where
+  pub read_at : may_read_bytes m context region lo (lo +ℤ pos n) ≡ true → IsReadAt m context layout region place
+  unfolding may_read_bytes
+  read_at may = on (region == 0) (region == 1) refl refl may is
+    where
+      on : (frame constants : Bool) → (region == 0) ≡ frame → (region == 1) ≡ constants
+          → cond frame (all_touched (context_reads m context) lo (lo +ℤ pos n))
+          (lie_in (cond constants (Some (length m.constants)) (readable_bytes m context (region - 2))) lo (lo +ℤ pos n))
+          ≡ true
+          → pos place
+          ≡ cond frame layout.origin (cond constants (pos (constants_start m))
+          (pos (place_of (layout.starts (region - 2)))))
+          +ℤ lo +ℤ pos i
+          → IsReadAt m context layout region place
+      on true constants e f may is =
+          let k = word_of_byte (lo +ℤ pos i) in
+          let from = word_of_byte_low (lo +ℤ pos i) in
+          let to = word_of_byte_high (lo +ℤ pos i) in
+          read_in_frame k (eqb-true region 0 e)
+          (touched_passes (context_reads m context) lo (lo +ℤ pos n) k may (omega (arith, ints)) (omega (arith, ints)))
+          (record { low = omega (arith, ints); high = omega (arith, ints) })
+      on false true e f may is =
+          let inside = lies_inside (Some (length m.constants)) lo (lo +ℤ pos n) may in
+          let same : length m.constants ≡ inside.0 = cc in
+          let from = inside.2 in
+          let to = inside.3 in
+          let q = natural (lo +ℤ pos i) (omega (arith, ints)) in
+          let q_is = q.1 in
+          read_in_constants q.0 (omega (arith, ints)) (omega (arith, ints))
+      on false false e f may is =
+          let inside = lies_inside (readable_bytes m context (region - 2)) lo (lo +ℤ pos n) may in
+          let from = inside.2 in
+          let to = inside.3 in
+          let r = readable_found m context (region - 2) inside.0 inside.1 in
+          read_in_parameter (region - 2) r.parameter (parameter_of region e f) r.found
+          (named_at r.parameter.kind inside.0 (layout.starts (region - 2)) place r.has (omega (arith, ints))
+          (omega (arith, ints)))
+
+  pub written_at : may_write_bytes m context region lo (lo +ℤ pos n) ≡ true → IsWrittenIn m context layout region place
+  unfolding may_write_bytes
+  written_at may = on (region == 0) (region == 1) refl refl may is
+    where
+      on : (frame constants : Bool) → (region == 0) ≡ frame → (region == 1) ≡ constants
+          → cond frame (all_touched (context_writes m context) lo (lo +ℤ pos n))
+          (lie_in (cond constants None (writable_bytes m context (region - 2))) lo (lo +ℤ pos n)) ≡ true
+          → pos place
+          ≡ cond frame layout.origin (cond constants (pos (constants_start m))
+          (pos (place_of (layout.starts (region - 2)))))
+          +ℤ lo +ℤ pos i
+          → IsWrittenIn m context layout region place
+      on true constants e f may is =
+          let k = word_of_byte (lo +ℤ pos i) in
+          let from = word_of_byte_low (lo +ℤ pos i) in
+          let to = word_of_byte_high (lo +ℤ pos i) in
+          written_in_frame k (eqb-true region 0 e)
+          (touched_passes (context_writes m context) lo (lo +ℤ pos n) k may (omega (arith, ints)) (omega (arith, ints)))
+          (record { low = omega (arith, ints); high = omega (arith, ints) })
+      on false true e f may is = absurd (cc)
+      on false false e f may is =
+          let inside = lies_inside (writable_bytes m context (region - 2)) lo (lo +ℤ pos n) may in
+          let from = inside.2 in
+          let to = inside.3 in
+          let r = writable_found m context (region - 2) inside.0 inside.1 in
+          written_in_parameter (region - 2) r.parameter (parameter_of region e f) r.found
+          (subst (λ (kind : ParameterKind). IsWrittenAt kind (layout.starts (region - 2)) place) (sym r.is)
+          (omega (arith, ints), omega (arith, ints)))
+
+-- ---- bytes of different regions
+
+module _ (m : Contents) (h : Holding) (scope : Scope) (memory : Memory) (place : ℕ) where
+  -- what is written is named
+  named_too : (kind : ParameterKind) (start : ℕ) → IsWrittenAt kind start place → IsNamedAt kind start place
+  named_too (Value lo hi) start at = at
+  named_too (ReadRegion size lo hi) start at = absurd at
+  named_too (WrittenRegion size lo hi) start at = at
+  named_too (Channels count len ends) start at = at
+
+  in_region : {may_use : ℕ → Bool} {start size : ℕ} {lo hi : ℤ}
+      → IsRegion m may_use scope memory start size lo hi → (k : ℤ)
+      → scope.words.reads k ≡ true → IsByteOf scope.layout.origin k place → start ≤ place → place < start + size → ⊥
+  in_region {may_use} {start} r k counts b low high =
+      r.beside k (place - start) counts (omega arith)
+      (subst (λ (q : ℕ). IsByteOf scope.layout.origin k q)
+      (let e : place ≡ start + (place - start) = omega arith in e) b)
+
+  -- what is named is no byte of a word of the frame that counts
+  named_beside : (kind : ParameterKind) (start : ℕ) → IsNamed m h scope memory kind start → IsNamedAt kind start place
+      → (k : ℤ) → scope.words.reads k ≡ true → IsByteOf scope.layout.origin k place → ⊥
+  named_beside (Value lo hi) start named at k counts b = at
+  named_beside (ReadRegion size lo hi) start named at k counts b = in_region named k counts b at.0 at.1
+  named_beside (WrittenRegion size lo hi) start named at k counts b = in_region named k counts b at.0 at.1
+  named_beside (Channels count len ends) start named at k counts b = at
+
+  -- what is written may be written
+  written_mine : (kind : ParameterKind) (start : ℕ) → IsNamed m h scope memory kind start → IsWrittenAt kind start place
+      → may_write h place ≡ true
+  written_mine (Value lo hi) start named at = absurd at
+  written_mine (ReadRegion size lo hi) start named at = absurd at
+  written_mine (WrittenRegion size lo hi) start named at =
+      let low = at.0 in
+      let high = at.1 in
+      ap (may_write h) (let e : place ≡ place_of start + (place - place_of start) = omega arith in e)
+      ∙ named.held (place - place_of start) (omega arith)
+  written_mine (Channels count len ends) start named at = absurd at
+
+module _ {m : Contents} {h : Holding} {mode : machine.Mode} {act : Activation} {s : State} {l : Local}
+    (a : Within ArePlain m h mode act s l) (from to place : ℕ) (differ : from ≡ to → ⊥) where
+  abbrev scope : Scope
+  scope = scope_of m s.context act.layout
+
+  -- what may be written lies before the constants
+  before_constants : may_write h place ≡ true → (i : ℕ) → place ≡ constants_start m + i → ⊥
+  before_constants mine i is = let low = a.named.constants.behind place mine in omega (arith, ints)
+
+  frame_mine : (k : ℤ) → context_writes m s.context k ≡ true → IsByteOf act.layout.origin k place
+      → may_write h place ≡ true
+  frame_mine k may b = byte_of_own h (length l.memory) act.layout.origin k place (a.frame.own k may) b
+
+  -- a byte of one region is none of another that is written
+  pub regions_apart : IsReadAt m s.context act.layout from place → IsWrittenIn m s.context act.layout to place → ⊥
+  regions_apart (read_in_frame k z counts b) (written_in_frame j y may c) = differ (z ∙ sym y)
+  regions_apart (read_in_frame k z counts b) (written_in_parameter j p is found at) =
+      named_beside m h scope l.memory place p.kind (act.layout.starts j) (a.named.each j p found)
+      (named_too m h scope l.memory place p.kind (act.layout.starts j) at) k counts b
+  regions_apart (read_in_constants i less is) (written_in_frame k y may c) = before_constants (frame_mine k may c) i is
+  regions_apart (read_in_constants i less is) (written_in_parameter j p e found at) =
+      before_constants (written_mine m h scope l.memory place p.kind (act.layout.starts j) (a.named.each j p found) at)
+      i is
+  regions_apart (read_in_parameter j p is found at) (written_in_frame k y may c) =
+      named_beside m h scope l.memory place p.kind (act.layout.starts j) (a.named.each j p found) at k
+      (written_readable m s.context k may) c
+  regions_apart (read_in_parameter j p is found at) (written_in_parameter k q e there written) =
+      a.named.apart k j q p there found
+      (λ same. differ (is ∙ (ap (λ (x : ℕ). x + 2) (sym same) ∙ sym e))) place written at
+
+-- ---- words all of whose bytes come
+
+within_ends : (first end k : ℤ) → word_behind first ≤ℤ k → k <ℤ (word_behind first +ℤ pos (words_within first end))
+    → k <ℤ word_of_byte end
+within_ends first end k low high = on (word_of_byte end -ℤ word_behind first) refl high
+  where
+    on : (d : ℤ) → word_of_byte end -ℤ word_behind first ≡ d
+        → k <ℤ (word_behind first +ℤ pos (elim d as (λ d. ℕ) [ pos n ↦ n | negsuc n ↦ 0 ])) → k <ℤ word_of_byte end
+    on (pos n) e high = omega (arith, ints)
+    on (negsuc n) e high = absurd (omega (arith, ints))
+
+-- each of them has some of the bytes
+pub within_touched : (first end k : ℤ) → word_behind first ≤ℤ k
+    → k <ℤ (word_behind first +ℤ pos (words_within first end))
+    → (word_of_byte first ≤ℤ k) × (k <ℤ (word_of_byte first +ℤ pos (words_touched first end)))
+within_touched first end k low high =
+    let less = within_ends first end k low high in
+    let from = word_of_byte_high (first +ℤ pos 3) in
+    let to = word_of_byte_low end in
+    touched_span first end k (omega (arith, ints)) (omega (arith, ints))
+
+-- so where what is told of them is told otherwise
+pub within_told : (first end w x y b z k : ℤ) (n : ℕ) → w ≡ first → b ≡ word_behind w → x ≡ first → y ≡ end
+    → n ≡ words_within x y → z ≡ b → z ≤ℤ k → k <ℤ (z +ℤ pos n)
+    → (word_of_byte first ≤ℤ k) × (k <ℤ (word_of_byte first +ℤ pos (words_touched first end)))
+within_told first end w x y b z k n w_is b_is x_is y_is n_is z_is low high =
+    let from : z ≡ word_behind first = z_is ∙ (b_is ∙ ap word_behind w_is) in
+    let count : n ≡ words_within first end =
+    n_is ∙ (ap (λ (v : ℤ). words_within v y) x_is ∙ ap (words_within first) y_is) in
+    within_touched first end k (omega (arith, ints)) (omega (arith, ints))
+
+-- ---- what is left
+
+-- each of the bytes is defined
+abbrev pub AreDefined : Memory → ℕ → ℕ → Type 0
+AreDefined memory place n = (i : ℕ) → i < n → (b : ℕ) × (byte_at memory (place + i) ≡ Some b)
+
+-- So many bytes are moved to a place, from where a region starts by an offset, and what is known then.
+pub record Moved {m : Contents} {h : Holding} {mode : machine.Mode} {act : Activation} {s : State} {l : Local}
+    (a : Within ArePlain m h mode act s l) (source : ℕ) (start offset : ℤ) (n : ℕ) (left : State) : Type 0 where
+  pub place : ℕ
+  pub is : pos place ≡ start +ℤ offset
+  pub small : place < 4294967296
+  pub own : (i : ℕ) → i < n → may_write h (place + i) ≡ true
+  pub after : Within ArePlain m h mode act left (record l { memory = copied l.memory source place n l.memory })
+  pub keeps : Keeps m h (scope_of m s.context act.layout) l.memory (copied l.memory source place n l.memory)
+
+module _ {m : Contents} {h : Holding} {mode : machine.Mode} {act : Activation} {s : State} {l : Local}
+    (a : Within ArePlain m h mode act s l) (source n : ℕ) (some : 0 < n) (held : (i : ℕ) → i < n → may_read h (source + i) ≡ true)
+    (lo : ℤ) where
+  abbrev all : Scope
+  all = scope_of m s.context act.layout
+
+  -- what is moved are bytes
+  byte_low : (i : ℕ) → i < n → (c : ℕ) → byte_at l.memory (source + i) ≡ Some c → c < 256
+  byte_low i less c e = a.named.bytes.each (source + i) c (held i less) e
+
+  module _ (to : ℕ) (fits : to + n ≤ length l.memory) where
+    abbrev new : Memory
+    new = copied l.memory source to n l.memory
+
+    -- a byte is one of those that come, or stays
+    comes_or_stays : (place : ℕ)
+        → ((i : ℕ) × (i < n) × (place ≡ to + i) × (byte_at new place ≡ byte_at l.memory (source + i)))
+        ⊎ (((place < to) ⊎ (to + n ≤ place)) × (byte_at new place ≡ byte_at l.memory place))
+    comes_or_stays place = elim (cases_lt place to) [
+      | inl low ↦ inr (inl low, copied-beside l.memory source to n l.memory place (inl low))
+      | inr from ↦ elim (cases_lt place (to + n)) [
+        | inr behind ↦ inr (inr behind, copied-beside l.memory source to n l.memory place (inr behind))
+        | inl inside ↦
+            let is : place ≡ to + (place - to) = omega arith in
+            let less : place - to < n = omega arith in
+            inl (
+              place - to,
+              less,
+              is,
+              ap (byte_at new) is ∙ copied-inside l.memory source to n l.memory (place - to) less fits,
+            )
+      ]
+    ]
+
+    -- a word all of whose bytes come, or are there
+    word_comes : AreDefined l.memory source n → (place : ℕ)
+        → ((t : ℕ) → t < 4 → ((place + t < to) ⊎ (to + n ≤ place + t))
+        → (b : ℕ) × (byte_at l.memory (place + t) ≡ Some b) × (b < 256))
+        → Means m act.layout (Number least_word greatest_word) (word_at new place)
+    word_comes defined place other = number_of_bytes new place (λ t less. elim (comes_or_stays (place + t)) [
+      | inl come ↦
+          let byte = defined come.0 come.1 in (byte.0, come.3 ∙ byte.1, byte_low come.0 come.1 byte.0 byte.1)
+      | inr stays ↦ let byte = other t less stays.0 in (byte.0, stays.1 ∙ byte.1, byte.2)
+    ])
+
+    -- a word of which no byte comes
+    word_stays : (place : ℕ) → ((t : ℕ) → t < 4 → (place + t < to) ⊎ (to + n ≤ place + t))
+        → word_at new place ≡ word_at l.memory place
+    word_stays place out =
+        sym (word_at_same l.memory new place (same 0 (omega arith) place (omega arith))
+        (same 1 (omega arith) (place + 1) refl)
+        (same 2 (omega arith) (place + 2) refl) (same 3 (omega arith) (place + 3) refl))
+      where
+        same : (t : ℕ) → t < 4 → (p : ℕ) → p ≡ place + t → byte_at l.memory p ≡ byte_at new p
+        same t less p is =
+            sym (copied-beside l.memory source to n l.memory p
+            (subst (λ (q : ℕ). (q < to) ⊎ (to + n ≤ q)) (sym is) (out t less)))
+
+  -- ---- in the frame
+
+  module _ (may : all_touched (context_writes m s.context) lo (lo +ℤ pos n) ≡ true) where
+    word : (i : ℕ) → i < n
+        → FrameWord m h s.context (length l.memory) act.layout.origin lo (lo +ℤ pos n) (lo +ℤ pos i)
+    word i less = frame_written a lo (lo +ℤ pos n) (lo +ℤ pos i) (omega (arith, ints)) (omega (arith, ints)) may
+
+    -- where the first byte goes
+    target : (to : ℕ) × (pos to ≡ act.layout.origin +ℤ lo) × (to < 4294967296) × (to + n ≤ length l.memory)
+    target =
+        let w = word 0 some in
+        let own = w.own in
+        let is = own.is in
+        let low = w.low in
+        let high = w.high in
+        let q = natural (lo -ℤ pos 4 *ℤ w.word) (omega (arith, ints)) in
+        let q_is = q.1 in
+        let q_low : q.0 < 4 = omega (arith, ints) in
+        let last = word (n - 1) (omega arith) in
+        let last_own = last.own in
+        let last_is = last_own.is in
+        let last_low = last.low in
+        let last_high = last.high in
+        let inside = own.inside in
+        let last_inside = last_own.inside in
+        let small = a.frame.small in
+        let some_is = some in
+        let shift : pos (n - 1) ≡ pos n -ℤ pos 1 = omega (arith, ints) in
+        (own.place + q.0, omega (arith, ints), omega arith, omega (arith, ints))
+
+    abbrev to : ℕ
+    to = target.0
+
+    abbrev after_it : Memory
+    after_it = copied l.memory source to n l.memory
+
+    byte_in : (i : ℕ) (less : i < n) → IsByteOf act.layout.origin (word i less).word (to + i)
+    byte_in i less =
+        let at = target.1 in
+        let w = word i less in
+        let low = w.low in
+        let high = w.high in
+        record { low = omega (arith, ints); high = omega (arith, ints) }
+
+    frame_own : (i : ℕ) → i < n → may_write h (to + i) ≡ true
+    frame_own i less =
+        byte_of_own h (length l.memory) act.layout.origin (word i less).word (to + i) (word i less).own (byte_in i less)
+
+    -- one byte after another is written
+    frame_kept : (k : ℕ) → k ≤ n → Keeps m h all l.memory (copied l.memory source to k l.memory)
+    frame_kept zero few =
+        subst (λ (x : Memory). Keeps m h all l.memory x) (sym (copied-none l.memory source to l.memory)) keeps_all
+    frame_kept (suc k) few =
+        let so_far = frame_kept k (omega arith) in
+        let w = word k (omega arith) in
+        let before = copied l.memory source to k l.memory in
+        let byte = byte_at l.memory (source + k) in
+        keeps_more so_far (subst (λ (x : Memory). Keeps m h all before x)
+        (sym (copied-more l.memory source to k l.memory))
+        (frame_keeps m h all w.word before (with_byte before (to + k) byte) w.may
+        (written_readable m s.context w.word w.may)
+        (subst (λ (size : ℕ). IsOwnWord h size act.layout.origin w.word) (sym so_far.size) w.own)
+        (byte_written act.layout.origin w.word before (to + k) byte (byte_in k (omega arith))
+        (byte_low k (omega arith)))))
+
+    abbrev first : ℤ
+    first = word_of_byte lo
+
+    abbrev count : ℕ
+    count = words_touched lo (lo +ℤ pos n)
+
+    -- a byte of a word that is not touched
+    outside : (k : ℤ) (place : ℕ) → pos place ≡ place_in act.layout.origin k
+        → is_in_span first count k ≡ false → (t : ℕ)
+        → t < 4 → (place + t < to) ⊎ (to + n ≤ place + t)
+    outside k place is out t less = elim (cases_lt (place + t) to) [
+      | inl low ↦ inl low
+      | inr from ↦ elim (cases_lt (place + t) (to + n)) [
+        | inr behind ↦ inr behind
+        | inl inside ↦
+            let at = target.1 in
+            let span = touched_span lo (lo +ℤ pos n) k (omega (arith, ints)) (omega (arith, ints)) in
+            let no : true ≡ false = sym (in-span first count k span.0 span.1) ∙ out in
+            absurd (cc)
+      ]
+    ]
+
+    kept : (k : ℤ) → context_reads m s.context k ≡ true → is_in_span first count k ≡ false
+        → frame_word after_it act.layout.origin k ≡ frame_word l.memory act.layout.origin k
+    kept k counts out =
+        let w = a.frame.readable k counts in
+        frame_word_is after_it act.layout.origin k w.place w.is
+        ∙ (word_stays to target.3 w.place (outside k w.place w.is out)
+        ∙ sym (frame_word_is l.memory act.layout.origin k w.place w.is))
+
+    -- ---- bytes of which nothing is known
+
+    pub unknown_into_frame : Moved a source act.layout.origin lo n
+        (after_change (on_span first count (Become Unknown)) s)
+    unknown_into_frame = record {
+      place = to;
+      is = target.1;
+      small = target.2;
+      own = frame_own;
+      after = after_followed a (on_span first count (Become Unknown)) after_it
+          (record { touched = λ k said counts e means. says_nothing; kept = kept }) (frame_kept n (omega arith));
+      keeps = frame_kept n (omega arith);
+    }
+
+    -- ---- bytes of numbers
+
+    module _ (defined : AreDefined l.memory source n) where
+      -- a word that was a number
+      mixed : (k : ℤ) (low high : ℤ) → context_reads m s.context k ≡ true
+          → Means m act.layout (Number low high) (frame_word l.memory act.layout.origin k)
+          → Means m act.layout (Number least_word greatest_word) (frame_word after_it act.layout.origin k)
+      mixed k low high counts means =
+          let w = a.frame.readable k counts in
+          subst (λ (v : Option ℤ). Means m act.layout (Number least_word greatest_word) v)
+          (sym (frame_word_is after_it act.layout.origin k w.place w.is))
+          (word_comes to target.3 defined w.place (λ t less out.
+          let byte = number_byte l.memory w.place t less
+          (subst (λ (v : Option ℤ). Means m act.layout (Number low high) v)
+          (frame_word_is l.memory act.layout.origin k w.place w.is) means) in
+          (byte.0, byte.1, a.named.bytes.each (w.place + t) byte.0 (bytes_read h w.place w.readable t less) byte.1)))
+
+      -- a word all of whose bytes come
+      whole : (k : ℤ) → context_reads m s.context k ≡ true → word_behind lo ≤ℤ k
+          → k <ℤ (word_behind lo +ℤ pos (words_within lo (lo +ℤ pos n)))
+          → Means m act.layout (Number least_word greatest_word) (frame_word after_it act.layout.origin k)
+      whole k counts low high =
+          let w = a.frame.readable k counts in
+          let is = w.is in
+          let at = target.1 in
+          let from = word_of_byte_high (lo +ℤ pos 3) in
+          let end = word_of_byte_low (lo +ℤ pos n) in
+          let within = within_ends lo (lo +ℤ pos n) k low high in
+          subst (λ (v : Option ℤ). Means m act.layout (Number least_word greatest_word) v)
+          (sym (frame_word_is after_it act.layout.origin k w.place w.is))
+          (word_comes to target.3 defined w.place
+          (λ t less out. absurd (inside w.place t less is at from end low within out)))
+        where
+          inside : (place t : ℕ) → t < 4 → pos place ≡ place_in act.layout.origin k → pos to ≡ act.layout.origin +ℤ lo
+              → (lo +ℤ pos 3) <ℤ (pos 4 *ℤ word_behind lo +ℤ pos 4)
+              → (pos 4 *ℤ word_of_byte (lo +ℤ pos n)) ≤ℤ (lo +ℤ pos n)
+              → word_behind lo ≤ℤ k → k <ℤ word_of_byte (lo +ℤ pos n)
+              → (place + t < to) ⊎ (to + n ≤ place + t) → ⊥
+          inside place t less is at from end low high (inl before) = omega (arith, ints)
+          inside place t less is at from end low high (inr behind) = omega (arith, ints)
+
+      numbers_follow : Follows m (words_in m s.context).reads act.layout (on_span first count stored_byte) l.memory after_it
+      numbers_follow = record {
+        touched = λ k said counts e means. byte_left m act.layout said _ _
+            (λ low high known. mixed k low high counts known) means;
+        kept = kept;
+      }
+
+      after_numbers : Within ArePlain m h mode act (after_change (on_span first count stored_byte) s)
+          (record l { memory = after_it })
+      after_numbers = after_followed a (on_span first count stored_byte) after_it numbers_follow
+          (frame_kept n (omega arith))
+
+      moved_numbers : (left : State) → Within ArePlain m h mode act left (record l { memory = after_it })
+          → Moved a source act.layout.origin lo n left
+      moved_numbers left after = record {
+        place = to;
+        is = target.1;
+        small = target.2;
+        own = frame_own;
+        after = after;
+        keeps = frame_kept n (omega arith);
+      }
+
+      -- some words have all their bytes among them, or none has
+      pub numbers_into_frame : (some_within : Bool)
+          → Moved a source act.layout.origin lo n
+          (cond some_within (after_change (on_span (word_behind lo) (words_within lo (lo +ℤ pos n))
+          (Become (Number least_word greatest_word))) (after_change (on_span first count stored_byte) s))
+          (after_change (on_span first count stored_byte) s))
+      unfolding after_change
+      numbers_into_frame false = moved_numbers _ after_numbers
+      numbers_into_frame true =
+          moved_numbers _ (after_followed after_numbers
+          (on_span (word_behind lo) (words_within lo (lo +ℤ pos n)) (Become (Number least_word greatest_word))) after_it
+          (record {
+            touched = λ k said counts e means.
+                let both = and-parts (int_le (word_behind lo) k)
+                (int_lt k (word_behind lo +ℤ pos (words_within lo (lo +ℤ pos n)))) e in
+                whole k counts (le-from (word_behind lo) k both.0)
+                (lt-from k (word_behind lo +ℤ pos (words_within lo (lo +ℤ pos n))) both.1);
+            kept = λ k counts e. refl;
+          }) keeps_all)
+
+  -- ---- in a region that a parameter names
+
+  module _ (defined : AreDefined l.memory source n) (j : ℕ) where
+    of_region : (size : ℕ) (r : Writable m s.context j size) (q : ℕ) → lo ≡ pos q → q + n ≤ size
+        → is_full (parameter_range m s.context j) ≡ true
+        → Moved a source (pos (place_of (act.layout.starts j))) lo n s
+    of_region size r q is fits t =
+        let length_small = a.frame.small in
+        let inside = in_memory in
+        let keeps = region_keeps m h all l.memory moved a.named j r.parameter r.found size r.lo r.hi r.is
+        (start + q) n alters in
+        record {
+          place = start + q;
+          is = omega (arith, ints);
+          small = omega arith;
+          own = λ i less. ap (may_write h) (let e : start + q + i ≡ start + (q + i) = omega arith in e)
+              ∙ region.held (q + i) (omega arith);
+          after = after_beside a moved (λ k counts.
+              let w = a.frame.readable k counts in
+              word_beside m h all l.memory moved a.named j r.parameter r.found size r.lo r.hi r.is
+              (start + q) n alters k w.place
+              counts w.is) keeps;
+          keeps = keeps;
+        }
+      where
+        start : ℕ
+        start = place_of (act.layout.starts j)
+
+        moved : Memory
+        moved = copied l.memory source (start + q) n l.memory
+
+        region : IsRegion m (may_write h) all l.memory start size r.lo r.hi
+        region = subst (λ (kind : ParameterKind). IsNamed m h all l.memory kind (act.layout.starts j)) r.is
+            (a.named.each j r.parameter r.found)
+
+        -- the word in which the last of the bytes lies
+        in_memory : start + q + n ≤ length l.memory
+        in_memory =
+            let whole : size % 4 ≡ 0 = eqb-true (size % 4) 0 region.whole in
+            let low = number_within l.memory (start + 4 * ((q + n - 1) / 4))
+            (region.numbers ((q + n - 1) / 4) (omega (arith, whole, fits, some))) in
+            omega (arith, low, some)
+
+        range_is : parameter_range m s.context j ≡ record { lo = r.lo; hi = r.hi }
+        range_is = r.range ∙ ap kept_range r.is
+
+        wide : lies_within least_word greatest_word r.lo r.hi ≡ true
+        wide = ap is_full (sym range_is) ∙ t
+
+        number : (i : ℕ) → 4 * i + 4 ≤ size → Means m act.layout (Number r.lo r.hi) (word_at moved (start + 4 * i))
+        number i within =
+            let both = and-parts (int_le r.lo least_word) (int_le greatest_word r.hi) wide in
+            number_wider m act.layout r.lo r.hi _ (le-from r.lo least_word both.0) (le-from greatest_word r.hi both.1)
+            (word_comes (start + q) in_memory defined (start + 4 * i) (λ k less out.
+            let byte = number_byte l.memory (start + 4 * i) k less (region.numbers i within) in (
+              byte.0,
+              byte.1,
+              a.named.bytes.each (start + 4 * i + k) byte.0 (may_too h (start + 4 * i + k)
+                  (ap (may_write h) (let e : start + 4 * i + k ≡ start + (4 * i + k) = omega arith in e)
+                  ∙ region.held (4 * i + k) (omega arith))) byte.1,
+            )))
+
+        alters : AltersRegion m h all start size r.lo r.hi (start + q) n l.memory moved
+        alters = record {
+          long = length-copied l.memory source (start + q) n l.memory;
+          first = omega arith;
+          last = omega arith;
+          kept = λ place. elim (comes_or_stays (start + q) in_memory place) [
+            | inl come ↦
+                let less = come.1 in
+                let at = come.2 in
+                inr (record { low = omega arith; high = omega arith })
+            | inr stays ↦ inl stays.1
+          ];
+          small = λ place b found. elim (comes_or_stays (start + q) in_memory place) [
+            | inl come ↦ inl (byte_low come.0 come.1 b (sym come.3 ∙ found))
+            | inr stays ↦ inr (sym stays.1 ∙ found)
+          ];
+          numbers = number;
+        }
+
+    pub numbers_into_parameter : lie_in (writable_bytes m s.context j) lo (lo +ℤ pos n) ≡ true
+        → is_full (parameter_range m s.context j) ≡ true → Moved a source (pos (place_of (act.layout.starts j))) lo n s
+    numbers_into_parameter inside t =
+        let f = lies_inside (writable_bytes m s.context j) lo (lo +ℤ pos n) inside in
+        let from = f.2 in
+        let to = f.3 in
+        let q = natural lo (omega (arith, ints)) in
+        let is = q.1 in
+        of_region f.0 (writable_found m s.context j f.0 f.1) q.0 is (omega (arith, ints)) t

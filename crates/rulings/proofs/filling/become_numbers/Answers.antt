@@ -1,0 +1,16 @@
+use Rattle.std.proofs.Common.{arith, to_z, of_z}
+use Rattle.std.proofs.lemmas.Int.{ints}
+use Rattle.std.specs.Int.{w32}
+use Rattle.rulings.proofs.Moving.{within_told}
+use Rattle.rulings.proofs.filling.become_numbers.Goals as goal
+
+pub change_span-requires-clause-room : goal.change_span-requires-clause-room
+change_span-requires-clause-room c = record {
+  each = λ k low high.
+      let span = within_told c.args.pointer.lo c.args.end (to_z w32 (of_z w32 c.args.pointer.lo))
+      (to_z w32 (of_z w32 c.args.pointer.lo)) (to_z w32 (of_z w32 c.args.end)) c.word_behind.result
+      (to_z w32 (of_z w32 c.word_behind.result)) k c.words_within-count.result
+      (omega (arith, ints)) c.word_behind.ensures
+      (omega (arith, ints)) (omega (arith, ints)) c.words_within-count.ensures (omega (arith, ints)) low high in
+      (c.requires.room c.if-pointer-eq0.true).each k span.0 span.1;
+}

@@ -1,0 +1,135 @@
+-- When the rule of an instruction and its step fit each other: where the rule is not broken, the step is no fault, it
+-- changes own bytes only, and what the rule says of the state after it holds.
+use Rattle.std.specs.Prelude.{◌≡◌, ℕ, ◌+◌, ◌*◌, ◌≤◌, ◌<◌, ℤ, pos, ◌+ℤ◌, true, [], ◌∷◌, length, Some, None}
+use Rattle.module_format.specs.Contents.{Contents, Label, label_at}
+use Rattle.module_format.specs.Stack.{of_empty}
+use Rattle.certificate.specs.Starts.{Entered, procedure_at}
+use Rattle.machine_state.specs.declared.process.Mode as machine
+use Rattle.machine_state.specs.declared.process.Mode.TheVariants as machine_modes
+use Rattle.machine_state.specs.Memory.{Memory, data_start}
+use Rattle.machine_state.specs.Holding.{Holding}
+use Rattle.machine_state.specs.Frame.{ChangesOwn}
+use Rattle.machine_state.specs.Site as steps
+use Rattle.machine_state.specs.Site.{Outcome, goes, jumps, lands, stops, Local}
+use Rattle.states.specs.declared.rule.Rule.{Rule}
+use Rattle.states.specs.declared.known.Mode.TheVariants.{Plain}
+use Rattle.states.specs.State.{State, unknown, label_state, procedure_state}
+use Rattle.rulings.specs.Regions.{Scope, scope_of, scope_in, HoldsNamed, Keeps}
+use Rattle.rulings.specs.Lends.{Lends}
+use Rattle.rulings.specs.Rulings as rule
+use Rattle.rulings.specs.Rulings.{Ruling, calls, returns, ends, breaks, falling, leading}
+use Rattle.rulings.specs.Meaning.{Layout, Activation, MeansWord, frame_word, place_in, with_turns, words_in, HasFrame}
+use Rattle.rulings.specs.Meaning.{Knows, owed, SameMode}
+
+-- The frame is there, what a state says is so, and the process holds what a scope has.
+pub record Described (m : Contents) (h : Holding) (mode : machine.Mode) (act : Activation) (s : State) (l : Local)
+    (scope : Scope) : Type 0 where
+  pub frame : HasFrame h (length l.memory) scope.words act.layout.origin s.depth l.registers.workspace
+  pub knows : Knows m scope.words.reads act s.stack s.frame l.registers.stack l.memory
+  pub named : HoldsNamed m h scope l.memory
+  pub same_mode : SameMode s.mode mode
+
+-- what holds after an instruction, of all that the activation has in its mode
+abbrev pub After : Contents → Holding → machine.Mode → Activation → State → Local → Type 0
+After m h mode act s l = Described m h mode act s l (scope_in m s act.layout)
+
+-- where an instruction runs: the module, what the process holds, its context and activation, its mode, memory and what
+-- it owed before, and the place of the instruction
+pub record Here : Type 0 where
+  pub m : Contents
+  pub h : Holding
+  pub context : ℕ
+  pub act : Activation
+  pub mode : machine.Mode
+  pub memory : Memory
+  pub owed : ℕ
+  pub at : ℕ
+  pub len : ℕ
+
+-- What an instruction leaves of memory: it changes own bytes only, and no others than its activation may.
+pub record Changes (x : Here) (new : Memory) : Type 0 where
+  pub own : ChangesOwn x.h x.memory new
+  pub keeps : Keeps x.m x.h (scope_of x.m x.context x.act.layout) x.memory new
+
+abbrev pub rule_site : Here → rule.Site
+rule_site x = record { contents = x.m; at = x.at; length = x.len }
+
+abbrev pub step_site : Here → steps.Site
+step_site x = record {
+  code_start = data_start + 4 * x.m.data_words;
+  code_length = length x.m.code;
+  next = x.at + x.len;
+  mode = x.mode;
+  holding = x.h;
+  has_long_operations = x.m.has_long_operations;
+}
+
+-- ---- who waits for a return
+
+-- An activation that waits until the one that it called returns, and the state in which it goes on then.
+pub record Caller : Type 0 where
+  pub act : Activation
+  pub state : State
+  pub workspace : ℕ
+
+-- All that is known of the words of a caller holds, and it has what its parameters name.
+pub record Resumes (m : Contents) (h : Holding) (c : Caller) (memory : Memory) : Type 0 where
+  pub frame : HasFrame h (length memory) (words_in m c.state.context) c.act.layout.origin c.state.depth c.workspace
+  pub words : (k : ℤ) → (words_in m c.state.context).reads k ≡ true
+      → MeansWord m c.act k (c.state.frame k) (frame_word memory c.act.layout.origin k)
+  pub named : HoldsNamed m h (scope_of m c.state.context c.act.layout) memory
+
+-- The state in which a caller goes on, and the place of its workspace, when an activation with this layout returns.
+pub record GoesOn (layout : Layout) (c : Caller) : Type 0 where
+  pub plain : c.state.mode ≡ Plain
+  pub registers : c.state.stack ≡ of_empty unknown
+  pub workspace : pos c.workspace ≡ pos data_start +ℤ place_in layout.origin (pos 4)
+
+-- A caller waits for a procedure that it has lent what that has. Whatever the procedure still changes, the caller goes
+-- on.
+pub record Waits (m : Contents) (h : Holding) (context : ℕ) (layout : Layout) (c : Caller)
+    (memory : Memory) : Type 0 where
+  pub goes_on : GoesOn layout c
+  pub base : ℤ
+  pub lends : Lends m (scope_of m c.state.context c.act.layout) (scope_of m context layout) base
+  pub lengths : layout.lengths ≡ c.act.layout.lengths
+  pub resumes : (later : Memory) → Keeps m h (scope_of m context layout) memory later → Resumes m h c later
+
+-- the process goes on at this code offset
+pub data GoesTo (x : Here) : Outcome → ℕ → Local → Type 0 where
+  goes_behind : {l : Local} → GoesTo x (goes l) (x.at + x.len) l
+  is_jump : {to : ℕ} {l : Local} → GoesTo x (jumps to l) to l
+  is_landing : {to : ℕ} {l : Local} → GoesTo x (lands to l) to l
+
+-- What the instruction asks of the world is what the ruling says, and the world may grant it. Each family of
+-- instructions that ask something has its constructors here.
+pub data Asks (x : Here) : Ruling → Outcome → Type 0 where
+
+-- A ruling and an outcome fit each other. After the instruction the activation is the same; at a label its loops may
+-- have other turns left. Of what was owed each byte of the instruction is paid.
+pub data Fits (x : Here) : Ruling → Outcome → Type 0 where
+  it_falls : {r : Ruling} {o : Outcome} {s : State} {l : Local} → falling r ≡ Some s → GoesTo x o (x.at + x.len) l
+      → x.at + x.len < length x.m.code → After x.m x.h x.mode x.act s l → s.context ≡ x.context → Changes x l.memory
+      → owed s x.act + x.len ≤ x.owed → Fits x r o
+  it_leads : {r : Ruling} {o : Outcome} {to : ℕ} {l : Local} {t : Label} (turns : ℤ → ℕ) → leading r ≡ to ∷ []
+      → GoesTo x o to l → label_at x.m to ≡ Some t → to < length x.m.code
+      → After x.m x.h x.mode (with_turns turns x.act) (label_state t) l → t.context ≡ x.context → Changes x l.memory
+      → owed (label_state t) (with_turns turns x.act) + x.len ≤ x.owed → Fits x r o
+  it_calls : {to : ℕ} {s : State} {l : Local} {e : Entered} (act : Activation) (workspace : ℕ)
+      → procedure_at x.m to ≡ Some e → to < length x.m.code
+      → After x.m x.h x.mode act (procedure_state e.context e.procedure) l → act.layout.back ≡ x.at + x.len
+      → Waits x.m x.h e.context act.layout (record { act = x.act; state = s; workspace = workspace }) l.memory
+      → s.context ≡ x.context → Changes x l.memory
+      → owed (procedure_state e.context e.procedure) act + owed s x.act + x.len ≤ x.owed
+      → 1 ≤ e.context → e.context ≤ length x.m.procedures → Fits x (calls to s) (lands to l)
+  it_returns : {l : Local} → 1 ≤ x.context → x.context ≤ length x.m.procedures → x.mode ≡ machine_modes.Plain
+      → Changes x l.memory → l.registers.stack ≡ of_empty None
+      → pos l.registers.workspace ≡ pos data_start +ℤ place_in x.act.layout.origin (pos 4)
+      → x.act.layout.back < length x.m.code → x.len ≤ x.owed → Fits x returns (lands x.act.layout.back l)
+  it_ends : {l : Local} → Changes x l.memory → x.len ≤ x.owed → Fits x ends (stops l)
+  it_asks : {r : Ruling} {o : Outcome} → Asks x r o → x.len ≤ x.owed → Fits x r o
+  it_breaks : {broken : Rule} {o : Outcome} → Fits x (breaks broken) o
+
+-- what falls through has code behind it
+abbrev pub HasNext : Here → Ruling → Type 0
+HasNext x r = (s : State) → falling r ≡ Some s → x.at + x.len < length x.m.code

@@ -1,0 +1,12 @@
+pub mod Channels
+pub mod Filling
+pub mod Fitting
+pub mod Lends
+pub mod Meaning
+pub mod Places
+pub mod Pointers
+pub mod Reach
+pub mod Regions
+pub mod Remaining
+pub mod Rulings
+pub mod Telling
