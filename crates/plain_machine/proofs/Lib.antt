@@ -1,0 +1,5 @@
+pub mod Linking
+pub mod Counting
+pub mod Queueing
+pub mod PlainBytes
+pub mod PlainCopies

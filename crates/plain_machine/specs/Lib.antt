@@ -1,0 +1,3 @@
+pub mod Linked
+pub mod Plain
+pub mod Staying
