@@ -5,3 +5,9 @@ pub mod Sequential
 pub mod Meaning
 pub mod SmallPrograms
 pub mod WorkedPrograms
+pub mod StoringLaws
+pub mod TypedValues
+pub mod Messages
+pub mod RangesWithin
+pub mod KeepingTypes
+pub mod Loops

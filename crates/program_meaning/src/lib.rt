@@ -4,4 +4,7 @@
 
 mod laws;
 
-pub use laws::small_programs_mean;
+pub use laws::{
+    loops_go_on, messages_hold_numbers, moves_stay_within, numbers_are_stored, small_programs_mean,
+    types_stay, values_are_typed,
+};
