@@ -15,10 +15,12 @@ use Rattle.occam_parser.specs.Expressions.{Expression}
 use Rattle.scalar_ranges.specs.declared.scope.ScalarKind.{ScalarKind}
 use Rattle.scalar_ranges.specs.declared.scope.ScalarKind.TheVariants as kinds
 use Rattle.scalar_ranges.specs.Entries.{Meaning, Constant, Scalar, Array, Channel, Channels, Procedure, Entry}
+use Rattle.scalar_ranges.specs.Entries.{meaning_in, number_in}
 use Rattle.scalar_ranges.specs.Narrowing.{left_of, with_range, narrow, by_test, test_of, changed, as_holds, Tested}
 use Rattle.scalar_ranges.specs.Moves.{is_one_of, outermost, at_number, with_meaning, ranged, assigned, hulls}
 use Rattle.scalar_ranges.specs.Moves.{hull_meaning}
 use Rattle.scalar_ranges.proofs.MoveLaws.{hull_cases}
+use Rattle.program_uses.specs.Mentions.{is_variable, is_changeable, variable_in}
 use Rattle.program_meaning.specs.RangesWithin.{RangeWithin, ScalarWithin, MeaningWithin, EntriesWithin}
 use Rattle.program_meaning.specs.RangesWithin.{MovesStayWithin}
 
@@ -114,20 +116,20 @@ within_more_one b c m n more (inr h) = inr (ranged_more b c m n more h)
 
 -- ---- entries
 
-within_same : (ns : List ℕ) (es : List Entry) → EntriesWithin ns es es
+pub within_same : (ns : List ℕ) (es : List Entry) → EntriesWithin ns es es
 within_same ns [] = tt
 within_same ns (e ∷ es) = (refl, inl refl, within_same ns es)
 
 within_at : (ns : List ℕ) (ds es : List Entry) → ds ≡ es → EntriesWithin ns ds es
 within_at ns ds es same = subst (EntriesWithin ns ds) same (within_same ns ds)
 
-within_long : (ns : List ℕ) (ds es : List Entry) → EntriesWithin ns ds es → length ds ≡ length es
+pub within_long : (ns : List ℕ) (ds es : List Entry) → EntriesWithin ns ds es → length ds ≡ length es
 within_long ns [] [] h = refl
 within_long ns [] (e ∷ es) h = absurd h
 within_long ns (d ∷ ds) [] h = absurd h
 within_long ns (d ∷ ds) (e ∷ es) h = ap suc (within_long ns ds es h.2)
 
-within_then : (ns : List ℕ) (ds es fs : List Entry) → EntriesWithin ns ds es → EntriesWithin ns es fs → EntriesWithin ns ds fs
+pub within_then : (ns : List ℕ) (ds es fs : List Entry) → EntriesWithin ns ds es → EntriesWithin ns es fs → EntriesWithin ns ds fs
 within_then ns [] [] [] h g = tt
 within_then ns [] [] (f ∷ fs) h g = absurd g
 within_then ns [] (e ∷ es) fs h g = absurd h
@@ -140,7 +142,7 @@ within_then ns (d ∷ ds) (e ∷ es) (f ∷ fs) h g = (
   within_then ns ds es fs h.2 g.2,
 )
 
-within_more : (ns ms : List ℕ) (ds es : List Entry) → ((n : ℕ) → is_one_of ns n ≡ true → is_one_of ms n ≡ true)
+pub within_more : (ns ms : List ℕ) (ds es : List Entry) → ((n : ℕ) → is_one_of ns n ≡ true → is_one_of ms n ≡ true)
     → EntriesWithin ns ds es → EntriesWithin ms ds es
 within_more ns ms [] [] more h = tt
 within_more ns ms [] (e ∷ es) more h = absurd h
@@ -157,7 +159,7 @@ left_alike : (t : Bool) (ns : List ℕ) (d e : Entry) (ds es : List Entry) (coun
 left_alike true ns d e ds es count h g = h
 left_alike false ns d e ds es count h g = g
 
-within_left : (ns : List ℕ) (count : ℕ) (ds es : List Entry) → EntriesWithin ns ds es
+pub within_left : (ns : List ℕ) (count : ℕ) (ds es : List Entry) → EntriesWithin ns ds es
     → EntriesWithin ns (outermost count ds) (outermost count es)
 within_left ns count [] [] h = tt
 within_left ns count [] (e ∷ es) h = absurd h
@@ -197,10 +199,10 @@ tested_within ns es holds (Some t) =
     changed_within ns (left_of (as_holds holds t.comparison) t.constant) t.name es
     (left_within (as_holds holds t.comparison) t.constant)
 
-narrow_within : (ns : List ℕ) (es : List Entry) (e : Expression) (holds : Bool) → EntriesWithin ns (narrow es e holds) es
+pub narrow_within : (ns : List ℕ) (es : List Entry) (e : Expression) (holds : Bool) → EntriesWithin ns (narrow es e holds) es
 narrow_within ns es e holds = tested_within ns es holds (test_of es e)
 
-ranged_within : (free : Bool) (range : ValueType → Ends) (m : Meaning) → free ≡ true → MeaningWithin free (ranged range m) m
+pub ranged_within : (free : Bool) (range : ValueType → Ends) (m : Meaning) → free ≡ true → MeaningWithin free (ranged range m) m
 ranged_within free range (Scalar kinds.Variable type r) is = inr (refl, refl, inr (is, refl))
 ranged_within free range (Scalar kinds.Value type r) is = inl refl
 ranged_within free range (Scalar kinds.Reference type r) is = inl refl
@@ -224,7 +226,7 @@ at_by true n f e es ds is h g =
     (refl, h (is_one_of (n ∷ []) (length es)) e.meaning one, within_same (n ∷ []) es)
 at_by false n f e es ds is h g = (refl, inl refl, g)
 
-at_within : (n : ℕ) (f : Meaning → Meaning) (es : List Entry)
+pub at_within : (n : ℕ) (f : Meaning → Meaning) (es : List Entry)
     → ((b : Bool) (m : Meaning) → b ≡ true → MeaningWithin b (f m) m)
     → EntriesWithin (n ∷ []) (at_number (with_meaning f) n es) es
 at_within n f [] h = tt
@@ -262,7 +264,7 @@ hull_one free m n o =
     subst (MeaningWithin free (Scalar kind type (hull r s))) (sym x.1)
     (inr (refl, refl, both_ranged free kind k type t r s x.0 y.0 (sym x.1 ∙ y.1) x.2 y.2))) (λ a b same h g. h) m n
 
-within_hulls : (ns : List ℕ) (ds es fs : List Entry) → EntriesWithin ns ds fs → EntriesWithin ns es fs
+pub within_hulls : (ns : List ℕ) (ds es fs : List Entry) → EntriesWithin ns ds fs → EntriesWithin ns es fs
     → EntriesWithin ns (hulls ds es) fs
 within_hulls ns [] es fs h g = h
 within_hulls ns (d ∷ ds) [] fs h g = h
@@ -273,6 +275,37 @@ within_hulls ns (d ∷ ds) (e ∷ es) (f ∷ fs) h g = (
   within_hulls ns ds es fs h.2 g.2,
 )
 
+-- ---- variables
+
+same_variable : (free : Bool) (m n : Meaning) → MeaningWithin free m n → is_variable (Some m) ≡ is_variable (Some n)
+same_variable free m n (inl same) = ap (λ x. is_variable (Some x)) same
+same_variable free (Scalar kind type r) (Scalar k t s) (inr h) = ap is_changeable h.0
+same_variable free (Scalar kind type r) n (inr h) = absurd h
+same_variable free m n (inr h) = absurd h
+
+variable_step : (name : List ℕ) (t : Bool) (m : Meaning) (es : List Entry)
+    → cond (is_variable (cond t (Some m) (meaning_in name es))) (cond t (Some (length es)) (number_in name es)) None
+    ≡ cond t (cond (is_variable (Some m)) (Some (length es)) None) (variable_in name es)
+variable_step name true m es = refl
+variable_step name false m es = refl
+
+pub variables_step : (name : List ℕ) (d e : Entry) (ds es : List Entry) → d.name ≡ e.name
+    → is_variable (Some d.meaning) ≡ is_variable (Some e.meaning) → length ds ≡ length es
+    → variable_in name ds ≡ variable_in name es → variable_in name (d ∷ ds) ≡ variable_in name (e ∷ es)
+variables_step name d e ds es same variable long further =
+    variable_step name (bytes_eq d.name name) d.meaning ds
+    ∙ (λ i. cond (bytes_eq (same i) name) (cond (variable i) (Some (long i)) None) (further i))
+    ∙ sym (variable_step name (bytes_eq e.name name) e.meaning es)
+
+pub variables_within : (ns : List ℕ) (ds es : List Entry) (name : List ℕ) → EntriesWithin ns ds es
+    → variable_in name ds ≡ variable_in name es
+variables_within ns [] [] name h = refl
+variables_within ns [] (e ∷ es) name h = absurd h
+variables_within ns (d ∷ ds) [] name h = absurd h
+variables_within ns (d ∷ ds) (e ∷ es) name h =
+    variables_step name d e ds es h.0 (same_variable (is_one_of ns (length es)) d.meaning e.meaning h.1)
+    (within_long ns ds es h.2) (variables_within ns ds es name h.2)
+
 pub moves_stay_within : MovesStayWithin
 moves_stay_within = record {
   same = within_same;
@@ -282,4 +315,5 @@ moves_stay_within = record {
   assigning = λ n range es. at_within n (assigned range) es (λ b m is. ranged_within b (λ type. range) m is);
   joining = within_hulls;
   leaving = within_left;
+  variables = variables_within;
 }

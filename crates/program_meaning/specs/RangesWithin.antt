@@ -5,6 +5,7 @@ use Rattle.occam_parser.specs.Expressions.{Expression}
 use Rattle.scalar_ranges.specs.declared.scope.ScalarKind.TheVariants as kinds
 use Rattle.scalar_ranges.specs.Entries.{Meaning, Scalar, Entry}
 use Rattle.scalar_ranges.specs.Narrowing.{narrow}
+use Rattle.program_uses.specs.Mentions.{variable_in}
 use Rattle.scalar_ranges.specs.Moves.{is_one_of, outermost, assign, hulls}
 
 -- Both ends lie between those of the other range. Of an empty range more is said so than by its members.
@@ -42,3 +43,6 @@ pub record MovesStayWithin : Type 0 where
       → EntriesWithin ns (hulls ds es) fs
   pub leaving : (ns : List ℕ) (count : ℕ) (ds es : List Entry) → EntriesWithin ns ds es
       → EntriesWithin ns (outermost count ds) (outermost count es)
+  -- a name stands for the same variable, if it stands for one
+  pub variables : (ns : List ℕ) (ds es : List Entry) (name : List ℕ) → EntriesWithin ns ds es
+      → variable_in name ds ≡ variable_in name es
