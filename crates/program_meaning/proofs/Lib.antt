@@ -5,3 +5,4 @@ pub mod MessagesReadBack
 pub mod MovesWithin
 pub mod TypesStay
 pub mod LoopsGoOn
+pub mod OutcomesGoWell

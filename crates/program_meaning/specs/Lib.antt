@@ -11,3 +11,4 @@ pub mod Messages
 pub mod RangesWithin
 pub mod KeepingTypes
 pub mod Loops
+pub mod GoingWell

@@ -6,6 +6,7 @@ ghost use Rattle.program_meaning.specs.Messages.{ReceivedIsOfType, MessagesReadB
 ghost use Rattle.program_meaning.specs.RangesWithin.{MovesStayWithin};
 ghost use Rattle.program_meaning.specs.KeepingTypes.{TypesStay};
 ghost use Rattle.program_meaning.specs.Loops.{LoopsGoOn};
+ghost use Rattle.program_meaning.specs.GoingWell.{OutcomesGoWell};
 
 /// Small programs read, write and end as they should: sums over a link, echoes, quotients, counts of 0 and 1, links
 /// that end early, links to which nobody listens, and numbers and subscripts that have no value.
@@ -60,4 +61,11 @@ pub fn types_stay()
 #[tactic(auto, using(crate::proofs::LoopsGoOn::loops_go_on))]
 pub fn loops_go_on()
     ensures { LoopsGoOn }
+{}
+
+/// Outcomes that are not stuck and leave what is known true are so together: one after the other, where scopes are left,
+/// and turn by turn in a loop.
+#[tactic(auto, using(crate::proofs::OutcomesGoWell::outcomes_go_well))]
+pub fn outcomes_go_well()
+    ensures { OutcomesGoWell }
 {}
