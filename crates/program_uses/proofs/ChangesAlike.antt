@@ -121,7 +121,7 @@ guard_alike es fs same (Skips condition) = refl
 
 -- ---- names that are declared
 
-added_alike : (name : List ℕ) (m n : Meaning) (es fs : List Entry) → flat m ≡ flat n → outline es ≡ outline fs
+pub added_alike : (name : List ℕ) (m n : Meaning) (es fs : List Entry) → flat m ≡ flat n → outline es ≡ outline fs
     → outline (add name m es) ≡ outline (add name n fs)
 added_alike name m n es fs means same = λ i. record { name = name; meaning = means i } ∷ same i
 
@@ -168,7 +168,7 @@ channels_flat : (es fs : List Entry) (type : ValueType) (size : Option Expressio
 channels_flat es fs type None = refl
 channels_flat es fs type (Some size) = refl
 
-outlined_alike : (d : Declaration) (es fs : List Entry) → outline es ≡ outline fs
+pub outlined_alike : (d : Declaration) (es fs : List Entry) → outline es ≡ outline fs
     → outline (add_outline d es) ≡ outline (add_outline d fs)
 outlined_alike (Constants c) es fs same =
     added_alike c.name (constant_outline es c.value_type c.value) (constant_outline fs c.value_type c.value) es fs
@@ -198,7 +198,7 @@ mutual
       changed_alike signatures p (add_outline d es) (add_outline d fs) (outlined_alike d es fs same)
   changed_alike signatures (Does line c) es fs same = construct_alike signatures c es fs same
 
-  construct_alike : (signatures : List (List Parameter)) (c : Construct) (es fs : List Entry)
+  pub construct_alike : (signatures : List (List Parameter)) (c : Construct) (es fs : List Entry)
       → outline es ≡ outline fs → changed_by_construct signatures es c ≡ changed_by_construct signatures fs c
   construct_alike signatures (Act action) es fs same = action_alike signatures es fs same action
   construct_alike signatures (Block kind cs) es fs same = components_alike signatures cs es fs same

@@ -13,3 +13,4 @@ pub mod EndsInOrder
 pub mod EndsPushed
 pub mod ScopesExtended
 pub mod ChangesAlike
+pub mod ListsAlike

@@ -6,7 +6,6 @@ use Rattle.occam_parser.specs.Lines.{Receives, Skips}
 use Rattle.occam_parser.specs.Blocks.{Process, Declared, Does, Construct, Act, Block, Replicated, Body, One, Part}
 use Rattle.occam_parser.specs.Blocks.{Components, NoComponent, Further, Component, Plain, Chosen, Guarded}
 use Rattle.scalar_ranges.specs.Entries.{Entry, meaning_in}
-use Rattle.scalar_ranges.specs.Moves.{Known}
 use Rattle.program_uses.specs.declared.changes.Changes.{Changes}
 use Rattle.program_uses.specs.declared.signature.Passing.{Passing}
 use Rattle.program_uses.specs.declared.signature.Passing.TheVariants as passing
@@ -86,8 +85,3 @@ changed_by_one signatures es (One kind c) = changed_by_component signatures es c
 pub record Notes (old new : Changes) (ns : List ℕ) : Type 0 where
   pub complete : new.complete ≡ true → old.complete ≡ true
   pub numbers : new.complete ≡ true → new.numbers.items ≡ old.numbers.items ++ ns
-
--- The same, and the scope is as it was.
-pub record Finds (old new : Changes) (before after : Known) (ns : List ℕ) : Type 0 where
-  pub notes : Notes old new ns
-  pub scope : after ≡ before

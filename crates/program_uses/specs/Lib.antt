@@ -15,6 +15,8 @@ pub mod Indices
 pub mod Entering
 pub mod Extending
 pub mod Changes
+pub mod Listing
+pub mod Finding
 pub mod Outlines
 pub mod Processes
 pub mod Components

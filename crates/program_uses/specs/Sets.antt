@@ -1,5 +1,5 @@
 -- What a set of uses has.
-use Rattle.std.specs.Prelude.{◌≡◌, ℕ, Bool, true, false, ◌&&◌, ◌||◌, List, nat_eq}
+use Rattle.std.specs.Prelude.{◌≡◌, Bool, true, false, ◌&&◌, ◌||◌, List, nat_eq}
 use Rattle.std.specs.List.{list_any}
 use Rattle.program_uses.specs.declared.uses.Direction.{Direction}
 use Rattle.program_uses.specs.declared.uses.Direction.TheVariants as direction

@@ -1,0 +1,47 @@
+//! The variables that constructs change, listed by the lines on which the constructs begin.
+
+ghost use Rattle.std.specs.Prelude.{◌≡◌, option_map, OnOk};
+ghost use Rattle.program_uses.specs.Listing.{list_on, IsListed, Keeps};
+
+use std::alloc::{AllocError, Global};
+use std::collections::BTreeMap;
+
+/// The numbers of the variables that constructs change, by the line on which each of them begins. A line on which
+/// several constructs begin has no list.
+#[derive(Drop)]
+pub struct ChangeLists {
+    pub(crate) lists: BTreeMap<u32, Option<Vec<usize>>>,
+}
+
+impl ChangeLists {
+    /// No lists.
+    pub(crate) fn new(alloc: Global) -> ChangeLists {
+        ChangeLists {
+            lists: BTreeMap::new(alloc),
+        }
+    }
+
+    /// The numbers of the variables that the construct changes that begins on this line, if there is a list of them.
+    pub fn on_line(&self, line: u32) -> Option<&[usize]>
+        ensures { option_map (λ numbers. numbers.now) result ≡ list_on line self.now }
+    {
+        match self.lists.get(&line) {
+            Some(Some(numbers)) => Some(numbers.as_slice()),
+            Some(None) | None => None,
+        }
+    }
+
+    /// A construct begins on this line that changes the variables with these numbers.
+    pub(crate) fn add(&mut self, line: u32, numbers: Vec<usize>) -> Result<(), AllocError>
+        ensures ok { OnOk result (IsListed self.new line numbers.items) }
+        ensures keeps { Keeps self.old self.new }
+    {
+        let list = if self.lists.contains_key(&line) {
+            None
+        } else {
+            Some(numbers)
+        };
+        self.lists.insert(line, list)?;
+        Ok(())
+    }
+}
