@@ -21,3 +21,4 @@ pub mod LinesHold
 pub mod PlacesHold
 pub mod NothingShared
 pub mod OutlinesStay
+pub mod ListsServe

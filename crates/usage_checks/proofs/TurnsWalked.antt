@@ -58,7 +58,7 @@ turns_more b site r repeats n m k {s} {t} {u} {w} {l} {j} {h} means before enter
     (walks_both (turn_of a r b repeats n) (BreaksTurn a site.position r b repeats n) before
     (one_turn b site r repeats n l indexed walked))
 
-entries_unless : (happens : Bool) (k : Known) → (unless happens begin k).entries ≡ k.entries
+pub entries_unless : (happens : Bool) (k : Known) → (unless happens begin k).entries ≡ k.entries
 entries_unless true k = refl
 entries_unless false k = refl
 

@@ -15,6 +15,7 @@ pub mod FormalRules
 pub mod AfterProcesses
 pub mod ProcessRules
 pub mod Walking
+pub mod HavingLists
 pub mod Handing
 pub mod Remembering
 pub mod Sizes

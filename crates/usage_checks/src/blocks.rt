@@ -19,13 +19,16 @@ ghost use Rattle.usage_checks.specs.Telling.{Walks};
 ghost use Rattle.usage_checks.specs.LineRules.{BreaksReplicator};
 ghost use Rattle.usage_checks.specs.Walking.{WalksProcess, WalksConstruct, WalksBlock, WalksComponent};
 ghost use Rattle.usage_checks.specs.Walking.{word_of, WalksBody, WalksTurn};
+ghost use Rattle.usage_checks.specs.HavingLists.{HasProcess, HasConstruct, HasComponents, HasComponent, HasBody};
+ghost use Rattle.usage_checks.specs.HavingLists.{HasTurn};
 
 use crate::channel_rules::Position;
 use crate::line_rules::fault_of_replicator;
 use crate::telling::Findings;
 use occam_parser::{Action, Body, Branch, Choice, Construct, Process, Replicator};
 use program_uses::{
-    Around, is_before, is_sequence, repeats_of, variables_changed, variables_changed_in,
+    Around, ChangeLists, is_before, is_sequence, repeats_of, variables_changed,
+    variables_changed_in,
 };
 use scalar_ranges::Scope;
 use std::alloc::Global;
@@ -36,12 +39,15 @@ pub(crate) struct Site<'s> {
     pub(crate) alloc: Global,
     pub(crate) around: Around<'s>,
     pub(crate) position: Position,
+    /// What the constructs in the procedure change.
+    pub(crate) lists: &'s ChangeLists,
 }
 
 impl<'s> Site<'s> {
     /// Where the components of a `PAR` stand that begins here, with so many names.
     fn in_par(self, count: usize) -> Site<'s>
         ensures around { result.around ≡ self.entry.around }
+        ensures lists { result.lists ≡ self.entry.lists }
         ensures position { result.position ≡ position_in (Mark mark.Par) count self.entry.position }
     {
         Site {
@@ -56,6 +62,7 @@ impl<'s> Site<'s> {
     /// Where the component under a replicator stands that begins here, with so many names.
     fn in_body(self, body: &Body, count: usize) -> Site<'s>
         ensures around { result.around ≡ self.entry.around }
+        ensures lists { result.lists ≡ self.entry.lists }
         ensures position { result.position ≡ position_in (word_of (body_of body.now)) count self.entry.position }
     {
         match body {
@@ -104,8 +111,28 @@ impl Findings {
         self.tell(line, fault_of_replicator(scope, replicator));
     }
 
-    /// The body of a replicated `SEQ` begins.
+    /// The body of a replicated `SEQ` on this line begins.
     fn begin_loop<'a>(
+        &mut self,
+        site: Site,
+        scope: &mut Scope<'a>,
+        line: u32,
+        replicator: &Replicator<'a>,
+        body: &Body<'a>,
+    )
+        requires { HasBody self.old site line (replicator_of replicator.now) (body_of body.now) (known_of scope.old) }
+        ensures { Walks self.old self.new (known_of scope.new)
+            (begin_loop (changed_by_body (around_of site.entry.around).signatures (entries_of scope.old)
+            (replicator_of replicator.now) (body_of body.now)) (known_of scope.old)) (λ f. ⊥) }
+    {
+        match site.lists.on_line(line) {
+            Some(numbers) => self.begin_widened(scope, numbers),
+            None => self.begin_found(site, scope, replicator, body),
+        }
+    }
+
+    /// The same, where the variables that the body changes are not listed.
+    fn begin_found<'a>(
         &mut self,
         site: Site,
         scope: &mut Scope<'a>,
@@ -141,21 +168,23 @@ impl Findings {
         }
     }
 
-    /// The turns of a body begin.
+    /// The turns of a body under a replicator on this line begin.
     fn begin_turns<'a>(
         &mut self,
         site: Site,
         scope: &mut Scope<'a>,
+        line: u32,
         replicator: &Replicator<'a>,
         body: &Body<'a>,
     )
+        requires { HasBody self.old site line (replicator_of replicator.now) (body_of body.now) (known_of scope.old) }
         ensures { Walks self.old self.new (known_of scope.new)
             (begun_turns (word_of (body_of body.now)) (changed_by_body (around_of site.entry.around).signatures
             (entries_of scope.old) (replicator_of replicator.now) (body_of body.now)) (known_of scope.old))
             (λ f. ⊥) }
     {
         match body {
-            Body::Seq(_) => self.begin_loop(site, scope, replicator, body),
+            Body::Seq(_) => self.begin_loop(site, scope, line, replicator, body),
             Body::Par(_) => self.begin_par(scope),
             Body::If(_) | Body::Alt(_) => self.begin(scope),
         }
@@ -193,6 +222,7 @@ impl Findings {
     /// A process, with what it declares.
     #[cycle(walk)]
     pub(crate) fn walk<'a>(&mut self, site: Site, scope: &mut Scope<'a>, process: &Process<'a>)
+        requires { HasProcess self.old site (process_of process.now) (known_of scope.old) }
         ensures { WalksProcess self.old self.new site.entry (process_of process.now) (known_of scope.old)
             (known_of scope.new) }
     {
@@ -209,6 +239,7 @@ impl Findings {
         line: u32,
         construct: &Construct<'a>,
     )
+        requires { HasConstruct self.old site line (construct_of construct.now) (known_of scope.old) }
         ensures { WalksConstruct self.old self.new site.entry line (construct_of construct.now) (known_of scope.old)
             (known_of scope.new) }
     {
@@ -227,6 +258,7 @@ impl Findings {
     /// The processes of a `SEQ`.
     #[cycle(walk)]
     fn walk_seq<'a>(&mut self, site: Site, scope: &mut Scope<'a>, processes: &[Process<'a>])
+        requires { HasComponents self.old site (all_processes processes.now) (known_of scope.old) }
         ensures { WalksBlock self.old self.new site.entry (Mark mark.Seq) (all_processes processes.now)
             (known_of scope.old) (known_of scope.new) }
     {
@@ -238,6 +270,7 @@ impl Findings {
     /// A process of a `SEQ`.
     #[cycle(walk)]
     fn walk_process<'a>(&mut self, site: Site, scope: &mut Scope<'a>, process: &Process<'a>)
+        requires { HasComponent self.old site (plain_component process.now) (known_of scope.old) }
         ensures { WalksComponent self.old self.new site.entry (Mark mark.Seq) (plain_component process.now)
             (known_of scope.old) (known_of scope.new) }
     {
@@ -249,6 +282,7 @@ impl Findings {
     /// The components of a `PAR`.
     #[cycle(walk)]
     fn walk_par<'a>(&mut self, site: Site, scope: &mut Scope<'a>, processes: &[Process<'a>])
+        requires { HasComponents self.old site (all_processes processes.now) (known_of scope.old) }
         ensures { WalksBlock self.old self.new site.entry (Mark mark.Par) (all_processes processes.now)
             (known_of scope.old) (known_of scope.new) }
     {
@@ -263,17 +297,42 @@ impl Findings {
     /// A component of a `PAR`.
     #[cycle(walk)]
     fn walk_component<'a>(&mut self, site: Site, scope: &mut Scope<'a>, process: &Process<'a>)
+        requires { HasComponent self.old site (plain_component process.now) (known_of scope.old) }
         ensures { WalksComponent self.old self.new site.entry (Mark mark.Par) (plain_component process.now)
             (known_of scope.old) (known_of scope.new) }
     {
-        let changed = self.changes(site, scope, process);
+        match site.lists.on_line(process.line) {
+            Some(numbers) => self.walk_changing(site, scope, process, numbers),
+            None => {
+                let numbers = self.changes(site, scope, process);
+                self.walk_changing(site, scope, process, &numbers);
+            }
+        }
+    }
+
+    /// A component of a `PAR` that changes the variables with these numbers.
+    #[cycle(walk)]
+    fn walk_changing<'a>(
+        &mut self,
+        site: Site,
+        scope: &mut Scope<'a>,
+        process: &Process<'a>,
+        numbers: &[usize],
+    )
+        requires listed { HasProcess self.old site (process_of process.now) (known_of scope.old) }
+        requires numbers { self.old.complete ≡ true → numbers.now
+            ≡ changed_by (around_of site.around).signatures (entries_of scope.old) (process_of process.now) }
+        ensures { WalksComponent self.old self.new site.entry (Mark mark.Par) (plain_component process.now)
+            (known_of scope.old) (known_of scope.new) }
+    {
         self.walk(site, scope, process);
-        scope.next_component(&changed);
+        scope.next_component(numbers);
     }
 
     /// The choices of an `IF`.
     #[cycle(walk)]
     fn walk_if<'a>(&mut self, site: Site, scope: &mut Scope<'a>, choices: &[Choice<'a>])
+        requires { HasComponents self.old site (all_choices choices.now) (known_of scope.old) }
         ensures { WalksBlock self.old self.new site.entry (Mark mark.If) (all_choices choices.now)
             (known_of scope.old) (known_of scope.new) }
     {
@@ -287,6 +346,7 @@ impl Findings {
     /// A choice of an `IF`.
     #[cycle(walk)]
     fn walk_choice<'a>(&mut self, site: Site, scope: &mut Scope<'a>, choice: &Choice<'a>)
+        requires { HasComponent self.old site (choice_of choice.now) (known_of scope.old) }
         ensures { WalksComponent self.old self.new site.entry (Mark mark.If) (choice_of choice.now)
             (known_of scope.old) (known_of scope.new) }
     {
@@ -299,6 +359,7 @@ impl Findings {
     /// The branches of an `ALT`.
     #[cycle(walk)]
     fn walk_alt<'a>(&mut self, site: Site, scope: &mut Scope<'a>, branches: &[Branch<'a>])
+        requires { HasComponents self.old site (all_branches branches.now) (known_of scope.old) }
         ensures { WalksBlock self.old self.new site.entry (Mark mark.Alt) (all_branches branches.now)
             (known_of scope.old) (known_of scope.new) }
     {
@@ -312,6 +373,7 @@ impl Findings {
     /// A branch of an `ALT`.
     #[cycle(walk)]
     fn walk_branch<'a>(&mut self, site: Site, scope: &mut Scope<'a>, branch: &Branch<'a>)
+        requires { HasComponent self.old site (branch_of branch.now) (known_of scope.old) }
         ensures { WalksComponent self.old self.new site.entry (Mark mark.Alt) (branch_of branch.now)
             (known_of scope.old) (known_of scope.new) }
     {
@@ -330,6 +392,8 @@ impl Findings {
         replicator: &Replicator<'a>,
         body: &Body<'a>,
     )
+        requires { HasConstruct self.old site line (Replicated (replicator_of replicator.now) (body_of body.now))
+            (known_of scope.old) }
         ensures { WalksConstruct self.old self.new site.entry line
             (Replicated (replicator_of replicator.now) (body_of body.now)) (known_of scope.old) (known_of scope.new) }
     {
@@ -347,6 +411,8 @@ impl Findings {
         replicator: &Replicator<'a>,
         body: &Body<'a>,
     )
+        requires { HasConstruct self.old site line (Replicated (replicator_of replicator.now) (body_of body.now))
+            (known_of scope.old) }
         ensures { WalksBody self.old self.new site.entry line (replicator_of replicator.now) (body_of body.now)
             (known_of scope.old) (known_of scope.new) }
     {
@@ -354,7 +420,7 @@ impl Findings {
         let repeats = repeats_of(counted, scope, is_sequence(body), replicator);
         let inner = site.in_body(body, scope.len());
         self.begin_unless(scope, repeats.happens);
-        self.begin_turns(site, scope, replicator, body);
+        self.begin_turns(site, scope, line, replicator, body);
         for turn in 0..repeats.turns.count {
             self.enter(scope, replicator.name, repeats.index_in(turn));
             self.walk_turn(inner, scope, body);
@@ -365,6 +431,7 @@ impl Findings {
     /// The component under a replicator, in one turn.
     #[cycle(walk)]
     fn walk_turn<'a>(&mut self, site: Site, scope: &mut Scope<'a>, body: &Body<'a>)
+        requires { HasTurn self.old site (body_of body.now) (known_of scope.old) }
         ensures { WalksTurn self.old self.new site.entry (body_of body.now) (known_of scope.old) (known_of scope.new) }
     {
         match body {

@@ -11,7 +11,9 @@ ghost use Rattle.program_uses.specs.Sets.{has, is_among};
 ghost use Rattle.program_uses.specs.Sharing.{Shares};
 ghost use Rattle.usage_checks.specs.FormalRules.{BreakSizes, BreakFormals};
 ghost use Rattle.usage_checks.specs.ItemRules.{in_body, after_procedure, BreaksProcedure};
+ghost use Rattle.usage_checks.specs.AfterProcesses.{inside};
 ghost use Rattle.usage_checks.specs.NameRules.{with_entries};
+ghost use Rattle.usage_checks.specs.ProcessRules.{BreaksIn};
 ghost use Rattle.program_uses.specs.Telling.{At};
 ghost use Rattle.usage_checks.specs.Telling.{Walks};
 
@@ -21,7 +23,7 @@ use crate::formal_rules::{fault_of_sizes, parameters_for};
 use crate::main_rules::is_main_name;
 use crate::telling::Findings;
 use occam_parser::{Formal, Proc, Process};
-use program_uses::{Around, Use, Uses};
+use program_uses::{Around, Use, Uses, list_changes};
 use scalar_ranges::Scope;
 use std::alloc::Global;
 
@@ -68,6 +70,34 @@ impl Findings {
         used
     }
 
+    /// The body of a procedure, which begins where this stands.
+    fn walk_within<'a>(
+        &mut self,
+        alloc: Global,
+        around: Around,
+        position: Position,
+        scope: &mut Scope<'a>,
+        body: &Process<'a>,
+    )
+        ensures { Walks self.old self.new (known_of scope.new)
+            (inside (around_of around.entry) (process_of body.now) (known_of scope.old))
+            (BreaksIn (around_of around.entry) position (length (entries_of scope.old)) (process_of body.now)
+            (known_of scope.old)) }
+    {
+        match list_changes(alloc, around.signatures, scope, body) {
+            Ok(lists) => {
+                let site = Site {
+                    alloc,
+                    around,
+                    position,
+                    lists: &lists,
+                };
+                self.walk(site, scope, body);
+            }
+            Err(_) => self.fail(),
+        }
+    }
+
     /// A procedure, with its formals and its body, but for its name. Returns what its body uses.
     pub(crate) fn walk_procedure<'a>(
         &mut self,
@@ -92,12 +122,7 @@ impl Findings {
             parallel: 0,
             is_main: is_main_name(proc.name),
         };
-        let site = Site {
-            alloc,
-            around,
-            position,
-        };
-        self.walk(site, scope, &proc.body);
+        self.walk_within(alloc, around, position, scope, &proc.body);
         scope.leave(count);
         used
     }
