@@ -1,11 +1,12 @@
 -- A loop that widens one variable after another widens them all.
 use Rattle.std.proofs.Common.{◌≡◌, ℕ, suc, ◌<◌, Bool, true, false, cond, List, [], ◌∷◌, ◌++◌, length, take, get_or}
-use Rattle.std.proofs.Common.{◌+◌, refl, sym, ap, arith, ◌∙◌, nat_eq}
+use Rattle.std.proofs.Common.{◌+◌, Option, Some, refl, sym, ap, arith, ◌∙◌, nat_eq}
 use Rattle.std.proofs.lemmas.List.{take_more}
 use Rattle.std.proofs.lemmas.Bool.Decides.{nat_tests}
 use Rattle.scalar_ranges.specs.declared.scope.ScalarKind.TheVariants as kinds
 use Rattle.scalar_ranges.specs.Entries.{Meaning, Constant, Scalar, Array, Channel, Channels, Procedure, Entry}
 use Rattle.scalar_ranges.specs.Moves.{at_number, with_meaning, widened, is_one_of, widened_if, widen}
+use Rattle.scalar_ranges.specs.MoveLaws.{meaning_at}
 use Rattle.scalar_ranges.proofs.Rows.{none_at}
 
 widen_long : (ns : List ℕ) (es : List Entry) → length (widen ns es) ≡ length es
@@ -79,3 +80,21 @@ widen_step numbers i es before after less b a =
     a ∙ ap (at_number (with_meaning widened) (get_or numbers i 0)) b
     ∙ widen_one (take i numbers) (get_or numbers i 0) es
     ∙ ap (λ ns. widen ns es) (sym (take_more numbers i 0 less))
+
+-- ---- what is wide already
+
+still_by : (t : Bool) (m : Meaning) (e : Entry) (es more : List Entry) (o : Option Meaning)
+    → cond t (Some e.meaning) o ≡ Some m → widened m ≡ m → (o ≡ Some m → more ≡ es)
+    → cond t (with_meaning widened e ∷ es) (e ∷ more) ≡ e ∷ es
+still_by true m e es more o is wide further =
+    let same : e.meaning ≡ m = cc in
+    λ i. record { name = e.name; meaning = (ap widened same ∙ wide ∙ sym same) i } ∷ es
+still_by false m e es more o is wide further = ap (λ es. e ∷ es) (further is)
+
+-- Widening a variable of which no more is known than its type changes nothing.
+pub widened_still : (n : ℕ) (m : Meaning) (es : List Entry) → meaning_at n es ≡ Some m → widened m ≡ m
+    → at_number (with_meaning widened) n es ≡ es
+widened_still n m [] is wide = refl
+widened_still n m (e ∷ es) is wide =
+    still_by (nat_eq (length es) n) m e es (at_number (with_meaning widened) n es) (meaning_at n es) is wide
+    (λ h. widened_still n m es h wide)

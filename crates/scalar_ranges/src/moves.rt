@@ -1,6 +1,6 @@
 //! What becomes known where variables change.
 
-ghost use Rattle.std.specs.Prelude.{◌≡◌};
+ghost use Rattle.std.specs.Prelude.{◌≡◌, true};
 ghost use Rattle.word_arithmetic.specs.Range.{ends_of};
 ghost use Rattle.scalar_ranges.specs.Moves.{at_number, with_meaning, assigned, assign, widened, widen, hull_meaning};
 ghost use Rattle.scalar_ranges.specs.MoveLaws.{shape};
@@ -28,7 +28,9 @@ impl Scope<'_> {
         ensures blocks { blocks_of self.new ≡ blocks_of self.old }
     {
         if let Some(meaning) = self.known.meaning(number) {
-            self.put(number, widened(meaning));
+            if !is_wide(meaning) {
+                self.put(number, widened(meaning));
+            }
         }
     }
 
@@ -67,6 +69,20 @@ fn assigned(range: Range, meaning: Meaning) -> Meaning
             range,
         },
         other => other,
+    }
+}
+
+/// Whether no more is known of a name than its type, so that widening it changes nothing.
+fn is_wide(meaning: Meaning) -> bool
+    ensures { result ≡ true → widened (meaning_of meaning) ≡ meaning_of meaning }
+{
+    match meaning {
+        Meaning::Scalar {
+            kind: ScalarKind::Variable,
+            value_type,
+            range,
+        } => range == type_range(value_type),
+        _ => true,
     }
 }
 

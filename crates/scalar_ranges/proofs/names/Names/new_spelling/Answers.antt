@@ -1,4 +1,4 @@
-use Rattle.std.proofs.Common.{◌≡◌, ℕ, List, [], ◌∷◌, ◌++◌, length, None, Some, cond, ◌∙◌, refl, sym, ap, subst, arith}
+use Rattle.std.proofs.Common.{◌≡◌, ℕ, List, [], ◌∷◌, ◌++◌, length, None, Some, ◌∙◌, ap, subst, arith}
 use Rattle.std.proofs.lemmas.Map.Text.{btree_map_updates_str}
 use Rattle.scalar_ranges.specs.Naming.{names_from, spellings_from, spelling_of, innermost_of}
 use Rattle.scalar_ranges.proofs.Found.{numbered_of, Gets, found_new, numbered_new, spelled_new, keeps}
