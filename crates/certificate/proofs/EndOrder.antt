@@ -1,21 +1,29 @@
 -- Ends that rise can be searched: their order is strict.
 use Rattle.std.proofs.Common.{◌≡◌, ℕ, ℤ, zero, suc, ◌<◌, ◌≤◌, Bool, true, false, ◌&&◌, ◌||◌, ltb, eqb, List, [], ◌∷◌}
-use Rattle.std.proofs.Common.{length, get_or, refl, sym, inl, inr, arith}
-use Rattle.std.specs.Prelude.{◌<ℤ◌, int_lt, int_le}
+use Rattle.std.proofs.Common.{length, get_or, refl, sym, ap, ◌∙◌, subst, inl, inr, Some, arith, w32, FitsSigned, pos}
+use Rattle.std.specs.Prelude.{◌<ℤ◌, ◌+ℤ◌, int_lt, int_le, MatchOption, slice_get}
 use Rattle.std.specs.List.{list_any}
 use Rattle.std.specs.List.Sorted.{IsPartitionPoint}
-use Rattle.std.proofs.lemmas.Bool.{cases_lt, ltb-true}
+use Rattle.std.proofs.lemmas.Bool.{cases_lt, ltb-true, and_parts}
 use Rattle.std.proofs.Math.Bool.{or-true}
 use Rattle.std.proofs.lemmas.Bool.Decides.{nat_tests, same_from_decides, Decides-int_eq}
 use Rattle.std.specs.Ordering.{int_eq}
 use Rattle.std.proofs.lemmas.Int.{ints}
+use Rattle.std.proofs.lemmas.Option.{slice_get_within, get_or_from_slice_get}
 use Rattle.std.proofs.lemmas.List.Elements.{All-from_get_or}
 use Rattle.std.proofs.lemmas.List.Folds.{list_any_at, list_any_none}
 use Rattle.module_format.specs.declared.rows.EndKey.{EndKey}
+use Rattle.module_format.specs.declared.rows.EndKind.{EndKind}
+use Rattle.module_format.specs.declared.rows.EndKind.TheVariants as ends
 use Rattle.module_format.specs.declared.rows.EndRow.{EndRow}
+use Rattle.module_format.specs.declared.rows.Direction.{Direction}
+use Rattle.module_format.specs.declared.rows.Direction.TheVariants as directions
+use Rattle.module_format.specs.declared.tags.TheConstants.{END_FRAME_WORD}
 use Rattle.module_format.specs.Order.{InOrder}
-use Rattle.module_format.specs.Pars.{EndKeeps, behind_end, key_of, is_below}
+use Rattle.module_format.specs.Pars.{EndKeeps, EndKindKeeps, behind_end, first_key, key_of, is_below, kind_of}
+use Rattle.module_format.specs.Pars.{number_of, direction_number}
 use Rattle.certificate.specs.Rights.{is_same_end}
+use Rattle.certificate.specs.Runs.{word_end}
 
 -- ---- the order
 
@@ -172,3 +180,87 @@ module _ (key low : EndKey) (es : List EndRow) (n : ℕ) (h : InOrder EndKeeps b
           ]
         ])))
   ] refl
+
+  -- the same of an end that was got there
+  pub place_tells : (d : EndRow) (b : Bool) → n < length es → d ≡ get_or es n d → b ≡ is_it d → b ≡ list_any is_it es
+  place_tells d b inside is tells = tells ∙ ap is_it is ∙ one_tells d inside
+
+-- ---- an end at a place
+
+-- an item that passes a test at a place is among all
+pub found_listed : {X : Type 0} (test : X → Bool) (xs : List X) (i : ℕ)
+    → MatchOption (slice_get xs i) ⊥ (λ x. test x ≡ true) → true ≡ list_any test xs
+found_listed test [] i h = absurd h
+found_listed test (x ∷ xs) zero h = rw h refl
+found_listed test (x ∷ xs) (suc i) h = rw (← found_listed test xs i h) (sym (or-true (test x)))
+
+int_same : (k m : ℤ) → (int_le k m && int_le m k) ≡ true → k ≡ m
+int_same k m h = grind (arith, ints)
+
+same_direction : (x y : Direction) → eqb (direction_number x) (direction_number y) ≡ true → x ≡ y
+same_direction directions.In directions.In h = refl
+same_direction directions.Out directions.Out h = refl
+same_direction directions.In directions.Out h = absurd cc
+same_direction directions.Out directions.In h = absurd cc
+
+frame_word : (e : EndKind) (k : ℤ) → eqb (kind_of e) END_FRAME_WORD ≡ true
+    → (int_le (number_of e) k && int_le k (number_of e)) ≡ true → e ≡ ends.FrameWord k
+frame_word (ends.FrameWord w) k kind number = ap (λ (z : ℤ). ends.FrameWord z) (int_same w k number)
+frame_word (ends.Parameter j a) k kind number = absurd cc
+frame_word (ends.Link l) k kind number = absurd cc
+
+-- the end of a channel in a word is one alone
+pub same_word_end : (x : EndRow) (k : ℤ) (d : Direction) → is_same_end (key_of x) (key_of (word_end k d)) ≡ true
+    → x ≡ word_end k d
+same_word_end x k d h =
+    let three = and_parts _ _ h in
+    let two = and_parts _ _ three.0 in
+    let one = and_parts _ _ two.0 in
+    let kind : x.kind ≡ ends.FrameWord k = frame_word x.kind k one.0 one.1 in
+    let direction : x.direction ≡ d = same_direction x.direction d three.1 in
+    ap (λ (e : EndKind). record { kind = e; direction = x.direction }) kind
+    ∙ ap (λ (y : Direction). record { kind = ends.FrameWord k; direction = y }) direction
+
+pub same_itself : (x : EndRow) → is_same_end (key_of x) (key_of x) ≡ true
+same_itself x = grind (arith, nat_tests, ints)
+
+-- where it was found
+pub word_found : (listed : List EndRow) (i : ℕ) (k : ℤ) (d : Direction)
+    → MatchOption (slice_get listed i) ⊥ (λ x. is_same_end (key_of x) (key_of (word_end k d)) ≡ true)
+    → slice_get listed i ≡ Some (word_end k d)
+word_found [] i k d h = absurd h
+word_found (x ∷ xs) zero k d h = ap (λ (y : EndRow). Some y) (same_word_end x k d h)
+word_found (x ∷ xs) (suc i) k d h = word_found xs i k d h
+
+-- ---- neighbouring words
+
+-- the end of the next word's channel stands behind that of a word's
+pub word_before : (es : List EndRow) (i j : ℕ) (k : ℤ) (d : Direction) → InOrder EndKeeps behind_end first_key es
+    → slice_get es i ≡ Some (word_end k d) → slice_get es j ≡ Some (word_end (k +ℤ pos 1) d) → i < j
+word_before es i j k d h here next = elim (cases_lt i j) [
+  | inl less ↦ less
+  | inr ge ↦ elim (cases_lt j i) [
+    | inl behind ↦
+        let rises = rise (word_end k d) first_key es j i h behind (slice_get_within es i (word_end k d) here) in
+        let below = rw (get_or_from_slice_get es i _ (word_end k d) here, get_or_from_slice_get es j _ (word_end k d) next)
+        at rises in
+        absurd (grind (arith, nat_tests, ints))
+    | inr le ↦
+        let same : j ≡ i = omega arith in
+        let both : Some (word_end k d) ≡ Some (word_end (k +ℤ pos 1) d) = sym here ∙ ap (slice_get es) (sym same) ∙ next in
+        let same_end : word_end k d ≡ word_end (k +ℤ pos 1) d = cc in
+        let word : k ≡ k +ℤ pos 1 = ap (λ (x : EndRow). number_of x.kind) same_end in
+        absurd (omega (arith, ints))
+  ]
+]
+
+-- what is no word has no end
+pub no_word : (es : List EndRow) (low : EndKey) (k : ℤ) (d : Direction) → InOrder EndKeeps behind_end low es
+    → (FitsSigned w32 k → ⊥) → list_any (λ x. is_same_end (key_of x) (key_of (word_end k d))) es ≡ false
+no_word [] low k d h far = refl
+no_word (e ∷ es) low k d h far =
+    elim (is_same_end (key_of e) (key_of (word_end k d))) as (λ b. is_same_end (key_of e) (key_of (word_end k d)) ≡ b
+    → (b || list_any (λ x. is_same_end (key_of x) (key_of (word_end k d))) es) ≡ false) [
+      | true ↦ λ same. absurd (far (subst (λ (x : EndRow). EndKindKeeps x.kind) (same_word_end e k d same) h.0.kind))
+      | false ↦ λ same. no_word es (key_of e) k d h.1 far
+    ] refl

@@ -42,7 +42,7 @@ slice_get_past [] i le = refl
 slice_get_past (x ∷ xs) zero le = absurd (omega arith)
 slice_get_past (x ∷ xs) (suc i) le = slice_get_past xs i (omega arith)
 
-many_branches : (rows : List Par) → length (branches_of rows) ≡ branch_count rows
+pub many_branches : (rows : List Par) → length (branches_of rows) ≡ branch_count rows
 many_branches [] = refl
 many_branches (row ∷ rows) =
     let paired : Branch → Par × Branch = λ y. (row, y) in

@@ -5,9 +5,11 @@ use Rattle.module_format.specs.Contexts.{branch_count}
 use Rattle.certificate.specs.Starts.{AreStarts}
 use Rattle.module_format.specs.Places.{ArePlaces}
 use Rattle.certificate.specs.Branches.{AreNumbers}
+use Rattle.certificate.specs.BranchRuns.{AreBranchRuns}
 
 -- the index of these contents
 pub record IsIndex (c : Contents) (index : Index) : Type 0 where
   pub starts : AreStarts index.starts c
   pub places : ArePlaces c (branch_count c.pars) index.places.items
   pub numbers : AreNumbers c index.numbers.items
+  pub runs : AreBranchRuns c index.runs.items

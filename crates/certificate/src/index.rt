@@ -7,8 +7,10 @@ ghost use Rattle.module_format.specs.Keeping.{Keeps};
 ghost use Rattle.module_format.specs.Places.{ArePlaces};
 ghost use Rattle.certificate.specs.Index.{IsIndex};
 
+use crate::branch_runs::branch_runs_of;
 use crate::marks::Marks;
 use crate::numbers::numbers_of;
+use crate::runs::ChannelRun;
 use crate::starts::starts_of;
 use module_format::{Place, Tables};
 use std::alloc::{AllocError, Global};
@@ -22,11 +24,13 @@ pub(crate) struct Index {
     pub places: Vec<Place>,
     /// At each code offset the context of the branch that begins there, or 0, up to the last branch.
     pub numbers: Vec<u32>,
+    /// For each branch and each end of a frame word that it has, the run of channels from that word on.
+    pub runs: Vec<Vec<ChannelRun>>,
 }
 
 impl Index {
-    /// The index of tables, of which the places of the branches are known. It takes time and memory linear
-    /// in the code and the rows.
+    /// The index of tables, of which the places of the branches are known. It takes memory in
+    /// proportion to the code and the rows, and time that is n log n in them.
     pub(crate) fn new(
         alloc: Global,
         tables: &Tables,
@@ -38,10 +42,12 @@ impl Index {
     {
         let starts = starts_of(alloc, tables)?;
         let numbers = numbers_of(alloc, tables, &places)?;
+        let runs = branch_runs_of(alloc, tables, &places)?;
         Ok(Index {
             starts,
             places,
             numbers,
+            runs,
         })
     }
 }

@@ -2,11 +2,15 @@
 //! touch. The module file itself is `module_format`, which is passed on.
 #![tactic(auto)]
 
+mod around;
+mod branch_runs;
+mod branches;
 mod index;
 mod marks;
 mod modules;
 mod numbers;
 mod rights;
+mod runs;
 mod starts;
 
 pub use module_format::{
@@ -18,3 +22,4 @@ pub use module_format::{
     one_file_one_contents, reading_again, reading_finds, write,
 };
 pub use modules::Module;
+pub use runs::ChannelRun;

@@ -1,7 +1,9 @@
 //! Modules that were read.
 
+use crate::branches::numbered_branch;
 use crate::index::Index;
 use crate::numbers::number_at;
+use crate::runs::ChannelRun;
 use module_format::{
     BranchRow, Context, Contexts, FormatFault, LabelRow, ParRow, Parameter, ProcedureRow, Tables,
     read, row_at,
@@ -39,6 +41,7 @@ impl<'a> Module<'a> {
     ghost use Rattle.module_format.specs.Places.{owner_at};
     ghost use Rattle.certificate.specs.Starts.{procedure_at, is_start};
     ghost use Rattle.certificate.specs.Branches.{numbered_branch, branch_at};
+    ghost use Rattle.certificate.specs.BranchRuns.{AreRunsAt};
     ghost use Rattle.module_format.specs.Order.{InOrder, least_word};
     ghost use Rattle.module_format.specs.Pars.{GiftsKeep, ChannelKeeps, behind_channel};
     ghost use Rattle.module_format.specs.Keeping.{Format, Keeps};
@@ -143,14 +146,17 @@ impl<'a> Module<'a> {
         ensures kept { IfSome result (λ found. GiftsKeep (branch_of found.1.now)
             × InOrder ChannelKeeps behind_channel least_word found.0.now.channels.items) }
     {
-        let number = number as usize;
-        let first = self.tables.first_branch();
-        if number < first {
-            return None;
-        }
-        let place = self.index.places.get(number - first)?;
-        let row = &self.tables.pars[usize::from(place.par)];
-        Some((row, &row.branches[usize::from(place.branch)]))
+        let (_number, row, branch) = numbered_branch(&self.tables, &self.index.places, number)?;
+        Some((row, branch))
+    }
+
+    /// The runs of the ends of a branch, in the order of the ends.
+    pub(crate) fn runs(&self, context: u32) -> Option<&[ChannelRun]>
+        ensures { AreRunsAt self.now context result }
+    {
+        let number = (context as usize).checked_sub(self.tables.first_branch())?;
+        let runs = self.index.runs.get(number)?;
+        Some(runs)
     }
 
     /// The branch that begins at a code offset, with the number of its context and its PAR row, found in

@@ -1,7 +1,8 @@
 //! What a context may do with the words of its frame and with channels.
 
-ghost use Rattle.std.specs.Prelude.{◌≡◌};
+ghost use Rattle.std.specs.Prelude.{◌≡◌, true, false, MatchOption, slice_get};
 ghost use Rattle.std.specs.List.{list_any};
+ghost use Rattle.module_format.specs.declared.rows.EndRow.{EndRow};
 ghost use Rattle.module_format.specs.Order.{InOrder, least_word};
 ghost use Rattle.module_format.specs.Pars.{IntervalKeeps, behind_interval, ChannelKeeps, behind_channel, EndKeeps};
 ghost use Rattle.module_format.specs.Pars.{behind_end, first_key, key_of};
@@ -9,6 +10,7 @@ ghost use Rattle.certificate.specs.Rights.{is_among, listed_length, gives_link, 
 ghost use Rattle.certificate.specs.Rights.{is_same_end};
 
 use crate::modules::Module;
+use crate::runs::{ChannelRun, place_of_word};
 use bitflags::Flags;
 use module_format::{
     ChannelRow, Direction, EndKind, EndRow, Ends, Interval, Parameter, ParameterKind,
@@ -88,22 +90,35 @@ fn gives_parameter(parameters: &[Parameter], end: &EndRow) -> bool
     }
 }
 
+/// Where an end is among others, which rise. It takes time logarithmic in them.
+pub(crate) fn place_of(others: &[EndRow], end: &EndRow) -> Option<usize>
+    requires { InOrder EndKeeps behind_end first_key others.now }
+    ensures { let is_it = λ (other : EndRow). is_same_end (key_of other) (key_of end.now) in
+        MatchOption result (list_any is_it others.now ≡ false)
+        (λ index. MatchOption (slice_get others.now index) ⊥ (λ other. is_it other ≡ true)) }
+{
+    let key = end.key();
+    let first = others.partition_point(|other| other.key().is_below(&key));
+    let other = others.get(first)?;
+    if other.key() == key {
+        Some(first)
+    } else {
+        None
+    }
+}
+
 /// Whether an end is among others, which rise. It takes time logarithmic in them.
 fn lists_end(others: &[EndRow], end: &EndRow) -> bool
     requires { InOrder EndKeeps behind_end first_key others.now }
     ensures { result ≡ list_any (λ other. is_same_end (key_of other) (key_of end.now)) others.now }
 {
-    let key = end.key();
-    let first = others.partition_point(|other| other.key().is_below(&key));
-    match others.get(first) {
-        Some(other) => other.key() == key,
-        None => false,
-    }
+    place_of(others, end).is_some()
 }
 
 impl Module<'_> {
-    ghost use Rattle.std.specs.Prelude.{◌≡◌};
+    ghost use Rattle.std.specs.Prelude.{◌≡◌, None, MatchOption};
     ghost use Rattle.module_format.specs.Contexts.{context_at};
+    ghost use Rattle.certificate.specs.Runs.{IsRun, held_from};
     ghost use Rattle.certificate.specs.Rights.{has_word, may_write_word, may_read_word, channel_length, has_end};
 
     /// Whether a word is one of a context's frame.
@@ -146,9 +161,23 @@ impl Module<'_> {
         }
     }
 
-    /// The bytes of the messages of the channel in a frame word: what the nearest PAR row says that lists
-    /// the word, of those around the context. It takes time logarithmic in the channels of each.
-    pub fn channel_length(&self, context: u32, word: i32) -> Option<u32>
+    /// The neighbouring channels from the one in a frame word on of which a context has the ends in a direction,
+    /// as far as they have one length; `None` where it has no end of that one. The root and the procedures have no
+    /// end of a frame word. It takes time logarithmic in the ends of the branch, whatever is around it.
+    pub fn channels_from(&self, context: u32, word: i32, direction: Direction) -> Option<ChannelRun>
+        ensures { MatchOption result (held_from self.now context direction word ≡ None)
+            (IsRun (held_from self.now context direction) word) }
+    {
+        self.context(context)?;
+        let (_row, branch) = self.branch(context)?;
+        let place = place_of_word(&branch.ends, word, direction)?;
+        let runs = self.runs(context)?;
+        Some(runs[place])
+    }
+
+    /// What the nearest PAR row says that lists a word, of those around the context. It takes time logarithmic in the
+    /// channels of each.
+    fn length_around(&self, context: u32, word: i32) -> Option<u32>
         ensures { result ≡ channel_length self.now context word }
     {
         let mut number = context;
@@ -160,6 +189,21 @@ impl Module<'_> {
             number = u32::from(row.context);
         }
         None
+    }
+
+    /// The bytes of the messages of the channel in a frame word: what the nearest PAR row says that lists
+    /// the word, of those around the context. Where the context has an end of the channel, it takes time logarithmic
+    /// in its ends; else it looks in each row around, in time logarithmic in the channels of each.
+    pub fn channel_length(&self, context: u32, word: i32) -> Option<u32>
+        ensures { result ≡ channel_length self.now context word }
+    {
+        if let Some(run) = self.channels_from(context, word, Direction::In) {
+            return run.length;
+        }
+        if let Some(run) = self.channels_from(context, word, Direction::Out) {
+            return run.length;
+        }
+        self.length_around(context, word)
     }
 
     /// Whether a context has an end of a channel: the root those of the links that have a length, a

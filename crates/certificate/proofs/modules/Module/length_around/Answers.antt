@@ -2,7 +2,7 @@ use Rattle.std.proofs.Common.{◌≡◌, ◌∙◌, ◌+◌, ◌-◌, ℕ, ap, s
 use Rattle.module_format.specs.Contents.{par_of, branch_of}
 use Rattle.certificate.specs.Rights.{length_around, channel_length}
 use Rattle.certificate.proofs.RightLaws.{around_more}
-use Rattle.certificate.proofs.modules.Module.channel_length.Goals as goal
+use Rattle.certificate.proofs.modules.Module.length_around.Goals as goal
 
 pub loop-preserved : goal.loop-preserved
 loop-preserved c =
