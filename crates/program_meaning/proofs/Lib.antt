@@ -6,3 +6,4 @@ pub mod MovesWithin
 pub mod TypesStay
 pub mod LoopsGoOn
 pub mod OutcomesGoWell
+pub mod DeclarationsHold

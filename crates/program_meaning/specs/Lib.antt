@@ -12,3 +12,4 @@ pub mod RangesWithin
 pub mod KeepingTypes
 pub mod Loops
 pub mod GoingWell
+pub mod Declarations

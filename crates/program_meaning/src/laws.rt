@@ -6,6 +6,7 @@ ghost use Rattle.program_meaning.specs.Messages.{ReceivedIsOfType, MessagesReadB
 ghost use Rattle.program_meaning.specs.RangesWithin.{MovesStayWithin};
 ghost use Rattle.program_meaning.specs.KeepingTypes.{TypesStay};
 ghost use Rattle.program_meaning.specs.Loops.{LoopsGoOn};
+ghost use Rattle.program_meaning.specs.Declarations.{DeclarationsHold};
 ghost use Rattle.program_meaning.specs.GoingWell.{OutcomesGoWell};
 
 /// Small programs read, write and end as they should: sums over a link, echoes, quotients, counts of 0 and 1, links
@@ -68,4 +69,11 @@ pub fn loops_go_on()
 #[tactic(auto, using(crate::proofs::OutcomesGoWell::outcomes_go_well))]
 pub fn outcomes_go_well()
     ensures { OutcomesGoWell }
+{}
+
+/// Where constants have their values and arrays their sizes, what is declared is bound, and holds what its meaning says.
+/// The items of a table lie in its range.
+#[tactic(auto, using(crate::proofs::DeclarationsHold::declarations_hold))]
+pub fn declarations_hold()
+    ensures { DeclarationsHold }
 {}
