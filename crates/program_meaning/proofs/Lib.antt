@@ -7,3 +7,4 @@ pub mod TypesStay
 pub mod LoopsGoOn
 pub mod OutcomesGoWell
 pub mod DeclarationsHold
+pub mod DeclarationsTyped

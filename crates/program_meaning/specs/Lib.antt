@@ -13,3 +13,4 @@ pub mod KeepingTypes
 pub mod Loops
 pub mod GoingWell
 pub mod Declarations
+pub mod DeclaredTypes

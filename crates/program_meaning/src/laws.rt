@@ -7,6 +7,7 @@ ghost use Rattle.program_meaning.specs.RangesWithin.{MovesStayWithin};
 ghost use Rattle.program_meaning.specs.KeepingTypes.{TypesStay};
 ghost use Rattle.program_meaning.specs.Loops.{LoopsGoOn};
 ghost use Rattle.program_meaning.specs.Declarations.{DeclarationsHold};
+ghost use Rattle.program_meaning.specs.DeclaredTypes.{DeclarationsTyped};
 ghost use Rattle.program_meaning.specs.GoingWell.{OutcomesGoWell};
 
 /// Small programs read, write and end as they should: sums over a link, echoes, quotients, counts of 0 and 1, links
@@ -72,8 +73,9 @@ pub fn outcomes_go_well()
 {}
 
 /// Where constants have their values and arrays their sizes, what is declared is bound, and holds what its meaning says.
-/// The items of a table lie in its range.
-#[tactic(auto, using(crate::proofs::DeclarationsHold::declarations_hold))]
+/// The items of a table lie in its range. If the numbers of its expressions are words, it holds numbers of its type.
+#[tactic(auto, using(crate::proofs::DeclarationsHold::declarations_hold, crate::proofs::DeclarationsTyped::declarations_typed))]
 pub fn declarations_hold()
-    ensures { DeclarationsHold }
+    ensures held { DeclarationsHold }
+    ensures typed { DeclarationsTyped }
 {}
