@@ -29,6 +29,7 @@ use Rattle.program_meaning.specs.Declarations.{IsKnown}
 use Rattle.program_meaning.specs.DeclaredTypes.{DeclarationsTyped, ValueHasWords}
 use Rattle.program_meaning.proofs.ValuesTyped.{values_are_typed}
 use Rattle.program_meaning.proofs.TypesStay.{types_stay}
+use Rattle.program_meaning.proofs.DeclarationsHold.{declarations_hold}
 
 -- ---- expressions
 
@@ -216,3 +217,5 @@ declarations_typed es env (Variables n) meets typed known words =
 declarations_typed es env (Channels n) meets typed known words =
     bound_typed (as_list n.names) (channel_meaning es n.value_type n.size) Nothing es env
     (channel_typed es n.value_type n.size) typed
+
+pub ruleset declarations = (declarations_hold, declarations_typed)

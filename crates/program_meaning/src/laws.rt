@@ -74,7 +74,7 @@ pub fn outcomes_go_well()
 
 /// Where constants have their values and arrays their sizes, what is declared is bound, and holds what its meaning says.
 /// The items of a table lie in its range. If the numbers of its expressions are words, it holds numbers of its type.
-#[tactic(auto, using(crate::proofs::DeclarationsHold::declarations_hold, crate::proofs::DeclarationsTyped::declarations_typed))]
+#[tactic(auto, using(crate::proofs::DeclarationsTyped::declarations))]
 pub fn declarations_hold()
     ensures held { DeclarationsHold }
     ensures typed { DeclarationsTyped }
