@@ -7,3 +7,4 @@ pub mod OneName
 pub mod Passing
 pub mod Resuming
 pub mod Touching
+pub mod ChannelRuns

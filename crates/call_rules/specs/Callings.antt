@@ -10,6 +10,7 @@ use Rattle.module_format.specs.Contents.{Contents, procedure_of}
 use Rattle.module_format.specs.Contexts.{context_at}
 use Rattle.certificate.specs.Rights.{has_word}
 use Rattle.certificate.specs.Starts.{Entered}
+use Rattle.certificate.specs.declared.runs.ChannelRun.{ChannelRun}
 use Rattle.states.specs.declared.state.State.{State as InState}
 use Rattle.states.specs.State.{Facts}
 use Rattle.states.specs.declared.rule.Rule.TheVariants as rules
@@ -26,7 +27,7 @@ use Rattle.rulings.specs.Rulings.{Ruling, alone, wants}
 use Rattle.call_rules.specs.CallRules.{Calling, callee_word, lent, passes_all, may_call, frame_is_own, frame_size}
 use Rattle.call_rules.specs.CallRules.{with_lent, are_apart, numbers_fit, pointers_fit, ends_are_held, lengths_fit}
 use Rattle.call_rules.specs.CallRules.{give_other_ends}
-use Rattle.rulings.specs.Channels.{has_end_further}
+use Rattle.rulings.specs.Channels.{has_end_further, further, message_length}
 
 abbrev pub calling_of : InMemory → Calling
 calling_of c =
@@ -55,6 +56,16 @@ fits wanted.Lengths = lengths_fit
 abbrev pub fit_together : Pairwise → Calling → Parameter → Parameter → Bool
 fit_together pairwise.Apart = are_apart_from
 fit_together pairwise.OtherEnds = give_other_ends
+
+-- so many in turn pass a test
+pub record HasAll (count : ℕ) (test : ℕ → Bool) : Type 0 where
+  pub each : (i : ℕ) → i < count → test i ≡ true
+
+-- a context has the ends, in a direction, of a run of channels from this one on, with the run's length of messages
+pub record HasRun (m : Contents) (context : ℕ) (first : EndKind) (direction : Direction) (run : ChannelRun)
+    : Type 0 where
+  pub ends : HasAll run.count (has_end_further m context first direction)
+  pub lengths : (i : ℕ) → i < run.count → message_length m context (further first i) ≡ run.length
 
 -- a context that has an end of a channel has those of the channels before it
 pub record HasAllBefore (m : Contents) (context : ℕ) (first : EndKind) : Type 0 where

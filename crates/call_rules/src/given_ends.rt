@@ -1,15 +1,15 @@
 //! What a call wants of the channels that it passes.
 
 use crate::calling::Calling;
-use certificate::{Direction, EndKind, Ends, Parameter, ParameterKind};
+use certificate::{ChannelRun, Direction, EndKind, Ends, Parameter, ParameterKind};
 use rulings::channels::{are_disjoint, channel_of, channels_meet, has_direction};
 
 impl Calling<'_, '_, '_, '_> {
-    ghost use Rattle.std.specs.Prelude.{◌≡◌, true};
+    ghost use Rattle.std.specs.Prelude.{◌≡◌, true, IfSome};
     ghost use Rattle.module_format.specs.Keeping.{Keeps};
     ghost use Rattle.rulings.specs.Channels.{further, has_end_further, has_length_further};
     ghost use Rattle.call_rules.specs.CallRules.{all_below, holds_ends, ends_are_held, lengths_fit, give_other_ends};
-    ghost use Rattle.call_rules.specs.Callings.{calling_of, HasAllBefore};
+    ghost use Rattle.call_rules.specs.Callings.{calling_of, HasAllBefore, HasRun, HasAll};
 
     /// Whether the caller has the ends of a channel if it has those of one behind it: of the channels of its own
     /// parameters.
@@ -22,10 +22,57 @@ impl Calling<'_, '_, '_, '_> {
         }
     }
 
-    /// Whether the caller has the ends, in a direction, of so many channels from the first one on. Where it has
-    /// those before the last if it has that of the last, this alone is looked up; else the first one that it does not
-    /// have ends it.
+    /// The run of channels from a frame word on of which the caller, a branch, has the ends in a direction.
+    fn run_from(&self, first: EndKind, direction: Direction) -> Option<ChannelRun>
+        ensures { let context = self.now.state.now.context in
+            IfSome result (HasRun self.now.place.module.now context first direction) }
+    {
+        let EndKind::FrameWord(word) = first else {
+            return None;
+        };
+        self.place
+            .module
+            .channels_from(self.state.context, word, direction)
+    }
+
+    /// Whether a run of a branch has the ends of so many channels from the first one on.
+    fn run_has_ends(&self, first: EndKind, count: u32, direction: Direction) -> bool
+        ensures { let has = has_end_further self.now.place.module.now self.now.state.now.context first direction in
+            result ≡ true → HasAll count has }
+    {
+        match self.run_from(first, direction) {
+            Some(run) => count <= run.count,
+            None => false,
+        }
+    }
+
+    /// Whether a run of a branch has so many channels from the first one on, with messages of this length.
+    fn run_has_length(&self, first: EndKind, count: u32, direction: Direction, length: u32) -> bool
+        ensures { let has = has_length_further self.now.place.module.now self.now.state.now.context first length in
+            result ≡ true → HasAll count has }
+    {
+        match self.run_from(first, direction) {
+            Some(run) => count <= run.count && run.length == Some(length),
+            None => false,
+        }
+    }
+
+    /// Whether the caller has the ends, in a direction, of so many channels from the first one on. If they are one run
+    /// of a branch, it takes time logarithmic in the ends; the channels of a call that fits are.
     fn has_ends(&self, first: EndKind, count: u32, direction: Direction) -> bool
+        requires { Keeps self.now.place.module.now }
+        ensures { let has = has_end_further self.now.place.module.now self.now.state.now.context first direction in
+            result ≡ all_below count has }
+    {
+        if self.run_has_ends(first, count, direction) {
+            return true;
+        }
+        self.has_each_end(first, count, direction)
+    }
+
+    /// The same, end by end. Where it has those before the last if it has that of the last, this alone is looked up;
+    /// else the first one that it does not have ends it.
+    fn has_each_end(&self, first: EndKind, count: u32, direction: Direction) -> bool
         requires { Keeps self.now.place.module.now }
         ensures { let has = has_end_further self.now.place.module.now self.now.state.now.context first direction in
             result ≡ all_below count has }
@@ -104,9 +151,25 @@ impl Calling<'_, '_, '_, '_> {
         }
     }
 
-    /// Whether so many channels from the first one on have messages of this length. Those of one parameter have
-    /// messages of one length; else the first one that has another length ends it.
+    /// Whether so many channels from the first one on have messages of this length. If they are one run of a branch, it
+    /// takes time logarithmic in the ends.
     fn have_length(&self, first: EndKind, count: u32, length: u32) -> bool
+        requires { Keeps self.now.place.module.now }
+        ensures { let has = has_length_further self.now.place.module.now self.now.state.now.context first length in
+            result ≡ all_below count has }
+    {
+        if self.run_has_length(first, count, Direction::In, length) {
+            return true;
+        }
+        if self.run_has_length(first, count, Direction::Out, length) {
+            return true;
+        }
+        self.each_has_length(first, count, length)
+    }
+
+    /// The same, channel by channel. Those of one parameter have messages of one length; else the first one that has
+    /// another length ends it.
+    fn each_has_length(&self, first: EndKind, count: u32, length: u32) -> bool
         requires { Keeps self.now.place.module.now }
         ensures { let has = has_length_further self.now.place.module.now self.now.state.now.context first length in
             result ≡ all_below count has }

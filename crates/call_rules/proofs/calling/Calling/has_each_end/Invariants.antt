@@ -1,6 +1,6 @@
 use Rattle.std.proofs.Common.{◌≡◌, ℕ, ◌≤◌, ◌<◌, true}
 use Rattle.rulings.specs.Channels.{has_end_further}
-use Rattle.call_rules.proofs.calling.Calling.has_ends.Given as goal
+use Rattle.call_rules.proofs.calling.Calling.has_each_end.Given as goal
 
 abbrev pub invariant-loop-n : goal.invariant-loop-n
 invariant-loop-n l = (i : ℕ) → l.start ≤ i → i < l.n
