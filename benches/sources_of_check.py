@@ -244,11 +244,15 @@ def nested_instances():
     return program(sender(), main(f"[{ENDS}]CHAN OF INT c:", *under([*heads, "SEQ"], calls)))
 
 
-def in_loops(levels, body, size, others=0, outside=(), declared=()):
-    """A body of a size in so many SEQs of one turn, below declarations, in turns of a PAR."""
-    heads = ["SEQ up = 0 FOR 1"] * levels
-    turns = as_many(size + 5 * levels + 60, others)
+def in_nest(heads, size_of_heads, body, size, others=0, outside=(), declared=()):
+    """A body of a size below heads, which are below declarations, in turns of a PAR."""
+    turns = as_many(size + size_of_heads + 60, others)
     return main(*outside, *under([f"PAR turn = 0 FOR {turns}"], [*declared, *under(heads, body)]))
+
+
+def in_loops(levels, *others, **more):
+    """The same in so many SEQs of one turn."""
+    return in_nest(["SEQ up = 0 FOR 1"] * levels, 5 * levels, *others, **more)
 
 
 def loops_alone(block):
@@ -256,11 +260,38 @@ def loops_alone(block):
     return program(main(*under([f"PAR turn = 0 FOR {as_many(5 * len(heads) + 1)}", *heads], ["SKIP"])))
 
 
+SCALARS = ",".join(ascii_letters)
+PASSING = f"change({SCALARS})"
+
+
+def with_change(body):
+    """A procedure to which 52 variables are passed, and the one that passes them."""
+    return program(procedure(f"change({', '.join(f'INT {name}' for name in ascii_letters)})", ["SKIP"]), body)
+
+
 def loops_changing():
     """Instances that pass 52 variables."""
-    scalars = ",".join(ascii_letters)
-    change = procedure(f"change({', '.join(f'INT {name}' for name in ascii_letters)})", ["SKIP"])
-    return program(change, in_loops(60, [f"change({scalars})"], 60, declared=[f"INT {scalars}:"]))
+    return with_change(in_loops(60, [PASSING], 60, declared=[f"INT {SCALARS}:"]))
+
+
+def loops_passing():
+    """A hundred of them."""
+    return with_change(in_loops(60, ["SEQ", *deeper([PASSING] * 100)], 6_001, declared=[f"INT {SCALARS}:"]))
+
+
+def loops_assigning():
+    """Assignments to 52 variables."""
+    lines = ["SEQ", *deeper([f"{name}:=1" for name in ascii_letters])]
+    return program(in_loops(60, lines, 1 + 52 * 3, declared=[f"INT {SCALARS}:"]))
+
+
+def pars_changing():
+    heads = ["PAR up = 0 FOR 1"] * 60
+    return with_change(in_nest(heads, 5 * len(heads), [PASSING], 60, declared=[f"INT {SCALARS}:"]))
+
+
+def ifs_changing():
+    return with_change(in_nest(["IF", "TRUE"] * 30, 3 * 30, [PASSING], 60, declared=[f"INT {SCALARS}:"]))
 
 
 def loops_declaring(count, levels):
@@ -326,10 +357,6 @@ SLOW = {
     "nested-instances": (nested_instances, 2, "instances that use 100,000 ends, in 62 PARs of one turn"),
     "late-name": (late_name, 1, "a sum of one name, made to collide with 100,000 others in a hash table"),
     "late-names": (late_names, 1, "a sum of 20,000 short names, where 40,000 are known"),
-}
-
-# The same of deep nests, which cost their depth: what a body changes is found again at each level.
-NESTS = {
     "loops-seq": (lambda: loops_alone("SEQ"), 1, "61 SEQs, in turns"),
     "loops-par": (lambda: loops_alone("PAR"), 1, "61 PARs of one turn, in turns"),
     "loops-changing": (loops_changing, 2, "instances that pass 52 variables in 60 SEQs, in turns"),
@@ -337,4 +364,12 @@ NESTS = {
     "loops-declaring": (lambda: loops_declaring(900, 61), 1, "a line that declares 900 names in 61 SEQs, in turns"),
     "loops-lines": (loops_of_lines, 1, "7,000 short lines in 60 SEQs, in turns"),
     "late-blocks": (late_blocks, 1, "blocks that declare two names, made to collide with 80,000 others, in 60 SEQs"),
+}
+
+# Nests that take longer: each end of a block, and each beginning of a loop, goes over what changes inside.
+NESTS = {
+    "loops-passing": (loops_passing, 2, "100 instances that pass 52 variables in 60 SEQs, in turns"),
+    "loops-assigning": (loops_assigning, 1, "52 variables that are assigned to in 60 SEQs, in turns"),
+    "pars-changing": (pars_changing, 2, "instances that pass 52 variables in 60 PARs of one turn, in turns"),
+    "ifs-changing": (ifs_changing, 2, "instances that pass 52 variables in 30 IFs, in turns"),
 }
