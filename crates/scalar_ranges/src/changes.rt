@@ -296,7 +296,7 @@ fn modify<'a>(slots: &mut [Slot<'a>], number: usize, update: Update<'a>)
     ensures { slots_from slots.new ≡ modify (updated update.entry) number (slots_from slots.old) }
 {
     if number < slots.len() {
-        slots[number] = slots[number].updated(update);
+        slots[number].update(update);
     }
 }
 

@@ -139,67 +139,59 @@ impl<'a> Slot<'a> {
         }
     }
 
-    /// The slot after this.
-    pub(crate) fn updated(self, update: Update<'a>) -> Slot<'a>
-        ensures { slot_of result ≡ updated update.entry (slot_of self.entry) }
+    /// What an update says becomes of the slot.
+    pub(crate) fn update(&mut self, update: Update<'a>)
+        ensures { slot_of self.new ≡ updated update.entry (slot_of self.old) }
     {
         match update {
-            Update::Mark { depth } => Slot {
-                mark: depth,
-                recent: false,
-                start: self.meaning,
-                ends: self.meaning,
-                ..self
-            },
-            Update::Touch => Slot {
-                recent: true,
-                ..self
-            },
-            Update::Mean(meaning) => Slot { meaning, ..self },
+            Update::Mark { depth } => {
+                self.mark = depth;
+                self.recent = false;
+                self.start = self.meaning;
+                self.ends = self.meaning;
+            }
+            Update::Touch => self.recent = true,
+            Update::Mean(meaning) => self.meaning = meaning,
             Update::Begin {
                 comparison,
                 constant,
-            } => Slot {
-                start: narrowed(self.start, comparison, constant),
-                ..self
-            },
-            Update::End(depth, turn) => self.turned(depth, turn),
-            Update::Restore(before) => Slot {
-                name: self.name,
-                ..before
-            },
+            } => self.start = narrowed(self.start, comparison, constant),
+            Update::End(depth, turn) => self.turn(depth, turn),
+            Update::Restore(before) => self.restore(before),
         }
     }
 
-    /// The slot after the end of a branch of the block of this depth.
-    fn turned(self, depth: usize, turn: Turn) -> Slot<'a>
-        ensures { slot_of result ≡ turned depth turn (slot_of self.entry) }
+    /// The slot is as it was, with its name.
+    fn restore(&mut self, before: Slot<'a>)
+        ensures { slot_of self.new ≡ record (slot_of before.entry) { name = (slot_of self.old).name } }
+    {
+        self.meaning = before.meaning;
+        self.mark = before.mark;
+        self.recent = before.recent;
+        self.start = before.start;
+        self.ends = before.ends;
+    }
+
+    /// A branch of the block of this depth ends.
+    fn turn(&mut self, depth: usize, turn: Turn)
+        ensures { slot_of self.new ≡ turned depth turn (slot_of self.old) }
     {
         if self.mark == depth {
-            self.turned_to(turn)
-        } else {
-            self
+            self.turn_to(turn);
         }
     }
 
     /// The same of an entry that the block has in its list.
-    fn turned_to(self, turn: Turn) -> Slot<'a>
-        ensures { slot_of result ≡ turned_to turn (slot_of self.entry) }
+    fn turn_to(&mut self, turn: Turn)
+        ensures { slot_of self.new ≡ turned_to turn (slot_of self.old) }
     {
         match turn {
-            Turn::Join { ended: true } => Slot {
-                ends: hull_meaning(self.ends, self.meaning),
-                ..self
-            },
-            Turn::Join { ended: false } | Turn::Take => Slot {
-                ends: self.meaning,
-                ..self
-            },
-            Turn::Restart => Slot {
-                meaning: self.start,
-                recent: false,
-                ..self
-            },
+            Turn::Join { ended: true } => self.ends = hull_meaning(self.ends, self.meaning),
+            Turn::Join { ended: false } | Turn::Take => self.ends = self.meaning,
+            Turn::Restart => {
+                self.meaning = self.start;
+                self.recent = false;
+            }
         }
     }
 
