@@ -3,18 +3,23 @@
 use Rattle.std.specs.Prelude.{◌≡◌, ℕ, ◌+◌, ◌*◌, ◌≤◌, ◌<◌, ℤ, pos, ◌+ℤ◌, true, [], ◌∷◌, length, Some, None}
 use Rattle.module_format.specs.Contents.{Contents, Label, label_at}
 use Rattle.module_format.specs.Stack.{of_empty}
+use Rattle.module_format.specs.declared.rows.Direction.{Direction}
+use Rattle.module_format.specs.declared.rows.Direction.TheVariants.{In, Out}
+use Rattle.module_format.specs.declared.rows.EndKind.{EndKind}
 use Rattle.certificate.specs.Starts.{Entered, procedure_at}
 use Rattle.machine_state.specs.declared.process.Mode as machine
 use Rattle.machine_state.specs.declared.process.Mode.TheVariants as machine_modes
-use Rattle.machine_state.specs.Memory.{Memory, data_start}
-use Rattle.machine_state.specs.Holding.{Holding}
+use Rattle.machine_state.specs.declared.process.Exchange.{Exchange}
+use Rattle.machine_state.specs.Memory.{Memory, byte_at, data_start}
+use Rattle.machine_state.specs.Holding.{Holding, may_read, may_write}
 use Rattle.machine_state.specs.Frame.{ChangesOwn}
 use Rattle.machine_state.specs.Site as steps
-use Rattle.machine_state.specs.Site.{Outcome, goes, jumps, lands, stops, Local}
+use Rattle.machine_state.specs.Site.{Outcome, goes, jumps, lands, stops, receives, sends, Local}
 use Rattle.states.specs.declared.rule.Rule.{Rule}
 use Rattle.states.specs.declared.known.Mode.TheVariants.{Plain}
 use Rattle.states.specs.State.{State, unknown, label_state, procedure_state}
-use Rattle.rulings.specs.Regions.{Scope, scope_of, scope_in, HoldsNamed, Keeps}
+use Rattle.rulings.specs.Regions.{Scope, scope_of, scope_in, channel_address, HoldsNamed, Keeps}
+use Rattle.rulings.specs.Buffers.{message_place, is_of_message, IsByte, Fills}
 use Rattle.rulings.specs.Lends.{Lends}
 use Rattle.rulings.specs.Rulings as rule
 use Rattle.rulings.specs.Rulings.{Ruling, calls, returns, ends, breaks, falling, leading}
@@ -101,9 +106,50 @@ pub data GoesTo (x : Here) : Outcome → ℕ → Local → Type 0 where
   is_jump : {to : ℕ} {l : Local} → GoesTo x (jumps to l) to l
   is_landing : {to : ℕ} {l : Local} → GoesTo x (lands to l) to l
 
+-- A channel of which the activation has the end in a direction, over which messages are as long as this one.
+pub record GoesOver (x : Here) (direction : Direction) (e : Exchange) : Type 0 where
+  pub kind : EndKind
+  pub end : (scope_of x.m x.context x.act.layout).ends kind direction ≡ true
+  pub address : channel_address x.act.layout kind ≡ e.channel
+  pub len : (scope_of x.m x.context x.act.layout).lengths kind ≡ Some e.length
+  pub some : 1 ≤ e.length
+
+-- The process may write the buffer of a message that comes. Whatever bytes come there, and whatever happens to bytes that
+-- it may not read, what is known of the state holds once all are there; and as long as some come, it keeps the rest.
+pub record Receives (x : Here) (s : State) (l : Local) (e : Exchange) : Type 0 where
+  pub over : GoesOver x In e
+  pub room : (place : ℕ) → is_of_message e place ≡ true → (may_write x.h place ≡ true) × (place < length l.memory)
+  pub fills : (old new : Memory) → Fills x.h (is_of_message e) old new
+      → Keeps x.m x.h (scope_in x.m s x.act.layout) old new
+  pub after : (later : Memory) → length later ≡ length l.memory
+      → ((place : ℕ) → may_read x.h place ≡ true → is_of_message e place ≡ false
+      → byte_at later place ≡ byte_at l.memory place)
+      → ((place : ℕ) → is_of_message e place ≡ true → IsByte (byte_at later place))
+      → After x.m x.h x.mode x.act s (record l { memory = later })
+
+-- The process may read the bytes of a message that goes out, and they are bytes.
+pub record Sends (x : Here) (s : State) (l : Local) (e : Exchange) : Type 0 where
+  pub over : GoesOver x Out e
+  pub bytes : (j : ℕ) → j < e.length
+      → (may_read x.h (message_place e j) ≡ true) × IsByte (byte_at l.memory (message_place e j))
+  pub after : After x.m x.h x.mode x.act s l
+
+-- An instruction of plain mode that asks for a message: the state that falls behind it, what it leaves of memory, and
+-- what it pays.
+pub record Exchanges (x : Here) (r : Ruling) (s : State) (l : Local) : Type 0 where
+  pub is : falling r ≡ Some s
+  pub plain : s.mode ≡ Plain
+  pub low : x.at + x.len < length x.m.code
+  pub same : s.context ≡ x.context
+  pub changes : Changes x l.memory
+  pub pay : owed s x.act + x.len ≤ x.owed
+
 -- What the instruction asks of the world is what the ruling says, and the world may grant it. Each family of
 -- instructions that ask something has its constructors here.
-pub data Asks (x : Here) : Ruling → Outcome → Type 0 where
+pub data Asks (x : Here) (r : Ruling) : Outcome → Type 0 where
+  -- a message comes, or goes, and after that the process goes on after the instruction
+  to_receive : {s : State} {l : Local} {e : Exchange} → Exchanges x r s l → Receives x s l e → Asks x r (receives e l)
+  to_send : {s : State} {l : Local} {e : Exchange} → Exchanges x r s l → Sends x s l e → Asks x r (sends e l)
 
 -- A ruling and an outcome fit each other. After the instruction the activation is the same; at a label its loops may
 -- have other turns left. Of what was owed each byte of the instruction is paid.

@@ -1,3 +1,4 @@
+pub mod Buffers
 pub mod Channels
 pub mod Filling
 pub mod Fitting

@@ -21,7 +21,8 @@ use Rattle.machine_state.specs.Moves.{dispatch, enqueue, wake, with_condition, w
 use Rattle.machine_state.specs.Moves.{fill_condition, rouse}
 use Rattle.machine_state.proofs.Moving.{at_some, on_task_is}
 use Rattle.machine_state.proofs.Reading.{length-with_byte, byte_at-with_byte, byte_at-with_byte_other}
-use Rattle.verifier.specs.Lives.{awaits, is_filled, message_place, IsByte, IsExchanging, Lives, it_lives}
+use Rattle.rulings.specs.Buffers.{is_filled, message_place, IsByte}
+use Rattle.verifier.specs.Lives.{awaits, IsExchanging, Lives, it_lives}
 use Rattle.verifier.proofs.Given.{or_left}
 use Rattle.verifier.proofs.LawfulWorlds.{IsLawful}
 use Rattle.machine_state.proofs.Lines.{set_either}

@@ -20,8 +20,8 @@ use Rattle.rulings.proofs.Words.{bool_cases}
 use Rattle.rulings.proofs.Combining.{readable_byte}
 use Rattle.rulings.specs.Regions.{scope_in}
 use Rattle.verifier.specs.Point.{Began, Point}
-use Rattle.verifier.specs.Lives.{awaits, message_place, IsByte, IsExchanging, Lives, Meets, it_lives, it_stopped}
-use Rattle.verifier.specs.Lives.{it_ended}
+use Rattle.rulings.specs.Buffers.{message_place, IsByte}
+use Rattle.verifier.specs.Lives.{awaits, IsExchanging, Lives, Meets, it_lives, it_stopped, it_ended}
 use Rattle.verifier.specs.Invariant.{Process, Table, LengthsAgree, total, Holds}
 use Rattle.verifier.proofs.Steps.{agree_keeps}
 
@@ -85,15 +85,15 @@ lives_on {m} {h} {began} {memory} {t} {due} new c quiet size same fewer either c
   fills = λ old later f. l.fills old later (record {
     size = f.size;
     others = λ place e not_awaited. f.others place e (nor place not_awaited);
-    awaited = λ place e awaited. elim (bool_cases (awaits c place)) [
-      | inl still ↦ f.awaited place e still
+    come = λ place e awaited. elim (bool_cases (awaits c place)) [
+      | inl still ↦ f.come place e still
       | inr over ↦ inl (f.others place e over)
     ];
   });
   named = (l.fills memory new (record {
     size = size;
     others = same;
-    awaited = λ place e awaited. elim (bool_cases (awaits c place)) [
+    come = λ place e awaited. elim (bool_cases (awaits c place)) [
       | inl still ↦ either place still
       | inr over ↦ inr (came place awaited over)
     ];

@@ -1,26 +1,17 @@
 -- A process that lives on: whatever it still waits for, it is at its point when it goes on.
-use Rattle.std.specs.Prelude.{◌≡◌, ◌⊎◌, ℕ, zero, suc, ◌+◌, ◌-◌, ◌==◌, nat_le, ◌&&◌, ◌||◌, ◌%◌, ◌^◌, ◌<◌, Bool, true}
-use Rattle.std.specs.Prelude.{false, length, Option, Some}
+use Rattle.std.specs.Prelude.{◌≡◌, ◌⊎◌, ℕ, ◌+◌, ◌-◌, nat_le, ◌&&◌, ◌<◌, Bool, true, false, length}
 use Rattle.module_format.specs.Contents.{Contents}
 use Rattle.machine_state.specs.declared.process.Task.{Task}
 use Rattle.machine_state.specs.declared.process.Exchange.{Exchange}
 use Rattle.machine_state.specs.declared.process.Condition.{Condition}
 use Rattle.machine_state.specs.declared.process.Condition.TheVariants.{Ready, Sending, Receiving, OnLink, Alternating}
 use Rattle.machine_state.specs.declared.process.Condition.TheVariants.{Stopped, Ended}
-use Rattle.machine_state.specs.Memory.{Memory, byte_at, place_of}
+use Rattle.machine_state.specs.Memory.{Memory, byte_at}
 use Rattle.machine_state.specs.Holding.{Holding, may_write, may_read}
 use Rattle.machine_state.specs.World.{input_word}
+use Rattle.rulings.specs.Buffers.{message_place, is_filled, IsByte, Fills}
 use Rattle.rulings.specs.Regions.{scope_in, HoldsNamed, Keeps}
 use Rattle.verifier.specs.Point.{Began, Point, MeetsPoint, owed_at}
-
--- the address of byte j of a message
-abbrev pub message_place : Exchange → ℕ → ℕ
-message_place x j = place_of ((x.address + j) % 2 ^ 32)
-
--- the place is that of one of so many bytes of a message from byte j on
-abbrev pub is_filled : Exchange → ℕ → ℕ → ℕ → Bool
-is_filled x j zero place = false
-is_filled x j (suc more) place = (place == message_place x j) || is_filled x (j + 1) more place
 
 -- the place is filled before a waiting process goes on
 abbrev pub awaits : Condition → ℕ → Bool
@@ -32,20 +23,9 @@ awaits Alternating place = false
 awaits Stopped place = false
 awaits Ended place = false
 
-abbrev pub IsByte : Option ℕ → Type 0
-IsByte o = (b : ℕ) × (o ≡ Some b) × (b < 256)
-
 -- the process waits on an internal channel, to send or to receive this
 abbrev pub IsExchanging : Condition → Exchange → Type 0
 IsExchanging condition e = (condition ≡ Sending e) ⊎ (condition ≡ Receiving e)
-
--- Of the bytes that a process may read only those have changed that it waits for, and they are bytes.
-pub record Fills (h : Holding) (condition : Condition) (old new : Memory) : Type 0 where
-  pub size : length new ≡ length old
-  pub others : (place : ℕ) → may_read h place ≡ true → awaits condition place ≡ false
-      → byte_at new place ≡ byte_at old place
-  pub awaited : (place : ℕ) → may_read h place ≡ true → awaits condition place ≡ true
-      → (byte_at new place ≡ byte_at old place) ⊎ IsByte (byte_at new place)
 
 -- Whatever the awaited bytes are, and whatever happens to bytes that the process may not read, it is at its point when
 -- it goes on. It may write what it waits for, and that changes nothing else of what its activation has; what it sends
@@ -60,7 +40,7 @@ pub record Lives (m : Contents) (h : Holding) (began : Began) (memory : Memory) 
   pub room : (place : ℕ) → awaits t.condition place ≡ true → (may_write h place ≡ true) × (place < length memory)
   pub sends : (e : Exchange) → t.condition ≡ Sending e → (j : ℕ) → j < e.length
       → (may_read h (message_place e j) ≡ true) × IsByte (byte_at memory (message_place e j))
-  pub fills : (old new : Memory) → Fills h t.condition old new
+  pub fills : (old new : Memory) → Fills h (awaits t.condition) old new
       → Keeps m h (scope_in m point.state point.act.layout) old new
   pub named : HoldsNamed m h (scope_in m point.state point.act.layout) memory
   pub known_length : (e : Exchange) → IsExchanging t.condition e → e.length ≡ began.layout.lengths e.channel
