@@ -23,32 +23,23 @@ use Rattle.machine_state.proofs.Moving.{at_some, on_task_is}
 use Rattle.machine_state.proofs.Reading.{length-with_byte, byte_at-with_byte, byte_at-with_byte_other}
 use Rattle.rulings.specs.Buffers.{is_filled, message_place, IsByte}
 use Rattle.verifier.specs.Lives.{awaits, IsExchanging, Lives, it_lives}
-use Rattle.verifier.proofs.Given.{or_left}
+use Rattle.verifier.proofs.Coming.{input_awaits, output_awaits, more_filled, ready_is_quiet, link_is_quiet, byte_changes}
+use Rattle.verifier.proofs.Coming.{byte_lives}
 use Rattle.verifier.proofs.LawfulWorlds.{IsLawful}
 use Rattle.machine_state.proofs.Lines.{set_either}
-use Rattle.verifier.proofs.Tables.{IsSound, AreBytes, Puts, Living, living, lives_on, lives_whatever, holds_put}
+use Rattle.verifier.proofs.Tables.{IsSound, AreBytes, equal_lengths, Puts, Living, living, lives_on, lives_whatever, holds_put}
 use Rattle.verifier.proofs.Tables.{holds_elsewhere}
 use Rattle.verifier.proofs.Tables.{dispatch_holds}
 use Rattle.verifier.proofs.Rousing.{rouse_holds}
 
 -- the world after a process was made ready that is there
-wake_is : (w : World) (p : ℕ) (t : Task) → slice_get w.tasks p ≡ Some t
+pub wake_is : (w : World) (p : ℕ) (t : Task) → slice_get w.tasks p ≡ Some t
     → enqueue p (record w { tasks = slice_set w.tasks p (record t { condition = Ready }) }) ≡ wake p w
 wake_is w p t here = ap (enqueue p) (sym (on_task_is p (λ task. record task { condition = Ready }) w t here))
 
 -- ---- an acknowledgement
 
--- who sends awaits no byte
-awaits_no_input : (c : Condition) (x : Exchange) (done place : ℕ) → c ≡ OnLink x done → x.channel < input_word 0
-    → awaits c place ≡ false
-awaits_no_input c x done place e low =
-    ap (λ c. awaits c place) e ∙ ap (λ (b : Bool). b && is_filled x done (x.length - done) place)
-    (not_above (input_word 0) x.channel low)
-  where
-    not_above : (a b : ℕ) → b < a → leb a b ≡ false
-    not_above a b h = elim (leb_tells a b) [ inl t ↦ absurd (omega (arith, t.1)) | inr t ↦ t.0 ]
-
-pub acknowledged_holds : (m : Contents) (w : World) → IsLawful w → IsSound m w → (k : ℕ) (l : OutputLink) (p : ℕ)
+pub acknowledged_holds : (m : Contents) (w : World) → IsLawful m w → IsSound m w → (k : ℕ) (l : OutputLink) (p : ℕ)
     → slice_get w.links.outputs k ≡ Some l → l.waiting ≡ Some p
     → IsSound m (dispatch 0 (wake p (with_output k (record { waiting = None }) w)))
 acknowledged_holds m w lawful h k l p here waiting =
@@ -66,25 +57,25 @@ acknowledged_holds m w lawful h k l p here waiting =
       tasks = refl;
       memory = refl;
       roles = refl;
-      channels = refl;
+      channels = equal_lengths refl;
       kept = h.holds.kept;
       fault = refl;
     }) (omega arith) (h.quiet.plain p v.task v.here)
     (record { size = refl; others = λ place e. refl })
-    (it_lives (lives_whatever Ready (λ e is. elim is [ inl no' ↦ cc | inr no' ↦ cc ])
-    (λ place. awaits_no_input v.task.condition v.exchange v.done place v.waits channel) (λ place. refl) r.lives))))
+    (it_lives (lives_whatever Ready ready_is_quiet
+    (λ place. ap (λ c. awaits c place) v.waits ∙ output_awaits v.exchange v.done place channel) (λ place. refl) r.lives))))
 
 -- ---- a byte that is kept
 
 -- what is kept are bytes, where one link changed on which a byte is kept, or none
-bytes_set : (inputs : List InputLink) (k : ℕ) (l : InputLink) → AreBytes inputs
+pub bytes_set : (inputs : List InputLink) (k : ℕ) (l : InputLink) → AreBytes inputs
     → ((b : ℕ) → l.kept ≡ Some b → b < 256) → AreBytes (slice_set inputs k l)
 bytes_set inputs k l bytes small j link b here kept = elim (set_either inputs k l j link here) [
   | inl itself ↦ small b (ap (λ (x : InputLink). x.kept) (sym itself.1) ∙ kept)
   | inr other ↦ bytes j link b other.1 kept
 ]
 
-pub kept_holds : (m : Contents) (w : World) → IsLawful w → IsSound m w → (k byte : ℕ) → byte < 256
+pub kept_holds : (m : Contents) (w : World) → IsLawful m w → IsSound m w → (k byte : ℕ) → byte < 256
     → (l : InputLink) → IsSound m (dispatch 0 (rouse l.enabled (with_input k (record l { kept = Some byte }) w)))
 kept_holds m w lawful h k byte small l =
     let kept = with_input k (record l { kept = Some byte }) w in
@@ -95,7 +86,7 @@ kept_holds m w lawful h k byte small l =
 
 -- ---- a byte that is taken
 
-module _ (m : Contents) (w : World) (lawful : IsLawful w) (h : IsSound m w) (k byte : ℕ) (small : byte < 256)
+module _ (m : Contents) (w : World) (lawful : IsLawful m w) (h : IsSound m w) (k byte : ℕ) (small : byte < 256)
     (l : InputLink) (p : ℕ) (here : slice_get w.links.inputs k ≡ Some l) (waiting : l.waiting ≡ Some p) where
   abbrev v : WaitsOn w.tasks p (input_word k)
   v = lawful.waiters.inputs k l p here waiting
@@ -112,71 +103,21 @@ module _ (m : Contents) (w : World) (lawful : IsLawful w) (h : IsSound m w) (k b
 
   awaited : (place : ℕ)
       → awaits v.task.condition place ≡ (eqb place goal_place || is_filled v.exchange (v.done + 1) after_it place)
-  awaited place =
-      ap (λ c. awaits c place) v.waits
-      ∙ ap (λ (b : Bool). b && is_filled v.exchange v.done (v.exchange.length - v.done) place)
-      (le-leb (input_word 0) v.exchange.channel (omega (arith, v.on)))
-      ∙ ap (λ n. is_filled v.exchange v.done n place) rest
-    where
-      rest : v.exchange.length - v.done ≡ suc (v.exchange.length - (v.done + 1))
-      rest = let more = v.more in omega arith
-
-  awaited_here : awaits v.task.condition goal_place ≡ true
-  awaited_here = awaited goal_place
-      ∙ ap (λ (b : Bool). b || is_filled v.exchange (v.done + 1) after_it goal_place) (eqb_is goal_place)
-    where
-      eqb_is : (n : ℕ) → eqb n n ≡ true
-      eqb_is n = elim (eqb_tells n n) [ inl t ↦ t.0 | inr t ↦ absurd (t.1 refl) ]
+  awaited place = ap (λ c. awaits c place) v.waits ∙ (input_awaits v.exchange v.done k place v.on
+      ∙ more_filled v.exchange v.done place v.more)
 
   r : Living m w h.holds.began h.holds.dues p v.task
   r = living m w h.holds p v.task (OnLink v.exchange v.done) v.here v.waits (λ e. cc) (λ e. cc)
 
-  mine : may_write (held r.row.role) goal_place ≡ true
-  mine = (r.lives.room goal_place awaited_here).0
-
   changes : ChangesOwn (held r.row.role) w.memory filled
-  changes = record {
-    size = length-with_byte w.memory goal_place (Some byte);
-    others = λ place free. byte_at-with_byte_other w.memory goal_place place (Some byte)
-        (λ e. let no' : true ≡ false = sym mine ∙ ap (may_write (held r.row.role)) (sym e) ∙ free in cc);
-  }
+  changes = byte_changes r.lives goal_place byte small (λ place. is_filled v.exchange (v.done + 1) after_it place) awaited
 
   -- the process lives on, where a test tells the places that are still awaited
   filled_lives : (c : Condition) (still : ℕ → Bool) → ((e : Exchange) → IsExchanging c e → ⊥)
       → ((place : ℕ) → awaits c place ≡ still place)
       → ((place : ℕ) → awaits v.task.condition place ≡ (eqb place goal_place || still place))
       → Lives m (held r.row.role) r.row.start filled (record v.task { condition = c }) r.row.due
-  filled_lives c still quiet is_still was = lives_on filled c quiet changes.size
-      (λ place e free. byte_at-with_byte_other w.memory goal_place place (Some byte)
-      (differs place (or_left (eqb place goal_place) (still place) (sym (was place) ∙ free))))
-      (λ place e. was place ∙ or_true_right (eqb place goal_place) (still place) (sym (is_still place) ∙ e))
-      (λ place e. elim (eqb_tells place goal_place) [
-        | inl t ↦ inr (subst (λ q. IsByte (byte_at filled q)) (sym t.1) comes_in)
-        | inr t ↦ inl (byte_at-with_byte_other w.memory goal_place place (Some byte) t.1)
-      ])
-      (λ place e over. subst (λ q. IsByte (byte_at filled q))
-      (sym (same_place place (still place) (sym (is_still place) ∙ over) (sym (was place) ∙ e))) comes_in) r.lives
-    where
-      comes_in : IsByte (byte_at filled goal_place)
-      comes_in =
-          (byte, byte_at-with_byte w.memory goal_place (Some byte) (r.lives.room goal_place awaited_here).1, small)
-
-      or_true_right : (a b : Bool) → b ≡ true → (a || b) ≡ true
-      or_true_right true b e = refl
-      or_true_right false b e = e
-
-      differs : (place : ℕ) → eqb place goal_place ≡ false → place ≢ goal_place
-      differs place e same =
-          elim (eqb_tells place goal_place) [ inl t ↦ let no' : true ≡ false = sym t.0 ∙ e in cc | inr t ↦ t.1 same ]
-
-      same_place : (place : ℕ) (b : Bool) → b ≡ false → (eqb place goal_place || b) ≡ true → place ≡ goal_place
-      same_place place true none e = absurd (cc)
-      same_place place false none e = elim (eqb_tells place goal_place)
-          [ inl t ↦ t.1 | inr t ↦ let no' : false ≡ true = sym t.0 ∙ or_none (eqb place goal_place) e in absurd (cc) ]
-        where
-          or_none : (a : Bool) → (a || false) ≡ true → a ≡ true
-          or_none true e = refl
-          or_none false e = e
+  filled_lives c still quiet is_still was = byte_lives r.lives goal_place byte small still was c quiet is_still
 
   filled_puts : (c : Condition) (after : World) → Puts w after p (record v.task { condition = c }) filled
       → after.counters ≡ w.counters → Lives m (held r.row.role) r.row.start filled (record v.task { condition = c }) r.row.due
@@ -199,11 +140,11 @@ module _ (m : Contents) (w : World) (lawful : IsLawful w) (h : IsSound m w) (k b
         tasks = refl;
         memory = refl;
         roles = refl;
-        channels = refl;
+        channels = equal_lengths refl;
         kept = bytes_set w.links.inputs k (record l { waiting = None }) h.holds.kept (λ b. h.holds.kept k l b here);
         fault = refl;
       }) refl
-      (filled_lives Ready (λ place. false) (λ e is. elim is [ inl no' ↦ cc | inr no' ↦ cc ]) (λ place. refl) (λ place. awaited place
+      (filled_lives Ready (λ place. false) ready_is_quiet (λ place. refl) (λ place. awaited place
       ∙ ap (λ i. eqb place goal_place || is_filled v.exchange (v.done + 1) i place) none)))
 
   -- else it waits for the next
@@ -215,14 +156,12 @@ module _ (m : Contents) (w : World) (lawful : IsLawful w) (h : IsSound m w) (k b
         tasks = refl;
         memory = refl;
         roles = refl;
-        channels = refl;
+        channels = equal_lengths refl;
         kept = h.holds.kept;
         fault = refl;
       }) refl
       (filled_lives next (λ place. is_filled v.exchange (v.done + 1) after_it place)
-      (λ e is. elim is [ inl no' ↦ cc | inr no' ↦ cc ])
-      (λ place. ap (λ (b : Bool). b && is_filled v.exchange (v.done + 1) after_it place)
-      (le-leb (input_word 0) v.exchange.channel (omega (arith, v.on)))) awaited))
+      (link_is_quiet v.exchange (v.done + 1)) (λ place. input_awaits v.exchange (v.done + 1) k place v.on) awaited))
 
   pub taken_holds : IsSound m (dispatch 0 (fill p k byte l w))
   taken_holds = dispatch_holds m 0 (fill p k byte l w) (subst (λ x. IsSound m x)

@@ -21,7 +21,7 @@ use Rattle.verifier.proofs.Tables.{IsSound, Living, living}
 use Rattle.verifier.proofs.Arrivals.{taken_holds, kept_holds, acknowledged_holds}
 use Rattle.verifier.proofs.Instructions.{step_holds, prefix_holds, never_outside}
 
-module _ (m : Contents) (d : Decodes m) (wf : IsWellFormed m) (c : IsCertified m) (w : World) (lawful : IsLawful w)
+module _ (m : Contents) (d : Decodes m) (wf : IsWellFormed m) (c : IsCertified m) (w : World) (lawful : IsLawful m w)
     (h : IsSound m w) where
   -- the process that runs, with all that is known of it
   running : (p : ℕ) (t : Task) → w.queue.running ≡ Some p → slice_get w.tasks p ≡ Some t
@@ -36,13 +36,13 @@ module _ (m : Contents) (d : Decodes m) (wf : IsWellFormed m) (c : IsCertified m
   happened_holds is (it_rests rests) = h
   happened_holds is (is_outside p task outside runs here) =
       let r = running p task runs here in
-      absurd (never_outside m d wf c w h lawful.apart.processes p task r.0 r.1 outside)
+      absurd (never_outside m d wf c w lawful h p task r.0 r.1 outside)
   happened_holds is (is_prefix p task byte operand runs here at none further more) =
       let r = running p task runs here in
-      prefix_holds m d wf c w h lawful.apart.processes p task r.0 r.1 byte operand at none further
+      prefix_holds m d wf c w lawful h p task r.0 r.1 byte operand at none further
   happened_holds is (is_step {pick = pick} p task byte f runs here at some ends) =
       let r = running p task runs here in
-      step_holds m d wf c w h lawful.apart.processes p task r.0 r.1 pick byte f at some ends
+      step_holds m d wf c w lawful h p task r.0 r.1 pick byte f at some ends
   happened_holds small (is_taken {link = link} {byte = byte} input p here waiting) =
       taken_holds m w lawful h (link_index link) byte small input p here waiting
   happened_holds small (is_kept {link = link} {byte = byte} input here nobody empty) =

@@ -30,24 +30,20 @@ use Rattle.verifier.specs.Point.{Began, Point, MeetsPoint, Decodes}
 use Rattle.verifier.specs.Lives.{awaits, Lives, Meets, it_lives, it_stopped}
 use Rattle.machine_state.specs.declared.process.Mode.TheVariants as modes
 use Rattle.verifier.proofs.Steps.{site_in, byte_here, owes, prefixed_point, Comes, comes_on, comes_to, comes_straight}
-use Rattle.verifier.proofs.Steps.{comes_down, comes_last}
-use Rattle.verifier.proofs.Tables.{AreApart, IsSound, Puts, Living, holds_put}
-
--- ---- no fault
-
--- what an instruction comes to needs nothing of the world that could be missing
-never_refused : {m : Contents} {here : Here} {w : World} {h : Holding} {began : Began} {memory : Memory} {t : Task}
-    {due : ℕ} {o : Outcome} {kind : FaultKind} → Comes m h began memory t due o → Refused here w o kind → ⊥
-never_refused (comes_on later changes lives less) (no_code_follows needs none) = elim needs [ ]
-never_refused (comes_to later changes lives less) (no_code_follows needs none) = elim needs [ ]
-never_refused (comes_straight later changes lives less) (no_code_follows needs none) = elim needs [ ]
-never_refused (comes_down changes less) (no_code_follows needs none) = elim needs [ ]
+use Rattle.verifier.proofs.Steps.{comes_down, comes_in, comes_out, comes_last}
+use Rattle.verifier.proofs.LawfulWorlds.{IsLawful}
+use Rattle.verifier.proofs.Talking.{never_in, never_out}
+use Rattle.verifier.proofs.Messages.{moved_in, moved_out, emitted_holds}
+use Rattle.verifier.proofs.Tables.{AreApart, equal_lengths, IsSound, Puts, Living, holds_put}
 
 -- ---- a process that runs
 
-module _ (m : Contents) (d : Decodes m) (wf : IsWellFormed m) (c : IsCertified m) (w : World) (h : IsSound m w)
-    (apart : AreApart w.roles) (p : ℕ) (t : Task) (ready : t.condition ≡ Ready)
+module _ (m : Contents) (d : Decodes m) (wf : IsWellFormed m) (c : IsCertified m) (w : World) (lawful : IsLawful m w)
+    (h : IsSound m w) (p : ℕ) (t : Task) (ready : t.condition ≡ Ready)
     (r : Living m w h.holds.began h.holds.dues p t) where
+  abbrev apart : AreApart w.roles
+  apart = lawful.apart.processes
+
   abbrev point : Point m t
   point = r.lives.point
 
@@ -79,12 +75,24 @@ module _ (m : Contents) (d : Decodes m) (wf : IsWellFormed m) (c : IsCertified m
         tasks = refl;
         memory = refl;
         roles = refl;
-        channels = refl;
+        channels = equal_lengths refl;
         kept = h.holds.kept;
         fault = refl;
       }) refl less plain changes
       (it_lives (subst (λ c. Lives m (held r.row.role) r.row.start l.memory
       (record { registers = between to l.registers; mode = t.mode; condition = c }) later) (sym ready) lives))
+
+  -- what an instruction comes to needs nothing of the world that could be missing
+  never_refused : (pick : ℕ) {o : Outcome} {kind : FaultKind}
+      → Comes m (held r.row.role) r.row.start w.memory t r.row.due o → Refused (at_here m p t pick) w o kind → ⊥
+  never_refused pick (comes_on later changes lives less) (no_code_follows needs none) = elim needs [ ]
+  never_refused pick (comes_to later changes lives less) (no_code_follows needs none) = elim needs [ ]
+  never_refused pick (comes_straight later changes lives less) (no_code_follows needs none) = elim needs [ ]
+  never_refused pick (comes_down changes less) (no_code_follows needs none) = elim needs [ ]
+  never_refused pick (comes_in later talks changes lives less) refused =
+      never_in m wf w lawful h p t ready r pick talks refused
+  never_refused pick (comes_out later talks changes lives less) refused =
+      never_out m wf w lawful h p t ready r pick talks refused
 
   -- whatever its instruction comes to, its turn ends so
   ended_holds : (pick : ℕ) {o : Outcome} {turn : Turn} → Comes m (held r.row.role) r.row.start w.memory t r.row.due o
@@ -104,12 +112,17 @@ module _ (m : Contents) (d : Decodes m) (wf : IsWellFormed m) (c : IsCertified m
         tasks = refl;
         memory = refl;
         roles = refl;
-        channels = refl;
+        channels = equal_lengths refl;
         kept = h.holds.kept;
         fault = refl;
       }) refl less plain changes (it_stopped refl)
-  ended_holds pick comes (at_fault refused) = absurd (never_refused comes refused)
-  ended_holds pick comes (has_emitted e l k on same) = elim comes [ ]
+  ended_holds pick (comes_in {e = e} {l = l} later talks changes lives less) (has_run {after = after} moved) =
+      moved_in m wf w lawful h p t ready r pick e l later less changes talks lives after moved
+  ended_holds pick (comes_out {e = e} {l = l} later talks changes lives less) (has_run {after = after} moved) =
+      moved_out m wf w lawful h p t ready r pick e l later less changes talks lives after moved
+  ended_holds pick comes (at_fault refused) = absurd (never_refused pick comes refused)
+  ended_holds pick (comes_out later talks changes lives less) (has_emitted e l k on same) =
+      emitted_holds m wf w lawful h p t ready r pick e l later less changes talks lives k on
 
   -- the byte that completes an instruction
   pub step_holds : (pick byte : ℕ) (f : Fun) {turn : Turn} → slice_get m.code t.registers.at ≡ Some byte
@@ -167,7 +180,7 @@ module _ (m : Contents) (d : Decodes m) (wf : IsWellFormed m) (c : IsCertified m
           tasks = refl;
           memory = refl;
           roles = refl;
-          channels = refl;
+          channels = equal_lengths refl;
           kept = h.holds.kept;
           fault = refl;
         }) refl

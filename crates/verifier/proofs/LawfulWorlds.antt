@@ -14,25 +14,34 @@ use Rattle.machine_state.specs.LinkLaws.{FourEachWay}
 use Rattle.machine_state.proofs.Claims.{only_one}
 use Rattle.machine_state.proofs.Waiting.{lines_are_ready, links_have_their_waiters}
 use Rattle.machine_state.proofs.LinkCounts.{links_stay_four}
-use Rattle.machine_state.proofs.ApartLaws.{holdings_stay_apart}
+use Rattle.machine_state.specs.ChannelLaws.{HaveTheirWaiters, AreRecorded}
+use Rattle.machine_state.proofs.ApartLaws.{Stands, all_stand, format_is_small, holdings_stay_apart}
+use Rattle.machine_state.proofs.ChannelWaiters.{channels_have_their_waiters}
+use Rattle.machine_state.proofs.WhoWaits.{who_waits_is_recorded}
 
-pub record IsLawful (w : World) : Type 0 where
+pub record IsLawful (m : Contents) (w : World) : Type 0 where
   pub line : Line w.tasks w.queue
   pub waiters : Waiters w.tasks w.links
   pub four : FourEachWay w.links
   pub apart : AllApart w.roles w.channels
+  pub cells : HaveTheirWaiters w.tasks w.channels
+  pub recorded : AreRecorded w.tasks w.roles w.channels
+  pub stands : Stands m w
 
 -- each law is one of machine_state
-pub lawful : (m : Contents) (es : List Event) → Keeps m → IsLawful (world_after m es)
+pub lawful : (m : Contents) (es : List Event) → Keeps m → IsLawful m (world_after m es)
 lawful m es keeps = record {
   line = lines_are_ready m es;
   waiters = links_have_their_waiters m es;
   four = links_stay_four m es;
   apart = holdings_stay_apart m es keeps;
+  cells = channels_have_their_waiters m es;
+  recorded = who_waits_is_recorded m es keeps;
+  stands = all_stand m (format_is_small m keeps) es;
 }
 
 -- who runs is ready
-pub runs_ready : (w : World) → IsLawful w → (p : ℕ) (t : Task) → w.queue.running ≡ Some p
+pub runs_ready : {m : Contents} (w : World) → IsLawful m w → (p : ℕ) (t : Task) → w.queue.running ≡ Some p
     → slice_get w.tasks p ≡ Some t → t.condition ≡ Ready
 runs_ready w lawful p t running here =
     let first = (subst (λ (o : Option ℕ). AllReady w.tasks (line_of o w.queue.ready)) running lawful.line.ready).0 in

@@ -7,7 +7,11 @@ pub mod Steps
 pub mod Tables
 pub mod LawfulWorlds
 pub mod Rousing
+pub mod Coming
 pub mod Arrivals
+pub mod Sources
+pub mod Talking
+pub mod Messages
 pub mod Instructions
 pub mod EventsKeepInvariant
 pub mod RootHolds

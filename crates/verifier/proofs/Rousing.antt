@@ -10,7 +10,7 @@ use Rattle.machine_state.specs.Moves.{rouse}
 use Rattle.machine_state.proofs.Moving.{OnlyTasks, rouse_only}
 use Rattle.machine_state.proofs.Changes.{Roused, nobody, who_enables, who_waits, rouses}
 use Rattle.verifier.specs.Lives.{awaits, it_lives}
-use Rattle.verifier.proofs.Tables.{AreApart, IsSound, quietly, Puts, living, lives_whatever, holds_put}
+use Rattle.verifier.proofs.Tables.{AreApart, equal_lengths, IsSound, quietly, Puts, living, lives_whatever, holds_put}
 
 module _ (m : Contents) (w : World) (h : IsSound m w) (apart : AreApart w.roles) where
   -- the world once a process was roused
@@ -20,7 +20,7 @@ module _ (m : Contents) (w : World) (h : IsSound m w) (apart : AreApart w.roles)
     tasks = is;
     memory = only.memory;
     roles = only.roles;
-    channels = only.channels;
+    channels = equal_lengths only.channels;
     kept = rw only.links h.holds.kept;
     fault = only.fault;
   }

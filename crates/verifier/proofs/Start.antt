@@ -37,7 +37,7 @@ use Rattle.rulings.proofs.Addresses.{stepped}
 use Rattle.rulings.proofs.Dues.{nothing_due}
 use Rattle.rulings.proofs.Combining.{readable}
 use Rattle.states.proofs.RowFacts.{and-parts, le-from, lt-from}
-use Rattle.verifier.proofs.Steps.{enter, lives_at}
+use Rattle.verifier.proofs.Steps.{enter, entered_behind, lives_at}
 
 -- no branch comes before the root
 owner_of_root : (first : ℕ) (rows : List Par) → 0 < first → owner first rows 0 ≡ 0
@@ -220,10 +220,11 @@ module _ (m : Contents) (d : Decodes m) (wf : IsWellFormed m) (c : IsCertified m
 
   pub loaded_holds : IsSound m (loaded m)
   loaded_holds =
-      let en = enter m d wf c (root_holding m) root_began machine_modes.Plain root_activation 0
-      (root_state m) root_local [] begins wf.some_code refl root_after nobody_behind in
+      let en = enter m d wf c (root_holding m) machine_modes.Plain root_activation 0 (root_state m) begins wf.some_code
+      refl in
       let lives = lives_at m d wf c (root_holding m) root_began machine_modes.Plain en.act 0
-      (Some (root_state m)) en.state root_local [] begins wf.some_code en.stands en.plain en.after en.behind in
+      (Some (root_state m)) en.state root_local [] begins wf.some_code en.stands en.plain (en.after root_local root_after)
+      (entered_behind m d wf c en nobody_behind) in
       let due : ℕ = owed en.state en.act + owed_behind [] in
       quietly m (loaded m) (due ∷ []) [] (root_began ∷ [])
       (record {

@@ -15,11 +15,13 @@ use Rattle.module_format.specs.Contents.{Contents, Label, label_at}
 use Rattle.certificate.specs.Starts.{procedure_at, Entered as Begun}
 use Rattle.machine_state.specs.declared.process.Registers.{Registers}
 use Rattle.machine_state.specs.declared.process.Task.{Task}
-use Rattle.machine_state.specs.declared.process.Condition.TheVariants.{Ready}
+use Rattle.machine_state.specs.declared.process.Exchange.{Exchange}
+use Rattle.machine_state.specs.declared.process.Condition.{Condition}
+use Rattle.machine_state.specs.declared.process.Condition.TheVariants.{Ready, Sending, Receiving}
 use Rattle.machine_state.specs.declared.process.Mode as machine
 use Rattle.machine_state.specs.Memory.{Memory, byte_at, word_at, data_start}
-use Rattle.machine_state.specs.Holding.{Holding, may_read, may_read_word}
-use Rattle.machine_state.specs.Site.{Site, Local, Outcome, goes, jumps, lands, stops}
+use Rattle.machine_state.specs.Holding.{Holding, may_read, may_write, may_read_word, has_end}
+use Rattle.machine_state.specs.Site.{Site, Local, Outcome, goes, jumps, lands, stops, receives, sends}
 use Rattle.machine_state.specs.LocalStep.{local_step}
 use Rattle.machine_state.specs.Happens.{between}
 use Rattle.states.specs.declared.rule.Rule.{Rule}
@@ -39,11 +41,16 @@ use Rattle.rulings.specs.Meaning.{both_starting}
 use Rattle.machine_state.specs.Frame.{ChangesOwn}
 use Rattle.verifier.specs.Point.{IsReading, Began, Behind, nobody_waits, one_waits, owed_behind, Point, BehindIn}
 use Rattle.verifier.specs.Point.{owed_at, MeetsPoint, Decodes}
-use Rattle.verifier.specs.Lives.{Lives}
+use Rattle.verifier.specs.Lives.{awaits, IsExchanging, Lives}
+use Rattle.rulings.specs.Buffers.{message_place, IsByte, Fills}
+use Rattle.rulings.specs.Channels.{message_length}
+use Rattle.module_format.specs.declared.rows.Direction.{Direction}
+use Rattle.module_format.specs.declared.rows.Direction.TheVariants.{In, Out}
 use Rattle.rulings.proofs.Words.{means_same, frame_word_is}
 use Rattle.states.proofs.RowFacts.{and-parts}
 use Rattle.rulings.specs.Fitting.{Described, After, Here, step_site, GoesTo, goes_behind, is_jump, is_landing, Fits}
 use Rattle.rulings.specs.Fitting.{it_falls, it_leads, it_calls, it_returns, it_ends, it_asks, it_breaks, Caller}
+use Rattle.rulings.specs.Fitting.{GoesOver, Receives, Sends, Exchanges, to_receive, to_send}
 use Rattle.rulings.proofs.Combining.{same_frame, elsewhere, unknown_means}
 use Rattle.facts.proofs.Local.{function_fits}
 use Rattle.rulings.proofs.Entering.{below_tells, label_after}
@@ -131,6 +138,13 @@ behind_keeps keeps (nobody_waits same there procedure) = nobody_waits same there
 behind_keeps keeps (one_waits some few reached going lengths base lends resumes rest) =
     one_waits some few reached going lengths base lends (λ later more. resumes later (keeps_more keeps more))
     (λ later more. rest later (keeps_more keeps more))
+
+-- all of them know the same lengths of messages
+behind_lengths : {m : Contents} {h : Holding} {began : Began} {context : ℕ} {layout : Layout} {memory : Memory}
+    {callers : List Caller} → Behind m h began context layout memory callers → layout.lengths ≡ began.layout.lengths
+behind_lengths (nobody_waits same there procedure) = ap (λ (layout : Layout). layout.lengths) there
+behind_lengths {memory = memory} (one_waits some few reached going lengths base lends resumes rest) =
+    lengths ∙ behind_lengths (rest memory keeps_all)
 
 -- whatever keeps what an activation has keeps what its process began with
 pub behind_lifts : {m : Contents} {h : Holding} {began : Began} {context : ℕ} {layout : Layout} {old new : Memory}
@@ -276,6 +290,14 @@ module _ (m : Contents) where
     has_long_operations = m.has_long_operations;
   }
 
+  -- a message over a channel of which the process has the end, as long as who began with that knows; the code goes on
+  -- behind
+  pub record Talks (h : Holding) (began : Began) (t : Task) (direction : Direction) (e : Exchange) : Type 0 where
+    pub end : has_end h (record { address = e.channel; direction = direction }) ≡ true
+    pub len : e.length ≡ began.layout.lengths e.channel
+    pub some : 1 ≤ e.length
+    pub low : t.registers.at + 1 < length m.code
+
   -- what the last byte of an instruction comes to
   pub data Comes (h : Holding) (began : Began) (memory : Memory) (t : Task) (due : ℕ) : Outcome → Type 0 where
     -- it goes on behind it
@@ -296,6 +318,19 @@ module _ (m : Contents) where
         → later + 1 ≤ due → Comes h began memory t due (lands to l)
     -- or it stops
     comes_down : {l : Local} → ChangesOwn h memory l.memory → 1 ≤ due → Comes h began memory t due (stops l)
+    -- or it wants a message, and goes on behind it once that has come, or gone
+    comes_in : {e : Exchange} {l : Local} (later : ℕ) → Talks h began t In e → ChangesOwn h memory l.memory
+        → Lives m h began l.memory (record {
+          registers = between (t.registers.at + 1) l.registers;
+          mode = t.mode;
+          condition = Receiving e;
+        }) later → later + 1 ≤ due → Comes h began memory t due (receives e l)
+    comes_out : {e : Exchange} {l : Local} (later : ℕ) → Talks h began t Out e → ChangesOwn h memory l.memory
+        → Lives m h began l.memory (record {
+          registers = between (t.registers.at + 1) l.registers;
+          mode = t.mode;
+          condition = Sending e;
+        }) later → later + 1 ≤ due → Comes h began memory t due (sends e l)
 
 -- ---- a process at its point
 
@@ -316,67 +351,95 @@ module _ (m : Contents) (d : Decodes m) (wf : IsWellFormed m) (c : IsCertified m
             absurd (cc)
       ]
 
-  -- the state after an instruction, where one falls in, and its activation
-  pub record Entered (h : Holding) (began : Began) (mode : machine.Mode) (at most : ℕ) (before : Option State) (l : Local)
-      (callers : List Caller) : Type 0 where
+  -- The state after an instruction, where one falls in, and its activation: what is known of the state that falls is
+  -- known of this one.
+  pub record Entered (h : Holding) (mode : machine.Mode) (at : ℕ) (fallen : State) (from : Activation) : Type 0 where
     pub state : State
-    pub stands : state_at m at before ≡ Some state
+    pub stands : state_at m at (Some fallen) ≡ Some state
     pub act : Activation
-    pub after : After m h mode act state l
-    pub paid : owed state act ≤ most
+    pub after : (l : Local) → After m h mode from fallen l → After m h mode act state l
+    pub paid : owed state act ≤ owed fallen from
     pub plain : state.mode ≡ states_modes.Plain
-    pub behind : Behind m h began state.context act.layout l.memory callers
+    pub context : state.context ≡ fallen.context
+    pub layout : act.layout ≡ from.layout
 
   -- at a label, or where the tables give no state
-  enter_on : (h : Holding) (began : Began) (mode : machine.Mode) (act : Activation) (at : ℕ) (s : State) (l : Local)
-      (callers : List Caller) (cost : ℕ) (label : Option Label) (begun : Option Begun) → label_at m at ≡ label
+  enter_on : (h : Holding) (mode : machine.Mode) (act : Activation) (at : ℕ) (s : State) (cost : ℕ)
+      (label : Option Label) (begun : Option Begun) → label_at m at ≡ label
       → procedure_at m at ≡ begun → s.mode ≡ states_modes.Plain
-      → After m h mode act s l → Behind m h began s.context act.layout l.memory callers
       → elim label as (λ o. Result ℕ Rule)
       [ None ↦ cond (is_some begun) (Err rules.Flow) (Ok 0) | Some t ↦ below s t ] ≡ Ok cost
-      → Entered h began mode at (owed s act) (Some s) l callers
-  enter_on h began mode act at s l callers cost None None no_label no_procedure plain a behind ok = record {
+      → Entered h mode at s act
+  enter_on h mode act at s cost None None no_label no_procedure plain ok = record {
     state = s;
     stands = nothing_given m at (Some s) (given_none m at no_label no_procedure);
     act = act;
-    after = a;
+    after = λ l a. a;
     paid = omega arith;
     plain = plain;
-    behind = behind;
+    context = refl;
+    layout = refl;
   }
-  enter_on h began mode act at s l callers cost None (Some e) no_label begins plain a behind ok = absurd (cc)
-  enter_on h began mode act at s l callers cost (Some t) begun e f plain a behind ok =
+  enter_on h mode act at s cost None (Some e) no_label begins plain ok = absurd (cc)
+  enter_on h mode act at s cost (Some t) begun e f plain ok =
       let b = below_tells s t cost ok in
       record {
         state = label_state t;
         stands = is_given m at (Some s) (label_state t) (given_label m at t e);
         act = at_label s t act;
-        after = label_after m h mode act s t l wf at e b.1 a;
+        after = λ l a. label_after m h mode act s t l wf at e b.1 a;
         paid = label_owed s t cost act (wf.pairs at t e) ok;
         plain = refl;
-        behind = subst (λ (n : ℕ). Behind m h began n act.layout l.memory callers) b.1.context behind;
+        context = sym b.1.context;
+        layout = refl;
       }
 
-  pub enter : (h : Holding) (began : Began) (mode : machine.Mode) (act : Activation) (at : ℕ) (s : State) (l : Local)
-      (callers : List Caller) → Reaches m at (Some s) → at < length m.code → s.mode ≡ states_modes.Plain
-      → After m h mode act s l → Behind m h began s.context act.layout l.memory callers
-      → Entered h began mode at (owed s act) (Some s) l callers
-  enter h began mode act at s l callers r low plain a behind =
+  pub enter : (h : Holding) (mode : machine.Mode) (act : Activation) (at : ℕ) (s : State) → Reaches m at (Some s)
+      → at < length m.code → s.mode ≡ states_modes.Plain → Entered h mode at s act
+  enter h mode act at s r low plain =
       let holds = c.holds.each at (Some s) low r in
-      enter_on h began mode act at s l callers holds.cost (label_at m at) (procedure_at m at) refl refl plain a behind
-      holds.enters
+      enter_on h mode act at s holds.cost (label_at m at) (procedure_at m at) refl refl plain holds.enters
 
-  -- between two instructions
-  pub lives_at : (h : Holding) (began : Began) (mode : machine.Mode) (act : Activation) (at : ℕ) (before : Option State)
-      (s : State) (l : Local) (callers : List Caller) → Reaches m at before → at < length m.code
-      → state_at m at before ≡ Some s → s.mode ≡ states_modes.Plain
-      → After m h mode act s l → Behind m h began s.context act.layout l.memory callers
+  -- those that wait behind wait on
+  pub entered_behind : {h : Holding} {began : Began} {mode : machine.Mode} {at : ℕ} {s : State} {act : Activation}
+      {memory : Memory} {callers : List Caller} (en : Entered h mode at s act)
+      → Behind m h began s.context act.layout memory callers
+      → Behind m h began en.state.context en.act.layout memory callers
+  entered_behind en behind = rw (en.context, en.layout) behind
+
+  -- What is known in a condition, at the point where the process goes on.
+  pub record Meanwhile (h : Holding) (began : Began) (mode : machine.Mode) (act : Activation) (s : State) (l : Local)
+      (condition : Condition) : Type 0 where
+    pub after : (later : Memory) → length later ≡ length l.memory
+        → ((place : ℕ) → may_read h place ≡ true → awaits condition place ≡ false
+        → byte_at later place ≡ byte_at l.memory place)
+        → ((place : ℕ) → awaits condition place ≡ true → IsByte (byte_at later place))
+        → After m h mode act s (record l { memory = later })
+    pub room : (place : ℕ) → awaits condition place ≡ true
+        → (may_write h place ≡ true) × (place < length l.memory)
+    pub sends : (e : Exchange) → condition ≡ Sending e → (j : ℕ) → j < e.length
+        → (may_read h (message_place e j) ≡ true) × IsByte (byte_at l.memory (message_place e j))
+    pub fills : (old new : Memory) → Fills h (awaits condition) old new
+        → Keeps m h (scope_of m s.context act.layout) old new
+    pub named : HoldsNamed m h (scope_of m s.context act.layout) l.memory
+    pub known_length : (e : Exchange) → IsExchanging condition e → e.length ≡ began.layout.lengths e.channel
+
+  -- in plain mode an activation has all that its context has
+  whole_scope : (s : State) (layout : Layout) → s.mode ≡ states_modes.Plain
+      → scope_in m s layout ≡ scope_of m s.context layout
+  whole_scope s layout plain = ap (λ (q : states.Mode). scope_among m s.context q layout) plain
+
+  -- between two instructions, in whatever condition
+  lives_while : (h : Holding) (began : Began) (mode : machine.Mode) (act : Activation) (at : ℕ) (before : Option State)
+      (s : State) (l : Local) (callers : List Caller) (condition : Condition) → Reaches m at before
+      → at < length m.code → state_at m at before ≡ Some s → s.mode ≡ states_modes.Plain
+      → Meanwhile h began mode act s l condition → Behind m h began s.context act.layout l.memory callers
       → Lives m h began l.memory (record {
         registers = between at l.registers;
         mode = mode;
-        condition = Ready;
+        condition = condition;
       }) (owed s act + owed_behind callers)
-  lives_at h began mode act at before s l callers r low st plain a behind =
+  lives_while h began mode act at before s l callers condition r low st plain meanwhile behind =
       let holds = c.holds.each at before low r in
       record {
         point = record {
@@ -398,20 +461,45 @@ module _ (m : Contents) (d : Decodes m) (wf : IsWellFormed m) (c : IsCertified m
           callers = callers;
         };
         claim = λ later size agree bytes. record {
-          here = elsewhere at at (pos 0) (after_agrees later size (λ place e. agree place e refl) a);
+          here = elsewhere at at (pos 0) (meanwhile.after later size agree bytes);
           behind = subst (λ (q : states.Mode). BehindIn m h began q s.context act.layout later callers) (sym plain)
-              (behind_keeps (agree_keeps h l.memory later size (λ place e. agree place e refl) m
-              (scope_of m s.context act.layout)) behind);
+              (behind_keeps (meanwhile.fills l.memory later (record {
+                size = size;
+                others = agree;
+                come = λ place e awaited. inr (bytes place awaited);
+              })) behind);
         };
-        room = λ place e. absurd (cc);
-        sends = λ e no'. absurd (cc);
-        fills = λ old new fills. agree_keeps h old new fills.size (λ place e. fills.others place e refl) m
-            (scope_in m s act.layout);
-        named = a.named;
-        known_length = λ e no'. elim no' [ inl is ↦ absurd (cc) | inr is ↦ absurd (cc) ];
+        room = meanwhile.room;
+        sends = meanwhile.sends;
+        fills = λ old new fills. subst (λ (scope : Scope). Keeps m h scope old new)
+            (sym (whole_scope s act.layout plain)) (meanwhile.fills old new fills);
+        named = subst (λ (scope : Scope). HoldsNamed m h scope l.memory) (sym (whole_scope s act.layout plain))
+            meanwhile.named;
+        known_length = meanwhile.known_length;
         paid = subst (λ (q : states.Mode). owed s act + owed_behind callers + 0 ≡ owed_at q s act callers) (sym plain)
             (omega arith);
       }
+
+  -- between two instructions, where it goes on at once
+  pub lives_at : (h : Holding) (began : Began) (mode : machine.Mode) (act : Activation) (at : ℕ) (before : Option State)
+      (s : State) (l : Local) (callers : List Caller) → Reaches m at before → at < length m.code
+      → state_at m at before ≡ Some s → s.mode ≡ states_modes.Plain
+      → After m h mode act s l → Behind m h began s.context act.layout l.memory callers
+      → Lives m h began l.memory (record {
+        registers = between at l.registers;
+        mode = mode;
+        condition = Ready;
+      }) (owed s act + owed_behind callers)
+  lives_at h began mode act at before s l callers r low st plain a behind =
+      lives_while h began mode act at before s l callers Ready r low st plain (record {
+        after = λ later size agree bytes. after_agrees later size (λ place e. agree place e refl) a;
+        room = λ place e. absurd (cc);
+        sends = λ e no'. absurd (cc);
+        fills = λ old new fills. agree_keeps h old new fills.size (λ place e. fills.others place e refl) m
+            (scope_of m s.context act.layout);
+        named = subst (λ (scope : Scope). HoldsNamed m h scope l.memory) (whole_scope s act.layout plain) a.named;
+        known_length = λ e no'. elim no' [ inl is ↦ absurd (cc) | inr is ↦ absurd (cc) ];
+      }) behind
 
   -- how the rule at the process's point and the step fit, with the whole instruction read
   abbrev pub here_of : Holding → Activation → Memory → Task → State → Instr → Here
@@ -522,15 +610,122 @@ module _ (m : Contents) (d : Decodes m) (wf : IsWellFormed m) (c : IsCertified m
           same_mode = subst (λ (q : states.Mode). SameMode q t.mode) (sym going.plain)
               (subst (λ (q : machine.Mode). SameMode states_modes.Plain q) (sym plain) both_plain);
         }) in
-        let en = enter h began t.mode caller.act p.act.layout.back caller.state l callers reached back going.plain here
-        (rest l.memory keeps_all) in
+        let en = enter h t.mode caller.act p.act.layout.back caller.state reached back going.plain in
         comes_straight (owed en.state en.act + owed_behind callers) own
         (lives_at h began t.mode en.act p.act.layout.back (Some caller.state) en.state l callers reached back en.stands
-        en.plain en.after en.behind) (let less = en.paid in omega arith)
+        en.plain (en.after l here) (entered_behind en (rest l.memory keeps_all))) (let less = en.paid in omega arith)
       where
         MeansStack : Stack Known → Stack (Option ℤ) → ℕ → Activation → Memory → Type 0
         MeansStack said stack context act memory =
             AreRelated (MeansKnown m (words_in m context).reads act.layout memory) said stack
+
+    -- those that wait behind still wait after an instruction of this activation
+    still_behind : (n : ℕ) (new : Memory) → n ≡ p.state.context
+        → Keeps m h (scope_of m p.state.context p.act.layout) memory new
+        → Behind m h began n p.act.layout new p.callers
+    still_behind n new same keeps = rw same (behind_keeps keeps behind)
+
+    -- ---- messages
+
+    module _ {r : Ruling} {s' : State} {l : Local} (asks : Exchanges x r s' l) where
+      named_after : HoldsNamed m h (scope_of m p.state.context p.act.layout) l.memory
+      named_after = asks.changes.keeps.named (subst (λ (scope : Scope). HoldsNamed m h scope memory)
+          (whole_scope p.state p.act.layout state_plain) meets.here.named)
+
+      exchange_enters : r ≡ rule_at m t.registers.began p.instr p.state
+          → Reaches m (t.registers.began + p.instr.len) (Some s')
+      exchange_enters e = follows p.reached p.stands p.reading.spelled refl (sym asks.is ∙ ap falling e)
+
+      talks : {direction : Direction} {e : Exchange} → p.taken + 1 ≡ p.instr.len → GoesOver x direction e
+          → Talks m h began t direction e
+      talks {direction} {e} last over = record {
+        end = subst (λ a. has_end h (record { address = a; direction = direction }) ≡ true) over.address
+            (named_after.ends over.kind direction over.end);
+        len = same_some (message_length m p.state.context over.kind) e.length _ over.len
+            (named_after.lengths over.kind direction over.end)
+            ∙ ap p.act.layout.lengths over.address ∙ ap (λ (f : ℕ → ℕ). f e.channel) (behind_lengths behind);
+        some = over.some;
+        low = let low = asks.low in omega (arith, p.reading.at_is);
+      }
+
+      known : {direction : Direction} {e other : Exchange} → p.taken + 1 ≡ p.instr.len → GoesOver x direction e
+          → e ≡ other → other.length ≡ began.layout.lengths other.channel
+      known last over same = subst (λ (e : Exchange). e.length ≡ began.layout.lengths e.channel) same (talks last over).len
+
+      receiving : {e : Exchange} → p.taken + 1 ≡ p.instr.len → Receives x s' l e
+          → Meanwhile h began t.mode p.act s' l (Receiving e)
+      receiving {e} last wants = record {
+        after = wants.after;
+        room = wants.room;
+        sends = λ other no'. absurd (cc);
+        fills = λ old new fills. subst (λ (scope : Scope). Keeps m h scope old new)
+            (whole_scope s' p.act.layout asks.plain) (wants.fills old new fills);
+        named = rw asks.same named_after;
+        known_length = λ other is. elim is [
+          | inl no' ↦ absurd (cc)
+          | inr same ↦ known last wants.over (let is : Receiving e ≡ Receiving other = same in cc)
+        ];
+      }
+
+      sending : {e : Exchange} → p.taken + 1 ≡ p.instr.len → Sends x s' l e
+          → Meanwhile h began t.mode p.act s' l (Sending e)
+      sending {e} last wants = record {
+        after = λ later size agree bytes. after_agrees later size (λ place e. agree place e refl) wants.after;
+        room = λ place no'. absurd (cc);
+        sends = λ other is j. let same : e ≡ other = cc in
+            subst (λ (e : Exchange). j < e.length
+            → (may_read h (message_place e j) ≡ true) × IsByte (byte_at l.memory (message_place e j))) same
+            (wants.bytes j);
+        fills = λ old new fills. agree_keeps h old new fills.size (λ place e. fills.others place e refl) m
+            (scope_of m s'.context p.act.layout);
+        named = rw asks.same named_after;
+        known_length = λ other is. elim is [
+          | inl same ↦ known last wants.over (let is : Sending e ≡ Sending other = same in cc)
+          | inr no' ↦ absurd (cc)
+        ];
+      }
+
+      -- what it owes once it goes on
+      exchange_enter : r ≡ rule_at m t.registers.began p.instr p.state
+          → Entered h t.mode (t.registers.began + p.instr.len) s' p.act
+      exchange_enter e = enter h t.mode p.act (t.registers.began + p.instr.len) s' (exchange_enters e) asks.low asks.plain
+
+      exchange_due : r ≡ rule_at m t.registers.began p.instr p.state → ℕ
+      exchange_due e = let en = exchange_enter e in owed en.state en.act + owed_behind p.callers
+
+      exchange_pays : (e : r ≡ rule_at m t.registers.began p.instr p.state) → p.taken + 1 ≡ p.instr.len
+          → exchange_due e + 1 ≤ due
+      exchange_pays e last =
+          let en = exchange_enter e in
+          let paid = en.paid in
+          let pay = asks.pay in
+          omega (arith, owes_all)
+
+      exchange_lives : (e : r ≡ rule_at m t.registers.began p.instr p.state) → p.taken + 1 ≡ p.instr.len
+          → {condition : Condition} → Meanwhile h began t.mode p.act s' l condition
+          → Lives m h began l.memory (record {
+            registers = between (t.registers.at + 1) l.registers;
+            mode = t.mode;
+            condition = condition;
+          }) (exchange_due e)
+      exchange_lives e last {condition} meanwhile =
+          let en = exchange_enter e in
+          let at : t.registers.began + p.instr.len ≡ t.registers.at + 1 = omega (arith, p.reading.at_is) in
+          subst (λ n. Lives m h began l.memory (record {
+            registers = between n l.registers;
+            mode = t.mode;
+            condition = condition;
+          }) (exchange_due e)) at
+          (lives_while h began t.mode en.act (t.registers.began + p.instr.len) (Some s') en.state l p.callers condition
+          (exchange_enters e) asks.low en.stands en.plain (record {
+            after = λ later size agree bytes. en.after (record l { memory = later })
+                (meanwhile.after later size agree bytes);
+            room = meanwhile.room;
+            sends = meanwhile.sends;
+            fills = λ old new fills. rw (en.context, en.layout) (meanwhile.fills old new fills);
+            named = rw (en.context, en.layout) meanwhile.named;
+            known_length = meanwhile.known_length;
+          }) (entered_behind en (still_behind s'.context l.memory asks.same asks.changes.keeps)))
 
     comes : (r : Ruling) (o : Outcome)
         → r ≡ rule_at m t.registers.began p.instr p.state → p.taken + 1 ≡ p.instr.len
@@ -538,28 +733,22 @@ module _ (m : Contents) (d : Decodes m) (wf : IsWellFormed m) (c : IsCertified m
     comes r o e last (it_falls {s = s'} {l = l} is gone low after same changes pay) =
         let next : Reaches m (t.registers.began + p.instr.len) (Some s') =
         follows p.reached p.stands p.reading.spelled refl (sym is ∙ ap falling e) in
-        let waiting : Behind m h began s'.context p.act.layout l.memory p.callers =
-        subst (λ (n : ℕ). Behind m h began n p.act.layout l.memory p.callers) (sym same)
-        (behind_keeps changes.keeps behind) in
-        let en = enter h began t.mode p.act (t.registers.began + p.instr.len) s' l p.callers next low
-        (plain_state after.same_mode plain) after waiting in
+        let en = enter h t.mode p.act (t.registers.began + p.instr.len) s' next low
+        (plain_state after.same_mode plain) in
         comes_by (owed en.state en.act + owed_behind p.callers)
         gone (omega (arith, p.reading.at_is)) changes.own
         (lives_at h began t.mode en.act (t.registers.began + p.instr.len) (Some s') en.state l p.callers next low en.stands
-        en.plain en.after en.behind)
+        en.plain (en.after l after) (entered_behind en (still_behind s'.context l.memory same changes.keeps)))
         (omega (arith, owes_all, en.paid, pay))
     comes r o e last (it_leads {to = to} {l = l} {t = label} turns led gone is low after same changes
         pay) =
         let r = c.holds.starts to low (label_is_start m to label is) in
         let st : state_at m to r.0 ≡ Some (label_state label) =
         is_given m to r.0 (label_state label) (given_label m to label is) in
-        let waiting : Behind m h began label.context p.act.layout l.memory p.callers =
-        subst (λ (n : ℕ). Behind m h began n p.act.layout l.memory p.callers) (sym same)
-        (behind_keeps changes.keeps behind) in
         comes_by (owed (label_state label) (with_turns turns p.act) + owed_behind p.callers) gone
         (omega (arith, p.reading.at_is)) changes.own
         (lives_at h began t.mode (with_turns turns p.act) to r.0 (label_state label) l p.callers r.1 low st refl after
-        waiting)
+        (still_behind label.context l.memory same changes.keeps))
         (omega (arith, owes_all, pay))
     comes r o e last
         (it_calls {to = to} {s = s'} {l = l} {e = f} act workspace found low after back waits
@@ -571,9 +760,7 @@ module _ (m : Contents) (d : Decodes m) (wf : IsWellFormed m) (c : IsCertified m
         let st : state_at m to r.0 ≡ Some (procedure_state f.context f.procedure) =
         is_given m to r.0 (procedure_state f.context f.procedure) (given_procedure m to f unlabelled found) in
         let caller : Caller = record { act = p.act; state = s'; workspace = workspace } in
-        let waiting : Behind m h began s'.context p.act.layout l.memory p.callers =
-        subst (λ (n : ℕ). Behind m h began n p.act.layout l.memory p.callers) (sym same)
-        (behind_keeps changes.keeps behind) in
+        let waiting = still_behind s'.context l.memory same changes.keeps in
         let called : Behind m h began f.context act.layout l.memory (caller ∷ p.callers) =
         one_waits some few (subst (λ (n : ℕ). Reaches m n (Some s')) (sym back) next) waits.goes_on waits.lengths
         waits.base waits.lends waits.resumes
@@ -587,7 +774,12 @@ module _ (m : Contents) (d : Decodes m) (wf : IsWellFormed m) (c : IsCertified m
         resumed l p.callers (behind_keeps changes.keeps behind) changes.own some few registers
         workspace back (let paid = owes_all in omega arith) refl
     comes r o e last (it_ends changes pay) = comes_down changes.own (omega (arith, owes_all, pay))
-    comes r o e last (it_asks asks pay) = elim asks [ ]
+    comes r o e last (it_asks (to_receive asks wants) pay) =
+        comes_in (exchange_due asks e) (talks asks last wants.over) asks.changes.own
+        (exchange_lives asks e last (receiving asks last wants)) (exchange_pays asks e last)
+    comes r o e last (it_asks (to_send asks wants) pay) =
+        comes_out (exchange_due asks e) (talks asks last wants.over) asks.changes.own
+        (exchange_lives asks e last (sending asks last wants)) (exchange_pays asks e last)
     comes r o e last (it_breaks {broken = v}) = absurd (unbroken v (sym e))
 
     -- the last byte of an instruction

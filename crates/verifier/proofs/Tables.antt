@@ -1,6 +1,7 @@
 -- What the change of one process leaves of the others, and of the invariant.
 use Rattle.std.proofs.Common.{◌≡◌, ◌≢◌, ℕ, zero, suc, ◌+◌, ◌≤◌, ◌<◌, ◌⊎◌, true, false, inl, inr, List, [], ◌∷◌, length}
-use Rattle.std.proofs.Common.{Some, None, refl, sym, ap, ◌∙◌, subst, arith}
+use Rattle.std.proofs.Common.{Option, Some, None, refl, sym, ap, ◌∙◌, subst, arith}
+use Rattle.std.proofs.lemmas.Bool.{cases_eq}
 use Rattle.std.specs.Prelude.{slice_get, slice_set}
 use Rattle.module_format.specs.Contents.{Contents}
 use Rattle.machine_state.specs.declared.process.Task.{Task}
@@ -14,7 +15,10 @@ use Rattle.machine_state.specs.Memory.{Memory, byte_at}
 use Rattle.machine_state.specs.Holding.{Holding, may_write, may_read, IsApart}
 use Rattle.machine_state.specs.World.{World, Role, Queue, Links, held}
 use Rattle.machine_state.specs.Frame.{ChangesOwn}
-use Rattle.machine_state.specs.Moves.{picked, dispatch}
+use Rattle.machine_state.specs.declared.process.Channel.{Channel}
+use Rattle.machine_state.specs.declared.holding.End.{End}
+use Rattle.machine_state.specs.Moves.{picked, dispatch, cell_of}
+use Rattle.machine_state.proofs.Claims.{only_one}
 use Rattle.machine_state.proofs.Lines.{got_set, got_other, set_either}
 use Rattle.rulings.proofs.Words.{bool_cases}
 use Rattle.rulings.proofs.Combining.{readable_byte}
@@ -22,7 +26,7 @@ use Rattle.rulings.specs.Regions.{scope_in}
 use Rattle.verifier.specs.Point.{Began, Point}
 use Rattle.rulings.specs.Buffers.{message_place, IsByte}
 use Rattle.verifier.specs.Lives.{awaits, IsExchanging, Lives, Meets, it_lives, it_stopped, it_ended}
-use Rattle.verifier.specs.Invariant.{Process, Table, LengthsAgree, total, Holds}
+use Rattle.verifier.specs.Invariant.{Process, Table, LengthAgrees, at_link, at_channel, LengthsAgree, total, Holds}
 use Rattle.verifier.proofs.Steps.{agree_keeps}
 
 -- ---- one process in plain mode
@@ -170,13 +174,46 @@ AreApart roles = (p q : ℕ) (r s : Role) → p ≢ q → slice_get roles p ≡ 
 abbrev pub AreBytes : List InputLink → Type 0
 AreBytes inputs = (k : ℕ) (link : InputLink) (b : ℕ) → slice_get inputs k ≡ Some link → link.kept ≡ Some b → b < 256
 
+-- each channel is there, with messages as long as before
+abbrev pub SameLengths : List (Option Channel) → List (Option Channel) → Type 0
+SameLengths old new = (k : ℕ) (c : Channel) → slice_get old k ≡ Some (Some c)
+    → (d : Channel) × (slice_get new k ≡ Some (Some d)) × (d.length ≡ c.length)
+
+pub equal_lengths : {old new : List (Option Channel)} → new ≡ old → SameLengths old new
+equal_lengths same k c here = (c, ap (λ (cells : List (Option Channel)). slice_get cells k) same ∙ here, refl)
+
+-- where one channel has changed
+pub length_set : (cells : List (Option Channel)) (k : ℕ) (old new : Channel) → slice_get cells k ≡ Some (Some old)
+    → new.length ≡ old.length → SameLengths cells (slice_set cells k (Some new))
+length_set cells k old new there same n c here = elim (cases_eq k n) [
+  | inl it ↦
+      let one : Some old ≡ Some c = only_one (slice_get cells n) (Some old) (Some c)
+      (subst (λ i. slice_get cells i ≡ Some (Some old)) it there) here in
+      let is : old ≡ c = cc in (
+        new,
+        subst (λ i. slice_get (slice_set cells k (Some new)) i ≡ Some (Some new)) it
+            (got_set cells k (Some old) (Some new) there),
+        same ∙ ap (λ (c : Channel). c.length) is,
+      )
+  | inr differ ↦ (c, got_other cells k n (Some new) differ ∙ here, refl)
+]
+
+lengths_kept : (m : Contents) {roles : List Role} {old new : List (Option Channel)} {began : List Began}
+    → SameLengths old new → LengthsAgree m roles old began → LengthsAgree m roles new began
+lengths_kept m {old = old} {new = new} same agree p role start e has_role has_start held =
+    on (agree p role start e has_role has_start held)
+  where
+    on : LengthAgrees m old start e → LengthAgrees m new start e
+    on (at_link k few is len) = at_link k few is len
+    on (at_channel c here len) = let d = same (cell_of e.address) c here in at_channel d.0 d.1 (d.2 ∙ len)
+
 -- of what the invariant reads of the world, but for the count and what is kept on links, one task and memory have
 -- changed
 pub record Puts (w after : World) (p : ℕ) (u : Task) (new : Memory) : Type 0 where
   pub tasks : after.tasks ≡ slice_set w.tasks p u
   pub memory : after.memory ≡ new
   pub roles : after.roles ≡ w.roles
-  pub channels : after.channels ≡ w.channels
+  pub channels : SameLengths w.channels after.channels
   pub kept : AreBytes after.links.inputs
   pub fault : after.fault ≡ w.fault
 
@@ -262,7 +299,7 @@ module _ (m : Contents) (w : World) (h : IsSound m w) (apart : AreApart w.roles)
         plain = rw puts.tasks (quiet_put u plain);
       })
       (rw (puts.tasks, puts.memory, puts.roles) (table_put u new later changes meets))
-      (rw (puts.roles, puts.channels) h.holds.lengths) puts.kept
+      (lengths_kept m puts.channels (rw puts.roles h.holds.lengths)) puts.kept
       (let t = total_set h.holds.dues p row.due later row.has_due in let o = h.holds.owed in omega arith)
       (puts.fault ∙ h.holds.well)
 

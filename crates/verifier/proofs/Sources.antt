@@ -1,0 +1,181 @@
+-- What is at the ends that processes hold: links and channels with messages as long as who holds the end knows.
+use Rattle.std.proofs.Common.{◌≡◌, ◌≢◌, ℕ, suc, ◌+◌, ◌-◌, ◌*◌, ◌/◌, ◌≤◌, ◌<◌, true, false, if◌then◌else◌, inl, inr, List}
+use Rattle.std.proofs.Common.{Option, Some, None, length, refl, sym, ap, ◌∙◌, subst, arith}
+use Rattle.std.proofs.lemmas.Bool.Decides.{leb_tells}
+use Rattle.std.proofs.lemmas.Option.{slice_get_within}
+use Rattle.std.specs.Prelude.{slice_get, nat_lt}
+use Rattle.module_format.specs.Contents.{Contents, link_length}
+use Rattle.module_format.specs.declared.rows.Direction.{Direction}
+use Rattle.module_format.specs.declared.rows.Direction.TheVariants.{In, Out}
+use Rattle.machine_state.specs.declared.holding.End.{End}
+use Rattle.machine_state.specs.declared.process.Channel.{Channel}
+use Rattle.machine_state.specs.declared.process.Condition.{Condition}
+use Rattle.machine_state.specs.declared.process.Condition.TheVariants.{Ready, Sending, Receiving}
+use Rattle.machine_state.specs.declared.process.Exchange.{Exchange}
+use Rattle.machine_state.specs.declared.process.Task.{Task}
+use Rattle.machine_state.specs.Memory.{place_of}
+use Rattle.machine_state.specs.Holding.{Holding, nothing, has_end}
+use Rattle.machine_state.specs.World.{World, Role, Join, held, holding_at, link_word, input_word, output_word}
+use Rattle.machine_state.specs.Moves.{cell_of}
+use Rattle.machine_state.specs.Exchanges.{input_link, output_link}
+use Rattle.machine_state.specs.Ownership.{IsWord}
+use Rattle.machine_state.specs.Roles.{own_in}
+use Rattle.machine_state.specs.ChannelLaws.{WaitsTo}
+use Rattle.machine_state.proofs.Claims.{only_one}
+use Rattle.rulings.specs.Meaning.{IsWellFormed}
+use Rattle.verifier.specs.Lives.{IsExchanging}
+use Rattle.verifier.specs.Point.{Began}
+use Rattle.verifier.specs.Invariant.{LengthAgrees, at_link, at_channel}
+use Rattle.verifier.proofs.LawfulWorlds.{IsLawful}
+use Rattle.verifier.proofs.Tables.{IsSound, Living, living}
+
+-- ---- links
+
+pub input_found : (k : ℕ) → k < 4 → input_link (input_word k) ≡ Some k
+input_found 0 few = refl
+input_found 1 few = refl
+input_found 2 few = refl
+input_found 3 few = refl
+input_found (suc (suc (suc (suc k)))) few = absurd (omega (arith, few))
+
+pub output_found : (k : ℕ) → k < 4 → output_link (output_word k) ≡ Some k
+output_found 0 few = refl
+output_found 1 few = refl
+output_found 2 few = refl
+output_found 3 few = refl
+output_found (suc (suc (suc (suc k)))) few = absurd (omega (arith, few))
+
+-- ---- addresses
+
+-- two words with one number are one
+pub same_address : (a b : ℕ) → IsWord a → IsWord b → cell_of a ≡ cell_of b → a ≡ b
+unfolding place_of
+same_address a b x y same = omega (arith, same, x.0, x.1, y.0, y.1)
+
+-- ---- what is there
+
+-- at an end, where messages have so many bytes
+pub data AtEnd (m : Contents) (w : World) (e : End) (len : ℕ) : Type 0 where
+  an_input : (k : ℕ) → k < 4 → e.address ≡ input_word k → e.direction ≡ In → link_length m (4 + k) ≡ len
+      → AtEnd m w e len
+  an_output : (k : ℕ) → k < 4 → e.address ≡ output_word k → e.direction ≡ Out → link_length m k ≡ len
+      → AtEnd m w e len
+  a_channel : (c : Channel) → slice_get w.channels (cell_of e.address) ≡ Some (Some c) → c.length ≡ len
+      → IsWord e.address → AtEnd m w e len
+
+-- A process that waits on an internal channel: it holds that end, is recorded there, and its message is as long as those
+-- of the channel.
+pub record Partner (w : World) (q : ℕ) (direction : Direction) (e : Exchange) : Type 0 where
+  pub channel : Channel
+  pub here : slice_get w.channels (cell_of e.channel) ≡ Some (Some channel)
+  pub waiting : channel.waiting ≡ Some q
+  pub end : has_end (holding_at w.roles q) (record { address = e.channel; direction = direction }) ≡ true
+  pub len : channel.length ≡ e.length
+  pub word : IsWord e.channel
+
+module _ (m : Contents) (wf : IsWellFormed m) (w : World) (lawful : IsLawful m w) (h : IsSound m w) where
+  -- a channel lies in a data word
+  inside : (k : ℕ) (c : Channel) → slice_get w.channels k ≡ Some (Some c) → k < m.data_words
+  inside k c here =
+      let low = slice_get_within w.channels k (Some c) here in
+      let size = lawful.stands.size in
+      omega arith
+
+  -- the word of a link is no data word
+  pub no_cell : (k address : ℕ) (c : Channel) → k < 8 → address ≡ link_word k
+      → slice_get w.channels (cell_of address) ≡ Some (Some c) → ⊥
+  unfolding place_of
+  no_cell k address c few is here =
+      let low = inside (cell_of address) c here in
+      let words = wf.few_words in
+      omega (arith, low, is)
+
+  pub held_is : (p : ℕ) (role : Role) → slice_get w.roles p ≡ Some role → held role ≡ role.own
+  held_is p role here =
+      ap (λ (o : Option Join). elim o as (λ o. Holding) [ None ↦ role.own | Some join ↦ join.rest ])
+      (h.quiet.roles p role here).0
+
+  pub holding_is : (p : ℕ) (role : Role) → slice_get w.roles p ≡ Some role → holding_at w.roles p ≡ held role
+  holding_is p role here =
+      ap (λ (o : Option Role). elim o as (λ o. Holding) [ None ↦ nothing | Some role ↦ held role ]) here
+
+  own_is : (p : ℕ) (role : Role) → slice_get w.roles p ≡ Some role → own_in w.roles p ≡ role.own
+  own_is p role here =
+      ap (λ (o : Option Role). elim o as (λ o. Holding) [ None ↦ nothing | Some role ↦ role.own ]) here
+
+  -- the end of a channel is at a word
+  word_at : (p : ℕ) (role : Role) (e : End) (c : Channel) → slice_get w.roles p ≡ Some role
+      → has_end role.own e ≡ true → slice_get w.channels (cell_of e.address) ≡ Some (Some c) → IsWord e.address
+  word_at p role e c here own there =
+      elim (lawful.stands.holders.ends p e (subst (λ (g : Holding). has_end g e ≡ true) (sym (own_is p role here)) own)) [
+        | inl far ↦ let low = inside (cell_of e.address) c there in absurd (omega (arith, low, far))
+        | inr near ↦ near.1
+      ]
+
+  pub at_end : (p : ℕ) (role : Role) (start : Began) (e : End) → slice_get w.roles p ≡ Some role
+      → slice_get h.holds.began p ≡ Some start → has_end role.own e ≡ true
+      → AtEnd m w e (start.layout.lengths e.address)
+  at_end p role start e has_role has_start own = on (h.holds.lengths p role start e has_role has_start own)
+    where
+      on_link : (k : ℕ) → k < 8 → e ≡ record { address = link_word k; direction = if nat_lt k 4 then Out else In }
+          → link_length m k ≡ start.layout.lengths e.address → AtEnd m w e (start.layout.lengths e.address)
+      on_link k few is len = elim (leb_tells (suc k) 4) [
+        | inl low ↦ an_output k (omega (arith, low.1)) (ap (λ (e : End). e.address) is)
+            (ap (λ (e : End). e.direction) is ∙ ap (λ b. if b then Out else In) low.0) len
+        | inr high ↦
+            let n : 4 + (k - 4) ≡ k = omega (arith, high.1) in
+            let word : link_word k ≡ input_word (k - 4) = omega (arith, high.1) in
+            an_input (k - 4) (omega (arith, few, high.1)) (ap (λ (e : End). e.address) is ∙ word)
+            (ap (λ (e : End). e.direction) is ∙ ap (λ b. if b then Out else In) high.0) (ap (link_length m) n ∙ len)
+      ]
+
+      on : LengthAgrees m w.channels start e → AtEnd m w e (start.layout.lengths e.address)
+      on (at_link k few is len) = on_link k few is len
+      on (at_channel c here len) = a_channel c here len (word_at p role e c has_role own here)
+
+  -- ---- who waits
+
+  waits_exchanging : (direction : Direction) (c : Condition) (e : Exchange) → WaitsTo direction c e → IsExchanging c e
+  waits_exchanging In c e is = inr is
+  waits_exchanging Out c e is = inl is
+
+  is_alive : (direction : Direction) (c : Condition) (e : Exchange) → WaitsTo direction c e
+      → (p : ℕ) (t : Task) → slice_get w.tasks p ≡ Some t → t.condition ≡ c
+      → Living m w h.holds.began h.holds.dues p t
+  is_alive In c e is p t here same = living m w h.holds p t (Receiving e) here (same ∙ is) (λ e. cc) (λ e. cc)
+  is_alive Out c e is p t here same = living m w h.holds p t (Sending e) here (same ∙ is) (λ e. cc) (λ e. cc)
+
+  pub partner : (q : ℕ) (t : Task) (direction : Direction) (e : Exchange) → slice_get w.tasks q ≡ Some t
+      → WaitsTo direction t.condition e → Partner w q direction e
+  partner q t direction e here waits = on (at_end q r.row.role r.row.start _ r.row.has_role r.row.has_start own)
+    where
+      r : Living m w h.holds.began h.holds.dues q t
+      r = is_alive direction t.condition e waits q t here refl
+
+      own : has_end r.row.role.own (record { address = e.channel; direction = direction }) ≡ true
+      own = subst (λ (g : Holding). has_end g (record { address = e.channel; direction = direction }) ≡ true)
+          (holding_is q r.row.role r.row.has_role ∙ held_is q r.row.role r.row.has_role)
+          (lawful.recorded q t direction e here waits).end
+
+      on : AtEnd m w (record { address = e.channel; direction = direction }) (r.row.start.layout.lengths e.channel)
+          → Partner w q direction e
+      on (an_input k few is in_ len) =
+          let told = lawful.recorded q t direction e here waits in
+          absurd (no_cell (4 + k) e.channel told.channel (omega (arith, few)) (omega (arith, is)) told.here)
+      on (an_output k few is out len) =
+          let told = lawful.recorded q t direction e here waits in
+          absurd (no_cell k e.channel told.channel (omega (arith, few)) is told.here)
+      on (a_channel c there len word) =
+          let told = lawful.recorded q t direction e here waits in
+          let one : Some told.channel ≡ Some c =
+          only_one (slice_get w.channels (cell_of e.channel)) (Some told.channel) (Some c) told.here there in
+          let same : told.channel ≡ c = cc in
+          record {
+            channel = told.channel;
+            here = told.here;
+            waiting = told.waiting;
+            end = told.end;
+            len = ap (λ (c : Channel). c.length) same ∙ len
+                ∙ sym (r.lives.known_length e (waits_exchanging direction t.condition e waits));
+            word = word;
+          }
