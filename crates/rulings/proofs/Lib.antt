@@ -1,4 +1,5 @@
 pub mod Addresses
+pub mod Agreeing
 pub mod Combining
 pub mod Constants
 pub mod Dues

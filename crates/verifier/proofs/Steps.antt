@@ -1,5 +1,5 @@
 -- One byte of one process.
-use Rattle.std.proofs.Common.{◌≡◌, ℕ, zero, suc, ◌+◌, ◌*◌, ◌≤◌, ◌<◌, Bool, true, cond, is_some, inl, inr, ℤ, List, []}
+use Rattle.std.proofs.Common.{◌≡◌, ℕ, zero, suc, ◌+◌, ◌*◌, ◌≤◌, ◌<◌, true, cond, is_some, inl, inr, ℤ, List, []}
 use Rattle.std.proofs.Common.{◌∷◌, length, drop, Option, Some, None, Result, Ok, Err, refl, sym, ap, ◌∙◌, subst, arith}
 use Rattle.std.proofs.Common.{add-one, pos, ◌+ℤ◌}
 use Rattle.std.proofs.lemmas.Bool.{cases_lt}
@@ -19,23 +19,20 @@ use Rattle.machine_state.specs.declared.process.Exchange.{Exchange}
 use Rattle.machine_state.specs.declared.process.Condition.{Condition}
 use Rattle.machine_state.specs.declared.process.Condition.TheVariants.{Ready, Sending, Receiving}
 use Rattle.machine_state.specs.declared.process.Mode as machine
-use Rattle.machine_state.specs.Memory.{Memory, byte_at, word_at, data_start}
-use Rattle.machine_state.specs.Holding.{Holding, may_read, may_write, may_read_word, has_end}
+use Rattle.machine_state.specs.Memory.{Memory, byte_at, data_start}
+use Rattle.machine_state.specs.Holding.{Holding, may_read, may_write, has_end}
 use Rattle.machine_state.specs.Site.{Site, Local, Outcome, goes, jumps, lands, stops, receives, sends}
 use Rattle.machine_state.specs.LocalStep.{local_step}
 use Rattle.machine_state.specs.Happens.{between}
 use Rattle.states.specs.declared.rule.Rule.{Rule}
 use Rattle.states.specs.declared.rule.Rule.TheVariants as rules
 use Rattle.states.specs.declared.known.Known.{Known}
-use Rattle.states.specs.declared.known.Source.{Source}
-use Rattle.states.specs.declared.known.Source.TheVariants.{Nowhere, From, Test}
-use Rattle.states.specs.State.{State, Facts, label_state, unknown, procedure_state}
+use Rattle.states.specs.State.{State, label_state, unknown, procedure_state}
 use Rattle.states.specs.Below.{below}
 use Rattle.rulings.specs.Rulings.{Ruling, breaks, falling}
 use Rattle.facts.specs.Rules.{rule_at}
 use Rattle.verifier.specs.Certified.{state_at, Reaches, follows, IsCertified}
-use Rattle.rulings.specs.Meaning.{owed, Layout, Activation, with_turns, at_label, word_at_place, frame_word, words_in}
-use Rattle.rulings.specs.Meaning.{ComesFrom, from_nowhere, from_word, from_test, MeansKnown, Knows, IsWellFormed}
+use Rattle.rulings.specs.Meaning.{owed, Layout, Activation, with_turns, at_label, words_in, MeansKnown, IsWellFormed}
 use Rattle.rulings.specs.Meaning.{HasFrame, place_in, SameMode, both_plain, both_enabling, both_disabling}
 use Rattle.rulings.specs.Meaning.{both_starting}
 use Rattle.machine_state.specs.Frame.{ChangesOwn}
@@ -46,16 +43,15 @@ use Rattle.rulings.specs.Buffers.{message_place, IsByte, Fills}
 use Rattle.rulings.specs.Channels.{message_length}
 use Rattle.module_format.specs.declared.rows.Direction.{Direction}
 use Rattle.module_format.specs.declared.rows.Direction.TheVariants.{In, Out}
-use Rattle.rulings.proofs.Words.{means_same, frame_word_is}
-use Rattle.states.proofs.RowFacts.{and-parts}
+use Rattle.rulings.proofs.Agreeing.{agree_keeps, after_agrees}
 use Rattle.rulings.specs.Fitting.{Described, After, Here, step_site, GoesTo, goes_behind, is_jump, is_landing, Fits}
 use Rattle.rulings.specs.Fitting.{it_falls, it_leads, it_calls, it_returns, it_ends, it_asks, it_breaks, Caller}
 use Rattle.rulings.specs.Fitting.{GoesOver, Receives, Sends, Exchanges, to_receive, to_send}
-use Rattle.rulings.proofs.Combining.{same_frame, elsewhere, unknown_means}
+use Rattle.rulings.proofs.Combining.{elsewhere, unknown_means}
 use Rattle.facts.proofs.Local.{function_fits}
 use Rattle.rulings.proofs.Entering.{below_tells, label_after}
 use Rattle.rulings.proofs.Dues.{label_owed}
-use Rattle.rulings.proofs.Regions.{keeps_all, keeps_more, named_left}
+use Rattle.rulings.proofs.Regions.{keeps_all, keeps_more}
 use Rattle.rulings.specs.Regions.{Scope, scope_of, scope_in, scope_among, Keeps, HoldsNamed}
 use Rattle.rulings.proofs.Lending.{lift}
 use Rattle.rulings.proofs.Within.{within}
@@ -73,63 +69,7 @@ same_ok {A} {E} r x y p q = let e : ◌≡◌ {A = Result A E} (Ok x) (Ok y) = s
 same_some : {A : Type 0} (o : Option A) (x y : A) → o ≡ Some x → o ≡ Some y → x ≡ y
 same_some {A} o x y p q = let e : Some x ≡ Some y = sym p ∙ q in cc
 
--- ---- what is known depends on readable bytes alone
-
-word_same : (m n : Memory) (place : ℕ) → byte_at m place ≡ byte_at n place
-    → byte_at m (place + 1) ≡ byte_at n (place + 1) → byte_at m (place + 2) ≡ byte_at n (place + 2)
-    → byte_at m (place + 3) ≡ byte_at n (place + 3) → word_at m place ≡ word_at n place
-unfolding word_at
-word_same m n place a b c d = rw (a, b, c, d)
-
-four_readable : (h : Holding) (place : ℕ) → may_read_word h place ≡ true
-    → (may_read h place ≡ true) × (may_read h (place + 1) ≡ true) × (may_read h (place + 2) ≡ true)
-    × (may_read h (place + 3) ≡ true)
-unfolding may_read_word
-four_readable h place e =
-    let p = and-parts _ _ e in
-    let q = and-parts _ _ p.0 in
-    let r = and-parts _ _ q.0 in
-    (r.0, r.1, q.1, p.1)
-
--- what is known of words and registers, in a memory that has the same words
-knows_agree : {m : Contents} {counts : ℤ → Bool} {act : Activation} {said : Stack Known} {facts : Facts}
-    {stack : Stack (Option ℤ)} {memory later : Memory}
-    → ((k : ℤ) → counts k ≡ true → frame_word memory act.layout.origin k ≡ frame_word later act.layout.origin k)
-    → Knows m counts act said facts stack memory → Knows m counts act said facts stack later
-knows_agree {m} {counts} {act} {said} {facts} {stack} {memory} {later} same known = record {
-  registers = record {
-    a = register said.a stack.a known.registers.a;
-    b = register said.b stack.b known.registers.b;
-    c = register said.c stack.c known.registers.c;
-  };
-  words = λ k inside. means_same (known.words k inside) refl (same k inside);
-}
-  where
-    comes : (source : Source) (v : Option ℤ) → ComesFrom counts memory act.layout.origin source v
-        → ComesFrom counts later act.layout.origin source v
-    comes Nowhere v from_nowhere = from_nowhere
-    comes (From word) v (from_word inside is) = from_word inside (is ∙ same word inside)
-    comes (Test word lo hi within) v (from_test x inside is tested) =
-        from_test x inside (sym (same word inside) ∙ is) tested
-
-    register : (known : Known) (v : Option ℤ) → MeansKnown m counts act.layout memory known v
-        → MeansKnown m counts act.layout later known v
-    register known v means = record { fact = means.fact; source = comes known.source v means.source }
-
--- ---- what parameters name, and who waits
-
-module _ (h : Holding) (memory later : Memory) (size : length later ≡ length memory)
-    (agree : (place : ℕ) → may_read h place ≡ true → byte_at later place ≡ byte_at memory place) where
-  pub agree_keeps : (m : Contents) (scope : Scope) → Keeps m h scope memory later
-  agree_keeps m scope = record {
-    size = size;
-    bytes = λ place e. inl (agree place e);
-    named = named_left m h scope memory later (λ place. ⊥) (record {
-      bytes = λ place e. inl (agree place e);
-      own = λ place no'. absurd no';
-      small = λ place b e found. inr (sym (agree place e) ∙ found);
-    }) (λ j p found. inl (λ place at no'. no'));
-  }
+-- ---- who waits
 
 behind_keeps : {m : Contents} {h : Holding} {began : Began} {context : ℕ} {layout : Layout} {old new : Memory}
     {callers : List Caller} → Keeps m h (scope_of m context layout) old new
@@ -159,29 +99,6 @@ behind_lifts {m} {h} {context = context} {layout = layout} {old = old} {new = ne
     behind_lifts (rest old keeps_all) (resumes old keeps_all).named
     (lift m h (scope_of m caller.state.context caller.act.layout) (scope_of m context layout) base lends old new named
     keeps)
-
--- all that is so of an activation is so whatever happens to bytes that the process may not read
-pub after_agrees : {m : Contents} {h : Holding} {mode : machine.Mode} {act : Activation} {s : State} {l : Local}
-    {scope : Scope} (later : Memory) → length later ≡ length l.memory
-    → ((place : ℕ) → may_read h place ≡ true → byte_at later place ≡ byte_at l.memory place)
-    → Described m h mode act s l scope → Described m h mode act s (record l { memory = later }) scope
-after_agrees {m} {h} {mode} {act} {s} {l} {scope} later size agree a = record {
-  frame = same_frame (sym size) a.frame;
-  knows = knows_agree same a.knows;
-  named = (agree_keeps h l.memory later size agree m scope).named a.named;
-  same_mode = a.same_mode;
-}
-  where
-    same : (k : ℤ) → scope.words.reads k ≡ true
-        → frame_word l.memory act.layout.origin k ≡ frame_word later act.layout.origin k
-    same k inside =
-        let w = a.frame.readable k inside in
-        let four = four_readable h w.place w.readable in
-        let at : (place : ℕ) → may_read h place ≡ true → byte_at l.memory place ≡ byte_at later place =
-        λ place e. sym (agree place e) in
-        frame_word_is l.memory act.layout.origin k w.place w.is
-        ∙ word_same l.memory later w.place (at _ four.0) (at _ four.1) (at _ four.2) (at _ four.3)
-        ∙ sym (ap (word_at_place later) (sym w.is))
 
 -- ---- modes
 

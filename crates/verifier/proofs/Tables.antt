@@ -27,7 +27,7 @@ use Rattle.verifier.specs.Point.{Began, Point}
 use Rattle.rulings.specs.Buffers.{message_place, IsByte}
 use Rattle.verifier.specs.Lives.{awaits, IsExchanging, Lives, Meets, it_lives, it_stopped, it_ended}
 use Rattle.verifier.specs.Invariant.{Process, Table, LengthAgrees, at_link, at_channel, LengthsAgree, total, Holds}
-use Rattle.verifier.proofs.Steps.{agree_keeps}
+use Rattle.rulings.proofs.Agreeing.{agree_keeps}
 
 -- ---- one process in plain mode
 
