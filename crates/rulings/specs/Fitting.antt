@@ -1,6 +1,6 @@
 -- When the rule of an instruction and its step fit each other: where the rule is not broken, the step is no fault, it
 -- changes own bytes only, and what the rule says of the state after it holds.
-use Rattle.std.specs.Prelude.{◌≡◌, ℕ, ◌+◌, ◌*◌, ◌≤◌, ◌<◌, ℤ, pos, ◌+ℤ◌, true, [], ◌∷◌, length, Some, None}
+use Rattle.std.specs.Prelude.{◌≡◌, ℕ, ◌+◌, ◌*◌, ◌≤◌, ◌<◌, ℤ, pos, ◌+ℤ◌, true, false, [], ◌∷◌, length, Some, None}
 use Rattle.module_format.specs.Contents.{Contents, Label, label_at}
 use Rattle.module_format.specs.Stack.{of_empty}
 use Rattle.module_format.specs.declared.rows.Direction.{Direction}
