@@ -6,6 +6,7 @@ pub mod Dues
 pub mod EndNumbers
 pub mod Ends
 pub mod Entering
+pub mod EvenChannels
 pub mod LabelRows
 pub mod Lending
 pub mod Moving
