@@ -3,7 +3,7 @@ use Rattle.std.proofs.Common.{◌≡◌, ℕ, suc, ◌+◌, ◌-◌, ◌*◌, �
 use Rattle.std.proofs.Common.{◌<ℤ◌, Bool, true, false, if◌then◌else◌, ◌||◌, not, inl, inr, List, [], ◌∷◌, length}
 use Rattle.std.proofs.Common.{Option, Some, None, FitsSigned, refl, sym, ap, ◌∙◌, subst, arith}
 use Rattle.std.specs.Int.{w32, cast_unsigned}
-use Rattle.std.specs.Prelude.{slice_get, int_le, int_lt, nat_abs, ◌==◌, option_map, bit_and, ◌⊎◌, nat_lt}
+use Rattle.std.specs.Prelude.{slice_get, int_le, int_lt, nat_abs, ◌==◌, option_map, bit_and, ◌⊎◌, nat_lt, IsTrue}
 use Rattle.std.specs.List.{list_all, list_any}
 use Rattle.std.proofs.lemmas.Bool.{cases_lt, cases_eq, eqb-true, eq-eqb, le-leb}
 use Rattle.std.proofs.lemmas.Bool.Decides.{leb_tells}
@@ -15,6 +15,7 @@ use Rattle.module_format.specs.declared.rows.Parameter.{Parameter}
 use Rattle.module_format.specs.declared.rows.ParameterKind.{ParameterKind}
 use Rattle.module_format.specs.declared.rows.ParameterKind.TheVariants.{Value, ReadRegion, WrittenRegion, Channels}
 use Rattle.module_format.specs.Procedures.{KindKeeps, ProcedureKeeps}
+use Rattle.module_format.specs.Order.{is_multiple_of_four}
 use Rattle.module_format.specs.Contents.{Contents, Procedure, Par, Branch}
 use Rattle.module_format.specs.Pars.{key_of}
 use Rattle.module_format.specs.Places.{branches_of}
@@ -54,6 +55,7 @@ use Rattle.rulings.specs.Remaining.{only_read, not_used}
 use Rattle.call_rules.proofs.OneName.{EndsPass, further_once, further_meet, share_direction, no_meeting, length_is}
 use Rattle.rulings.proofs.Within.{Within, ArePlain}
 use Rattle.rulings.proofs.Ends.{names}
+use Rattle.rulings.proofs.EvenChannels.{channel_even}
 use Rattle.call_rules.proofs.EndRuns.{end_held, all_below_at}
 use Rattle.module_format.specs.declared.rows.EndKind.{EndKind}
 use Rattle.module_format.specs.declared.rows.EndKind.TheVariants as end_kinds
@@ -795,9 +797,10 @@ module _ (m : Contents) (h : Holding) (mode : machine.Mode) (act : Activation) (
       → numbers_fit call (record { word = word; kind = kind }) ≡ true
       → pointers_fit call (record { word = word; kind = kind }) ≡ true
       → ends_are_held call (record { word = word; kind = kind }) ≡ true
+      → lengths_fit call (record { word = word; kind = kind }) ≡ true
       → Passed j kind (value (record { word = word; kind = kind })) (given call (record { word = word; kind = kind }))
-  unfolding numbers_fit pointers_fit ends_are_held
-  passed_at j word (Value lo hi) found numbers pointers ends = record {
+  unfolding numbers_fit pointers_fit ends_are_held lengths_fit
+  passed_at j word (Value lo hi) found numbers pointers ends lengths = record {
     part = record { region = 0; first = pos 0; count = 0; is = tt };
     named = tt;
     means = number_means (implies_means m act.layout (plain (given call (record { word = word; kind = Value lo hi })))
@@ -806,31 +809,50 @@ module _ (m : Contents) (h : Holding) (mode : machine.Mode) (act : Activation) (
         (given_means j (record { word = word; kind = Value lo hi }) found)));
     linked = tt;
   }
-  passed_at j word (ReadRegion size lo hi) found numbers pointers ends =
+  passed_at j word (ReadRegion size lo hi) found numbers pointers ends lengths =
       let q : Parameter = record { word = word; kind = ReadRegion size lo hi } in
       let it = passed_lent j q found size lo hi false (kind_kept j q found) numbers pointers in
       passed_of (ReadRegion size lo hi) j q size lo hi false found it (it.whole, it.part_is.part) it.part_is.has
       refl it.lent_is
-  passed_at j word (WrittenRegion size lo hi) found numbers pointers ends =
+  passed_at j word (WrittenRegion size lo hi) found numbers pointers ends lengths =
       let q : Parameter = record { word = word; kind = WrittenRegion size lo hi } in
       let it = passed_lent j q found size lo hi true (kind_kept j q found) numbers pointers in
       passed_of (WrittenRegion size lo hi) j q size lo hi true found it (it.whole, it.part_is.part) it.part_is.has
       refl it.lent_is
-  passed_at j word (Channels count len ends) found numbers pointers held =
-      on_channel (channel_of (given call q)) refl held
+  passed_at j word (Channels count len ends) found numbers pointers held lengths =
+      on_channel (channel_of (given call q)) refl held lengths
     where
       q : Parameter
       q = record { word = word; kind = Channels count len ends }
 
+      -- channels begin where the caller has one
+      even_start : (v : ℤ) → value q ≡ Some v → (first : EndKind)
+          → channel_address act.layout first ≡ (cast_unsigned w32 v + 4 * 0) % 4294967296
+          → message_length m s.context first ≡ Some len → IsTrue (is_multiple_of_four (layout.starts j))
+      even_start v held first at known =
+          let even = channel_even m h s.context act.layout l.memory a.named first len known in
+          eq-eqb (layout.starts j % 4) 0
+          (ap (λ (n : ℕ). n % 4) (start_is j q v found held) ∙ rest (cast_unsigned w32 v) at even)
+        where
+          rest : (n : ℕ) → channel_address act.layout first ≡ (n + 4 * 0) % 4294967296
+              → channel_address act.layout first % 4 ≡ 0 → n % 4 ≡ 0
+          rest n at even = omega (arith, at, even)
+
       on_channel : (o : Option EndKind) → channel_of (given call q) ≡ o
           → (elim o as (λ o. Bool) [ None ↦ false | Some first ↦ holds_ends m s.context first count ends.0 ]) ≡ true
+          → (elim o as (λ o. Bool) [
+            | None ↦ true
+            | Some first ↦ all_below count (λ n. is_length len (message_length m s.context (further first n)))
+          ]) ≡ true
           → Passed j (Channels count len ends) (value q) (given call q)
-      on_channel None e h = absurd (cc)
-      on_channel (Some first) e h =
+      on_channel None e h g = absurd (cc)
+      on_channel (Some first) e h g =
           let n = names m act (callee_word s (pos word)) (given call q) first (value q) e (given_means j q found) in
           record {
             part = record { region = 0; first = pos 0; count = 0; is = tt };
-            named = tt;
+            named = even_start n.x n.is (further first 0) (n.addresses 0)
+                (length_is len _ (all_below_at count 0
+                (λ i. is_length len (message_length m s.context (further first i))) g (kind_kept j q found).some));
             means = address_means j q found n.x n.is n.fits;
             linked = tt;
           }
@@ -889,6 +911,7 @@ module _ (m : Contents) (h : Holding) (mode : machine.Mode) (act : Activation) (
         (list_all_at (numbers_fit call) p.parameters j q numbers found)
         (list_all_at (pointers_fit call) p.parameters j q pointers found)
         (list_all_at (ends_are_held call) p.parameters j q passed_ends.held found)
+        (list_all_at (lengths_fit call) p.parameters j q passed_ends.lengths found)
 
     pub lends : Lends m caller callee base
     lends = record {

@@ -1,7 +1,7 @@
 -- The instruction that moves bytes: what its rule says fits its step.
 use Rattle.std.proofs.Common.{◌≡◌, ℕ, ◌+◌, ◌-◌, ◌≤◌, ◌<◌, ◌==◌, ℤ, pos, ◌+ℤ◌, ◌-ℤ◌, ◌≤ℤ◌, nat_abs, Bool, true, false}
-use Rattle.std.proofs.Common.{not, cond, ◌&&◌, ◌||◌, Option, Some, None, Ok, refl, sym, ap, ◌∙◌, subst, arith, ◌⊎◌}
-use Rattle.std.proofs.Common.{inl, inr}
+use Rattle.std.proofs.Common.{not, cond, ◌&&◌, ◌||◌, length, Option, Some, None, Ok, refl, sym, ap, ◌∙◌, subst, arith}
+use Rattle.std.proofs.Common.{◌⊎◌, inl, inr}
 use Rattle.std.proofs.lemmas.Bool.{cases_lt, cases_eq, eq-eqb}
 use Rattle.std.proofs.lemmas.Bool.Decides.{nat_tests}
 use Rattle.std.proofs.lemmas.Int.{ints}
@@ -51,37 +51,13 @@ use Rattle.rulings.proofs.Regions.{keeps_more}
 use Rattle.rulings.proofs.Reaching.{region_place, natural, place_at, region_at}
 use Rattle.rulings.proofs.Combining.{FitsIf, unknown_means, on_rule_test, on_step_test, uses_fits, in_bounds_fits}
 use Rattle.rulings.proofs.Combining.{holds_fits, goes_on_fits, in_plain_rule, beside_plain_rule, in_plain_step}
-use Rattle.rulings.proofs.Combining.{after_stack, settles_fits, reads_bytes_fits, writes_bytes_fits}
-use Rattle.rulings.proofs.Moving.{all_held, source_read, read_at, written_at, regions_apart, AreDefined, Moved}
-use Rattle.rulings.proofs.Moving.{unknown_into_frame, numbers_into_frame, numbers_into_parameter}
+use Rattle.rulings.proofs.Combining.{after_stack, settles_fits, reads_bytes_fits, writes_bytes_fits, counts_fits}
+use Rattle.rulings.proofs.Moving.{all_held, source_read, read_at, written_at, regions_apart, AreDefined, Room, Moved}
+use Rattle.rulings.proofs.Moving.{meet_tells, defined_of}
+use Rattle.rulings.proofs.Moving.{written_room, unknown_into_frame, numbers_into_frame, numbers_into_parameter}
 use Rattle.rulings.proofs.PointerFacts.{constant_is, exact_is}
 
 -- ---- what is asked
-
--- bytes of numbers are defined
-defined_of : {layout : Layout} (x : Here) (said : Fact) (mem : Memory) (place k : ℕ) → is_number_in full said ≡ true
-    → ((i : ℕ) → i < k → Means x.m layout said (option_map pos (byte_at mem (place + i)))) → AreDefined mem place k
-defined_of {layout} x (Number lo hi) mem place k t means = λ i less.
-    on (place + i) (byte_at mem (place + i)) refl (means i less)
-  where
-    on : (p : ℕ) (o : Option ℕ) → byte_at mem p ≡ o → Means x.m layout (Number lo hi) (option_map pos o)
-        → (b : ℕ) × (byte_at mem p ≡ Some b)
-    on p None e known = elim known [ ]
-    on p (Some b) e known = (b, e)
-defined_of x Unknown mem place k t means = absurd (cc)
-defined_of x (Pointer region lo hi steps) mem place k t means = absurd (cc)
-defined_of x (CodeAddress offset) mem place k t means = absurd (cc)
-defined_of x (Loop base count weight) mem place k t means = absurd (cc)
-defined_of x ReturnAddress mem place k t means = absurd (cc)
-
--- places that meet have one in common
-meet_tells : (p k q : ℕ) → step.meet p k q k ≡ true → (p < q + k) × (q < p + k)
-meet_tells p k q t =
-    let both = and-parts (nat_lt p (q + k)) (nat_lt q (p + k)) t in
-    (less p (q + k) both.0, less q (p + k) both.1)
-  where
-    less : (a b : ℕ) → nat_lt a b ≡ true → a < b
-    less a b t = grind (arith, nat_tests)
 
 -- one of two tests holds
 either : (a b : Bool) → (a || b) ≡ true → (a ≡ true) ⊎ (b ≡ true)
@@ -99,15 +75,6 @@ module _ (x : Here) (wf : IsWellFormed x.m) (s : State) (l : Local) (a : Within 
       in_plain_rule x t b.same_mode _ _ (beside_plain_rule x t b.same_mode _ _
       (goes_on_fits x (record t { stack = of_empty unknown }) (step.without_registers (record l { memory = new }))
       (after_stack x b (record { a = unknown_means; b = unknown_means; c = unknown_means })) here changed less))
-
-  -- a count that may be moved
-  counts_fits : (v : ℤ) (r : Ruling) (o : ℕ → Outcome) → pos 0 ≤ℤ v → v ≤ℤ pos 65536 → FitsIf x r (o (nat_abs v))
-      → FitsIf x r (step.counts 0 65536 v o)
-  unfolding step.counts
-  counts_fits v r o low high go =
-      on_step_test x (int_le (pos 0) v && int_le v (pos 65536)) _ _ _ (λ t. go)
-      (λ t.
-      let no : true ≡ false = sym (and-both _ _ (le-yes (pos 0) v low) (le-yes v (pos 65536) high)) ∙ t in absurd (cc))
 
   -- what the machine does, by the places of the two blocks
   abbrev copying : ℕ → ℕ → ℕ → Outcome
@@ -127,7 +94,7 @@ module _ (x : Here) (wf : IsWellFormed x.m) (s : State) (l : Local) (a : Within 
     where
       beside : (p q : ℕ) → not (step.meet p 0 q 0) ≡ true
       beside p q = elim (bool_cases (step.meet p 0 q 0)) [
-        | inl t ↦ let tells = meet_tells p 0 q t in absurd (omega (arith, tells.0, tells.1))
+        | inl t ↦ let tells = meet_tells p 0 q 0 t in absurd (omega (arith, tells.0, tells.1))
         | inr t ↦ ap not t
       ]
 
@@ -197,11 +164,15 @@ module _ (x : Here) (wf : IsWellFormed x.m) (s : State) (l : Local) (a : Within 
         → (numbers ≡ true → AreDefined l.memory source k) → ((target_region == 0) || numbers) ≡ true
         → is_full (wanted_range x.m s.context target_region) ≡ true
         → may_write_bytes x.m s.context target_region target_lo end ≡ true
-        → Moved a source (region_place x.m x.act.layout target_region) target_lo k (filled numbers to end s)
+        → (room : Room x.h (length l.memory) (region_place x.m x.act.layout target_region) target_lo k)
+        → Moved a l.memory source room.place k (filled numbers to end s)
     unfolding may_write_bytes filled become_numbers leaves_words
-    moved_to source held numbers defined allowed wide may =
-        on numbers (target_region == 0) (target_region == 1) defined allowed wide may
+    moved_to source held numbers defined allowed wide may room =
+        on numbers (target_region == 0) (target_region == 1) defined allowed wide may room
       where
+        bytes : (i : ℕ) → i < k → (c : ℕ) → byte_at l.memory (source + i) ≡ Some c → c < 256
+        bytes i less c e = a.named.bytes.each (source + i) c (held i less) e
+
         touched : Leaving → State
         touched leaving = after_change (on_span (word_of_byte target_lo) (words_touched target_lo end) leaving) s
 
@@ -210,22 +181,25 @@ module _ (x : Here) (wf : IsWellFormed x.m) (s : State) (l : Local) (a : Within 
             → is_full (cond (frame || constants) full (parameter_range x.m s.context (target_region - 2))) ≡ true
             → cond frame (all_touched (context_writes x.m s.context) target_lo end)
             (lie_in (cond constants None (writable_bytes x.m s.context (target_region - 2))) target_lo end) ≡ true
-            → Moved a source
-            (cond frame x.act.layout.origin
+            → (room : Room x.h (length l.memory) (cond frame x.act.layout.origin
             (cond constants (pos (constants_start x.m)) (pos (place_of (x.act.layout.starts (target_region - 2))))))
-            target_lo k
+            target_lo k)
+            → Moved a l.memory source room.place k
             (cond numbers
             (cond (frame && nat_lt 0 (words_within target_lo end))
             (after_change (on_span (word_behind target_lo) (words_within target_lo end) (Become (number_within full)))
             (cond frame (touched stored_byte) s)) (cond frame (touched stored_byte) s))
             (cond frame (touched (Become Unknown)) s))
-        on true true constants defined allowed wide may =
-            numbers_into_frame a source k some held target_lo may (defined refl) (nat_lt 0 (words_within target_lo end))
-        on false true constants defined allowed wide may = unknown_into_frame a source k some held target_lo may
-        on true false true defined allowed wide may = absurd (cc)
-        on true false false defined allowed wide may =
-            numbers_into_parameter a source k some held target_lo (defined refl) (target_region - 2) may wide
-        on false false constants defined allowed wide may = absurd (cc)
+        on true true constants defined allowed wide may room =
+            numbers_into_frame a l.memory source k some bytes target_lo target_lo end (omega (arith, ints))
+            (omega (arith, ints)) may room (defined refl) (nat_lt 0 (words_within target_lo end)) (λ t. (refl, refl))
+        on false true constants defined allowed wide may room =
+            unknown_into_frame a l.memory source k some bytes target_lo target_lo end (omega (arith, ints))
+            (omega (arith, ints)) may room
+        on true false true defined allowed wide may room = absurd (cc)
+        on true false false defined allowed wide may room =
+            numbers_into_parameter a l.memory source k some bytes target_lo (defined refl) (target_region - 2) room may wide
+        on false false constants defined allowed wide may room = absurd (cc)
 
     -- the two blocks have no place in common
     blocks_apart : (p q : ℕ) → are_apart (pos k) from to ≡ true
@@ -236,7 +210,7 @@ module _ (x : Here) (wf : IsWellFormed x.m) (s : State) (l : Local) (a : Within 
         → not (step.meet p k q k) ≡ true
     blocks_apart p q apart p_is q_is read write = elim (bool_cases (step.meet p k q k)) [
       | inr t ↦ ap not t
-      | inl t ↦ let tells = meet_tells p k q t in absurd (elim (cases_eq source_region target_region) [
+      | inl t ↦ let tells = meet_tells p k q k t in absurd (elim (cases_eq source_region target_region) [
         | inl one ↦ in_one one tells.0 tells.1
         | inr differ ↦ elim (cases_lt p q) [
           | inl low ↦ common differ (q - p) 0 q (omega (arith, low, tells.1)) some (omega (arith, ints, p_is, low))
@@ -293,27 +267,30 @@ module _ (x : Here) (wf : IsWellFormed x.m) (s : State) (l : Local) (a : Within 
             → FitsIf x (move.clears (rule_site x) (filled (filling.are_numbers s from (pos k)) to end s))
             (copying (place_of (step.address w)) (place_of (step.address u)) k)
         copies read write apart allowed =
-            let source = source_read wf a source_region source_lo k some read in
+            let source = source_read wf a source_region source_lo k some source_lo (source_lo +ℤ pos k) (omega (arith, ints))
+            (omega (arith, ints)) read in
+            let room = written_room a k some target_lo target_lo end (omega (arith, ints)) (omega (arith, ints))
+            target_region write in
             let target = moved_to source.place source.held (filling.are_numbers s from (pos k))
-            (λ t. defined_of x (byte_read s source_region source_lo (source_lo +ℤ pos k -ℤ pos 1)) l.memory
+            (λ t. defined_of (byte_read s source_region source_lo (source_lo +ℤ pos k -ℤ pos 1)) l.memory
             source.place k t source.means)
-            allowed wide write in
+            allowed wide write room in
             let left = left_same (filling.are_numbers s from (pos k)) to end in
-            let own = all_held (may_write x.h) target.place k target.own in
-            let new : Memory = copied l.memory source.place target.place k l.memory in
+            let own = all_held (may_write x.h) room.place k room.own in
+            let new : Memory = copied l.memory source.place room.place k l.memory in
             subst (λ (p : ℕ). FitsIf x (move.clears (rule_site x) (filled (filling.are_numbers s from (pos k)) to end s))
             (copying p (place_of (step.address u)) k))
             (sym (address_is from w source_means refl source.place source.is source.small))
             (subst (λ (q : ℕ). FitsIf x (move.clears (rule_site x) (filled (filling.are_numbers s from (pos k)) to end s))
             (copying source.place q k))
-            (sym (address_is to u target_means refl target.place target.is target.small))
+            (sym (address_is to u target_means refl room.place room.is room.small))
             (holds_fits x _ NotOwn _ _
             (and-both _ _ (and-both _ _ (all_held (may_read x.h) source.place k source.held) own)
-            (blocks_apart source.place target.place apart source.is target.is read write))
+            (blocks_apart source.place room.place apart source.is room.is read write))
             (clears_fits (filled (filling.are_numbers s from (pos k)) to end s) new target.after (left.0 ∙ same)
             (omega (arith, left.1, n)) (record {
               own = changes_more x.h x.memory l.memory new changes.own
-                  (copy_is_own x.h l.memory source.place target.place k l.memory own);
+                  (copy_is_own x.h l.memory source.place room.place k l.memory own);
               keeps = keeps_more changes.keeps
                   (subst (λ (c : ℕ). Keeps x.m x.h (scope_of x.m c x.act.layout) l.memory new) same target.keeps);
             }))))
@@ -382,7 +359,7 @@ module _ (x : Here) (wf : IsWellFormed x.m) (s : State) (l : Local) (a : Within 
       let size : nat_abs v ≡ k.0 = ap nat_abs (v_is ∙ k.1) in
       let source = exact_is s.stack.c.fact from here in
       let target = exact_is s.stack.b.fact to there in
-      counts_fits v _ _ (omega (arith, ints)) (omega (arith, ints))
+      counts_fits x 0 65536 v _ _ (omega (arith, ints)) (omega (arith, ints))
       (subst (λ (c : ℕ). FitsIf x (move.moves_bytes (rule_site x) count from to s)
       (copying (place_of (step.address w)) (place_of (step.address u)) c)) (sym size)
       (subst (λ (z : ℤ). FitsIf x (move.moves_bytes (rule_site x) z from to s)

@@ -1,1 +1,6 @@
+pub mod Buffering
+pub mod MessageFits
+pub mod MessageOtherModes
+pub mod MessagesFit
+pub mod NamedChannels
 pub mod Nearest

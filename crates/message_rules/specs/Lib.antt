@@ -1,1 +1,2 @@
+pub mod MessageFitting
 pub mod MessageRules

@@ -2,6 +2,8 @@
 #![tactic(auto)]
 
 mod channel;
+mod laws;
 mod messages;
 
+pub use laws::message_rules_fit_steps;
 pub use messages::advance_message;

@@ -1,7 +1,8 @@
 -- What the rules of instructions are made of fits what their steps are made of, combinator by combinator.
 use Rattle.std.proofs.Common.{◌≡◌, ℕ, ◌+◌, ◌-◌, ◌≤◌, ◌<◌, ℤ, negsuc, ◌+ℤ◌, FitsSigned, Bool, true, false, cond, ◌&&◌}
 use Rattle.std.proofs.Common.{◌||◌, suc, inl, inr, [], ◌∷◌, length, Option, Some, None, Result, Ok, Err, refl, sym, ap}
-use Rattle.std.proofs.Common.{◌∙◌, subst, arith, ltb}
+use Rattle.std.proofs.Common.{◌∙◌, subst, arith, ltb, zero, pos, ◌≤ℤ◌, nat_abs}
+use Rattle.std.specs.Prelude.{int_le}
 use Rattle.std.proofs.lemmas.Bool.Decides.{leb_tells}
 use Rattle.std.proofs.lemmas.Int.{ints}
 use Rattle.std.specs.Int.{w32}
@@ -16,12 +17,15 @@ use Rattle.certificate.specs.Branches.{numbered_branch}
 use Rattle.certificate.specs.Rights as rights
 use Rattle.machine_state.specs.declared.process.Mode as machine
 use Rattle.machine_state.specs.declared.fault.FaultKind.{FaultKind}
-use Rattle.machine_state.specs.Memory.{Memory, place_of, local_address, word_at, with_word}
+use Rattle.machine_state.specs.declared.fault.FaultKind.TheVariants.{NotOwn}
+use Rattle.machine_state.specs.Memory.{Memory, place_of, local_address, scheduling_word, word_at, with_word}
+use Rattle.machine_state.specs.Frame.{ChangesOwn}
 use Rattle.machine_state.specs.Holding.{Holding, covers, may_write, may_read, may_write_word, may_read_word}
 use Rattle.machine_state.specs.LocalStep as step
-use Rattle.machine_state.specs.Site.{Outcome, Local}
+use Rattle.machine_state.specs.Site.{Outcome, Local, fails}
 use Rattle.machine_state.proofs.Reading.{length-with_word}
 use Rattle.machine_state.proofs.Frame.{write_is_own, changes_more}
+use Rattle.machine_state.proofs.Scheduling.{schedules-is}
 use Rattle.states.specs.declared.known.Mode as states
 use Rattle.states.specs.declared.known.Mode.TheVariants as states_modes
 use Rattle.states.specs.declared.known.Known.{Known}
@@ -29,14 +33,14 @@ use Rattle.states.specs.declared.rule.Rule.{Rule}
 use Rattle.states.specs.declared.rule.Rule.TheVariants as rules
 use Rattle.states.specs.State.{State, unknown, one_word, written}
 use Rattle.states.specs.Below.{below}
-use Rattle.states.proofs.RowFacts.{and-parts}
-use Rattle.rulings.specs.Regions.{Scope, scope_of}
+use Rattle.states.proofs.RowFacts.{and-parts, le-yes}
+use Rattle.rulings.specs.Regions.{Scope, scope_of, Keeps}
 use Rattle.rulings.proofs.Regions.{keeps_more, write_keeps}
 use Rattle.rulings.specs.Rulings as rule
 use Rattle.rulings.specs.Rulings.{Ruling, falls, leads, breaks, leading}
 use Rattle.rulings.specs.Meaning.{Layout, Activation, Means, says_nothing, IsOwnWord, Words, words_in, HasFrame}
 use Rattle.rulings.specs.Meaning.{from_nowhere, MeansKnown, IsWellFormed, SameMode, both_plain, both_enabling}
-use Rattle.rulings.specs.Meaning.{both_disabling, both_starting, dues, owed, label_turns}
+use Rattle.rulings.specs.Meaning.{both_disabling, both_starting, dues, owed, label_turns, place_in}
 use Rattle.rulings.specs.Fitting.{Changes, Described, After, Here, rule_site, step_site, Fits, it_falls, it_leads}
 use Rattle.rulings.specs.Fitting.{it_breaks, GoesTo, goes_behind, is_jump, HasNext}
 use Rattle.rulings.proofs.Within.{Modes, Within, ArePlain, AreStill, is_starting, whole_after}
@@ -103,6 +107,32 @@ enough n k due total t e = elim (leb_tells (suc n) k) [
       (cc)
   | inr p ↦ let high : k ≤ n = omega (arith, p.1) in omega arith
 ]
+
+-- ---- the words that scheduling takes
+
+-- a context may write the three words below its workspace
+pub record MaySchedule (m : Contents) (context : ℕ) (depth : ℤ) : Type 0 where
+  pub first : rights.may_write_word m context (depth +ℤ negsuc 0) ≡ true
+  pub second : rights.may_write_word m context (depth +ℤ negsuc 1) ≡ true
+  pub third : rights.may_write_word m context (depth +ℤ negsuc 2) ≡ true
+
+-- a state in which they are unknown
+abbrev pub unscheduled : State → State
+unscheduled s =
+    written (s.depth +ℤ negsuc 2) Unknown (written (s.depth +ℤ negsuc 1) Unknown (written (s.depth +ℤ negsuc 0) Unknown s))
+
+-- memory in which they are undefined
+abbrev pub scheduled : Local → Memory
+scheduled l = step.without_scheduling_words l.memory l.registers.workspace
+
+-- Scheduling takes the three words: they are the process's own, and all else that is known holds without them.
+pub record Scheduled (x : Here) (E : Modes) (s : State) (l : Local) : Type 0 where
+  pub may : step.holds_scheduling_words x.h l.registers.workspace ≡ true
+  pub places : (n : ℕ) → n < 3
+      → pos (place_of (scheduling_word l.registers.workspace n)) ≡ place_in x.act.layout.origin (s.depth +ℤ negsuc n)
+  pub after : Within E x.m x.h x.mode x.act (unscheduled s) (record l { memory = scheduled l })
+  pub own : ChangesOwn x.h l.memory (scheduled l)
+  pub keeps : Keeps x.m x.h (scope_of x.m s.context x.act.layout) l.memory (scheduled l)
 
 pub below_not : (a b : ℕ) → a < b → ltb a b ≡ false → ⊥
 below_not a b low t = elim (leb_tells (suc a) b) [
@@ -256,6 +286,16 @@ module _ (x : Here) where
   unfolding step.holds
   holds_fits b kind r o e go = subst (λ (c : Bool). FitsIf x r (step.holds c kind o)) (sym e) go
 
+  -- a count from the least to the most
+  pub counts_fits : (least most : ℕ) (v : ℤ) (r : Ruling) (o : ℕ → Outcome) → pos least ≤ℤ v → v ≤ℤ pos most
+      → FitsIf x r (o (nat_abs v)) → FitsIf x r (step.counts least most v o)
+  unfolding step.counts
+  counts_fits least most v r o low high go =
+      on_step_test (int_le (pos least) v && int_le v (pos most)) _ _ _ (λ t. go)
+      (λ t.
+      let no : true ≡ false = sym (and_both _ _ (le-yes (pos least) v low) (le-yes v (pos most) high)) ∙ t in
+      absurd (cc))
+
   -- the frame's word at depth + e, which is written
   pub writes_word_fits : (s : State) (e : ℤ) (r : Ruling) (o : Outcome)
       → (rights.may_write_word x.m s.context (s.depth +ℤ e) ≡ true → FitsIf x r o)
@@ -351,9 +391,102 @@ module _ (x : Here) where
 
   -- ---- scheduling, and what stands behind it
 
-  pub undefined_means : (memory : Memory) (place : ℕ) → place + 4 ≤ length memory
-      → Means x.m x.act.layout Unknown (word_at (with_word memory place None) place)
-  undefined_means memory place inside = says_nothing
+  -- one word below the workspace
+  record Undefines (E : Modes) (s : State) (l : Local) (e : ℤ) (place : ℕ) : Type 0 where
+    mine : may_write_word x.h place ≡ true
+    at : pos place ≡ place_in x.act.layout.origin (s.depth +ℤ e)
+    after : Within E x.m x.h x.mode x.act (written (s.depth +ℤ e) Unknown s)
+        (record l { memory = with_word l.memory place None })
+    own : ChangesOwn x.h l.memory (with_word l.memory place None)
+    keeps : Keeps x.m x.h (scope_of x.m s.context x.act.layout) l.memory (with_word l.memory place None)
+
+  undefines : {E : Modes} (s : State) (l : Local) (e : ℤ) → FitsSigned w32 e → Within E x.m x.h x.mode x.act s l
+      → rights.may_write_word x.m s.context (s.depth +ℤ e) ≡ true
+      → Undefines E s l e (place_of (local_address l.registers.workspace e))
+  undefines {E} s l e fits a t =
+      let w = a.frame.own (s.depth +ℤ e) t in
+      subst (λ (p : ℕ). Undefines E s l e p) (sym (local_place a.frame e fits w.place w.is w.inside)) (record {
+        mine = w.mine;
+        at = w.is;
+        after = after_write s l e Unknown None a t w says_nothing;
+        own = write_is_own x.h l.memory w.place None w.mine;
+        keeps = write_keeps x.m x.h (scope_of x.m s.context x.act.layout) (s.depth +ℤ e) l.memory None t
+            (written_readable x.m s.context (s.depth +ℤ e) t) w;
+      })
+
+  pub scheduling : {E : Modes} (s : State) (l : Local) → Within E x.m x.h x.mode x.act s l
+      → MaySchedule x.m s.context s.depth → Scheduled x E s l
+  unfolding written
+  scheduling {E} s l a may =
+      let workspace = l.registers.workspace in
+      let one = undefines s l (negsuc 0) (omega (arith, ints)) a may.first in
+      let m1 : Memory = with_word l.memory (place_of (local_address workspace (negsuc 0))) None in
+      let two = undefines (written (s.depth +ℤ negsuc 0) Unknown s) (record l { memory = m1 }) (negsuc 1)
+      (omega (arith, ints)) one.after may.second in
+      let m2 : Memory = with_word m1 (place_of (local_address workspace (negsuc 1))) None in
+      let three = undefines (written (s.depth +ℤ negsuc 1) Unknown (written (s.depth +ℤ negsuc 0) Unknown s))
+      (record l { memory = m2 }) (negsuc 2) (omega (arith, ints)) two.after may.third in
+      let place : (n : ℕ) → n < 3 → pos (place_of (scheduling_word workspace n))
+      ≡ place_in x.act.layout.origin (s.depth +ℤ negsuc n) = places one.at two.at three.at in
+      record {
+        may = and_both _ _ (and_both _ _ one.mine two.mine) three.mine;
+        places = place;
+        after = three.after;
+        own = changes_more x.h l.memory m2 (scheduled l)
+            (changes_more x.h l.memory m1 m2 one.own two.own) three.own;
+        keeps = keeps_more (keeps_more one.keeps two.keeps) three.keeps;
+      }
+    where
+      places : pos (place_of (scheduling_word l.registers.workspace 0)) ≡ place_in x.act.layout.origin (s.depth +ℤ negsuc 0)
+          → pos (place_of (scheduling_word l.registers.workspace 1)) ≡ place_in x.act.layout.origin (s.depth +ℤ negsuc 1)
+          → pos (place_of (scheduling_word l.registers.workspace 2)) ≡ place_in x.act.layout.origin (s.depth +ℤ negsuc 2)
+          → (n : ℕ) → n < 3
+          → pos (place_of (scheduling_word l.registers.workspace n)) ≡ place_in x.act.layout.origin (s.depth +ℤ negsuc n)
+      places a b c zero less = a
+      places a b c (suc zero) less = b
+      places a b c (suc (suc zero)) less = c
+      places a b c (suc (suc (suc n))) less = absurd (omega arith)
+
+  pub scheduled_changes : {E : Modes} {s : State} {l : Local} → Scheduled x E s l → s.context ≡ x.context
+      → Changes x l.memory → Changes x (scheduled l)
+  scheduled_changes {E} {s} {l} d same changes = record {
+    own = changes_more x.h x.memory l.memory (scheduled l) changes.own d.own;
+    keeps = keeps_more changes.keeps
+        (subst (λ (n : ℕ). Keeps x.m x.h (scope_of x.m n x.act.layout) l.memory (scheduled l)) same d.keeps);
+  }
+
+  -- what is owed is no more
+  pub unscheduled_owed : (s : State) → owed (unscheduled s) x.act ≤ owed s x.act
+  unfolding written
+  unscheduled_owed s =
+      let one = written_owed (s.depth +ℤ negsuc 0) Unknown s x.act in
+      let two = written_owed (s.depth +ℤ negsuc 1) Unknown (written (s.depth +ℤ negsuc 0) Unknown s) x.act in
+      let three = written_owed (s.depth +ℤ negsuc 2) Unknown
+      (written (s.depth +ℤ negsuc 1) Unknown (written (s.depth +ℤ negsuc 0) Unknown s)) x.act in
+      omega (arith, one, two, three)
+
+  pub unscheduled_context : (s : State) → (unscheduled s).context ≡ s.context
+  unfolding written
+  unscheduled_context s = refl
+
+  pub unscheduled_mode : (s : State) → (unscheduled s).mode ≡ s.mode
+  unfolding written
+  unscheduled_mode s = refl
+
+  pub rule_schedules_fits : (s : State) (r : State → Ruling) (o : Outcome)
+      → (MaySchedule x.m s.context s.depth → FitsIf x (r (unscheduled s)) o)
+      → FitsIf x (rule.schedules (rule_site x) s r) o
+  unfolding rule.schedules
+  rule_schedules_fits s r o go =
+      writes_word_fits s (negsuc 0) _ _ (λ t0. writes_word_fits s (negsuc 1) _ _ (λ t1.
+      writes_word_fits s (negsuc 2) _ _ (λ t2. go (record { first = t0; second = t1; third = t2 }))))
+
+  pub step_schedules_fits : (l : Local) (r : Ruling) (o : Local → Outcome)
+      → step.holds_scheduling_words x.h l.registers.workspace ≡ true
+      → FitsIf x r (o (record l { memory = scheduled l })) → FitsIf x r (step.schedules (step_site x) l o)
+  step_schedules_fits l r o may go =
+      subst (λ (q : Outcome). FitsIf x r q) (sym (schedules-is (step_site x) l o))
+      (subst (λ (b : Bool). FitsIf x r (cond b (o (record l { memory = scheduled l })) (fails NotOwn))) (sym may) go)
 
   pub schedules_fits : {E : Modes} (s : State) (l : Local) (r : State → Ruling) (o : Local → Outcome)
       → Within E x.m x.h x.mode x.act s l
@@ -362,25 +495,11 @@ module _ (x : Here) where
       → s'.context ≡ x.context → Changes x memory → owed s' x.act ≤ owed s x.act
       → FitsIf x (r s') (o (record l { memory = memory })))
       → FitsIf x (rule.schedules (rule_site x) s r) (step.schedules (step_site x) l o)
-  unfolding rule.schedules step.schedules written
-  schedules_fits s l r o a same changes go =
-      writes_word_fits s (negsuc 0) _ _
-      (λ t0. writes_word_fits s (negsuc 1) _ _ (λ t1. writes_word_fits s (negsuc 2) _ _ (λ t2.
-      write_step s l (negsuc 0) Unknown None _ _ a same changes (omega (arith, ints)) t0 (undefined_means l.memory)
-      (λ m1 a1 c1.
-      write_step (written (s.depth +ℤ negsuc 0) Unknown s) (record l { memory = m1 }) (negsuc 1) Unknown None _ _ a1
-      same c1
-      (omega (arith, ints)) t1 (undefined_means m1) (λ m2 a2 c2.
-      write_step (written (s.depth +ℤ negsuc 1) Unknown (written (s.depth +ℤ negsuc 0) Unknown s))
-      (record l { memory = m2 }) (negsuc 2) Unknown None _ _ a2 same c2 (omega (arith, ints)) t2 (undefined_means m2)
-      (λ m3 a3 c3.
-      let one = written_owed (s.depth +ℤ negsuc 0) Unknown s x.act in
-      let two = written_owed (s.depth +ℤ negsuc 1) Unknown (written (s.depth +ℤ negsuc 0) Unknown s) x.act in
-      let three = written_owed (s.depth +ℤ negsuc 2) Unknown
-      (written (s.depth +ℤ negsuc 1) Unknown (written (s.depth +ℤ negsuc 0) Unknown s)) x.act in
-      go (written (s.depth +ℤ negsuc 2) Unknown
-      (written (s.depth +ℤ negsuc 1) Unknown (written (s.depth +ℤ negsuc 0) Unknown s))) m3 a3 same c3
-      (omega (arith, one, two, three))))))))
+  schedules_fits s l r o a same changes go = rule_schedules_fits s r _ (λ may.
+      let d = scheduling s l a may in
+      step_schedules_fits l _ o d.may
+      (go (unscheduled s) (scheduled l) d.after (unscheduled_context s ∙ same) (scheduled_changes d same changes)
+      (unscheduled_owed s)))
 
   -- ---- leading to a label
 

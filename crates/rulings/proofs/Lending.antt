@@ -294,7 +294,7 @@ module _ (m : Contents) (h : Holding) (caller callee : Scope) (base : ℤ) (lend
       region_kept q p size lo hi (λ place e. e) found (inl is) named
   named_kept q p (WrittenRegion size lo hi) is found named =
       region_kept q p size lo hi (readable_byte h) found (inr is) named
-  named_kept q p (Channels count len ends) is found named = tt
+  named_kept q p (Channels count len ends) is found named = named
 
   -- what the caller's parameters name is still there
   pub lift_named : HoldsNamed m h caller later

@@ -1,11 +1,14 @@
 pub mod Addresses
 pub mod Agreeing
+pub mod BufferPlaces
 pub mod Combining
 pub mod Constants
 pub mod Dues
 pub mod EndNumbers
 pub mod Ends
 pub mod Entering
+pub mod EvenChannels
+pub mod FillingKeeps
 pub mod LabelRows
 pub mod Lending
 pub mod Moving

@@ -3,11 +3,13 @@ use Rattle.std.proofs.Common.{◌≡◌, ℕ, zero, suc, ◌+◌, ◌-◌, ◌*�
 use Rattle.std.proofs.Common.{◌*ℤ◌, ◌≤ℤ◌, ◌<ℤ◌, Bool, true, false, cond, length, Option, Some, None, refl, sym, ap}
 use Rattle.std.proofs.Common.{◌∙◌, subst, arith, ◌⊎◌, inl, inr}
 use Rattle.std.proofs.lemmas.Bool.{cases_lt, eqb-true}
+use Rattle.std.proofs.lemmas.Bool.Decides.{nat_tests}
 use Rattle.std.proofs.lemmas.Int.{ints}
-use Rattle.std.specs.Prelude.{int_le, int_lt}
+use Rattle.std.specs.Prelude.{int_le, int_lt, nat_lt}
 use Rattle.std.specs.Option.{option_map}
 use Rattle.module_format.specs.Rows.{Fact}
-use Rattle.module_format.specs.declared.fact.Fact.TheVariants.{Unknown, Number}
+use Rattle.module_format.specs.declared.fact.Fact.TheVariants.{Unknown, Number, Pointer, CodeAddress, Loop}
+use Rattle.module_format.specs.declared.fact.Fact.TheVariants.{ReturnAddress}
 use Rattle.module_format.specs.declared.rows.Parameter.{Parameter}
 use Rattle.module_format.specs.declared.rows.ParameterKind.{ParameterKind}
 use Rattle.module_format.specs.declared.rows.ParameterKind.TheVariants.{Value, ReadRegion, WrittenRegion, Channels}
@@ -19,7 +21,7 @@ use Rattle.machine_state.specs.Memory.{Memory, byte_at, word_at, with_byte, plac
 use Rattle.machine_state.specs.Holding.{Holding, may_read, may_write}
 use Rattle.machine_state.specs.World.{constants_start}
 use Rattle.machine_state.specs.Spans.{all_places}
-use Rattle.machine_state.specs.LocalStep.{copied}
+use Rattle.machine_state.specs.LocalStep.{copied, meet}
 use Rattle.machine_state.specs.Site.{Local}
 use Rattle.machine_state.proofs.Copying.{copied-none, copied-more, copied-beside}
 use Rattle.machine_state.proofs.Reading.{length-with_byte, byte_at-with_byte, word_at_same}
@@ -35,14 +37,15 @@ use Rattle.rulings.specs.Regions.{parameter_used, Scope, scope_of, IsByteOf, IsR
 use Rattle.rulings.specs.Regions.{Keeps}
 use Rattle.rulings.specs.Reach.{word_of_byte, words_touched, all_touched, lie_in, may_read_bytes, may_write_bytes}
 use Rattle.rulings.specs.Reach.{readable_bytes, readable_size, writable_bytes, parameter_range, kept_range}
-use Rattle.rulings.specs.Pointers.{byte_read, stored_byte, is_full}
+use Rattle.rulings.specs.Pointers.{byte_read, stored_byte, is_full, is_number_in}
+use Rattle.word_arithmetic.specs.Range.{full}
 use Rattle.rulings.specs.Filling.{word_behind, words_within}
 use Rattle.rulings.proofs.Within.{Within, ArePlain}
 use Rattle.rulings.proofs.Words.{frame_word_is, Follows}
 use Rattle.rulings.proofs.Regions.{frame_keeps, keeps_all, keeps_more, may_too, byte_of_own, bytes_read}
 use Rattle.rulings.proofs.ReadThrough.{readable_found}
-use Rattle.rulings.proofs.Reaching.{region_place, natural, word_of_byte_low, word_of_byte_high, touched_span}
-use Rattle.rulings.proofs.Reaching.{touched_passes, lies_inside}
+use Rattle.rulings.proofs.Reaching.{region_place, place_by, natural, word_of_byte_low, word_of_byte_high}
+use Rattle.rulings.proofs.Reaching.{touched_span, touched_passes, lies_inside}
 use Rattle.rulings.proofs.Through.{ByteThrough, byte_through}
 use Rattle.rulings.proofs.WriteThrough.{byte_left, number_wider, FrameWord, frame_written, after_followed}
 use Rattle.rulings.proofs.WriteThrough.{after_beside, Writable, writable_found, number_within, AltersRegion}
@@ -88,6 +91,36 @@ copied-inside from source to (suc n) m (suc i) less inside =
     (omega (arith, long))
     ∙ ap (byte_at from) (let e : source + 1 + i ≡ source + suc i = omega arith in e))
 
+-- two blocks that meet have a place in common
+pub meet_tells : (p n q k : ℕ) → meet p n q k ≡ true → (p < q + k) × (q < p + n)
+meet_tells p n q k t =
+    let both = and-parts (nat_lt p (q + k)) (nat_lt q (p + n)) t in
+    (less p (q + k) both.0, less q (p + n) both.1)
+  where
+    less : (a b : ℕ) → nat_lt a b ≡ true → a < b
+    less a b t = grind (arith, nat_tests)
+
+-- each of the bytes is defined
+abbrev pub AreDefined : Memory → ℕ → ℕ → Type 0
+AreDefined memory place n = (i : ℕ) → i < n → (b : ℕ) × (byte_at memory (place + i) ≡ Some b)
+
+-- bytes of numbers are defined
+pub defined_of : {m : Contents} {layout : Layout} (said : Fact) (mem : Memory) (place n : ℕ)
+    → is_number_in full said ≡ true
+    → ((i : ℕ) → i < n → Means m layout said (option_map pos (byte_at mem (place + i)))) → AreDefined mem place n
+defined_of {m} {layout} (Number lo hi) mem place n t means = λ i less.
+    on (place + i) (byte_at mem (place + i)) refl (means i less)
+  where
+    on : (p : ℕ) (o : Option ℕ) → byte_at mem p ≡ o → Means m layout (Number lo hi) (option_map pos o)
+        → (b : ℕ) × (byte_at mem p ≡ Some b)
+    on p None e known = elim known [ ]
+    on p (Some b) e known = (b, e)
+defined_of Unknown mem place n t means = absurd (cc)
+defined_of (Pointer region lo hi steps) mem place n t means = absurd (cc)
+defined_of (CodeAddress offset) mem place n t means = absurd (cc)
+defined_of (Loop base count weight) mem place n t means = absurd (cc)
+defined_of ReturnAddress mem place n t means = absurd (cc)
+
 -- ---- bytes that are read
 
 -- So many bytes of a region from an offset on, each of which may be read, and what is known of each.
@@ -101,15 +134,16 @@ pub record Source (m : Contents) (h : Holding) (layout : Layout) (memory : Memor
 
 module _ {m : Contents} {h : Holding} {mode : machine.Mode} {act : Activation} {s : State} {l : Local}
     (wf : IsWellFormed m) (a : Within ArePlain m h mode act s l) (region : ℕ) (lo : ℤ) (n : ℕ) (some : 0 < n)
-    (may : may_read_bytes m s.context region lo (lo +ℤ pos n) ≡ true) where
+    (low high : ℤ) (below : low ≤ℤ lo) (above : (lo +ℤ pos n) ≤ℤ high)
+    (may : may_read_bytes m s.context region low high ≡ true) where
   abbrev said : Fact
-  said = byte_read s region lo (lo +ℤ pos n -ℤ pos 1)
+  said = byte_read s region low (high -ℤ pos 1)
 
   one : (i : ℕ) → i < n → ByteThrough m h act.layout l.memory (region_place m act.layout region) (lo +ℤ pos i) said
   one i less =
-      byte_through wf a lo (lo +ℤ pos n -ℤ pos 1) (lo +ℤ pos i) (omega (arith, ints)) (omega (arith, ints)) region
-      (ap (may_read_bytes m s.context region lo)
-      (let e : lo +ℤ pos n -ℤ pos 1 +ℤ pos 1 ≡ lo +ℤ pos n = omega (arith, ints) in e) ∙ may)
+      byte_through wf a low (high -ℤ pos 1) (lo +ℤ pos i) (omega (arith, ints)) (omega (arith, ints)) region
+      (ap (may_read_bytes m s.context region low)
+      (let e : high -ℤ pos 1 +ℤ pos 1 ≡ high = omega (arith, ints) in e) ∙ may)
 
   pub source_read : Source m h act.layout l.memory (region_place m act.layout region) lo n said
   source_read =
@@ -249,8 +283,16 @@ module _ (m : Contents) (h : Holding) (scope : Scope) (memory : Memory) (place :
       (subst (λ (q : ℕ). IsByteOf scope.layout.origin k q)
       (let e : place ≡ start + (place - start) = omega arith in e) b)
 
+  -- what may be written through a region may be read through it
+  pub written_read : (context : ℕ) (layout : Layout) (region : ℕ) → IsWrittenIn m context layout region place
+      → IsReadAt m context layout region place
+  written_read context layout region (written_in_frame k z may b) =
+      read_in_frame k z (written_readable m context k may) b
+  written_read context layout region (written_in_parameter j p e found at) =
+      read_in_parameter j p e found (named_too p.kind (layout.starts j) at)
+
   -- what is named is no byte of a word of the frame that counts
-  named_beside : (kind : ParameterKind) (start : ℕ) → IsNamed m h scope memory kind start → IsNamedAt kind start place
+  pub named_beside : (kind : ParameterKind) (start : ℕ) → IsNamed m h scope memory kind start → IsNamedAt kind start place
       → (k : ℤ) → scope.words.reads k ≡ true → IsByteOf scope.layout.origin k place → ⊥
   named_beside (Value lo hi) start named at k counts b = at
   named_beside (ReadRegion size lo hi) start named at k counts b = in_region named k counts b at.0 at.1
@@ -332,42 +374,128 @@ within_told first end w x y b z k n w_is b_is x_is y_is n_is z_is low high =
 
 -- ---- what is left
 
--- each of the bytes is defined
-abbrev pub AreDefined : Memory → ℕ → ℕ → Type 0
-AreDefined memory place n = (i : ℕ) → i < n → (b : ℕ) × (byte_at memory (place + i) ≡ Some b)
-
--- So many bytes are moved to a place, from where a region starts by an offset, and what is known then.
-pub record Moved {m : Contents} {h : Holding} {mode : machine.Mode} {act : Activation} {s : State} {l : Local}
-    (a : Within ArePlain m h mode act s l) (source : ℕ) (start offset : ℤ) (n : ℕ) (left : State) : Type 0 where
+-- So many bytes of the process's own from a place on, which lies behind where a region starts by an offset.
+pub record Room (h : Holding) (size : ℕ) (start offset : ℤ) (n : ℕ) : Type 0 where
   pub place : ℕ
   pub is : pos place ≡ start +ℤ offset
   pub small : place < 4294967296
+  pub fits : place + n ≤ size
   pub own : (i : ℕ) → i < n → may_write h (place + i) ≡ true
-  pub after : Within ArePlain m h mode act left (record l { memory = copied l.memory source place n l.memory })
-  pub keeps : Keeps m h (scope_of m s.context act.layout) l.memory (copied l.memory source place n l.memory)
+
+-- So many bytes of a memory are moved to a place, and what is known then.
+pub record Moved {m : Contents} {h : Holding} {mode : machine.Mode} {act : Activation} {s : State} {l : Local}
+    (a : Within ArePlain m h mode act s l) (from : Memory) (source place n : ℕ) (left : State) : Type 0 where
+  pub after : Within ArePlain m h mode act left (record l { memory = copied from source place n l.memory })
+  pub keeps : Keeps m h (scope_of m s.context act.layout) l.memory (copied from source place n l.memory)
+
+-- ---- where bytes may go
 
 module _ {m : Contents} {h : Holding} {mode : machine.Mode} {act : Activation} {s : State} {l : Local}
-    (a : Within ArePlain m h mode act s l) (source n : ℕ) (some : 0 < n) (held : (i : ℕ) → i < n → may_read h (source + i) ≡ true)
-    (lo : ℤ) where
+    (a : Within ArePlain m h mode act s l) (n : ℕ) (some : 0 < n) (lo low high : ℤ) (below : low ≤ℤ lo)
+    (above : (lo +ℤ pos n) ≤ℤ high) where
+  -- in the frame
+  frame_room : all_touched (context_writes m s.context) low high ≡ true
+      → Room h (length l.memory) act.layout.origin lo n
+  frame_room may =
+      let w = word 0 some in
+      let own = w.own in
+      let is = own.is in
+      let from = w.low in
+      let to = w.high in
+      let q = natural (lo -ℤ pos 4 *ℤ w.word) (omega (arith, ints)) in
+      let q_is = q.1 in
+      let q_low : q.0 < 4 = omega (arith, ints) in
+      let last = word (n - 1) (omega arith) in
+      let last_own = last.own in
+      let last_is = last_own.is in
+      let last_low = last.low in
+      let last_high = last.high in
+      let inside = own.inside in
+      let last_inside = last_own.inside in
+      let small = a.frame.small in
+      let some_is = some in
+      let shift : pos (n - 1) ≡ pos n -ℤ pos 1 = omega (arith, ints) in
+      record {
+        place = own.place + q.0;
+        is = omega (arith, ints);
+        small = omega arith;
+        fits = omega (arith, ints);
+        own = λ i less.
+            let x = word i less in
+            let x_low = x.low in
+            let x_high = x.high in
+            byte_of_own h (length l.memory) act.layout.origin x.word (own.place + q.0 + i) x.own
+            (record { low = omega (arith, ints); high = omega (arith, ints) });
+      }
+    where
+      word : (i : ℕ) → i < n → FrameWord m h s.context (length l.memory) act.layout.origin low high (lo +ℤ pos i)
+      word i less = frame_written a low high (lo +ℤ pos i) (omega (arith, ints)) (omega (arith, ints)) may
+
+  -- in a region that a parameter names
+  parameter_room : (j : ℕ) → lie_in (writable_bytes m s.context j) low high ≡ true
+      → Room h (length l.memory) (pos (place_of (act.layout.starts j))) lo n
+  parameter_room j inside =
+      let f = lies_inside (writable_bytes m s.context j) low high inside in
+      let from = f.2 in
+      let to = f.3 in
+      let q = natural lo (omega (arith, ints)) in
+      let is = q.1 in
+      of_region f.0 (writable_found m s.context j f.0 f.1) q.0 is (omega (arith, ints))
+    where
+      of_region : (size : ℕ) → Writable m s.context j size → (q : ℕ) → lo ≡ pos q → q + n ≤ size
+          → Room h (length l.memory) (pos (place_of (act.layout.starts j))) lo n
+      of_region size r q is fits =
+          let start : ℕ = place_of (act.layout.starts j) in
+          let length_small = a.frame.small in
+          let region : IsRegion m (may_write h) (scope_of m s.context act.layout) l.memory start size r.lo r.hi =
+          subst (λ (kind : ParameterKind). IsNamed m h (scope_of m s.context act.layout) l.memory kind
+          (act.layout.starts j)) r.is (a.named.each j r.parameter r.found) in
+          let whole : size % 4 ≡ 0 = eqb-true (size % 4) 0 region.whole in
+          let last = number_within l.memory (start + 4 * ((q + n - 1) / 4))
+          (region.numbers ((q + n - 1) / 4) (omega (arith, whole, fits, some))) in
+          let inside : start + q + n ≤ length l.memory = omega (arith, last, some) in
+          record {
+            place = start + q;
+            is = omega (arith, ints);
+            small = omega arith;
+            fits = inside;
+            own = λ i less. ap (may_write h) (let e : start + q + i ≡ start + (q + i) = omega arith in e)
+                ∙ region.held (q + i) (omega arith);
+          }
+
+  pub written_room : (region : ℕ) → may_write_bytes m s.context region low high ≡ true
+      → Room h (length l.memory) (region_place m act.layout region) lo n
+  unfolding may_write_bytes
+  written_room region may = on (region == 0) (region == 1) may
+    where
+      on : (frame constants : Bool)
+          → cond frame (all_touched (context_writes m s.context) low high)
+          (lie_in (cond constants None (writable_bytes m s.context (region - 2))) low high) ≡ true
+          → Room h (length l.memory) (place_by m act.layout region frame constants) lo n
+      on true constants may = frame_room may
+      on false true may = absurd (cc)
+      on false false may = parameter_room (region - 2) may
+
+-- ---- what comes
+
+module _ {m : Contents} {h : Holding} {mode : machine.Mode} {act : Activation} {s : State} {l : Local}
+    (a : Within ArePlain m h mode act s l) (from : Memory) (source n : ℕ) (some : 0 < n)
+    (byte_low : (i : ℕ) → i < n → (c : ℕ) → byte_at from (source + i) ≡ Some c → c < 256) (lo : ℤ) where
   abbrev all : Scope
   all = scope_of m s.context act.layout
 
-  -- what is moved are bytes
-  byte_low : (i : ℕ) → i < n → (c : ℕ) → byte_at l.memory (source + i) ≡ Some c → c < 256
-  byte_low i less c e = a.named.bytes.each (source + i) c (held i less) e
-
   module _ (to : ℕ) (fits : to + n ≤ length l.memory) where
     abbrev new : Memory
-    new = copied l.memory source to n l.memory
+    new = copied from source to n l.memory
 
     -- a byte is one of those that come, or stays
     comes_or_stays : (place : ℕ)
-        → ((i : ℕ) × (i < n) × (place ≡ to + i) × (byte_at new place ≡ byte_at l.memory (source + i)))
+        → ((i : ℕ) × (i < n) × (place ≡ to + i) × (byte_at new place ≡ byte_at from (source + i)))
         ⊎ (((place < to) ⊎ (to + n ≤ place)) × (byte_at new place ≡ byte_at l.memory place))
     comes_or_stays place = elim (cases_lt place to) [
-      | inl low ↦ inr (inl low, copied-beside l.memory source to n l.memory place (inl low))
-      | inr from ↦ elim (cases_lt place (to + n)) [
-        | inr behind ↦ inr (inr behind, copied-beside l.memory source to n l.memory place (inr behind))
+      | inl low ↦ inr (inl low, copied-beside from source to n l.memory place (inl low))
+      | inr high ↦ elim (cases_lt place (to + n)) [
+        | inr behind ↦ inr (inr behind, copied-beside from source to n l.memory place (inr behind))
         | inl inside ↦
             let is : place ≡ to + (place - to) = omega arith in
             let less : place - to < n = omega arith in
@@ -375,13 +503,13 @@ module _ {m : Contents} {h : Holding} {mode : machine.Mode} {act : Activation} {
               place - to,
               less,
               is,
-              ap (byte_at new) is ∙ copied-inside l.memory source to n l.memory (place - to) less fits,
+              ap (byte_at new) is ∙ copied-inside from source to n l.memory (place - to) less fits,
             )
       ]
     ]
 
     -- a word all of whose bytes come, or are there
-    word_comes : AreDefined l.memory source n → (place : ℕ)
+    word_comes : AreDefined from source n → (place : ℕ)
         → ((t : ℕ) → t < 4 → ((place + t < to) ⊎ (to + n ≤ place + t))
         → (b : ℕ) × (byte_at l.memory (place + t) ≡ Some b) × (b < 256))
         → Means m act.layout (Number least_word greatest_word) (word_at new place)
@@ -401,68 +529,43 @@ module _ {m : Contents} {h : Holding} {mode : machine.Mode} {act : Activation} {
       where
         same : (t : ℕ) → t < 4 → (p : ℕ) → p ≡ place + t → byte_at l.memory p ≡ byte_at new p
         same t less p is =
-            sym (copied-beside l.memory source to n l.memory p
+            sym (copied-beside from source to n l.memory p
             (subst (λ (q : ℕ). (q < to) ⊎ (to + n ≤ q)) (sym is) (out t less)))
 
   -- ---- in the frame
 
-  module _ (may : all_touched (context_writes m s.context) lo (lo +ℤ pos n) ≡ true) where
+  module _ (low high : ℤ) (below : low ≤ℤ lo) (above : (lo +ℤ pos n) ≤ℤ high)
+      (may : all_touched (context_writes m s.context) low high ≡ true)
+      (room : Room h (length l.memory) act.layout.origin lo n) where
     word : (i : ℕ) → i < n
-        → FrameWord m h s.context (length l.memory) act.layout.origin lo (lo +ℤ pos n) (lo +ℤ pos i)
-    word i less = frame_written a lo (lo +ℤ pos n) (lo +ℤ pos i) (omega (arith, ints)) (omega (arith, ints)) may
-
-    -- where the first byte goes
-    target : (to : ℕ) × (pos to ≡ act.layout.origin +ℤ lo) × (to < 4294967296) × (to + n ≤ length l.memory)
-    target =
-        let w = word 0 some in
-        let own = w.own in
-        let is = own.is in
-        let low = w.low in
-        let high = w.high in
-        let q = natural (lo -ℤ pos 4 *ℤ w.word) (omega (arith, ints)) in
-        let q_is = q.1 in
-        let q_low : q.0 < 4 = omega (arith, ints) in
-        let last = word (n - 1) (omega arith) in
-        let last_own = last.own in
-        let last_is = last_own.is in
-        let last_low = last.low in
-        let last_high = last.high in
-        let inside = own.inside in
-        let last_inside = last_own.inside in
-        let small = a.frame.small in
-        let some_is = some in
-        let shift : pos (n - 1) ≡ pos n -ℤ pos 1 = omega (arith, ints) in
-        (own.place + q.0, omega (arith, ints), omega arith, omega (arith, ints))
+        → FrameWord m h s.context (length l.memory) act.layout.origin low high (lo +ℤ pos i)
+    word i less = frame_written a low high (lo +ℤ pos i) (omega (arith, ints)) (omega (arith, ints)) may
 
     abbrev to : ℕ
-    to = target.0
+    to = room.place
 
     abbrev after_it : Memory
-    after_it = copied l.memory source to n l.memory
+    after_it = copied from source to n l.memory
 
     byte_in : (i : ℕ) (less : i < n) → IsByteOf act.layout.origin (word i less).word (to + i)
     byte_in i less =
-        let at = target.1 in
+        let at = room.is in
         let w = word i less in
-        let low = w.low in
-        let high = w.high in
+        let w_low = w.low in
+        let w_high = w.high in
         record { low = omega (arith, ints); high = omega (arith, ints) }
 
-    frame_own : (i : ℕ) → i < n → may_write h (to + i) ≡ true
-    frame_own i less =
-        byte_of_own h (length l.memory) act.layout.origin (word i less).word (to + i) (word i less).own (byte_in i less)
-
     -- one byte after another is written
-    frame_kept : (k : ℕ) → k ≤ n → Keeps m h all l.memory (copied l.memory source to k l.memory)
+    frame_kept : (k : ℕ) → k ≤ n → Keeps m h all l.memory (copied from source to k l.memory)
     frame_kept zero few =
-        subst (λ (x : Memory). Keeps m h all l.memory x) (sym (copied-none l.memory source to l.memory)) keeps_all
+        subst (λ (x : Memory). Keeps m h all l.memory x) (sym (copied-none from source to l.memory)) keeps_all
     frame_kept (suc k) few =
         let so_far = frame_kept k (omega arith) in
         let w = word k (omega arith) in
-        let before = copied l.memory source to k l.memory in
-        let byte = byte_at l.memory (source + k) in
+        let before = copied from source to k l.memory in
+        let byte = byte_at from (source + k) in
         keeps_more so_far (subst (λ (x : Memory). Keeps m h all before x)
-        (sym (copied-more l.memory source to k l.memory))
+        (sym (copied-more from source to k l.memory))
         (frame_keeps m h all w.word before (with_byte before (to + k) byte) w.may
         (written_readable m s.context w.word w.may)
         (subst (λ (size : ℕ). IsOwnWord h size act.layout.origin w.word) (sym so_far.size) w.own)
@@ -470,22 +573,22 @@ module _ {m : Contents} {h : Holding} {mode : machine.Mode} {act : Activation} {
         (byte_low k (omega arith)))))
 
     abbrev first : ℤ
-    first = word_of_byte lo
+    first = word_of_byte low
 
     abbrev count : ℕ
-    count = words_touched lo (lo +ℤ pos n)
+    count = words_touched low high
 
     -- a byte of a word that is not touched
     outside : (k : ℤ) (place : ℕ) → pos place ≡ place_in act.layout.origin k
         → is_in_span first count k ≡ false → (t : ℕ)
         → t < 4 → (place + t < to) ⊎ (to + n ≤ place + t)
     outside k place is out t less = elim (cases_lt (place + t) to) [
-      | inl low ↦ inl low
-      | inr from ↦ elim (cases_lt (place + t) (to + n)) [
+      | inl before ↦ inl before
+      | inr on ↦ elim (cases_lt (place + t) (to + n)) [
         | inr behind ↦ inr behind
         | inl inside ↦
-            let at = target.1 in
-            let span = touched_span lo (lo +ℤ pos n) k (omega (arith, ints)) (omega (arith, ints)) in
+            let at = room.is in
+            let span = touched_span low high k (omega (arith, ints)) (omega (arith, ints)) in
             let no : true ≡ false = sym (in-span first count k span.0 span.1) ∙ out in
             absurd (cc)
       ]
@@ -496,18 +599,13 @@ module _ {m : Contents} {h : Holding} {mode : machine.Mode} {act : Activation} {
     kept k counts out =
         let w = a.frame.readable k counts in
         frame_word_is after_it act.layout.origin k w.place w.is
-        ∙ (word_stays to target.3 w.place (outside k w.place w.is out)
+        ∙ (word_stays to room.fits w.place (outside k w.place w.is out)
         ∙ sym (frame_word_is l.memory act.layout.origin k w.place w.is))
 
     -- ---- bytes of which nothing is known
 
-    pub unknown_into_frame : Moved a source act.layout.origin lo n
-        (after_change (on_span first count (Become Unknown)) s)
+    pub unknown_into_frame : Moved a from source to n (after_change (on_span first count (Become Unknown)) s)
     unknown_into_frame = record {
-      place = to;
-      is = target.1;
-      small = target.2;
-      own = frame_own;
       after = after_followed a (on_span first count (Become Unknown)) after_it
           (record { touched = λ k said counts e means. says_nothing; kept = kept }) (frame_kept n (omega arith));
       keeps = frame_kept n (omega arith);
@@ -515,49 +613,48 @@ module _ {m : Contents} {h : Holding} {mode : machine.Mode} {act : Activation} {
 
     -- ---- bytes of numbers
 
-    module _ (defined : AreDefined l.memory source n) where
+    module _ (defined : AreDefined from source n) where
       -- a word that was a number
-      mixed : (k : ℤ) (low high : ℤ) → context_reads m s.context k ≡ true
-          → Means m act.layout (Number low high) (frame_word l.memory act.layout.origin k)
+      mixed : (k : ℤ) (least most : ℤ) → context_reads m s.context k ≡ true
+          → Means m act.layout (Number least most) (frame_word l.memory act.layout.origin k)
           → Means m act.layout (Number least_word greatest_word) (frame_word after_it act.layout.origin k)
-      mixed k low high counts means =
+      mixed k least most counts means =
           let w = a.frame.readable k counts in
           subst (λ (v : Option ℤ). Means m act.layout (Number least_word greatest_word) v)
           (sym (frame_word_is after_it act.layout.origin k w.place w.is))
-          (word_comes to target.3 defined w.place (λ t less out.
+          (word_comes to room.fits defined w.place (λ t less out.
           let byte = number_byte l.memory w.place t less
-          (subst (λ (v : Option ℤ). Means m act.layout (Number low high) v)
+          (subst (λ (v : Option ℤ). Means m act.layout (Number least most) v)
           (frame_word_is l.memory act.layout.origin k w.place w.is) means) in
           (byte.0, byte.1, a.named.bytes.each (w.place + t) byte.0 (bytes_read h w.place w.readable t less) byte.1)))
 
       -- a word all of whose bytes come
-      whole : (k : ℤ) → context_reads m s.context k ≡ true → word_behind lo ≤ℤ k
-          → k <ℤ (word_behind lo +ℤ pos (words_within lo (lo +ℤ pos n)))
+      whole : (low ≡ lo) × (high ≡ lo +ℤ pos n) → (k : ℤ) → context_reads m s.context k ≡ true → word_behind low ≤ℤ k
+          → k <ℤ (word_behind low +ℤ pos (words_within low high))
           → Means m act.layout (Number least_word greatest_word) (frame_word after_it act.layout.origin k)
-      whole k counts low high =
+      whole exact k counts k_low k_high =
           let w = a.frame.readable k counts in
           let is = w.is in
-          let at = target.1 in
-          let from = word_of_byte_high (lo +ℤ pos 3) in
-          let end = word_of_byte_low (lo +ℤ pos n) in
-          let within = within_ends lo (lo +ℤ pos n) k low high in
+          let at = room.is in
+          let start = word_of_byte_high (low +ℤ pos 3) in
+          let end = word_of_byte_low high in
+          let within = within_ends low high k k_low k_high in
           subst (λ (v : Option ℤ). Means m act.layout (Number least_word greatest_word) v)
           (sym (frame_word_is after_it act.layout.origin k w.place w.is))
-          (word_comes to target.3 defined w.place
-          (λ t less out. absurd (inside w.place t less is at from end low within out)))
+          (word_comes to room.fits defined w.place
+          (λ t less out. absurd (inside w.place t less is at exact.0 exact.1 start end k_low within out)))
         where
           inside : (place t : ℕ) → t < 4 → pos place ≡ place_in act.layout.origin k → pos to ≡ act.layout.origin +ℤ lo
-              → (lo +ℤ pos 3) <ℤ (pos 4 *ℤ word_behind lo +ℤ pos 4)
-              → (pos 4 *ℤ word_of_byte (lo +ℤ pos n)) ≤ℤ (lo +ℤ pos n)
-              → word_behind lo ≤ℤ k → k <ℤ word_of_byte (lo +ℤ pos n)
-              → (place + t < to) ⊎ (to + n ≤ place + t) → ⊥
-          inside place t less is at from end low high (inl before) = omega (arith, ints)
-          inside place t less is at from end low high (inr behind) = omega (arith, ints)
+              → low ≡ lo → high ≡ lo +ℤ pos n
+              → (low +ℤ pos 3) <ℤ (pos 4 *ℤ word_behind low +ℤ pos 4) → (pos 4 *ℤ word_of_byte high) ≤ℤ high
+              → word_behind low ≤ℤ k → k <ℤ word_of_byte high → (place + t < to) ⊎ (to + n ≤ place + t) → ⊥
+          inside place t less is at first_is end_is start end k_low k_high (inl before) = omega (arith, ints)
+          inside place t less is at first_is end_is start end k_low k_high (inr behind) = omega (arith, ints)
 
       numbers_follow : Follows m (words_in m s.context).reads act.layout (on_span first count stored_byte) l.memory after_it
       numbers_follow = record {
         touched = λ k said counts e means. byte_left m act.layout said _ _
-            (λ low high known. mixed k low high counts known) means;
+            (λ least most known. mixed k least most counts known) means;
         kept = kept;
       }
 
@@ -567,57 +664,47 @@ module _ {m : Contents} {h : Holding} {mode : machine.Mode} {act : Activation} {
           (frame_kept n (omega arith))
 
       moved_numbers : (left : State) → Within ArePlain m h mode act left (record l { memory = after_it })
-          → Moved a source act.layout.origin lo n left
-      moved_numbers left after = record {
-        place = to;
-        is = target.1;
-        small = target.2;
-        own = frame_own;
-        after = after;
-        keeps = frame_kept n (omega arith);
-      }
+          → Moved a from source to n left
+      moved_numbers left after = record { after = after; keeps = frame_kept n (omega arith) }
 
-      -- some words have all their bytes among them, or none has
-      pub numbers_into_frame : (some_within : Bool)
-          → Moved a source act.layout.origin lo n
-          (cond some_within (after_change (on_span (word_behind lo) (words_within lo (lo +ℤ pos n))
+      -- Some words have all their bytes among them, where the bytes may lie in one place alone, or none is said to.
+      pub numbers_into_frame : (some_within : Bool) → (some_within ≡ true → (low ≡ lo) × (high ≡ lo +ℤ pos n))
+          → Moved a from source to n
+          (cond some_within (after_change (on_span (word_behind low) (words_within low high)
           (Become (Number least_word greatest_word))) (after_change (on_span first count stored_byte) s))
           (after_change (on_span first count stored_byte) s))
       unfolding after_change
-      numbers_into_frame false = moved_numbers _ after_numbers
-      numbers_into_frame true =
+      numbers_into_frame false exact = moved_numbers _ after_numbers
+      numbers_into_frame true exact =
           moved_numbers _ (after_followed after_numbers
-          (on_span (word_behind lo) (words_within lo (lo +ℤ pos n)) (Become (Number least_word greatest_word))) after_it
+          (on_span (word_behind low) (words_within low high) (Become (Number least_word greatest_word))) after_it
           (record {
             touched = λ k said counts e means.
-                let both = and-parts (int_le (word_behind lo) k)
-                (int_lt k (word_behind lo +ℤ pos (words_within lo (lo +ℤ pos n)))) e in
-                whole k counts (le-from (word_behind lo) k both.0)
-                (lt-from k (word_behind lo +ℤ pos (words_within lo (lo +ℤ pos n))) both.1);
+                let both = and-parts (int_le (word_behind low) k)
+                (int_lt k (word_behind low +ℤ pos (words_within low high))) e in
+                whole (exact refl) k counts (le-from (word_behind low) k both.0)
+                (lt-from k (word_behind low +ℤ pos (words_within low high)) both.1);
             kept = λ k counts e. refl;
           }) keeps_all)
 
   -- ---- in a region that a parameter names
 
-  module _ (defined : AreDefined l.memory source n) (j : ℕ) where
+  module _ (defined : AreDefined from source n) (j : ℕ)
+      (room : Room h (length l.memory) (pos (place_of (act.layout.starts j))) lo n) where
+    abbrev moved : Memory
+    moved = copied from source room.place n l.memory
+
     of_region : (size : ℕ) (r : Writable m s.context j size) (q : ℕ) → lo ≡ pos q → q + n ≤ size
         → is_full (parameter_range m s.context j) ≡ true
-        → Moved a source (pos (place_of (act.layout.starts j))) lo n s
+        → Moved a from source room.place n s
     of_region size r q is fits t =
-        let length_small = a.frame.small in
-        let inside = in_memory in
         let keeps = region_keeps m h all l.memory moved a.named j r.parameter r.found size r.lo r.hi r.is
-        (start + q) n alters in
+        room.place n alters in
         record {
-          place = start + q;
-          is = omega (arith, ints);
-          small = omega arith;
-          own = λ i less. ap (may_write h) (let e : start + q + i ≡ start + (q + i) = omega arith in e)
-              ∙ region.held (q + i) (omega arith);
           after = after_beside a moved (λ k counts.
               let w = a.frame.readable k counts in
               word_beside m h all l.memory moved a.named j r.parameter r.found size r.lo r.hi r.is
-              (start + q) n alters k w.place
+              room.place n alters k w.place
               counts w.is) keeps;
           keeps = keeps;
         }
@@ -625,20 +712,12 @@ module _ {m : Contents} {h : Holding} {mode : machine.Mode} {act : Activation} {
         start : ℕ
         start = place_of (act.layout.starts j)
 
-        moved : Memory
-        moved = copied l.memory source (start + q) n l.memory
+        at : room.place ≡ start + q
+        at = let there = room.is in omega (arith, ints)
 
         region : IsRegion m (may_write h) all l.memory start size r.lo r.hi
         region = subst (λ (kind : ParameterKind). IsNamed m h all l.memory kind (act.layout.starts j)) r.is
             (a.named.each j r.parameter r.found)
-
-        -- the word in which the last of the bytes lies
-        in_memory : start + q + n ≤ length l.memory
-        in_memory =
-            let whole : size % 4 ≡ 0 = eqb-true (size % 4) 0 region.whole in
-            let low = number_within l.memory (start + 4 * ((q + n - 1) / 4))
-            (region.numbers ((q + n - 1) / 4) (omega (arith, whole, fits, some))) in
-            omega (arith, low, some)
 
         range_is : parameter_range m s.context j ≡ record { lo = r.lo; hi = r.hi }
         range_is = r.range ∙ ap kept_range r.is
@@ -650,7 +729,7 @@ module _ {m : Contents} {h : Holding} {mode : machine.Mode} {act : Activation} {
         number i within =
             let both = and-parts (int_le r.lo least_word) (int_le greatest_word r.hi) wide in
             number_wider m act.layout r.lo r.hi _ (le-from r.lo least_word both.0) (le-from greatest_word r.hi both.1)
-            (word_comes (start + q) in_memory defined (start + 4 * i) (λ k less out.
+            (word_comes room.place room.fits defined (start + 4 * i) (λ k less out.
             let byte = number_byte l.memory (start + 4 * i) k less (region.numbers i within) in (
               byte.0,
               byte.1,
@@ -659,19 +738,19 @@ module _ {m : Contents} {h : Holding} {mode : machine.Mode} {act : Activation} {
                   ∙ region.held (4 * i + k) (omega arith))) byte.1,
             )))
 
-        alters : AltersRegion m h all start size r.lo r.hi (start + q) n l.memory moved
+        alters : AltersRegion m h all start size r.lo r.hi room.place n l.memory moved
         alters = record {
-          long = length-copied l.memory source (start + q) n l.memory;
-          first = omega arith;
-          last = omega arith;
-          kept = λ place. elim (comes_or_stays (start + q) in_memory place) [
+          long = length-copied from source room.place n l.memory;
+          first = let there = at in omega arith;
+          last = let there = at in omega arith;
+          kept = λ place. elim (comes_or_stays room.place room.fits place) [
             | inl come ↦
                 let less = come.1 in
-                let at = come.2 in
+                let there = come.2 in
                 inr (record { low = omega arith; high = omega arith })
             | inr stays ↦ inl stays.1
           ];
-          small = λ place b found. elim (comes_or_stays (start + q) in_memory place) [
+          small = λ place b found. elim (comes_or_stays room.place room.fits place) [
             | inl come ↦ inl (byte_low come.0 come.1 b (sym come.3 ∙ found))
             | inr stays ↦ inr (sym stays.1 ∙ found)
           ];
@@ -679,11 +758,11 @@ module _ {m : Contents} {h : Holding} {mode : machine.Mode} {act : Activation} {
         }
 
     pub numbers_into_parameter : lie_in (writable_bytes m s.context j) lo (lo +ℤ pos n) ≡ true
-        → is_full (parameter_range m s.context j) ≡ true → Moved a source (pos (place_of (act.layout.starts j))) lo n s
+        → is_full (parameter_range m s.context j) ≡ true → Moved a from source room.place n s
     numbers_into_parameter inside t =
         let f = lies_inside (writable_bytes m s.context j) lo (lo +ℤ pos n) inside in
-        let from = f.2 in
-        let to = f.3 in
+        let low = f.2 in
+        let high = f.3 in
         let q = natural lo (omega (arith, ints)) in
         let is = q.1 in
         of_region f.0 (writable_found m s.context j f.0 f.1) q.0 is (omega (arith, ints)) t

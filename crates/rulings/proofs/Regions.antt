@@ -189,7 +189,7 @@ module _ (m : Contents) (h : Holding) (scope : Scope) (old new : Memory) (change
       region_left (λ q held. held) (λ q low high. beside q (low, high)) named
   kind_left (WrittenRegion size lo hi) start beside named =
       region_left (may_too h) (λ q low high. beside q (low, high)) named
-  kind_left (Channels count len ends) start beside named = tt
+  kind_left (Channels count len ends) start beside named = named
 
   -- Of each region either no byte has changed, or it is still what it was.
   pub named_left : ((j : ℕ) (p : Parameter) → scope.parameters j ≡ Some p

@@ -104,14 +104,14 @@ pub record IsRegion (m : Contents) (may_use : ℕ → Bool) (scope : Scope) (mem
       → IsByteOf scope.layout.origin k (place + i) → ⊥
   pub numbers : (i : ℕ) → 4 * i + 4 ≤ size → Means m scope.layout (Number lo hi) (word_at memory (place + 4 * i))
 
--- the process holds what a parameter of this kind names, which begins at this address
+-- the process holds what a parameter of this kind names, which begins at this address: channels are words
 abbrev pub IsNamed : Contents → Holding → Scope → Memory → ParameterKind → ℕ → Type 0
 IsNamed m h scope memory (Value lo hi) start = ⊤
 IsNamed m h scope memory (ReadRegion size lo hi) start =
     IsRegion m (may_read h) scope memory (place_of start) size lo hi
 IsNamed m h scope memory (WrittenRegion size lo hi) start =
     IsRegion m (may_write h) scope memory (place_of start) size lo hi
-IsNamed m h scope memory (Channels count len ends) start = ⊤
+IsNamed m h scope memory (Channels count len ends) start = IsTrue (is_multiple_of_four start)
 
 -- ---- what an activation changes
 
