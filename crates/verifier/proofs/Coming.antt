@@ -4,7 +4,6 @@ use Rattle.std.proofs.Common.{◌||◌, ◌⊎◌, inl, inr, List, length, Optio
 use Rattle.std.proofs.Common.{leb}
 use Rattle.std.proofs.lemmas.Bool.{cases_lt, cases_eq, le-leb}
 use Rattle.std.proofs.lemmas.Bool.Decides.{eqb_tells, leb_tells}
-use Rattle.std.proofs.lemmas.Option.{slice_get_within}
 use Rattle.std.specs.Prelude.{slice_get, slice_set}
 use Rattle.module_format.specs.Contents.{Contents}
 use Rattle.machine_state.specs.declared.process.Condition.{Condition}
@@ -19,6 +18,7 @@ use Rattle.machine_state.specs.World.{input_word, output_word}
 use Rattle.machine_state.proofs.Copying.{copied-beside}
 use Rattle.machine_state.proofs.Reading.{length-with_byte, byte_at-with_byte, byte_at-with_byte_other}
 use Rattle.rulings.proofs.Moving.{copied-inside, length-copied}
+use Rattle.rulings.proofs.Reaching.{inside_memory}
 use Rattle.rulings.proofs.Words.{bool_cases}
 use Rattle.rulings.specs.Buffers.{message_place, is_filled, IsByte}
 use Rattle.verifier.specs.Lives.{awaits, IsExchanging, Lives}
@@ -116,7 +116,7 @@ module _ {m : Contents} {h : Holding} {began : Began} {memory : Memory} {t : Tas
 
 -- ---- a message that comes on a link
 
-module _ {m : Contents} {h : Holding} {began : Began} {memory : Memory} {t : Task} {due : ℕ} {e : Exchange} (k : ℕ)
+module _ {m : Contents} {h : Holding} {began : Began} {memory : Memory} (t : Task) {due : ℕ} {e : Exchange} (k : ℕ)
     (on : e.channel ≡ input_word k) (l : Lives m h began memory (record t { condition = Receiving e }) due) where
   -- it waits for the first byte
   pub none_lives : Lives m h began memory (record t { condition = OnLink e 0 }) due
@@ -159,15 +159,15 @@ module _ {m : Contents} {h : Holding} {began : Began} {memory : Memory} {t : Tas
 
 -- ---- a message that has gone
 
-pub sent_lives : {m : Contents} {h : Holding} {began : Began} {memory : Memory} {t : Task} {due : ℕ} {e : Exchange}
+pub sent_lives : {m : Contents} {h : Holding} {began : Began} {memory : Memory} (t : Task) {due : ℕ} {e : Exchange}
     → Lives m h began memory (record t { condition = Sending e }) due
     → Lives m h began memory (record t { condition = Ready }) due
-sent_lives l = lives_whatever Ready ready_is_quiet (λ place. refl) (λ place. refl) l
+sent_lives t l = lives_whatever Ready ready_is_quiet (λ place. refl) (λ place. refl) l
 
-pub out_lives : {m : Contents} {h : Holding} {began : Began} {memory : Memory} {t : Task} {due : ℕ} {e : Exchange}
+pub out_lives : {m : Contents} {h : Holding} {began : Began} {memory : Memory} (t : Task) {due : ℕ} {e : Exchange}
     → e.channel < input_word 0 → Lives m h began memory (record t { condition = Sending e }) due
     → Lives m h began memory (record t { condition = OnLink e 0 }) due
-out_lives {e = e} low l = lives_whatever (OnLink e 0) (link_is_quiet e 0) (λ place. refl)
+out_lives t {e = e} low l = lives_whatever (OnLink e 0) (link_is_quiet e 0) (λ place. refl)
     (λ place. output_awaits e 0 place low) l
 
 -- ---- a message that comes over an internal channel
@@ -221,7 +221,7 @@ straight e size n small each (suc j) less =
     wraps e (suc j) ∙ (omega (arith, before, low, small))
 
 -- the bytes that one process sends, and those of the buffer in which another one receives
-module _ {m : Contents} {h : Holding} {began : Began} {memory : Memory} {t : Task} {due : ℕ} (sent e : Exchange)
+module _ {m : Contents} {h : Holding} {began : Began} {memory : Memory} (t : Task) {due : ℕ} (sent e : Exchange)
     (same : sent.length ≡ e.length) (small : length memory ≤ 1048576)
     (bytes : (j : ℕ) → j < sent.length → IsByte (byte_at memory (message_place sent j)))
     (l : Lives m h began memory (record t { condition = Receiving e }) due) where
@@ -239,15 +239,7 @@ module _ {m : Contents} {h : Holding} {began : Began} {memory : Memory} {t : Tas
 
   from_is : (j : ℕ) → j < sent.length → message_place sent j ≡ place_of sent.address + j
   from_is = straight sent (length memory) sent.length small (λ j less.
-      let b = bytes j less in slice_get_within memory (message_place sent j) (Some b.0) (there (message_place sent j) b.0 b.1))
-    where
-      there : (place b : ℕ) → byte_at memory place ≡ Some b → slice_get memory place ≡ Some (Some b)
-      there place b is = on (slice_get memory place) is
-        where
-          on : (o : Option (Option ℕ)) → elim o as (λ o. Option ℕ) [ None ↦ None | Some cell ↦ cell ] ≡ Some b
-              → o ≡ Some (Some b)
-          on None no' = absurd (cc)
-          on (Some cell) yes = ap (λ (c : Option ℕ). Some c) yes
+      let b = bytes j less in inside_memory memory (message_place sent j) b.0 b.1)
 
   -- the whole buffer lies in memory
   ends_inside : place_of e.address + sent.length ≤ length memory ⊎ (sent.length ≡ 0)

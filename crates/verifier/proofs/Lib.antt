@@ -20,3 +20,4 @@ pub mod Start
 pub mod Kept
 pub mod CertifiedRuns
 pub mod Examples
+pub mod EchoIsCertified

@@ -13,7 +13,7 @@ use Rattle.machine_state.specs.declared.process.Task.{Task}
 use Rattle.machine_state.specs.Frame.{ChangesOwn}
 use Rattle.machine_state.specs.LocalStep.{copied}
 use Rattle.machine_state.specs.Memory.{Memory, byte_at, with_byte, place_of}
-use Rattle.machine_state.specs.World.{World, Role, held, input_word, output_word}
+use Rattle.machine_state.specs.World.{World, Role, Counters, held, input_word, output_word}
 use Rattle.machine_state.specs.Moves.{cell_of, channel_at, counted, put, leave, dispatch, enqueue, wake, rouse}
 use Rattle.machine_state.specs.Moves.{with_channel, with_input, with_output}
 use Rattle.machine_state.specs.Site.{Local, receives, sends}
@@ -109,14 +109,14 @@ module _ (m : Contents) (wf : IsWellFormed m) (w : World) (lawful : IsLawful m w
       abbrev waiting_in : World
       waiting_in = stepped (Receiving e) l
 
-      v : IsSound m waiting_in
-      v = stepped_holds (Receiving e) l later less changes lives
+      in_sound : IsSound m waiting_in
+      in_sound = stepped_holds (Receiving e) l later less changes lives
 
-      there : slice_get waiting_in.tasks p ≡ Some (behind (Receiving e) l)
-      there = got_set w.tasks p t (behind (Receiving e) l) r.here
+      in_there : slice_get waiting_in.tasks p ≡ Some (behind (Receiving e) l)
+      in_there = got_set w.tasks p t (behind (Receiving e) l) r.here
 
-      mine : Living m waiting_in v.holds.began v.holds.dues p (behind (Receiving e) l)
-      mine = living m waiting_in v.holds p (behind (Receiving e) l) (Receiving e) there refl (λ e. cc) (λ e. cc)
+      in_mine : Living m waiting_in in_sound.holds.began in_sound.holds.dues p (behind (Receiving e) l)
+      in_mine = living m waiting_in in_sound.holds p (behind (Receiving e) l) (Receiving e) in_there refl (λ e. cc) (λ e. cc)
 
       -- it waits for the first byte, or the second, of a link, or goes on with the last
       on_link : (k : ℕ) (link new : InputLink) (next : Condition) (memory : Memory) (after : World)
@@ -125,10 +125,10 @@ module _ (m : Contents) (wf : IsWellFormed m) (w : World) (lawful : IsLawful m w
           → after.tasks ≡ slice_set w.tasks p (behind next l) → after.memory ≡ memory → after.roles ≡ w.roles
           → after.channels ≡ w.channels → after.links.inputs ≡ slice_set w.links.inputs k new → after.fault ≡ w.fault
           → after.counters ≡ waiting_in.counters
-          → ChangesOwn (held mine.row.role) l.memory memory
-          → Lives m (held mine.row.role) mine.row.start memory (behind next l) mine.row.due → IsSound m after
+          → ChangesOwn (held in_mine.row.role) l.memory memory
+          → Lives m (held in_mine.row.role) in_mine.row.start memory (behind next l) in_mine.row.due → IsSound m after
       on_link k link new next memory after is_there bytes tasks same roles channels inputs fault counters own lives_on =
-          turned m waiting_in v apart p (behind (Receiving e) l) mine.row there after (behind next l) memory (record {
+          turned m waiting_in in_sound apart p (behind (Receiving e) l) in_mine.row in_there after (behind next l) memory (record {
             tasks = tasks ∙ sym (set_twice w.tasks p (behind (Receiving e) l) (behind next l));
             memory = same;
             roles = roles;
@@ -146,10 +146,10 @@ module _ (m : Contents) (wf : IsWellFormed m) (w : World) (lawful : IsLawful m w
       first_in byte = with_byte l.memory (place_of e.address) (Some byte)
 
       first_own : (byte k : ℕ) → byte < 256 → e.channel ≡ input_word k
-          → ChangesOwn (held mine.row.role) l.memory (first_in byte)
+          → ChangesOwn (held in_mine.row.role) l.memory (first_in byte)
       first_own byte k few on =
-          subst (λ place. ChangesOwn (held mine.row.role) l.memory (with_byte l.memory place (Some byte))) (first_place e)
-          (last_changes {t = behind (Receiving e) l} {e = e} k on mine.lives byte few some)
+          subst (λ place. ChangesOwn (held in_mine.row.role) l.memory (with_byte l.memory place (Some byte))) (first_place e)
+          (last_changes (behind (Receiving e) l) k on in_mine.lives byte few some)
 
       -- it meets one that waits to send
       meets_sender : (q : ℕ) (sent : Exchange) (c : Channel) → channel_at w e.channel ≡ Some c → c.waiting ≡ Some q
@@ -168,13 +168,13 @@ module _ (m : Contents) (wf : IsWellFormed m) (w : World) (lawful : IsLawful m w
             kept = h.holds.kept;
             fault = refl;
           }) refl refl (record { size = refl; others = λ place free. refl })
-          (sent_lives {t = u.0} {e = sent} (subst (λ c. Lives m (held partner.row.role) partner.row.start copy
+          (sent_lives u.0 (subst (λ c. Lives m (held partner.row.role) partner.row.start copy
           (record u.0 { condition = c }) partner.row.due) u.2 partner.lives)))
         where
-          abbrev copy : Memory
+          copy : Memory
           copy = copied l.memory (place_of sent.address) (place_of e.address) sent.length l.memory
 
-          abbrev after_copy : World
+          after_copy : World
           after_copy = with_channel sent.channel (record c { waiting = None })
               (continued here (t.registers.at + 1) (record l { memory = copy }) w)
 
@@ -185,8 +185,8 @@ module _ (m : Contents) (wf : IsWellFormed m) (w : World) (lawful : IsLawful m w
           other = another m wf w lawful h p t ready r q u.0 (Sending sent) u.1 u.2 (λ e. cc)
 
           -- what the sender has before the copy
-          sender : Living m waiting_in v.holds.began v.holds.dues q u.0
-          sender = living m waiting_in v.holds q u.0 (Sending sent)
+          sender : Living m waiting_in in_sound.holds.began in_sound.holds.dues q u.0
+          sender = living m waiting_in in_sound.holds q u.0 (Sending sent)
               (got_other w.tasks p q (behind (Receiving e) l) other ∙ u.1) u.2 (λ e. cc) (λ e. cc)
 
           bytes : (j : ℕ) → j < sent.length → IsByte (byte_at l.memory (message_place sent j))
@@ -197,7 +197,7 @@ module _ (m : Contents) (wf : IsWellFormed m) (w : World) (lawful : IsLawful m w
 
           copied_holds : IsSound m (counted after_copy)
           copied_holds =
-              turned m waiting_in v apart p (behind (Receiving e) l) mine.row there (counted after_copy)
+              turned m waiting_in in_sound apart p (behind (Receiving e) l) in_mine.row in_there (counted after_copy)
               (record t { registers = between (t.registers.at + 1) l.registers }) copy (record {
                 tasks = sym (set_twice w.tasks p (behind (Receiving e) l)
                     (record t { registers = between (t.registers.at + 1) l.registers }));
@@ -210,9 +210,9 @@ module _ (m : Contents) (wf : IsWellFormed m) (w : World) (lawful : IsLawful m w
                 kept = h.holds.kept;
                 fault = refl;
               }) refl refl
-              (filled_changes {t = behind (Receiving e) l} sent e same fits bytes mine.lives)
-              (subst (λ u. Lives m (held mine.row.role) mine.row.start copy u mine.row.due) (as_before l)
-              (filled_lives {t = behind (Receiving e) l} sent e same fits bytes mine.lives))
+              (filled_changes (behind (Receiving e) l) sent e same fits bytes in_mine.lives)
+              (subst (λ u. Lives m (held in_mine.row.role) in_mine.row.start copy u in_mine.row.due) (as_before l)
+              (filled_lives (behind (Receiving e) l) sent e same fits bytes in_mine.lives))
 
           waits : slice_get after_copy.tasks q ≡ Some u.0
           waits = got_other w.tasks p q (record t { registers = between (t.registers.at + 1) l.registers }) other ∙ u.1
@@ -239,24 +239,24 @@ module _ (m : Contents) (wf : IsWellFormed m) (w : World) (lawful : IsLawful m w
           on_link k link (record link { waiting = Some p }) (OnLink e 0) l.memory _ is_there
           (λ b kept. h.holds.kept k link b is_there kept) refl refl refl refl refl refl refl
           (record { size = refl; others = λ place free. refl })
-          (none_lives {t = behind (Receiving e) l} {e = e} k on mine.lives)
+          (none_lives (behind (Receiving e) l) k on in_mine.lives)
       moved_in after (receives_last e l k link byte found is_there kept one) =
           let on : e.channel ≡ input_word k = let at = link_found (input_word 0) e.channel k found in omega arith in
           let few : byte < 256 = h.holds.kept k link byte is_there kept in
           on_link k link (record link { kept = None }) Ready (first_in byte) _ is_there (λ b no'. absurd (cc))
           (ap (λ u. slice_set w.tasks p u) (sym (as_before l))) refl refl refl refl refl refl
           (first_own byte k few on)
-          (subst (λ place. Lives m (held mine.row.role) mine.row.start (with_byte l.memory place (Some byte))
-          (behind Ready l) mine.row.due) (first_place e)
-          (last_lives {t = behind (Receiving e) l} {e = e} k on mine.lives byte few (eqb-true e.length 1 one)))
+          (subst (λ place. Lives m (held in_mine.row.role) in_mine.row.start (with_byte l.memory place (Some byte))
+          (behind Ready l) in_mine.row.due) (first_place e)
+          (last_lives (behind (Receiving e) l) k on in_mine.lives byte few (eqb-true e.length 1 one)))
       moved_in after (receives_one e l k link byte found is_there kept more) =
           let on : e.channel ≡ input_word k = let at = link_found (input_word 0) e.channel k found in omega arith in
           let few : byte < 256 = h.holds.kept k link byte is_there kept in
           on_link k link (record link { kept = None; waiting = Some p }) (OnLink e 1) (first_in byte) _ is_there
           (λ b no'. absurd (cc)) refl refl refl refl refl refl refl (first_own byte k few on)
-          (subst (λ place. Lives m (held mine.row.role) mine.row.start (with_byte l.memory place (Some byte))
-          (behind (OnLink e 1) l) mine.row.due) (first_place e)
-          (second_lives {t = behind (Receiving e) l} {e = e} k on mine.lives byte few some))
+          (subst (λ place. Lives m (held in_mine.row.role) in_mine.row.start (with_byte l.memory place (Some byte))
+          (behind (OnLink e 1) l) in_mine.row.due) (first_place e)
+          (second_lives (behind (Receiving e) l) k on in_mine.lives byte few some))
 
     -- ---- a message that goes
 
@@ -265,14 +265,14 @@ module _ (m : Contents) (wf : IsWellFormed m) (w : World) (lawful : IsLawful m w
       abbrev waiting_out : World
       waiting_out = stepped (Sending e) l
 
-      v : IsSound m waiting_out
-      v = stepped_holds (Sending e) l later less changes lives
+      out_sound : IsSound m waiting_out
+      out_sound = stepped_holds (Sending e) l later less changes lives
 
-      there : slice_get waiting_out.tasks p ≡ Some (behind (Sending e) l)
-      there = got_set w.tasks p t (behind (Sending e) l) r.here
+      out_there : slice_get waiting_out.tasks p ≡ Some (behind (Sending e) l)
+      out_there = got_set w.tasks p t (behind (Sending e) l) r.here
 
-      mine : Living m waiting_out v.holds.began v.holds.dues p (behind (Sending e) l)
-      mine = living m waiting_out v.holds p (behind (Sending e) l) (Sending e) there refl (λ e. cc) (λ e. cc)
+      out_mine : Living m waiting_out out_sound.holds.began out_sound.holds.dues p (behind (Sending e) l)
+      out_mine = living m waiting_out out_sound.holds p (behind (Sending e) l) (Sending e) out_there refl (λ e. cc) (λ e. cc)
 
       -- it goes out on a link
       pub emitted_holds : (k : ℕ) → output_link e.channel ≡ Some k
@@ -282,7 +282,7 @@ module _ (m : Contents) (wf : IsWellFormed m) (w : World) (lawful : IsLawful m w
       emitted_holds k found =
           let at = link_found (output_word 0) e.channel k found in
           let few = link_low (output_word 0) e.channel k found in
-          turned m waiting_out v apart p (behind (Sending e) l) mine.row there _ (behind (OnLink e 0) l) l.memory (record {
+          turned m waiting_out out_sound apart p (behind (Sending e) l) out_mine.row out_there _ (behind (OnLink e 0) l) l.memory (record {
             tasks = sym (set_twice w.tasks p (behind (Sending e) l) (behind (OnLink e 0) l));
             memory = refl;
             roles = refl;
@@ -290,7 +290,7 @@ module _ (m : Contents) (wf : IsWellFormed m) (w : World) (lawful : IsLawful m w
             kept = h.holds.kept;
             fault = refl;
           }) refl refl (record { size = refl; others = λ place free. refl })
-          (out_lives {t = behind (Sending e) l} {e = e} (omega (arith, at, few)) mine.lives)
+          (out_lives (behind (Sending e) l) (omega (arith, at, few)) out_mine.lives)
 
       -- it waits for one that receives, and whoever has enabled the channel is roused
       waits_to_send : (c : Channel) → channel_at w e.channel ≡ Some c
@@ -313,7 +313,7 @@ module _ (m : Contents) (wf : IsWellFormed m) (w : World) (lawful : IsLawful m w
             roles = only.roles;
             links = only.links;
             channels = only.channels;
-            counters = ap (λ counters. record counters { executed = counters.executed + 1 }) only.counters;
+            counters = ap (λ (counters : Counters). record counters { executed = counters.executed + 1 }) only.counters;
             fault = only.fault;
             size = only.size;
           }) refl (rouses c.enabled waits)
@@ -335,17 +335,17 @@ module _ (m : Contents) (wf : IsWellFormed m) (w : World) (lawful : IsLawful m w
             kept = h.holds.kept;
             fault = refl;
           }) refl refl
-          (filled_changes {t = u.0} e wanted (sym same) fits bytes partner_lives)
-          (filled_lives {t = u.0} e wanted (sym same) fits bytes partner_lives))
+          (filled_changes u.0 e wanted (sym same) fits bytes partner_lives)
+          (filled_lives u.0 e wanted (sym same) fits bytes partner_lives))
         where
-          abbrev copy : Memory
+          copy : Memory
           copy = copied l.memory (place_of e.address) (place_of wanted.address) e.length l.memory
 
           -- the sender goes on, before the copy
-          abbrev on : World
+          on : World
           on = with_channel e.channel (record c { waiting = None }) (continued here (t.registers.at + 1) l w)
 
-          abbrev after_copy : World
+          after_copy : World
           after_copy = with_channel e.channel (record c { waiting = None })
               (continued here (t.registers.at + 1) (record l { memory = copy }) w)
 
@@ -356,14 +356,14 @@ module _ (m : Contents) (wf : IsWellFormed m) (w : World) (lawful : IsLawful m w
           other = another m wf w lawful h p t ready r q u.0 (Receiving wanted) u.1 u.2 (λ e. cc)
 
           bytes : (j : ℕ) → j < e.length → IsByte (byte_at l.memory (message_place e j))
-          bytes j low = (mine.lives.sends e refl j low).1
+          bytes j low = (out_mine.lives.sends e refl j low).1
 
           fits : length l.memory ≤ 1048576
           fits = let size = changes.size in omega (arith, small)
 
           on_holds : IsSound m (counted on)
           on_holds =
-              turned m waiting_out v apart p (behind (Sending e) l) mine.row there (counted on)
+              turned m waiting_out out_sound apart p (behind (Sending e) l) out_mine.row out_there (counted on)
               (record t { registers = between (t.registers.at + 1) l.registers }) l.memory (record {
                 tasks = sym (set_twice w.tasks p (behind (Sending e) l)
                     (record t { registers = between (t.registers.at + 1) l.registers }));
@@ -374,8 +374,8 @@ module _ (m : Contents) (wf : IsWellFormed m) (w : World) (lawful : IsLawful m w
                 kept = h.holds.kept;
                 fault = refl;
               }) refl refl (record { size = refl; others = λ place free. refl })
-              (subst (λ u. Lives m (held mine.row.role) mine.row.start l.memory u mine.row.due) (as_before l)
-              (sent_lives {t = behind (Sending e) l} {e = e} mine.lives))
+              (subst (λ u. Lives m (held out_mine.row.role) out_mine.row.start l.memory u out_mine.row.due) (as_before l)
+              (sent_lives (behind (Sending e) l) out_mine.lives))
 
           waits : slice_get on.tasks q ≡ Some u.0
           waits = got_other w.tasks p q (record t { registers = between (t.registers.at + 1) l.registers }) other ∙ u.1

@@ -25,7 +25,7 @@ module _ (m : Contents) (w : World) (h : IsSound m w) (apart : AreApart w.roles)
     fault = only.fault;
   }
 
-  roused_holds : (after : World) (o : Option ℕ) (tasks : List Task) → OnlyTasks w after → after.tasks ≡ tasks
+  pub roused_holds : (after : World) (o : Option ℕ) (tasks : List Task) → OnlyTasks w after → after.tasks ≡ tasks
       → Roused w.tasks o tasks → IsSound m after
   roused_holds after o tasks only is (nobody quiet) =
       quietly m after h.holds.dues h.holds.pending_dues h.holds.began

@@ -1,5 +1,5 @@
 -- What is at the ends that processes hold: links and channels with messages as long as who holds the end knows.
-use Rattle.std.proofs.Common.{◌≡◌, ◌≢◌, ℕ, suc, ◌+◌, ◌-◌, ◌*◌, ◌/◌, ◌≤◌, ◌<◌, true, false, if◌then◌else◌, inl, inr, List}
+use Rattle.std.proofs.Common.{◌≡◌, ◌≢◌, ℕ, zero, suc, ◌+◌, ◌-◌, ◌*◌, ◌/◌, ◌≤◌, ◌<◌, true, false, if◌then◌else◌, inl, inr, List}
 use Rattle.std.proofs.Common.{Option, Some, None, length, refl, sym, ap, ◌∙◌, subst, arith}
 use Rattle.std.proofs.lemmas.Bool.Decides.{leb_tells}
 use Rattle.std.proofs.lemmas.Option.{slice_get_within}
@@ -32,17 +32,17 @@ use Rattle.verifier.proofs.Tables.{IsSound, Living, living}
 -- ---- links
 
 pub input_found : (k : ℕ) → k < 4 → input_link (input_word k) ≡ Some k
-input_found 0 few = refl
-input_found 1 few = refl
-input_found 2 few = refl
-input_found 3 few = refl
+input_found zero few = refl
+input_found (suc zero) few = refl
+input_found (suc (suc zero)) few = refl
+input_found (suc (suc (suc zero))) few = refl
 input_found (suc (suc (suc (suc k)))) few = absurd (omega (arith, few))
 
 pub output_found : (k : ℕ) → k < 4 → output_link (output_word k) ≡ Some k
-output_found 0 few = refl
-output_found 1 few = refl
-output_found 2 few = refl
-output_found 3 few = refl
+output_found zero few = refl
+output_found (suc zero) few = refl
+output_found (suc (suc zero)) few = refl
+output_found (suc (suc (suc zero))) few = refl
 output_found (suc (suc (suc (suc k)))) few = absurd (omega (arith, few))
 
 -- ---- addresses

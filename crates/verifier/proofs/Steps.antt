@@ -1,5 +1,5 @@
 -- One byte of one process.
-use Rattle.std.proofs.Common.{◌≡◌, ℕ, zero, suc, ◌+◌, ◌*◌, ◌≤◌, ◌<◌, true, cond, is_some, inl, inr, ℤ, List, []}
+use Rattle.std.proofs.Common.{◌≡◌, ℕ, zero, suc, ◌+◌, ◌*◌, ◌≤◌, ◌<◌, true, false, cond, is_some, inl, inr, ℤ, List, []}
 use Rattle.std.proofs.Common.{◌∷◌, length, drop, Option, Some, None, Result, Ok, Err, refl, sym, ap, ◌∙◌, subst, arith}
 use Rattle.std.proofs.Common.{add-one, pos, ◌+ℤ◌}
 use Rattle.std.proofs.lemmas.Bool.{cases_lt}
@@ -324,6 +324,13 @@ module _ (m : Contents) (d : Decodes m) (wf : IsWellFormed m) (c : IsCertified m
       → Behind m h began en.state.context en.act.layout memory callers
   entered_behind en behind = rw (en.context, en.layout) behind
 
+  -- and the activation has what it had
+  entered_scope : {h : Holding} {mode : machine.Mode} {at : ℕ} {s : State} {act : Activation}
+      (en : Entered h mode at s act)
+      → scope_of m en.state.context en.act.layout ≡ scope_of m s.context act.layout
+  entered_scope {s = s} en = ap (λ (n : ℕ). scope_of m n en.act.layout) en.context
+      ∙ ap (λ (layout : Layout). scope_of m s.context layout) en.layout
+
   -- What is known in a condition, at the point where the process goes on.
   pub record Meanwhile (h : Holding) (began : Began) (mode : machine.Mode) (act : Activation) (s : State) (l : Local)
       (condition : Condition) : Type 0 where
@@ -565,9 +572,9 @@ module _ (m : Contents) (d : Decodes m) (wf : IsWellFormed m) (c : IsCertified m
         low = let low = asks.low in omega (arith, p.reading.at_is);
       }
 
-      known : {direction : Direction} {e other : Exchange} → p.taken + 1 ≡ p.instr.len → GoesOver x direction e
+      known : {direction : Direction} {e : Exchange} (other : Exchange) → p.taken + 1 ≡ p.instr.len → GoesOver x direction e
           → e ≡ other → other.length ≡ began.layout.lengths other.channel
-      known last over same = subst (λ (e : Exchange). e.length ≡ began.layout.lengths e.channel) same (talks last over).len
+      known other last over same = subst (λ (e : Exchange). e.length ≡ began.layout.lengths e.channel) same (talks last over).len
 
       receiving : {e : Exchange} → p.taken + 1 ≡ p.instr.len → Receives x s' l e
           → Meanwhile h began t.mode p.act s' l (Receiving e)
@@ -577,10 +584,10 @@ module _ (m : Contents) (d : Decodes m) (wf : IsWellFormed m) (c : IsCertified m
         sends = λ other no'. absurd (cc);
         fills = λ old new fills. subst (λ (scope : Scope). Keeps m h scope old new)
             (whole_scope s' p.act.layout asks.plain) (wants.fills old new fills);
-        named = rw asks.same named_after;
+        named = subst (λ (n : ℕ). HoldsNamed m h (scope_of m n p.act.layout) l.memory) (sym asks.same) named_after;
         known_length = λ other is. elim is [
           | inl no' ↦ absurd (cc)
-          | inr same ↦ known last wants.over (let is : Receiving e ≡ Receiving other = same in cc)
+          | inr same ↦ known other last wants.over (let is : Receiving e ≡ Receiving other = same in cc)
         ];
       }
 
@@ -595,28 +602,26 @@ module _ (m : Contents) (d : Decodes m) (wf : IsWellFormed m) (c : IsCertified m
             (wants.bytes j);
         fills = λ old new fills. agree_keeps h old new fills.size (λ place e. fills.others place e refl) m
             (scope_of m s'.context p.act.layout);
-        named = rw asks.same named_after;
+        named = subst (λ (n : ℕ). HoldsNamed m h (scope_of m n p.act.layout) l.memory) (sym asks.same) named_after;
         known_length = λ other is. elim is [
-          | inl same ↦ known last wants.over (let is : Sending e ≡ Sending other = same in cc)
+          | inl same ↦ known other last wants.over (let is : Sending e ≡ Sending other = same in cc)
           | inr no' ↦ absurd (cc)
         ];
       }
 
       -- what it owes once it goes on
-      exchange_enter : r ≡ rule_at m t.registers.began p.instr p.state
+      abbrev exchange_enter : r ≡ rule_at m t.registers.began p.instr p.state
           → Entered h t.mode (t.registers.began + p.instr.len) s' p.act
       exchange_enter e = enter h t.mode p.act (t.registers.began + p.instr.len) s' (exchange_enters e) asks.low asks.plain
 
-      exchange_due : r ≡ rule_at m t.registers.began p.instr p.state → ℕ
+      abbrev exchange_due : r ≡ rule_at m t.registers.began p.instr p.state → ℕ
       exchange_due e = let en = exchange_enter e in owed en.state en.act + owed_behind p.callers
 
       exchange_pays : (e : r ≡ rule_at m t.registers.began p.instr p.state) → p.taken + 1 ≡ p.instr.len
           → exchange_due e + 1 ≤ due
       exchange_pays e last =
           let en = exchange_enter e in
-          let paid = en.paid in
-          let pay = asks.pay in
-          omega (arith, owes_all)
+          omega (arith, en.paid, asks.pay, owes_all, last)
 
       exchange_lives : (e : r ≡ rule_at m t.registers.began p.instr p.state) → p.taken + 1 ≡ p.instr.len
           → {condition : Condition} → Meanwhile h began t.mode p.act s' l condition
@@ -639,8 +644,9 @@ module _ (m : Contents) (d : Decodes m) (wf : IsWellFormed m) (c : IsCertified m
                 (meanwhile.after later size agree bytes);
             room = meanwhile.room;
             sends = meanwhile.sends;
-            fills = λ old new fills. rw (en.context, en.layout) (meanwhile.fills old new fills);
-            named = rw (en.context, en.layout) meanwhile.named;
+            fills = λ old new fills. subst (λ (scope : Scope). Keeps m h scope old new) (sym (entered_scope en))
+                (meanwhile.fills old new fills);
+            named = subst (λ (scope : Scope). HoldsNamed m h scope l.memory) (sym (entered_scope en)) meanwhile.named;
             known_length = meanwhile.known_length;
           }) (entered_behind en (still_behind s'.context l.memory asks.same asks.changes.keeps)))
 

@@ -198,10 +198,10 @@ length_set cells k old new there same n c here = elim (cases_eq k n) [
   | inr differ ↦ (c, got_other cells k n (Some new) differ ∙ here, refl)
 ]
 
-lengths_kept : (m : Contents) {roles : List Role} {old new : List (Option Channel)} {began : List Began}
+lengths_kept : (m : Contents) (roles : List Role) {old new : List (Option Channel)} (began : List Began)
     → SameLengths old new → LengthsAgree m roles old began → LengthsAgree m roles new began
-lengths_kept m {old = old} {new = new} same agree p role start e has_role has_start held =
-    on (agree p role start e has_role has_start held)
+lengths_kept m roles {old = old} {new = new} began same agree p role start e has_role has_start has =
+    on (agree p role start e has_role has_start has)
   where
     on : LengthAgrees m old start e → LengthAgrees m new start e
     on (at_link k few is len) = at_link k few is len
@@ -299,7 +299,7 @@ module _ (m : Contents) (w : World) (h : IsSound m w) (apart : AreApart w.roles)
         plain = rw puts.tasks (quiet_put u plain);
       })
       (rw (puts.tasks, puts.memory, puts.roles) (table_put u new later changes meets))
-      (lengths_kept m puts.channels (rw puts.roles h.holds.lengths)) puts.kept
+      (lengths_kept m after.roles h.holds.began puts.channels (rw puts.roles h.holds.lengths)) puts.kept
       (let t = total_set h.holds.dues p row.due later row.has_due in let o = h.holds.owed in omega arith)
       (puts.fault ∙ h.holds.well)
 

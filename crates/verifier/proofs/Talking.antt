@@ -154,9 +154,9 @@ module _ (m : Contents) (wf : IsWellFormed m) (w : World) (lawful : IsLawful m w
           let one = only_one (slice_get w.tasks q) v.task u v.here here in
           let now = ap (λ (t : Task). t.condition) one ∙ is in
           elim v.waits [
-            | inl sends ↦ let no' : Sending v.exchange ≡ Receiving x = sym sends ∙ now in absurd (cc)
-            | inr receives ↦
-                let both : Receiving v.exchange ≡ Receiving x = sym receives ∙ now in
+            | inl out ↦ let no' : Sending v.exchange ≡ Receiving x = sym out ∙ now in absurd (cc)
+            | inr in_ ↦
+                let both : Receiving v.exchange ≡ Receiving x = sym in_ ∙ now in
                 let same : v.exchange ≡ x = cc in
                 ap (λ (e : Exchange). cell_of e.channel) (sym same) ∙ v.at
           ]
@@ -164,11 +164,11 @@ module _ (m : Contents) (wf : IsWellFormed m) (w : World) (lawful : IsLawful m w
           let one = only_one (slice_get w.tasks q) v.task u v.here here in
           let now = ap (λ (t : Task). t.condition) one ∙ is in
           elim v.waits [
-            | inl sends ↦
-                let both : Sending v.exchange ≡ Sending x = sym sends ∙ now in
+            | inl out ↦
+                let both : Sending v.exchange ≡ Sending x = sym out ∙ now in
                 let same : v.exchange ≡ x = cc in
                 ap (λ (e : Exchange). cell_of e.channel) (sym same) ∙ v.at
-            | inr receives ↦ let no' : Receiving v.exchange ≡ Sending x = sym receives ∙ now in absurd (cc)
+            | inr in_ ↦ let no' : Receiving v.exchange ≡ Sending x = sym in_ ∙ now in absurd (cc)
           ]
 
   pub never_in : {e : Exchange} {l : Local} {kind : FaultKind} (pick : ℕ)
@@ -190,10 +190,10 @@ module _ (m : Contents) (wf : IsWellFormed m) (w : World) (lawful : IsLawful m w
   never_in pick talks (receives_from_no_sender e l c q outside at waiting none) =
       let v = waiter e c q at waiting in
       elim v.waits [
-        | inl sends ↦ none v.exchange (condition_is w q v.task v.here ∙ sends)
-        | inr receives ↦
+        | inl out ↦ none v.exchange (condition_is w q v.task v.here ∙ out)
+        | inr in_ ↦
             alone_there {direction = In} {e = e} q v.task v.exchange c talks (channel_there w e.channel c at) v.at v.here
-            receives
+            in_
       ]
   never_in pick talks (receives_other_length e l c q sent outside at waiting is differ) =
       let u = wants_it w q (Sending sent) is (λ e. cc) in
@@ -226,10 +226,10 @@ module _ (m : Contents) (wf : IsWellFormed m) (w : World) (lawful : IsLawful m w
   never_out pick talks (sends_to_no_receiver e l c q outside at waiting none) =
       let v = waiter e c q at waiting in
       elim v.waits [
-        | inl sends ↦
+        | inl out ↦
             alone_there {direction = Out} {e = e} q v.task v.exchange c talks (channel_there w e.channel c at) v.at v.here
-            sends
-        | inr receives ↦ none v.exchange (condition_is w q v.task v.here ∙ receives)
+            out
+        | inr in_ ↦ none v.exchange (condition_is w q v.task v.here ∙ in_)
       ]
   never_out pick talks (sends_other_length e l c q wanted outside at waiting is differ) =
       let u = wants_it w q (Receiving wanted) is (λ e. cc) in
