@@ -2,7 +2,7 @@
 use Rattle.std.proofs.Common.{◌≡◌, ℕ, ◌+◌, ◌-◌, ◌≤◌, ◌<◌, ◌==◌, ℤ, pos, ◌+ℤ◌, ◌≤ℤ◌, Bool, true, false, cond, ◌&&◌, ◌||◌}
 use Rattle.std.proofs.Common.{length, Option, Some, None, refl, sym, ap, ◌∙◌, arith}
 use Rattle.std.proofs.lemmas.Int.{ints}
-use Rattle.std.specs.Prelude.{int_le, nat_lt}
+use Rattle.std.specs.Prelude.{nat_lt}
 use Rattle.word_arithmetic.specs.Range.{full}
 use Rattle.certificate.specs.Rights.{may_write_word as context_writes}
 use Rattle.machine_state.specs.declared.process.Mode as machine

@@ -1,5 +1,5 @@
 -- A word that names a channel of which the context has the end, and the step that looks at it.
-use Rattle.std.proofs.Common.{◌≡◌, ℕ, ◌+◌, ◌*◌, ◌%◌, ◌<◌, ◌==◌, ℤ, pos, FitsSigned, Bool, true, false, Option, Some, None}
+use Rattle.std.proofs.Common.{◌≡◌, ℕ, ◌+◌, ◌*◌, ◌%◌, ◌<◌, ◌==◌, ℤ, pos, FitsSigned, true, false, Option, Some, None}
 use Rattle.std.proofs.Common.{refl, sym, ap, ◌∙◌, subst, arith}
 use Rattle.std.proofs.lemmas.Bool.{eq-eqb}
 use Rattle.std.proofs.lemmas.Int.{ints}
@@ -8,7 +8,7 @@ use Rattle.module_format.specs.Rows.{Fact}
 use Rattle.module_format.specs.declared.rows.EndKind.{EndKind}
 use Rattle.module_format.specs.declared.rows.Direction.{Direction}
 use Rattle.certificate.specs.Rights as rights
-use Rattle.machine_state.specs.declared.fault.FaultKind.TheVariants.{EndNotHeld, Unaligned}
+use Rattle.machine_state.specs.declared.fault.FaultKind.TheVariants.{EndNotHeld}
 use Rattle.machine_state.specs.Holding.{has_end}
 use Rattle.machine_state.specs.LocalStep as step
 use Rattle.machine_state.specs.Site.{Outcome, Local}
