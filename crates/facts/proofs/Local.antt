@@ -19,13 +19,17 @@ use Rattle.rulings.proofs.Combining.{FitsIf}
 use Rattle.local_rules.specs.LocalRules.{local_rule}
 use Rattle.local_rules.proofs.LocalFits.{local_rules_fit_steps}
 use Rattle.call_rules.proofs.CallFits.{call_fits_step, return_fits_step}
+use Rattle.message_rules.specs.MessageRules.{message_rule}
+use Rattle.message_rules.proofs.MessageFits.{input_fits_step, output_fits_step}
 
 module _ (x : Here) (wf : IsWellFormed x.m) (s : State) (l : Local) (a : After x.m x.h x.mode x.act s l)
     (same : s.context ≡ x.context) (changes : Changes x l.memory) (n : owed s x.act ≤ x.owed) where
   operation_fits : (op : Op) (e : ℤ) → FitsSigned w32 e → FitsIf x (table.operation_rule (rule_site x) op s)
       (step.operation_step (step_site x) op l)
-  unfolding table.operation_rule local_rule step.instruction_step
+  unfolding table.operation_rule local_rule message_rule step.instruction_step
   operation_fits operations.Return e fits = return_fits_step x s l wf a same changes n
+  operation_fits operations.Input e fits = input_fits_step x s l wf a same changes n
+  operation_fits operations.Output e fits = output_fits_step x s l wf a same changes n
   operation_fits op e fits = local_rules_fit_steps x s l (instructions.Operate op) e wf a same changes n fits
 
   instruction_fits : (i : Instruction) (e : ℤ) → FitsSigned w32 e

@@ -38,6 +38,8 @@ operation-without site ops.StoreByte s h = absurd (cc)
 operation-without site ops.Move s h = absurd (cc)
 operation-without site ops.Return s h = absurd (cc)
 operation-without site ops.LoopEnd s h = absurd (cc)
+operation-without site ops.Input s h = absurd (cc)
+operation-without site ops.Output s h = absurd (cc)
 operation-without site _ s h = refl
 
 instruction-without : (site : Site) (i : Instruction) (e : ℤ) (s : State)

@@ -8,7 +8,7 @@ use Rattle.machine_state.specs.declared.op.Op.{Op}
 use Rattle.machine_state.specs.declared.op.Op.TheVariants.{Reverse, StopProcess, MinimumInteger, Binary, Unary, Shift}
 use Rattle.machine_state.specs.declared.op.Op.TheVariants.{Long, CheckSubscript, CheckCount, ByteSubscript}
 use Rattle.machine_state.specs.declared.op.Op.TheVariants.{WordSubscript, LoadPointerToInstruction, LoadByte}
-use Rattle.machine_state.specs.declared.op.Op.TheVariants.{StoreByte, Move, LoopEnd, Return}
+use Rattle.machine_state.specs.declared.op.Op.TheVariants.{StoreByte, Move, LoopEnd, Return, Input, Output}
 use Rattle.machine_state.specs.declared.instruction.Instruction.{Instruction}
 use Rattle.machine_state.specs.declared.instruction.Instruction.TheVariants.{Operate, Call}
 use Rattle.machine_state.specs.Instructions.{instruction_of}
@@ -17,10 +17,13 @@ use Rattle.states.specs.State.{State}
 use Rattle.rulings.specs.Rulings.{Ruling, breaks, Site}
 use Rattle.call_rules.specs.CallRules.{call_rule, return_rule}
 use Rattle.local_rules.specs.LocalRules.{local_operation_rule, local_rule}
+use Rattle.message_rules.specs.MessageRules.{message_rule}
 
 -- the rule of an operation, by the family that has it
 unfoldable pub operation_rule : Site → Op → State → Ruling
 operation_rule site Return s = return_rule site s
+operation_rule site Input s = message_rule site Input s
+operation_rule site Output s = message_rule site Output s
 operation_rule site op s = local_operation_rule site op s
 
 -- the rule of an instruction
@@ -60,6 +63,8 @@ op_has_rule m StoreByte = true
 op_has_rule m Move = true
 op_has_rule m Return = true
 op_has_rule m LoopEnd = true
+op_has_rule m Input = true
+op_has_rule m Output = true
 op_has_rule m _ = false
 
 abbrev pub instruction_has_rule : Contents → Instruction → Bool

@@ -9,6 +9,7 @@ use call_rules::{call, return_to_caller};
 use certificate::Module;
 use local_rules::advance_locally;
 use machine_state::{Instruction, Op};
+use message_rules::advance_message;
 use prefix_decoder::Instr;
 use rulings::{Continuation, Place};
 use states::{Rule, State};
@@ -32,7 +33,9 @@ fn op_has_rule(module: &Module, op: Op) -> bool
         | Op::StoreByte
         | Op::Move
         | Op::LoopEnd
-        | Op::Return => true,
+        | Op::Return
+        | Op::Input
+        | Op::Output => true,
         Op::Long(_) => module.tables().has_long_operations,
         _ => false,
     }
@@ -81,6 +84,8 @@ pub fn advance(
     match instruction {
         Instruction::Call => call(&place, state, instr.operand),
         Instruction::Operate(Op::Return) => return_to_caller(&place, state),
+        Instruction::Operate(Op::Input) => advance_message(&place, state, Op::Input),
+        Instruction::Operate(Op::Output) => advance_message(&place, state, Op::Output),
         _ => advance_locally(&place, state, instruction, instr.operand),
     }
 }
