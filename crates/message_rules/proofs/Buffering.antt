@@ -63,7 +63,8 @@ received_left act p end s = on (is_word p.lo p.hi) (p.region == 0) (nat_lt 0 (wo
 
     on : (exact frame some : Bool)
         → IsLeft act s
-        (cond exact (cond (frame && some) (within (cond frame touched s)) (cond frame touched s)) (cond frame touched s))
+        (cond exact (cond (frame && some) (within (cond frame touched s)) (cond frame touched s))
+        (cond frame touched s))
     on false false some = nothing
     on false true some = some_touched
     on true false some = nothing

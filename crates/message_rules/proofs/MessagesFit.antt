@@ -414,7 +414,8 @@ module _ (x : Here) (wf : IsWellFormed x.m) (s : State) (l : Local) (a : Within 
         (ap (λ (c : ℕ). scope_of x.m c x.act.layout) (sym context)
         ∙ ap (λ (mode : Mode). scope_among x.m t.context mode x.act.layout) (sym plain))
         (fills_keep a k leads.offset p.lo behind leads.low
-        (let high = leads.high in omega (arith, ints)) (is_of_message taken) p.region may wide room in_room old new fills)
+        (let high = leads.high in omega (arith, ints)) (is_of_message taken) p.region may wide room in_room old new
+        fills)
 
     -- all bytes have come
     module _ (m : MaySchedule x.m filled_state.context filled_state.depth) (d : Scheduled x ArePlain s l)
@@ -485,7 +486,8 @@ module _ (x : Here) (wf : IsWellFormed x.m) (s : State) (l : Local) (a : Within 
 
     received_fits : MaySchedule x.m filled_state.context filled_state.depth → IsChannel x s In k u
         → Scheduled x ArePlain s l
-        → FitsIf x (rule.goes_on (rule_site x) (left_after filled_state)) (step.receives_into (step_site x) taken local_after)
+        → FitsIf x (rule.goes_on (rule_site x) (left_after filled_state))
+        (step.receives_into (step_site x) taken local_after)
     received_fits m c d =
         holds_fits x _ NotOwn _ _
         (and-both _ _ (all_held (may_write x.h) (place_of taken.address) k (λ i less.
