@@ -1,16 +1,13 @@
 -- The instruction that moves bytes: what its rule says fits its step.
-use Rattle.std.proofs.Common.{◌≡◌, ℕ, ◌+◌, ◌-◌, ◌≤◌, ◌<◌, ◌==◌, ℤ, pos, ◌+ℤ◌, ◌-ℤ◌, ◌≤ℤ◌, nat_abs, Bool, true, false}
-use Rattle.std.proofs.Common.{not, cond, ◌&&◌, ◌||◌, length, Option, Some, None, Ok, refl, sym, ap, ◌∙◌, subst, arith}
+use Rattle.std.proofs.Common.{◌≡◌, ℕ, ◌+◌, ◌-◌, ◌≤◌, ◌<◌, ◌==◌, ℤ, pos, ◌+ℤ◌, ◌-ℤ◌, nat_abs, Bool, true, false}
+use Rattle.std.proofs.Common.{not, cond, ◌&&◌, ◌||◌, length, Some, None, Ok, refl, sym, ap, ◌∙◌, subst, arith}
 use Rattle.std.proofs.Common.{◌⊎◌, inl, inr}
 use Rattle.std.proofs.lemmas.Bool.{cases_lt, cases_eq, eq-eqb}
-use Rattle.std.proofs.lemmas.Bool.Decides.{nat_tests}
 use Rattle.std.proofs.lemmas.Int.{ints}
 use Rattle.std.specs.Prelude.{int_le, nat_lt}
-use Rattle.std.specs.Option.{option_map}
 use Rattle.word_arithmetic.specs.Range.{full}
 use Rattle.module_format.specs.Rows.{Fact}
-use Rattle.module_format.specs.declared.fact.Fact.TheVariants.{Unknown, Number, Pointer, CodeAddress, Loop}
-use Rattle.module_format.specs.declared.fact.Fact.TheVariants.{ReturnAddress}
+use Rattle.module_format.specs.declared.fact.Fact.TheVariants.{Unknown, Pointer}
 use Rattle.module_format.specs.declared.fact.Step.{Step}
 use Rattle.module_format.specs.Stack.{of_empty}
 use Rattle.certificate.specs.Rights.{may_write_word as context_writes}
@@ -29,10 +26,9 @@ use Rattle.states.specs.declared.span.Leaving.{Leaving}
 use Rattle.states.specs.declared.span.Leaving.TheVariants.{Become}
 use Rattle.states.specs.State.{State, unknown, changed, is_word as is_same}
 use Rattle.states.specs.Spans.{on_span, after_change}
-use Rattle.states.proofs.RowFacts.{and-both, and-parts, le-from, le-yes}
+use Rattle.states.proofs.RowFacts.{and-both, and-parts, le-from}
 use Rattle.rulings.specs.declared.pointers.Pointed.{Pointed}
-use Rattle.rulings.specs.Rulings.{Ruling}
-use Rattle.rulings.specs.Pointers.{constant_of, wanted_range, is_full, is_number_in, byte_read, number_within}
+use Rattle.rulings.specs.Pointers.{constant_of, wanted_range, is_full, byte_read, number_within}
 use Rattle.rulings.specs.Pointers.{stored_byte, leaves_words, exact_pointer, takes_any}
 use Rattle.local_rules.specs.MoveRules as move
 use Rattle.rulings.specs.Filling as filling
@@ -41,7 +37,7 @@ use Rattle.rulings.specs.Filling.{word_behind, words_within, filled, become_numb
 use Rattle.rulings.specs.Reach.{word_of_byte, words_touched, all_touched, lie_in, may_read_bytes, may_write_bytes}
 use Rattle.rulings.specs.Reach.{writable_bytes, parameter_range}
 use Rattle.local_rules.specs.LocalRules as table
-use Rattle.rulings.specs.Meaning.{Layout, Means, is_pointer, owed, region_start, IsWellFormed}
+use Rattle.rulings.specs.Meaning.{Means, is_pointer, owed, region_start, IsWellFormed}
 use Rattle.rulings.specs.Regions.{scope_of, Keeps}
 use Rattle.rulings.specs.Fitting.{Changes, Here, rule_site, step_site, it_breaks}
 use Rattle.rulings.proofs.Within.{Within, ArePlain}
@@ -49,7 +45,7 @@ use Rattle.rulings.proofs.Words.{word_test, bool_cases, same_word_by}
 use Rattle.rulings.proofs.Dues.{changed_dues}
 use Rattle.rulings.proofs.Regions.{keeps_more}
 use Rattle.rulings.proofs.Reaching.{region_place, natural, place_at, region_at}
-use Rattle.rulings.proofs.Combining.{FitsIf, unknown_means, on_rule_test, on_step_test, uses_fits, in_bounds_fits}
+use Rattle.rulings.proofs.Combining.{FitsIf, unknown_means, on_rule_test, uses_fits, in_bounds_fits}
 use Rattle.rulings.proofs.Combining.{holds_fits, goes_on_fits, in_plain_rule, beside_plain_rule, in_plain_step}
 use Rattle.rulings.proofs.Combining.{after_stack, settles_fits, reads_bytes_fits, writes_bytes_fits, counts_fits}
 use Rattle.rulings.proofs.Moving.{all_held, source_read, read_at, written_at, regions_apart, AreDefined, Room, Moved}

@@ -2,7 +2,7 @@
 use Rattle.std.proofs.Common.{◌≡◌, ℕ, ◌+◌, ◌-◌, ◌≤◌, ◌<◌, ◌==◌, ℤ, pos, ◌+ℤ◌, ◌≤ℤ◌, Bool, true, false, cond, ◌&&◌, ◌||◌}
 use Rattle.std.proofs.Common.{length, Option, Some, None, refl, sym, ap, ◌∙◌, arith}
 use Rattle.std.proofs.lemmas.Int.{ints}
-use Rattle.std.specs.Prelude.{int_le, nat_lt}
+use Rattle.std.specs.Prelude.{nat_lt}
 use Rattle.word_arithmetic.specs.Range.{full}
 use Rattle.certificate.specs.Rights.{may_write_word as context_writes}
 use Rattle.machine_state.specs.declared.process.Mode as machine
@@ -63,7 +63,8 @@ received_left act p end s = on (is_word p.lo p.hi) (p.region == 0) (nat_lt 0 (wo
 
     on : (exact frame some : Bool)
         → IsLeft act s
-        (cond exact (cond (frame && some) (within (cond frame touched s)) (cond frame touched s)) (cond frame touched s))
+        (cond exact (cond (frame && some) (within (cond frame touched s)) (cond frame touched s))
+        (cond frame touched s))
     on false false some = nothing
     on false true some = some_touched
     on true false some = nothing

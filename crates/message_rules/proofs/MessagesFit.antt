@@ -1,25 +1,21 @@
 -- The instructions that take and give messages: what their rules say fits their steps.
-use Rattle.std.proofs.Common.{◌≡◌, ℕ, suc, ◌+◌, ◌-◌, ◌*◌, ◌%◌, ◌≤◌, ◌<◌, ◌==◌, ℤ, pos, negsuc, ◌+ℤ◌, ◌-ℤ◌, ◌*ℤ◌, ◌≤ℤ◌}
-use Rattle.std.proofs.Common.{◌<ℤ◌, nat_abs, Bool, true, false, cond, not, ◌&&◌, ◌||◌, length, Option, Some, None, Ok}
+use Rattle.std.proofs.Common.{◌≡◌, ℕ, ◌+◌, ◌-◌, ◌≤◌, ◌<◌, ℤ, pos, ◌+ℤ◌, ◌-ℤ◌, ◌≤ℤ◌}
+use Rattle.std.proofs.Common.{nat_abs, Bool, true, false, not, ◌||◌, length, Option, Some, Ok}
 use Rattle.std.proofs.Common.{is_some, ltb, refl, sym, ap, ◌∙◌, subst, arith, ◌⊎◌, inl, inr}
 use Rattle.std.proofs.lemmas.Bool.Decides.{eqb_tells}
 use Rattle.std.proofs.lemmas.Int.{ints}
-use Rattle.std.specs.Prelude.{int_le, int_lt}
+use Rattle.std.specs.Prelude.{int_le}
 use Rattle.module_format.specs.Rows.{Fact}
 use Rattle.module_format.specs.declared.fact.Fact.TheVariants.{Pointer}
-use Rattle.module_format.specs.declared.fact.Step.{Step}
 use Rattle.module_format.specs.declared.rows.Direction.{Direction}
 use Rattle.module_format.specs.declared.rows.Direction.TheVariants.{In, Out}
-use Rattle.module_format.specs.Contents.{Contents}
 use Rattle.machine_state.specs.declared.op.Op.TheVariants.{Input, Output}
 use Rattle.machine_state.specs.declared.fault.FaultKind.TheVariants.{NotOwn, Undefined}
 use Rattle.machine_state.specs.declared.process.Exchange.{Exchange}
 use Rattle.machine_state.specs.Memory.{Memory, byte_at, place_of}
 use Rattle.machine_state.specs.Holding.{may_read, may_write}
-use Rattle.machine_state.specs.Spans.{all_places}
 use Rattle.machine_state.specs.LocalStep as step
 use Rattle.machine_state.specs.LocalStep.{copied}
-use Rattle.machine_state.specs.Site as sites
 use Rattle.machine_state.specs.Site.{Outcome, Local}
 use Rattle.machine_state.specs.Seeing.{Agree}
 use Rattle.machine_state.proofs.Copying.{copied-beside}
@@ -30,15 +26,15 @@ use Rattle.states.proofs.RowFacts.{and-both, and-parts, le-from, lt-from}
 use Rattle.rulings.specs.declared.pointers.Pointed.{Pointed}
 use Rattle.rulings.specs.Rulings as rule
 use Rattle.rulings.specs.Rulings.{Ruling, falls}
-use Rattle.rulings.specs.Meaning.{Layout, Means, is_pointer, owed, dues, region_start, place_in, IsWellFormed}
+use Rattle.rulings.specs.Meaning.{Means, is_pointer, owed, dues, region_start, IsWellFormed}
 use Rattle.rulings.specs.Regions.{Scope, scope_of, scope_among, scope_in, Keeps}
 use Rattle.rulings.specs.Reach.{word_of_byte, may_read_bytes, may_write_bytes}
 use Rattle.rulings.specs.Pointers.{constant_of, pointer_of, takes_any, byte_read, wanted_range, is_full}
 use Rattle.rulings.specs.Filling.{are_numbers}
-use Rattle.rulings.specs.Buffers.{message_place, is_of_message, IsByte, Fills}
-use Rattle.rulings.specs.Fitting.{Changes, Described, After, Here, rule_site, step_site, GoesOver, Exchanges, Asks}
+use Rattle.rulings.specs.Buffers.{is_of_message, IsByte, Fills}
+use Rattle.rulings.specs.Fitting.{Changes, After, Here, rule_site, step_site, GoesOver, Exchanges, Asks}
 use Rattle.rulings.specs.Fitting.{to_receive, to_send, it_asks, it_breaks}
-use Rattle.rulings.proofs.Within.{Within, ArePlain, whole_after, within_paid}
+use Rattle.rulings.proofs.Within.{Within, ArePlain, whole_after}
 use Rattle.rulings.proofs.Words.{bool_cases}
 use Rattle.rulings.proofs.Agreeing.{after_agrees}
 use Rattle.rulings.proofs.Reaching.{region_place, natural, place_at, region_at, inside_memory, word_of_byte_low}
@@ -418,7 +414,8 @@ module _ (x : Here) (wf : IsWellFormed x.m) (s : State) (l : Local) (a : Within 
         (ap (λ (c : ℕ). scope_of x.m c x.act.layout) (sym context)
         ∙ ap (λ (mode : Mode). scope_among x.m t.context mode x.act.layout) (sym plain))
         (fills_keep a k leads.offset p.lo behind leads.low
-        (let high = leads.high in omega (arith, ints)) (is_of_message taken) p.region may wide room in_room old new fills)
+        (let high = leads.high in omega (arith, ints)) (is_of_message taken) p.region may wide room in_room old new
+        fills)
 
     -- all bytes have come
     module _ (m : MaySchedule x.m filled_state.context filled_state.depth) (d : Scheduled x ArePlain s l)
@@ -489,7 +486,8 @@ module _ (x : Here) (wf : IsWellFormed x.m) (s : State) (l : Local) (a : Within 
 
     received_fits : MaySchedule x.m filled_state.context filled_state.depth → IsChannel x s In k u
         → Scheduled x ArePlain s l
-        → FitsIf x (rule.goes_on (rule_site x) (left_after filled_state)) (step.receives_into (step_site x) taken local_after)
+        → FitsIf x (rule.goes_on (rule_site x) (left_after filled_state))
+        (step.receives_into (step_site x) taken local_after)
     received_fits m c d =
         holds_fits x _ NotOwn _ _
         (and-both _ _ (all_held (may_write x.h) (place_of taken.address) k (λ i less.

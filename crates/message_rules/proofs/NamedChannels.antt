@@ -1,5 +1,5 @@
 -- A word that names a channel of which the context has the end, and the step that looks at it.
-use Rattle.std.proofs.Common.{◌≡◌, ℕ, ◌+◌, ◌*◌, ◌%◌, ◌<◌, ◌==◌, ℤ, pos, FitsSigned, Bool, true, false, Option, Some, None}
+use Rattle.std.proofs.Common.{◌≡◌, ℕ, ◌+◌, ◌*◌, ◌%◌, ◌<◌, ◌==◌, ℤ, pos, FitsSigned, true, false, Option, Some, None}
 use Rattle.std.proofs.Common.{refl, sym, ap, ◌∙◌, subst, arith}
 use Rattle.std.proofs.lemmas.Bool.{eq-eqb}
 use Rattle.std.proofs.lemmas.Int.{ints}
@@ -8,7 +8,7 @@ use Rattle.module_format.specs.Rows.{Fact}
 use Rattle.module_format.specs.declared.rows.EndKind.{EndKind}
 use Rattle.module_format.specs.declared.rows.Direction.{Direction}
 use Rattle.certificate.specs.Rights as rights
-use Rattle.machine_state.specs.declared.fault.FaultKind.TheVariants.{EndNotHeld, Unaligned}
+use Rattle.machine_state.specs.declared.fault.FaultKind.TheVariants.{EndNotHeld}
 use Rattle.machine_state.specs.Holding.{has_end}
 use Rattle.machine_state.specs.LocalStep as step
 use Rattle.machine_state.specs.Site.{Outcome, Local}
@@ -42,8 +42,8 @@ length_known : (n : ℕ) (o : Option ℕ) → is_length (pos n) o ≡ true → o
 length_known n None t = absurd (cc)
 length_known n (Some len) t = let e = same_word_by (pos n) (pos len) t in ap Some (omega (arith, ints, e))
 
-pub is_channel : (x : Here) (s : State) (l : Local) → Within ArePlain x.m x.h x.mode x.act s l → (direction : Direction)
-    (n : ℕ) (fact : Fact) (v : ℤ) → Means x.m x.act.layout fact (Some v) → (kind : EndKind)
+pub is_channel : (x : Here) (s : State) (l : Local) → Within ArePlain x.m x.h x.mode x.act s l
+    → (direction : Direction) (n : ℕ) (fact : Fact) (v : ℤ) → Means x.m x.act.layout fact (Some v) → (kind : EndKind)
     → channel_of (Alone fact) ≡ Some kind → holds_end (rule_site x) s kind direction ≡ true
     → has_length (rule_site x) s kind (pos n) ≡ true → IsChannel x s direction n v
 is_channel x s l a direction n fact v means kind named end long =
@@ -58,7 +58,8 @@ is_channel x s l a direction n fact v means kind named end long =
       end = end;
       known = known;
       address = address;
-      even = ap (λ (k : ℕ). k % 4) (sym address) ∙ channel_even x.m x.h s.context x.act.layout l.memory a.named kind n known;
+      even = ap (λ (k : ℕ). k % 4) (sym address)
+          ∙ channel_even x.m x.h s.context x.act.layout l.memory a.named kind n known;
       held = subst (λ (k : ℕ). has_end x.h (record { address = k; direction = direction }) ≡ true) address
           (a.named.ends kind direction end);
     }
