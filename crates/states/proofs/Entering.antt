@@ -21,13 +21,13 @@ use Rattle.states.specs.declared.known.WordFact.{WordFact}
 use Rattle.states.specs.declared.known.WordFact.TheVariants.{Alone, Index, Count}
 use Rattle.states.specs.State.{Facts, by_itself, is_word, said_of, entry_fact}
 use Rattle.states.specs.Below.{View, implies, is_constant, is_same_loop, says, entries_hold, is_whole, holds_constant}
-use Rattle.states.specs.Below.{price, cost, stands, agrees, compared}
+use Rattle.states.specs.Below.{price, cost, agrees, compared}
 use Rattle.states.specs.declared.span.Leaving.{Leaving}
 use Rattle.states.specs.Blocks.{left_by, leaving_at, facts_left}
 use Rattle.states.specs.Lookup.{lookup, fact_of_index, facts_over}
 use Rattle.states.specs.Rows.{rise_from, AreApart}
 use Rattle.states.specs.Comparing.{OneSays, OneSaysAll, SaysEntry, IsPast, loop_of, IsDue, EntryHolds, IsEntered}
-use Rattle.states.specs.Comparing.{AreEntered, IsBase, IsKeptLoop, IsPair, IsConstantAt, IsInto, IsWalk}
+use Rattle.states.specs.Comparing.{AreEntered, IsBase, IsKeptLoop, IsPair, IsConstantAt, IsInto, IsWalk, stands}
 use Rattle.states.proofs.RowFacts.{before, within, behind, lies, about-before, about-behind, and-both, le-yes}
 use Rattle.states.proofs.RowFacts.{rise-parts, entry_fact-within, entry_fact-behind, segment-behind, segment-apart}
 use Rattle.states.proofs.FrameFacts.{is_word-same, is_word-below}

@@ -16,7 +16,6 @@ use Rattle.states.specs.declared.known.LoopWord.{LoopWord}
 use Rattle.states.specs.declared.known.LoopWord.TheVariants as words
 use Rattle.states.specs.declared.known.WordFact.{WordFact}
 use Rattle.states.specs.declared.known.WordFact.TheVariants.{Alone, Index, Count}
-use Rattle.states.specs.Below.{says}
 use Rattle.states.specs.Frames.{with_alone, is_loop_word, parted}
 use Rattle.states.proofs.RowFacts.{le-yes, le-no, and-both}
 

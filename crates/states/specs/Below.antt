@@ -115,12 +115,6 @@ pub record View : Type 0 where
 abbrev pub cost : View → Label → ℕ
 cost v t = t.number + sum_by (price v.frame) t.entries
 
--- it is where the label is, and knows at least as much of the registers
-abbrev pub stands : View → Label → Bool
-stands v t =
-    (v.context == t.context) && is_word v.depth t.depth && v.is_settled
-    && implies v.stack.a t.stack.a && implies v.stack.b t.stack.b && implies v.stack.c t.stack.c
-
 -- it is where the label is, and knows at least as much
 abbrev pub agrees : View → Label → Bool
 agrees v t =

@@ -1,8 +1,9 @@
 -- One map of facts against another, word by word.
-use Rattle.std.specs.Prelude.{◌≡◌, ⊤, ◌⊎◌, ℕ, ◌+◌, ◌*◌, ◌-◌, ◌<◌, ℤ, pos, ◌+ℤ◌, ◌-ℤ◌, ◌≤ℤ◌, ◌<ℤ◌, Bool, true, false, ◌&&◌}
+use Rattle.std.specs.Prelude.{◌≡◌, ◌⊎◌, ℕ, ◌+◌, ◌*◌, ◌-◌, ◌<◌, ℤ, pos, ◌+ℤ◌, ◌-ℤ◌, ◌≤ℤ◌, ◌<ℤ◌, Bool, true, false, ◌&&◌, ◌==◌}
 use Rattle.std.specs.Prelude.{if◌then◌else◌, List, [], ◌∷◌, Option, Some, None, sum_by}
 use Rattle.std.specs.List.{list_all}
 use Rattle.module_format.specs.Rows.{Fact, Entry}
+use Rattle.module_format.specs.Contents.{Label}
 use Rattle.module_format.specs.declared.fact.Fact.TheVariants.{Loop}
 use Rattle.states.specs.declared.overlay.Written.{Written}
 use Rattle.states.specs.declared.blocks.Block.{Block}
@@ -12,7 +13,7 @@ use Rattle.states.specs.declared.known.WordFact.{WordFact}
 use Rattle.states.specs.declared.known.WordFact.TheVariants.{Index, Count}
 use Rattle.module_format.specs.Facts.{end_of}
 use Rattle.states.specs.State.{Facts, is_alone, is_word, said_of, entry_fact}
-use Rattle.states.specs.Below.{implies, says, is_constant, are_alike, is_whole, holds_constant, price}
+use Rattle.states.specs.Below.{View, implies, says, is_constant, are_alike, is_whole, holds_constant, price}
 use Rattle.states.specs.Blocks.{leaving_at}
 use Rattle.states.specs.Lookup.{fact_of_index}
 use Rattle.states.specs.Rows.{rise_from, AreApart}
@@ -155,3 +156,11 @@ pub record IsWalk (said facts : Facts) (row base rest : List Entry) (paid : ℕ)
 abbrev pub WalksOn : Facts → Facts → List Entry → List Entry → List Entry → List Entry → Type 0
 WalksOn said facts base rest next_base next_rest =
     (row : List Entry) (paid : ℕ) → IsWalk said facts row base rest paid → IsWalk said facts row next_base next_rest paid
+
+-- ---- the place and the registers
+
+-- it is where the label is, and knows at least as much of the registers
+abbrev pub stands : View → Label → Bool
+stands v t =
+    (v.context == t.context) && is_word v.depth t.depth && v.is_settled
+    && implies v.stack.a t.stack.a && implies v.stack.b t.stack.b && implies v.stack.c t.stack.c

@@ -2,7 +2,8 @@
 
 ghost use Rattle.std.specs.Prelude.{◌≡◌, ◌≤◌, SomeIff, IfOk, IfSome, Ok};
 ghost use Rattle.module_format.specs.Contents.{label_of};
-ghost use Rattle.states.specs.Below.{view, cost, is_plain, stands, agrees, compared, below};
+ghost use Rattle.states.specs.Below.{view, cost, is_plain, agrees, compared, below};
+ghost use Rattle.states.specs.Comparing.{stands};
 ghost use Rattle.states.specs.Rows.{AreApart};
 ghost use Rattle.states.specs.Views.{state_of};
 ghost use Rattle.states.specs.Numbers.{reported};

@@ -1,4 +1,4 @@
-use Rattle.std.proofs.Common.{◌≡◌, ◌*◌, rules, arith, refl, List}
+use Rattle.std.proofs.Common.{◌*◌, rules, arith, refl, List}
 use Rattle.std.proofs.lemmas.Int.{ints}
 use Rattle.std.proofs.lemmas.List.{take_rest}
 use Rattle.module_format.specs.Rows.{Entry}

@@ -1,7 +1,7 @@
-use Rattle.std.proofs.Common.{rules, refl}
+use Rattle.std.proofs.Common.{refl}
 use Rattle.states.specs.State.{entry_fact}
 use Rattle.states.specs.Frames.{frame_facts}
-use Rattle.states.proofs.Entering.{walk-begin, walk-done}
+use Rattle.states.proofs.Entering.{walk-begin}
 use Rattle.states.proofs.frame.Frame.row_paid.Goals as goal
 
 pub loop-base-init : goal.loop-base-init
