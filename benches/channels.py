@@ -2,8 +2,8 @@
 
 import struct
 
-from inputs import MAX_CODE_2, MAX_DATA_WORDS, STOP_PROCESS, backwards
-from modules import BASE, FRAME_WORD, IN, OUT, branch_row, code, module, par_row
+from inputs import LOAD_CONSTANT, MAX_CODE_2, MAX_DATA_WORDS, STOP_PROCESS, backwards
+from modules import FRAME_WORD, IN, OUT, branch_row, code, module, par_row
 
 CHANNELS = 16_320
 CHANNEL_PARAMETER, BOTH = 3, 3
@@ -18,9 +18,9 @@ def taking_channels(depth):
     parameter = struct.pack("<HBIIB", 1, CHANNEL_PARAMETER, CHANNELS, 4, BOTH)
     entry = len(STOP_PROCESS)
     procedure = struct.pack("<IiiQH", entry, 0, 4, 2, 1) + parameter
-    entries = entry + 2  # of the branches, one byte each
-    body = STOP_PROCESS + code("ret") + b"\x40" * depth + STOP_PROCESS
+    body = STOP_PROCESS + code("ret")
     start = len(body)
+    body += LOAD_CONSTANT * depth  # at which the branches begin
     while len(body) < MAX_CODE_2 - 16:
         body += code(f"ldlp {FIRST - WORKSPACE}")
         body += backwards("call", len(body), entry)
@@ -30,7 +30,7 @@ def taking_channels(depth):
     for n in range(depth):
         context = 0 if n == 0 else 1 + n
         channels = range(FIRST, FIRST + CHANNELS) if n == 0 else []
-        branch = branch_row(entries + n, WORKSPACE, WORDS, ends=ends if n == depth - 1 else [])
+        branch = branch_row(start + n, WORKSPACE, WORDS, ends=ends if n == depth - 1 else [])
         pars.append(par_row(context, 0, 0, start, channels, [branch]))
     label = struct.pack("<IHiQBBBH", start, 1 + depth, WORKSPACE, 2 * len(body), 0, 0, 0, 0)
     return module(body, MAX_DATA_WORDS, version=2, procedures=[procedure], labels=[label], pars=pars)

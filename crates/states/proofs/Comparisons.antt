@@ -1,5 +1,6 @@
 -- One map of facts against another, by entries and by words.
-use Rattle.std.proofs.Common.{◌≡◌, ℕ, zero, suc, ◌+◌, ◌-◌, ◌/◌, ◌%◌, ◌^◌, ◌<◌, ℤ, pos, negsuc, ◌+ℤ◌, ◌-ℤ◌, ◌<ℤ◌, nat_abs}
+use Rattle.std.proofs.Common.{◌≡◌, ℕ, zero, suc, ◌+◌, ◌-◌, ◌/◌, ◌%◌, ◌^◌, ◌<◌, ℤ, pos, negsuc, ◌+ℤ◌, ◌-ℤ◌, ◌<ℤ◌}
+use Rattle.std.proofs.Common.{nat_abs}
 use Rattle.std.proofs.Common.{Bool, true, false, cond, eqb, List, [], ◌∷◌, length, get_or, Option, Some, None, refl}
 use Rattle.std.proofs.Common.{sym, ap, subst, ◌∙◌, arith, ◌⊎◌, inl, inr}
 use Rattle.std.specs.Prelude.{option_map, unwrap_or, is_some}
@@ -171,8 +172,8 @@ pub says-combined : (lo : ℤ) (row : List Entry) (written : List Written) (bloc
     → SaysAll (facts_left lo blocks (facts_over lo row written)) wanted
 unfolding facts_left
 says-combined lo row written blocks wanted w l o = λ k.
-    combined-at (leaving_at blocks (k -ℤ lo)) (fact_of_index written (k -ℤ lo)) (entry_fact row k) (wanted k) (l k) (w k)
-    (o k)
+    combined-at (leaving_at blocks (k -ℤ lo)) (fact_of_index written (k -ℤ lo)) (entry_fact row k) (wanted k) (l k)
+    (w k) (o k)
 
 -- ---- words that are asked one by one
 
@@ -215,7 +216,8 @@ left-says blocks lo facts wanted each = λ k leaving left. on k (k -ℤ lo) leav
       | inl low ↦
           let both = div-add-mod' index block_words in
           let rest : index % block_words < block_words = mod-lt index some-words in
-          let word : first_of lo (index / block_words) +ℤ pos (index % block_words) ≡ k = omega (arith, ints, at, both) in
+          let word : first_of lo (index / block_words) +ℤ pos (index % block_words) ≡ k =
+          omega (arith, ints, at, both) in
           ap (λ (j : ℤ). says (facts j) (wanted j)) (sym word)
           ∙ each (index / block_words) low (ap is_some left) (index % block_words) rest
       | inr high ↦

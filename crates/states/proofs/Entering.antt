@@ -1,5 +1,6 @@
 -- What a row says of the entries that another one wants, and what is paid for their loops.
-use Rattle.std.proofs.Common.{◌≡◌, ℕ, zero, suc, ◌+◌, ◌-◌, ◌*◌, ◌≤◌, ℤ, pos, ◌+ℤ◌, ◌-ℤ◌, ◌≤ℤ◌, ◌<ℤ◌, Bool, true, false, ◌&&◌}
+use Rattle.std.proofs.Common.{◌≡◌, ℕ, zero, suc, ◌+◌, ◌-◌, ◌*◌, ◌≤◌, ℤ, pos, ◌+ℤ◌, ◌-ℤ◌, ◌≤ℤ◌, ◌<ℤ◌, Bool}
+use Rattle.std.proofs.Common.{true, false, ◌&&◌}
 use Rattle.std.proofs.Common.{if◌then◌else◌, eqb, List, [], ◌∷◌, Option, Some, None, refl, sym, ap, subst, ◌∙◌, arith}
 use Rattle.std.proofs.Common.{◌⊎◌, ◌<◌, inl, inr, drop, get_or, length}
 use Rattle.std.specs.Prelude.{sum_by, nat_lt, Ok, option_map, unwrap_or, is_some, not}
@@ -112,7 +113,8 @@ loop-by said facts entry (Loop base count weight) wanted first second paid is lo
           inr (rw (at, is, is_word-same entry.word entry.word refl, ← first_is) due.index))
           (λ l.
           let at : k ≡ entry.word +ℤ pos 1 = omega (arith, ints) in
-          inr (rw (at, is, is_word-below entry.word (entry.word +ℤ pos 1) (omega (arith, ints)), ← second_is) due.count));
+          let below = is_word-below entry.word (entry.word +ℤ pos 1) (omega (arith, ints)) in
+          inr (rw (at, is, below, ← second_is) due.count));
       whole = rw (is, ← first_is, ← second_is) due.alike;
       due = rw (is, ← first_is, ← second_is) due.price;
     }
@@ -290,7 +292,8 @@ pub walk-from : (said facts : Facts) (row base left rest : List Entry) (entry : 
     → IsWalk said facts row base rest paid → rest ≡ entry ∷ later
     → ((k : ℤ) → entry.word ≤ℤ k → entry_fact left k ≡ entry_fact base k) → IsWalk said facts row left rest paid
 walk-from said facts row base left rest entry later paid walk is same =
-    let parts = rise-parts walk.low entry later (subst (λ (es : List Entry). rise_from walk.low es ≡ true) is walk.rises) in
+    let parts = rise-parts walk.low entry later
+    (subst (λ (es : List Entry). rise_from walk.low es ≡ true) is walk.rises) in
     let low = parts.0 in
     record {
       low = entry.word;
@@ -316,7 +319,8 @@ pub walk-past : (said facts : Facts) (row base left rest : List Entry) (entry : 
     → IsEntered said facts entry here → next ≡ paid + here
     → ((k : ℤ) → end_of entry ≤ℤ k → entry_fact left k ≡ entry_fact base k) → IsWalk said facts row left later next
 walk-past said facts row base left rest entry later paid here next walk is entered sum same =
-    let parts = rise-parts walk.low entry later (subst (λ (es : List Entry). rise_from walk.low es ≡ true) is walk.rises) in
+    let parts = rise-parts walk.low entry later
+    (subst (λ (es : List Entry). rise_from walk.low es ≡ true) is walk.rises) in
     let low = parts.0 in
     record {
       low = end_of entry;

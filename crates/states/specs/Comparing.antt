@@ -1,5 +1,6 @@
 -- One map of facts against another, word by word.
-use Rattle.std.specs.Prelude.{◌≡◌, ◌⊎◌, ℕ, ◌+◌, ◌*◌, ◌-◌, ◌<◌, ℤ, pos, ◌+ℤ◌, ◌-ℤ◌, ◌≤ℤ◌, ◌<ℤ◌, Bool, true, false, ◌&&◌, ◌==◌}
+use Rattle.std.specs.Prelude.{◌≡◌, ◌⊎◌, ℕ, ◌+◌, ◌*◌, ◌-◌, ◌<◌, ℤ, pos, ◌+ℤ◌, ◌-ℤ◌, ◌≤ℤ◌, ◌<ℤ◌, Bool}
+use Rattle.std.specs.Prelude.{true, false, ◌&&◌, ◌==◌}
 use Rattle.std.specs.Prelude.{if◌then◌else◌, List, [], ◌∷◌, Option, Some, None, sum_by}
 use Rattle.std.specs.List.{list_all}
 use Rattle.module_format.specs.Rows.{Fact, Entry}
@@ -68,7 +69,8 @@ pub record IsPast (row : List Entry) (word end : ℤ) (wanted : Fact) (left : Li
   pub within : next ≤ℤ end
   pub apart : AreApart left
   pub same : (k : ℤ) → next ≤ℤ k → entry_fact left k ≡ entry_fact row k
-  pub each : (k : ℤ) → word ≤ℤ k → k <ℤ next → (is_first : Bool) → says (entry_fact row k) (said_of wanted is_first) ≡ true
+  pub each : (k : ℤ) → word ≤ℤ k → k <ℤ next → (is_first : Bool)
+      → says (entry_fact row k) (said_of wanted is_first) ≡ true
 
 -- ---- loops that are wanted
 
@@ -90,7 +92,8 @@ pub record IsDue (wanted : CountedLoop) (first second : WordFact) (paid : ℕ) :
 -- of each word of an entry one of the two says at least what the entry says
 abbrev pub EntryHolds : Facts → Facts → Entry → Type 0
 EntryHolds said facts entry =
-    (k : ℤ) → entry.word ≤ℤ k → k <ℤ end_of entry → OneSays (said k) (facts k) (said_of entry.fact (is_word entry.word k))
+    (k : ℤ) → entry.word ≤ℤ k → k <ℤ end_of entry
+    → OneSays (said k) (facts k) (said_of entry.fact (is_word entry.word k))
 
 -- an entry holds by one of the two, its loop, if it is of one, is not half known, and this is paid for it
 pub record IsEntered (said facts : Facts) (entry : Entry) (paid : ℕ) : Type 0 where
@@ -155,7 +158,8 @@ pub record IsWalk (said facts : Facts) (row base rest : List Entry) (paid : ℕ)
 -- further entries are passed, for which nothing is paid
 abbrev pub WalksOn : Facts → Facts → List Entry → List Entry → List Entry → List Entry → Type 0
 WalksOn said facts base rest next_base next_rest =
-    (row : List Entry) (paid : ℕ) → IsWalk said facts row base rest paid → IsWalk said facts row next_base next_rest paid
+    (row : List Entry) (paid : ℕ) → IsWalk said facts row base rest paid
+    → IsWalk said facts row next_base next_rest paid
 
 -- ---- the place and the registers
 

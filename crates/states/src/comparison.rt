@@ -35,7 +35,8 @@ fn stands(state: &State, row: &LabelRow) -> bool
 /// The same by one pass over the entries of both rows, where that tells it.
 fn compare_quickly(number: u128, state: &State, row: &LabelRow) -> Option<u128>
     requires { AreApart row.now.entries.items }
-    ensures compared { IfSome result (λ cost. compared number (view (state_of state.now)) (label_of row.now) ≡ Ok cost) }
+    ensures compared { IfSome result
+        (λ cost. compared number (view (state_of state.now)) (label_of row.now) ≡ Ok cost) }
     ensures covered { IfSome result (λ cost. cost ≤ number) }
 {
     if !stands(state, row) {
@@ -67,8 +68,8 @@ fn cost(number: u128, state: &State, row: &LabelRow) -> Option<u128>
 }
 
 /// What it costs a state that may pay this number to go on as a label's, by what it knows. `Rule::Budget`: the
-/// number does not cover it. `Rule::Label`: it is elsewhere, or knows less. Only where one pass over the entries does not
-/// tell it, it is asked word by word.
+/// number does not cover it. `Rule::Label`: it is elsewhere, or knows less. Only where one pass over the entries does
+/// not tell it, it is asked word by word.
 pub fn compare(number: u128, state: &State, row: &LabelRow) -> Result<u128, Rule>
     requires { AreApart row.now.entries.items }
     ensures compared { result ≡ compared number (view (state_of state.now)) (label_of row.now) }
@@ -87,7 +88,7 @@ pub fn compare(number: u128, state: &State, row: &LabelRow) -> Result<u128, Rule
 /// What it costs a state to go on as a label's: the label's number, and for each loop that it enters the
 /// loop's weight for each turn but the first. `Rule::Budget`: it cannot pay. `Rule::Label`: it stands
 /// elsewhere, or knows less. The time goes with the entries of the row and of the label before, and with
-/// the words written since then; where blocks of words were left since then, with the words of the row.
+/// the words written or left since then, each of which is sought in the row, or else with the words of the row.
 #[tactic(auto, unfolding(crate::specs::Below::below))]
 pub fn cost_below(state: &State, row: &LabelRow) -> Result<u64, Rule>
     requires { AreApart row.now.entries.items }

@@ -87,7 +87,8 @@ pub(crate) fn steps_to_find(row: &[Entry]) -> u64 {
 #[inline(always)]
 fn entry_of<'a>(row: &'a [Entry], word: i64) -> Option<&'a Entry>
     requires { AreApart row.now }
-    ensures some { IfSome result (λ entry. entry_fact row.now word ≡ said_of entry.now.fact (is_word entry.now.word word)) }
+    ensures some { IfSome result
+        (λ entry. entry_fact row.now word ≡ said_of entry.now.fact (is_word entry.now.word word)) }
     ensures none { IfNone result (entry_fact row.now word ≡ Alone Unknown) }
 {
     let mut rest = row;

@@ -14,7 +14,8 @@ loop-i-preserved c = λ row walk.
     let facts = frame_facts c.args.self.now in
     let two : i * 2 + 1 + 1 ≡ (i + 1) * 2 = omega arith in
     rw (← two)
-    (walk-into said facts row (drop (i * 2) base) (drop i rest) _ _ _ (drop (i * 2 + 1 + 1) base) (drop (i + 1) rest) _ _
+    (walk-into said facts row (drop (i * 2) base) (drop i rest) _ _ _ (drop (i * 2 + 1 + 1) base)
+    (drop (i + 1) rest) _ _
     (c.loop-i.invariant row walk)
     (drop-two base (i * 2) _ _ (omega (arith, c.loop-i-test.true, c.min-len.ensures)))
     (drop_more rest i _ (omega (arith, c.loop-i-test.true, c.min-len.ensures))) c.in-Some.ensures)

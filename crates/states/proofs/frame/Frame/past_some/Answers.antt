@@ -31,7 +31,10 @@ returns-then-pairs-gt0-clause-apart c =
 pub returns-then-pairs-gt0-clause-walks : goal.returns-then-pairs-gt0-clause-walks
 returns-then-pairs-gt0-clause-walks c = λ row walk.
     let after = (goal.at.returns-then-pairs-gt0-clause-walks c).After-without_ended-base in
-    rw (take_rest c.without_ended-base.result.now c.pair_count-pairs.result, take_rest c.args.rest.now c.pair_count-pairs.result)
+    rw (
+      take_rest c.without_ended-base.result.now c.pair_count-pairs.result,
+      take_rest c.args.rest.now c.pair_count-pairs.result,
+    )
     (c.pair_count-pairs.ensures.walks row c.args.paid (begun after row walk))
 
 pub returns-then-over-gt0-clause-walks : goal.returns-then-over-gt0-clause-walks
@@ -39,8 +42,8 @@ returns-then-over-gt0-clause-walks c = λ row walk.
     let after = (goal.at.returns-then-over-gt0-clause-walks c).After-without_ended-base in
     let over = c.first_over_count-over.result in
     rw (take_rest c.args.rest.now over)
-    (walks-over (entry_fact c.args.self.now.row.now) (frame_facts c.args.self.now) row c.without_ended-base.result.now over
-    c.args.rest.now c.args.paid c.first_over_count-over.ensures.few c.first_over_count-over.ensures.over
+    (walks-over (entry_fact c.args.self.now.row.now) (frame_facts c.args.self.now) row
+    c.without_ended-base.result.now over c.args.rest.now c.args.paid c.first_over_count-over.ensures.few c.first_over_count-over.ensures.over
     (begun after row walk))
 
 pub returns-then-entered-gt0-clause-apart : goal.returns-then-entered-gt0-clause-apart
@@ -67,5 +70,6 @@ returns-clause-walks c = λ row walk.
     let from = begun after row walk in
     walk-past said facts row base base c.args.rest.now entry later c.args.paid c.in_ok-entry_paid.field-0
     c.in_ok-paid.paid from (search rules)
-    (c.in_ok-entry_paid.ensures (walk-base said facts row base c.args.rest.now entry later c.args.paid from (search rules)))
+    (c.in_ok-entry_paid.ensures
+    (walk-base said facts row base c.args.rest.now entry later c.args.paid from (search rules)))
     c.in_ok-paid.ensures.1 (λ k l. refl)

@@ -8,6 +8,7 @@ pub loop-base-init : goal.loop-base-init
 loop-base-init c = record {
   apart = c.args.self.now.apart;
   walk =
-      walk-begin (entry_fact c.args.self.now.row.now) (frame_facts c.args.self.now) c.args.row.now c.args.self.now.row.now
+      walk-begin (entry_fact c.args.self.now.row.now) (frame_facts c.args.self.now) c.args.row.now
+      c.args.self.now.row.now
       c.requires (λ k l. refl);
 }

@@ -38,5 +38,6 @@ loop-word-preserved c =
       same = λ k l. c.past_saying-passed.ensures.same k (omega (arith, ints))
           ∙ c.loop-word.invariant.same k (omega (arith, ints, ahead));
       so_far = held-word said facts c.args.base.now entry passed (passed +ℤ pos 1) held
-          (ap (λ (f : WordFact). says f (Alone entry.fact)) (sym said_at) ∙ (sym c.says.ensures ∙ c.if-not-says.false)) refl;
+          (ap (λ (f : WordFact). says f (Alone entry.fact)) (sym said_at)
+          ∙ (sym c.says.ensures ∙ c.if-not-says.false)) refl;
     })
