@@ -1,9 +1,12 @@
 -- One map of facts against another, by entries and by words.
-use Rattle.std.proofs.Common.{◌≡◌, ℕ, zero, suc, ◌+◌, ◌-◌, ◌^◌, ◌<◌, ℤ, pos, negsuc, ◌+ℤ◌, ◌-ℤ◌, ◌≤ℤ◌, ◌<ℤ◌, nat_abs}
+use Rattle.std.proofs.Common.{◌≡◌, ℕ, zero, suc, ◌+◌, ◌-◌, ◌/◌, ◌%◌, ◌^◌, ◌<◌, ℤ, pos, negsuc, ◌+ℤ◌, ◌-ℤ◌, ◌<ℤ◌}
+use Rattle.std.proofs.Common.{nat_abs}
 use Rattle.std.proofs.Common.{Bool, true, false, cond, eqb, List, [], ◌∷◌, length, get_or, Option, Some, None, refl}
-use Rattle.std.proofs.Common.{sym, ap, ◌∙◌, arith, ◌⊎◌, inl, inr}
-use Rattle.std.specs.Prelude.{option_map, unwrap_or}
-use Rattle.std.proofs.lemmas.List.{get_or_default}
+use Rattle.std.proofs.Common.{sym, ap, subst, ◌∙◌, arith, ◌⊎◌, inl, inr}
+use Rattle.std.specs.Prelude.{option_map, unwrap_or, is_some}
+use Rattle.std.proofs.lemmas.Nat.{div-add-mod'}
+use Rattle.std.proofs.Math.Nat.{mod-lt}
+use Rattle.std.proofs.lemmas.List.{get_or_default, get_or_past}
 use Rattle.std.proofs.lemmas.Bool.{cases_eq, cases_lt, cases_Bool}
 use Rattle.std.proofs.lemmas.Bool.Decides.{nat_tests}
 use Rattle.std.proofs.lemmas.Int.{ints, by_lt_z}
@@ -12,7 +15,10 @@ use Rattle.module_format.specs.declared.fact.Fact.TheVariants.{Unknown, Number, 
 use Rattle.module_format.specs.declared.fact.Fact.TheVariants.{ReturnAddress}
 use Rattle.module_format.specs.Rows.{Entry}
 use Rattle.states.specs.declared.overlay.Written.{Written}
-use Rattle.states.specs.Lookup.{lookup, ArePlaced, fact_of_index, facts_over}
+use Rattle.states.specs.Lookup.{lookup, fact_of_index, facts_over}
+use Rattle.states.specs.declared.blocks.Block.{Block}
+use Rattle.states.specs.declared.span.Leaving.{Leaving}
+use Rattle.states.specs.Blocks.{block_words, no_block, block_at, first_of, left_by, leaving_at, facts_left}
 use Rattle.states.specs.declared.known.WordFact.{WordFact}
 use Rattle.states.specs.declared.known.WordFact.TheVariants.{Alone}
 use Rattle.states.specs.State.{Facts, by_itself, is_word, is_about, said_of, entry_fact}
@@ -20,11 +26,11 @@ use Rattle.states.specs.Below.{implies, says, words_say, entries_hold}
 use Rattle.module_format.specs.Order.{least_word}
 use Rattle.module_format.specs.Facts.{end_of}
 use Rattle.states.specs.Rows.{rise_from, AreApart}
-use Rattle.states.specs.Comparing.{SaysAll, SaysLess, OneSaysAll, WrittenSaysAll}
+use Rattle.states.specs.Comparing.{SaysAll, SaysLess, OneSaysAll, WrittenSaysAll, BlockSaysAll, LeftSaysAll}
 use Rattle.states.proofs.RowFacts.{and-parts, and-both, before, within, behind, lies, about-before, about-behind}
 use Rattle.states.proofs.RowFacts.{rise-parts, unknown-below, entry_fact-within}
 use Rattle.states.proofs.FrameFacts.{distance, is_word-same, is_word-below}
-use Rattle.states.proofs.Lookups.{lookup-at, indices-at}
+use Rattle.states.proofs.Loops.{some-words}
 
 pub implies-unknown : (fact : Fact) → implies fact Unknown ≡ true
 implies-unknown Unknown = refl
@@ -145,47 +151,109 @@ entries_hold-false facts entries h = elim (cases_Bool (entries_hold facts entrie
   | inr e ↦ e
 ]
 
--- ---- what was written, over a row
+-- ---- what was changed, over a row
 
--- what is known says all where what was written does, and the row or what is known does
-combined-at : (o : Option Fact) (said wanted : WordFact) → ((f : Fact) → o ≡ Some f → says (Alone f) wanted ≡ true)
-    → (says said wanted ≡ true) ⊎ (says (unwrap_or (option_map Alone o) said) wanted ≡ true)
-    → says (unwrap_or (option_map Alone o) said) wanted ≡ true
-combined-at None said wanted written h = elim h [ inl p ↦ p | inr p ↦ p ]
-combined-at (Some f) said wanted written h = written f refl
+-- What is known of a word says what is wanted, where that of a word that was left or written does, and what the row
+-- says or what is known does.
+combined-at : (left : Option Leaving) (o : Option Fact) (said wanted : WordFact)
+    → ((leaving : Leaving) → left ≡ Some leaving
+    → says (left_by left (unwrap_or (option_map Alone o) said)) wanted ≡ true)
+    → ((f : Fact) → o ≡ Some f → says (left_by left (unwrap_or (option_map Alone o) said)) wanted ≡ true)
+    → (says said wanted ≡ true) ⊎ (says (left_by left (unwrap_or (option_map Alone o) said)) wanted ≡ true)
+    → says (left_by left (unwrap_or (option_map Alone o) said)) wanted ≡ true
+combined-at (Some leaving) o said wanted left written h = left leaving refl
+combined-at None (Some f) said wanted left written h = written f refl
+combined-at None None said wanted left written h = elim h [ inl p ↦ p | inr p ↦ p ]
 
-pub says-combined : (lo : ℤ) (row : List Entry) (written : List Written) (wanted : Facts)
-    → WrittenSaysAll written lo wanted → OneSaysAll (entry_fact row) (facts_over lo row written) wanted
-    → SaysAll (facts_over lo row written) wanted
-says-combined lo row written wanted w o =
-    λ k. combined-at (fact_of_index written (k -ℤ lo)) (entry_fact row k) (wanted k) (w k) (o k)
+pub says-combined : (lo : ℤ) (row : List Entry) (written : List Written) (blocks : List Block) (wanted : Facts)
+    → WrittenSaysAll written lo (facts_left lo blocks (facts_over lo row written)) wanted
+    → LeftSaysAll blocks lo (facts_left lo blocks (facts_over lo row written)) wanted
+    → OneSaysAll (entry_fact row) (facts_left lo blocks (facts_over lo row written)) wanted
+    → SaysAll (facts_left lo blocks (facts_over lo row written)) wanted
+unfolding facts_left
+says-combined lo row written blocks wanted w l o = λ k.
+    combined-at (leaving_at blocks (k -ℤ lo)) (fact_of_index written (k -ℤ lo)) (entry_fact row k) (wanted k) (l k)
+    (w k) (o k)
+
+-- ---- words that are asked one by one
+
+-- one more of a block's words
+pub block-more : (first : ℤ) (facts wanted : Facts) (n : ℕ) → BlockSaysAll first facts wanted n
+    → says (facts (first +ℤ pos n)) (wanted (first +ℤ pos n)) ≡ true → BlockSaysAll first facts wanted (n + 1)
+block-more first facts wanted n earlier here = λ j h. elim (cases_lt j n) [
+  | inl l ↦ earlier j l
+  | inr l ↦
+      let same : j ≡ n = omega arith in
+      ap (λ (i : ℕ). says (facts (first +ℤ pos i)) (wanted (first +ℤ pos i))) same ∙ here
+]
+
+-- of each word of so many blocks that was left at least that is known which is wanted
+abbrev pub BlocksSay : List Block → ℤ → Facts → Facts → ℕ → Type 0
+BlocksSay blocks lo facts wanted count =
+    (n : ℕ) → n < count → is_some (block_at blocks n).left ≡ true
+    → BlockSaysAll (first_of lo n) facts wanted block_words
+
+-- one block more
+pub blocks-more : (blocks : List Block) (lo : ℤ) (facts wanted : Facts) (n : ℕ) → BlocksSay blocks lo facts wanted n
+    → (is_some (block_at blocks n).left ≡ true → BlockSaysAll (first_of lo n) facts wanted block_words)
+    → BlocksSay blocks lo facts wanted (n + 1)
+blocks-more blocks lo facts wanted n earlier here = λ m h. elim (cases_lt m n) [
+  | inl l ↦ earlier m l
+  | inr l ↦
+      let same : m ≡ n = omega arith in
+      λ left. subst (λ (i : ℕ). BlockSaysAll (first_of lo i) facts wanted block_words) (sym same)
+      (here (ap (λ (i : ℕ). is_some (block_at blocks i).left) (sym same) ∙ left))
+]
+
+-- each word that was left is one of a block's
+pub left-says : (blocks : List Block) (lo : ℤ) (facts wanted : Facts)
+    → BlocksSay blocks lo facts wanted (length blocks) → LeftSaysAll blocks lo facts wanted
+left-says blocks lo facts wanted each = λ k leaving left. on k (k -ℤ lo) leaving refl left
+  where
+    on : (k z : ℤ) (leaving : Leaving) → k -ℤ lo ≡ z → leaving_at blocks z ≡ Some leaving
+        → says (facts k) (wanted k) ≡ true
+    on k (pos index) leaving at left = elim (cases_lt (index / block_words) (length blocks)) [
+      | inl low ↦
+          let both = div-add-mod' index block_words in
+          let rest : index % block_words < block_words = mod-lt index some-words in
+          let word : first_of lo (index / block_words) +ℤ pos (index % block_words) ≡ k =
+          omega (arith, ints, at, both) in
+          ap (λ (j : ℤ). says (facts j) (wanted j)) (sym word)
+          ∙ each (index / block_words) low (ap is_some left) (index % block_words) rest
+      | inr high ↦
+          let none = ap (λ (b : Block). b.left) (get_or_past blocks (index / block_words) no_block high) in
+          let clash : None ≡ Some leaving = sym none ∙ left in
+          absurd (cc)
+    ]
+    on k (negsuc n) leaving at left = absurd (cc)
 
 -- ---- the list of what was written
 
--- the facts of so many items of the list say what is wanted
-abbrev pub ItemsSay : List Written → ℕ → ℤ → Facts → Type 0
-ItemsSay written n lo wanted = (i : ℕ) → i < n → (d : Written)
-    → says (Alone ((get_or written i d).fact)) (wanted (lo +ℤ pos ((get_or written i d).index))) ≡ true
+-- of the words of so many items of the list at least that is known which is wanted
+abbrev pub ItemsSay : List Written → ℕ → ℤ → Facts → Facts → Type 0
+ItemsSay written n lo facts wanted = (i : ℕ) → i < n → (d : Written)
+    → says (facts (lo +ℤ pos ((get_or written i d).index))) (wanted (lo +ℤ pos ((get_or written i d).index))) ≡ true
 
 -- what was asked of an item
-pub item-asked : (wanted : Facts) (lo word : ℤ) (index : ℕ) (fact : Fact) (other : WordFact) (b : Bool)
-    → word ≡ lo +ℤ pos index → other ≡ wanted word → b ≡ says (Alone fact) other
-    → says (Alone fact) (wanted (lo +ℤ pos index)) ≡ b
-item-asked wanted lo word index fact other b word_is is asked =
-    ap (λ (j : ℤ). says (Alone fact) (wanted j)) (sym word_is) ∙ (ap (says (Alone fact)) (sym is) ∙ sym asked)
+pub item-holds : (facts wanted : Facts) (lo word : ℤ) (index : ℕ) (fact : Fact) (asked : Bool)
+    → word ≡ lo +ℤ pos index → Alone fact ≡ facts (lo +ℤ pos index) → asked ≡ says (Alone fact) (wanted word)
+    → asked ≡ true → says (facts (lo +ℤ pos index)) (wanted (lo +ℤ pos index)) ≡ true
+item-holds facts wanted lo word index fact asked word_is fact_is is holds =
+    ap (λ (f : WordFact). says f (wanted (lo +ℤ pos index))) (sym fact_is)
+    ∙ (ap (λ (j : ℤ). says (Alone fact) (wanted j)) (sym word_is) ∙ (sym is ∙ holds))
 
 -- one item more
-pub items-more : (written : List Written) (n : ℕ) (lo : ℤ) (wanted : Facts) (e : Written) → n < length written
-    → ItemsSay written n lo wanted
-    → says (Alone ((get_or written n e).fact)) (wanted (lo +ℤ pos ((get_or written n e).index))) ≡ true
-    → ItemsSay written (n + 1) lo wanted
-items-more written n lo wanted e low earlier here = λ i h d. elim (cases_lt i n) [
+pub items-more : (written : List Written) (n : ℕ) (lo : ℤ) (facts wanted : Facts) (e : Written) → n < length written
+    → ItemsSay written n lo facts wanted
+    → says (facts (lo +ℤ pos ((get_or written n e).index))) (wanted (lo +ℤ pos ((get_or written n e).index))) ≡ true
+    → ItemsSay written (n + 1) lo facts wanted
+items-more written n lo facts wanted e low earlier here = λ i h d. elim (cases_lt i n) [
   | inl l ↦ earlier i l d
   | inr l ↦
       let same : i ≡ n = omega arith in
       let item : get_or written i d ≡ get_or written n e =
       ap (λ j. get_or written j d) same ∙ get_or_default written n d e low in
-      ap (λ (w : Written). says (Alone w.fact) (wanted (lo +ℤ pos w.index))) item ∙ here
+      ap (λ (w : Written). says (facts (lo +ℤ pos w.index)) (wanted (lo +ℤ pos w.index))) item ∙ here
 ]
 
 -- what is found stands in the list
@@ -209,67 +277,14 @@ index-found : (written : List Written) (z : ℤ) (fact : Fact) → fact_of_index
 index-found written (pos n) fact h = (n, refl, h)
 index-found written (negsuc n) fact h = absurd (cc)
 
-pub written-says : (written : List Written) (lo : ℤ) (wanted : Facts) (d : Written)
-    → ItemsSay written (length written) lo wanted → WrittenSaysAll written lo wanted
-written-says written lo wanted d each = λ k fact h.
+pub written-says : (written : List Written) (lo : ℤ) (facts wanted : Facts) (d : Written)
+    → ItemsSay written (length written) lo facts wanted → WrittenSaysAll written lo facts wanted
+written-says written lo facts wanted d each = λ k fact h.
     let i = index-found written (k -ℤ lo) fact h in
     let f = found-at written i.0 fact d i.2 in
     let word : lo +ℤ pos ((get_or written f.0 d).index) ≡ k = let same = f.2 in let index =
     i.1 in omega (arith, ints) in
-    ap (λ (x : Fact). says (Alone x) (wanted k)) (sym f.3)
-    ∙ (ap (λ (j : ℤ). says (Alone ((get_or written f.0 d).fact)) (wanted j)) (sym word) ∙ each f.0 f.1 d)
-
--- an item that says less
-pub written-less : (places : List ℕ) (written : List Written) (row : List Entry) (lo : ℤ) (wanted : Facts) (i : ℕ)
-    (d : Written) → ArePlaced places written → i < length written
-    → says (Alone ((get_or written i d).fact)) (wanted (lo +ℤ pos ((get_or written i d).index))) ≡ false
-    → SaysLess (facts_over lo row written) wanted
-written-less places written row lo wanted i d placed low h =
-    let item = get_or written i d in
-    let k = lo +ℤ pos item.index in
-    let found = lookup-at places written item.index i d placed low (indices-at written i d low) in
-    let z : k -ℤ lo ≡ pos item.index = omega (arith, ints) in
-    let fact : facts_over lo row written k ≡ Alone item.fact =
-    ap (λ o. unwrap_or (option_map Alone o) (entry_fact row k)) (ap (fact_of_index written) z ∙ found) in
-    (k, ap (λ (x : WordFact). says x (wanted k)) fact ∙ h)
-
--- ---- two rows side by side
-
--- of each word below `word` the row or what is known says what is wanted
-abbrev pub SaysUpTo : Facts → Facts → Facts → ℤ → Type 0
-SaysUpTo said facts wanted word =
-    (k : ℤ) → k <ℤ word → (says (said k) (wanted k) ≡ true) ⊎ (says (facts k) (wanted k) ≡ true)
-
-pub says-none : (said facts : Facts) (row : List Entry) (word : ℤ) → AreApart row → word ≡ least_word
-    → SaysUpTo said facts (entry_fact row) word
-says-none said facts row word apart is = λ k l.
-    inl (ap (says (said k)) (unknown-below least_word k row apart (omega (arith, ints))) ∙ says-unknown (said k))
-
-pub says-more : (said facts wanted rest_said rest_wanted : Facts) (word here there end : ℤ) (fact other : WordFact)
-    → SaysUpTo said facts wanted word
-    → ((k : ℤ) → word ≤ℤ k → rest_said k ≡ said k) → ((k : ℤ) → word ≤ℤ k → rest_wanted k ≡ wanted k)
-    → ((k : ℤ) → word ≤ℤ k → k <ℤ here → rest_said k ≡ fact)
-    → ((k : ℤ) → word ≤ℤ k → k <ℤ there → rest_wanted k ≡ other)
-    → end ≤ℤ here → end ≤ℤ there
-    → ((k : ℤ) → word ≤ℤ k → k <ℤ end → (says fact other ≡ true) ⊎ (says (facts k) other ≡ true))
-    → SaysUpTo said facts wanted end
-says-more said facts wanted rest_said rest_wanted word here there end fact other earlier said_same wanted_same said_is
-    wanted_is e_here e_there stretch = λ k l.
-    by_lt_z k word (λ low. earlier k low) (λ high.
-    let s : said k ≡ fact = sym (said_same k high) ∙ said_is k high (omega (arith, ints)) in
-    let w : wanted k ≡ other = sym (wanted_same k high) ∙ wanted_is k high (omega (arith, ints)) in
-    elim (stretch k high l) [
-      | inl p ↦ inl (rw (s, w) p)
-      | inr p ↦ inr (rw w p)
-    ])
-
-pub says-less : (facts wanted rest_wanted : Facts) (word there end : ℤ) (other : WordFact)
-    → ((k : ℤ) → word ≤ℤ k → rest_wanted k ≡ wanted k) → ((k : ℤ) → word ≤ℤ k → k <ℤ there → rest_wanted k ≡ other)
-    → end ≤ℤ there
-    → (k : ℤ) × (word ≤ℤ k) × (k <ℤ end) × (says (facts k) other ≡ false) → SaysLess facts wanted
-says-less facts wanted rest_wanted word there end other wanted_same wanted_is e_there h =
-    let high : h.0 <ℤ there = let l = h.2 in omega (arith, ints) in
-    (h.0, ap (says (facts h.0)) (sym (wanted_same h.0 h.1) ∙ wanted_is h.0 h.1 high) ∙ h.3)
+    ap (λ (j : ℤ). says (facts j) (wanted j)) (sym word) ∙ each f.0 f.1 d
 
 -- ---- how far a word is from the greatest number
 

@@ -16,7 +16,6 @@ use Rattle.states.specs.declared.known.LoopWord.{LoopWord}
 use Rattle.states.specs.declared.known.LoopWord.TheVariants as words
 use Rattle.states.specs.declared.known.WordFact.{WordFact}
 use Rattle.states.specs.declared.known.WordFact.TheVariants.{Alone, Index, Count}
-use Rattle.states.specs.Below.{says}
 use Rattle.states.specs.Frames.{with_alone, is_loop_word, parted}
 use Rattle.states.proofs.RowFacts.{le-yes, le-no, and-both}
 
@@ -151,19 +150,3 @@ distance-of a b (negsuc m) n h e n_is = absurd (omega (arith, ints))
 
 pub distance : (a b : ℤ) (n : ℕ) → b ≤ℤ a → n ≡ nat_abs (a -ℤ b) → a ≡ b +ℤ pos n
 distance a b n h e = distance-of a b (a -ℤ b) n h refl e
-
--- ---- a stretch of words
-
-abbrev Say : Facts → WordFact → ℤ → ℤ → Type 0
-Say facts wanted word end = (j : ℤ) → word ≤ℤ j → j <ℤ end → says (facts j) wanted ≡ true
-
-pub say-more : (facts : Facts) (wanted : WordFact) (word k next : ℤ) (fact : WordFact) → Say facts wanted word k
-    → fact ≡ facts k → says fact wanted ≡ true → next ≡ k +ℤ pos 1 → Say facts wanted word next
-say-more facts wanted word k next fact before is holds next_is = λ j l h. by_lt_z j k (λ low. before j l low) (λ high.
-    let same : j ≡ k = omega (arith, ints) in
-    ap (λ f. says f wanted) (ap facts same ∙ sym is) ∙ holds)
-
-pub say-fails : (facts : Facts) (wanted : WordFact) (word k end : ℤ) (fact : WordFact) → word ≤ℤ k → k <ℤ end
-    → fact ≡ facts k → false ≡ says fact wanted
-    → (j : ℤ) × (word ≤ℤ j) × (j <ℤ end) × (says (facts j) wanted ≡ false)
-say-fails facts wanted word k end fact l h is fails = (k, l, h, ap (λ f. says f wanted) (sym is) ∙ sym fails)

@@ -9,9 +9,7 @@ pub mod SpanFacts
 pub mod BlockSums
 pub mod Leavings
 pub mod Comparisons
-pub mod SideBySide
-pub mod AlikeEntries
-pub mod EntriesWithin
+pub mod Entering
 pub mod States
 pub mod OwnWords
 pub mod FrameBounds

@@ -54,7 +54,7 @@ written-at (w ∷ ws) index fact h = elim (eqb_tells w.index index) [
 ]
 
 -- what was written has room
-index-below : (places : List ℕ) (ws : List Written) (index : ℕ) (fact : Fact) → ArePlaced places ws
+pub index-below : (places : List ℕ) (ws : List Written) (index : ℕ) (fact : Fact) → ArePlaced places ws
     → lookup ws index ≡ Some fact → index < length places
 index-below places ws index fact placed h =
     let at = written-at ws index fact h in

@@ -1,7 +1,7 @@
 //! What is kept for blocks of words, beside what is kept for each word.
 
 ghost use Rattle.std.specs.Prelude.{◌≡◌, ◌<◌, ◌≤◌, ◌==◌, ℕ, if◌then◌else◌, [], vec_len, vec_capacity, IfOk};
-ghost use Rattle.std.specs.Prelude.{IsFalse, None};
+ghost use Rattle.std.specs.Prelude.{is_some};
 ghost use Rattle.states.specs.Blocks.{block_words, no_block, block_at};
 
 use crate::span::{Leaving, Together};
@@ -76,16 +76,22 @@ impl Blocks {
         self.kept[number]
     }
 
-    /// Whether the words of some block were left.
-    pub(crate) fn are_left(&self) -> bool
-        ensures { IsFalse result → (n : ℕ) → (block_at self.now.kept.items n).left ≡ None }
+    /// Whether a block's words were left.
+    pub(crate) fn is_left(&self, number: usize) -> bool
+        ensures { result ≡ is_some (block_at self.now.kept.items number).left }
     {
+        self.get(number).left.is_some()
+    }
+
+    /// How many blocks were left.
+    pub(crate) fn left_count(&self) -> u64 {
+        let mut count: u64 = 0;
         for block in &self.kept {
             if block.left.is_some() {
-                return true;
+                count = count.saturating_add(1);
             }
         }
-        false
+        count
     }
 
     /// Nothing is kept for any block from now on.

@@ -1,8 +1,9 @@
 //! When a state may go on as a label's.
 
-ghost use Rattle.std.specs.Prelude.{◌≡◌, ◌≤◌, SomeIff, IfOk};
+ghost use Rattle.std.specs.Prelude.{◌≡◌, ◌≤◌, SomeIff, IfOk, IfSome, Ok};
 ghost use Rattle.module_format.specs.Contents.{label_of};
 ghost use Rattle.states.specs.Below.{view, cost, is_plain, agrees, compared, below};
+ghost use Rattle.states.specs.Comparing.{stands};
 ghost use Rattle.states.specs.Rows.{AreApart};
 ghost use Rattle.states.specs.Views.{state_of};
 ghost use Rattle.states.specs.Numbers.{reported};
@@ -19,10 +20,9 @@ fn is_plain(mode: Mode) -> bool
     mode == Mode::Plain
 }
 
-/// Whether a state stands where a label's does, and knows at least as much.
-fn agrees(state: &State, row: &LabelRow) -> bool
-    requires { AreApart row.now.entries.items }
-    ensures { result ≡ agrees (view (state_of state.now)) (label_of row.now) }
+/// Whether a state stands where a label's does, and knows at least as much of the registers.
+fn stands(state: &State, row: &LabelRow) -> bool
+    ensures { result ≡ stands (view (state_of state.now)) (label_of row.now) }
 {
     state.context == u32::from(row.context)
         && state.depth == row.depth
@@ -30,7 +30,32 @@ fn agrees(state: &State, row: &LabelRow) -> bool
         && implies(state.stack.a.fact, row.stack.a)
         && implies(state.stack.b.fact, row.stack.b)
         && implies(state.stack.c.fact, row.stack.c)
-        && state.frame.says_all(&row.entries)
+}
+
+/// The same by one pass over the entries of both rows, where that tells it.
+fn compare_quickly(number: u128, state: &State, row: &LabelRow) -> Option<u128>
+    requires { AreApart row.now.entries.items }
+    ensures compared { IfSome result
+        (λ cost. compared number (view (state_of state.now)) (label_of row.now) ≡ Ok cost) }
+    ensures covered { IfSome result (λ cost. cost ≤ number) }
+{
+    if !stands(state, row) {
+        return None;
+    }
+    let paid = state.frame.paid(&row.entries)?;
+    let cost = paid.checked_add(u128::from(row.number))?;
+    if number < cost {
+        return None;
+    }
+    Some(cost)
+}
+
+/// Whether a state stands where a label's does, and knows at least as much, asked word by word.
+fn agrees(state: &State, row: &LabelRow) -> bool
+    requires { AreApart row.now.entries.items }
+    ensures { result ≡ agrees (view (state_of state.now)) (label_of row.now) }
+{
+    stands(state, row) && state.frame.says_all(&row.entries)
 }
 
 /// The label's number and the price of the loops that are entered, if this number covers them.
@@ -43,12 +68,16 @@ fn cost(number: u128, state: &State, row: &LabelRow) -> Option<u128>
 }
 
 /// What it costs a state that may pay this number to go on as a label's, by what it knows. `Rule::Budget`: the
-/// number does not cover it. `Rule::Label`: it is elsewhere, or knows less.
+/// number does not cover it. `Rule::Label`: it is elsewhere, or knows less. Only where one pass over the entries does
+/// not tell it, it is asked word by word.
 pub fn compare(number: u128, state: &State, row: &LabelRow) -> Result<u128, Rule>
     requires { AreApart row.now.entries.items }
     ensures compared { result ≡ compared number (view (state_of state.now)) (label_of row.now) }
     ensures covered { IfOk result (λ cost. cost ≤ number) }
 {
+    if let Some(cost) = compare_quickly(number, state, row) {
+        return Ok(cost);
+    }
     let cost = cost(number, state, row).ok_or(Rule::Budget)?;
     if !agrees(state, row) {
         return Err(Rule::Label);
@@ -59,7 +88,7 @@ pub fn compare(number: u128, state: &State, row: &LabelRow) -> Result<u128, Rule
 /// What it costs a state to go on as a label's: the label's number, and for each loop that it enters the
 /// loop's weight for each turn but the first. `Rule::Budget`: it cannot pay. `Rule::Label`: it stands
 /// elsewhere, or knows less. The time goes with the entries of the row and of the label before, and with
-/// the words written since then; where blocks of words were left since then, with the words of the row.
+/// the words written or left since then, each of which is sought in the row, or else with the words of the row.
 #[tactic(auto, unfolding(crate::specs::Below::below))]
 pub fn cost_below(state: &State, row: &LabelRow) -> Result<u64, Rule>
     requires { AreApart row.now.entries.items }

@@ -15,7 +15,7 @@ use crate::blocks::{Block, Blocks, block_words};
 use crate::implication::{holds_constant, says};
 use crate::known::{LoopWord, WordFact};
 use crate::overlay::Overlay;
-use crate::row::{has_at_most, past_implied, row_fact, said_of, segment_from};
+use crate::row::{row_fact, said_of};
 use crate::span::Leaving;
 use certificate::{Entry, Fact, ParameterKind, ProcedureRow, Step};
 use std::alloc::{AllocError, Global};
@@ -48,7 +48,6 @@ impl<'a> Frame<'a> {
     ghost use Rattle.states.specs.Frames.{frame_facts, over_facts, with_alone, parted, HasRoom};
     ghost use Rattle.states.specs.Blocks.{block_at, first_of, leaving_at};
     ghost use Rattle.states.specs.Frames.{HasRoomForAll, SameRoom};
-    ghost use Rattle.states.specs.Comparing.{SaysLess, OneSaysAll, WrittenSaysAll};
 
     /// The frame of so many words from `lo` on, of which nothing is known.
     pub(crate) fn new(alloc: Global, lo: i32, room: usize) -> Result<Self, AllocError>
@@ -77,7 +76,7 @@ impl<'a> Frame<'a> {
     }
 
     /// What was written to a word since the last label.
-    fn written(&self, word: i64) -> Option<Fact>
+    pub(crate) fn written(&self, word: i64) -> Option<Fact>
         ensures { result ≡ fact_of_index self.now.overlay.written.items (word -ℤ self.now.lo) }
     {
         let lo = i64::from(self.lo);
@@ -99,7 +98,7 @@ impl<'a> Frame<'a> {
     }
 
     /// How a word's block was left since it was written, if it was.
-    fn leaving(&self, word: i64) -> Option<Leaving>
+    pub(crate) fn leaving(&self, word: i64) -> Option<Leaving>
         ensures { result ≡ leaving_at self.now.by_block.kept.items (word -ℤ self.now.lo) }
     {
         let lo = i64::from(self.lo);
@@ -235,78 +234,12 @@ impl<'a> Frame<'a> {
         self.place(0, Fact::ReturnAddress);
     }
 
-    /// Whether of each of the words from `word` up to `end` (not included) at least this is known.
-    fn words_say(&self, word: i64, end: i64, wanted: WordFact) -> bool
-        ensures yes { IsTrue result → (k : ℤ) → word ≤ℤ k → k <ℤ end → says (frame_facts self.now k) wanted ≡ true }
-        ensures no { IsFalse result → (k : ℤ) × (word ≤ℤ k) × (k <ℤ end) × (says (frame_facts self.now k) wanted ≡ false) }
-    {
-        for k in word..end {
-            if !says(self.fact_at(k), wanted) {
-                return false;
-            }
-        }
-        true
-    }
-
-    /// Whether of each of the words from `word` up to `end` at least this is known, either by what the row
-    /// says of all of them or of each by itself.
-    fn stretch_holds(&self, word: i64, end: i64, said: WordFact, wanted: WordFact) -> bool
-        requires { LoopFits said }
-        ensures yes { IsTrue result → (k : ℤ) → word ≤ℤ k → k <ℤ end → (says said wanted ≡ true) ⊎ (says (frame_facts self.now k) wanted ≡ true) }
-        ensures no { IsFalse result → (k : ℤ) × (word ≤ℤ k) × (k <ℤ end) × (says (frame_facts self.now k) wanted ≡ false) }
-    {
-        says(said, wanted) || self.words_say(word, end, wanted)
-    }
-
     /// The word of an index.
     pub(crate) fn word_at(&self, index: usize) -> i64
         requires { index < vec_len self.now.overlay.places }
         ensures { result ≡ self.now.lo +ℤ pos index }
     {
         i64::from(self.lo) + index as i64
-    }
-
-    /// Whether of each word that was written at least that is known which a row wants.
-    fn written_holds(&self, row: &[Entry]) -> bool
-        requires { AreApart row.now }
-        ensures yes { IsTrue result → WrittenSaysAll self.now.overlay.written.items self.now.lo (entry_fact row.now) }
-        ensures no { IsFalse result → SaysLess (over_facts self.now) (entry_fact row.now) }
-    {
-        for written in &self.overlay.written {
-            if !says(
-                WordFact::Alone(written.fact),
-                row_fact(row, self.word_at(written.index)),
-            ) {
-                return false;
-            }
-        }
-        true
-    }
-
-    /// Whether what the label's row says of each word is at least what another row wants, or else what is
-    /// known of the word is. Words are looked at one by one only where no entry of the label's row says at
-    /// once what is wanted, and where it says less each but the last was written.
-    fn row_holds(&self, row: &[Entry]) -> bool
-        requires { AreApart row.now }
-        ensures yes { IsTrue result → OneSaysAll (entry_fact self.now.row.now) (frame_facts self.now) (entry_fact row.now) }
-        ensures no { IsFalse result → SaysLess (frame_facts self.now) (entry_fact row.now) }
-    {
-        let mut base = self.row;
-        let mut wanted = row;
-        let mut word = i64::from(i32::MIN);
-        while !wanted.is_empty() {
-            let pair = past_implied(base, wanted, word);
-            let here = segment_from(pair.row, pair.word);
-            let there = segment_from(pair.wanted, pair.word);
-            let end = here.end.min(there.end);
-            if !self.stretch_holds(pair.word, end, here.fact, there.fact) {
-                return false;
-            }
-            base = here.row;
-            wanted = there.row;
-            word = end;
-        }
-        true
     }
 
     /// Whether of each word of an entry at least that is known which the entry says, word by word.
@@ -337,26 +270,6 @@ impl<'a> Frame<'a> {
         true
     }
 
-    /// Whether a row is to be compared word by word: blocks were left, or as many words were written as a quarter of
-    /// the row's.
-    fn asks_each(&self, row: &[Entry]) -> bool
-        ensures { IsFalse result → frame_facts self.now ≡ over_facts self.now }
-    {
-        let written = self.overlay.written.len() as u64;
-        self.by_block.are_left() || has_at_most(row, written.saturating_mul(4))
-    }
-
-    /// Whether of each word at least that is known which a row wants.
-    fn holds(&self, row: &[Entry]) -> bool
-        requires { AreApart row.now }
-        ensures { result ≡ entries_hold (frame_facts self.now) row.now }
-    {
-        if self.asks_each(row) {
-            return self.each_holds(row);
-        }
-        self.written_holds(row) && self.row_holds(row)
-    }
-
     /// Whether both words of a loop come from that loop, or neither does, where the entry is of one.
     #[inline(always)]
     fn is_whole_at(&self, entry: &Entry) -> bool
@@ -384,13 +297,14 @@ impl<'a> Frame<'a> {
         true
     }
 
-    /// Whether of each word at least that is known which a row wants, and no loop that it wants is half known.
+    /// Whether of each word at least that is known which a row wants, and no loop that it wants is half known,
+    /// word by word.
     pub(crate) fn says_all(&self, row: &[Entry]) -> bool
         requires { AreApart row.now }
         ensures { result ≡ (entries_hold (frame_facts self.now) row.now
             && list_all (is_whole (frame_facts self.now)) row.now) }
     {
-        self.holds(row) && self.is_whole(row)
+        self.each_holds(row) && self.is_whole(row)
     }
 
     /// What it costs to enter the loop that an entry wants: its weight for each turn but the first, where its

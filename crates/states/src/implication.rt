@@ -50,7 +50,8 @@ pub fn implies(fact: Fact, wanted: Fact) -> bool
 }
 
 /// Whether it is a number that is exactly this one.
-fn is_constant(fact: Fact, number: i64) -> bool
+#[inline(always)]
+pub(crate) fn is_constant(fact: Fact, number: i64) -> bool
     ensures { result ≡ is_constant fact number }
 {
     match fact {

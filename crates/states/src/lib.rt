@@ -4,6 +4,7 @@
 mod blocks;
 mod comparison;
 mod frame;
+mod frame_rows;
 mod frame_spans;
 mod implication;
 mod intervals;

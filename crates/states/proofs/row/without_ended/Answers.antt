@@ -1,7 +1,12 @@
-use Rattle.std.proofs.Common.{rules}
-use Rattle.states.proofs.RowFacts.{segment-apart}
+use Rattle.std.proofs.Common.{rules, arith, ◌∙◌}
+use Rattle.std.proofs.lemmas.Int.{ints}
+use Rattle.states.proofs.RowFacts.{segment-behind, segment-apart}
 use Rattle.states.proofs.row.without_ended.Goals as goal
 
-pub returns-in-Some-clause-apart : goal.returns-in-Some-clause-apart
-returns-in-Some-clause-apart c =
-    segment-apart c.args.row.now c.in-Some.entry.now c.in-Some.later.now c.requires (search rules)
+pub loop-entry-preserved : goal.loop-entry-preserved
+loop-entry-preserved c =
+    let invariant = c.loop-entry.invariant in (
+      segment-apart c.loop-entry.rest.now c.in-Some.entry.now c.in-Some.later.now invariant.0 (search rules),
+      λ k l. segment-behind c.loop-entry.rest.now c.in-Some.entry.now c.in-Some.later.now c.end_of.result k
+          (search rules) c.end_of.ensures.value (omega (arith, ints)) ∙ invariant.1 k l,
+    )

@@ -1,0 +1,145 @@
+"""Module files whose states are compared with labels over and over, made to be slow.
+
+Each is code of a procedure with the largest frame, as long as code may be: a label, what changes words, and conditional
+jumps to one label at the end.
+"""
+
+import struct
+
+from inputs import (
+    FRAME_HI,
+    FRAME_LO,
+    GREATEST,
+    LEAST,
+    MAX_CODE_2,
+    STOP_PROCESS,
+    each_word,
+    label_row,
+    number_entry,
+    pointer_entry,
+)
+from modules import FUNCTIONS, code, module, spelled
+
+NUMBER_OF_LABELS = 2**62  # it covers what is paid at any label here
+LOOP = 4
+BLOCK = 64  # the words of a block of the verifier's
+LEFT = range(BLOCK, 2 * BLOCK)  # the words of such a block
+CONTEXT = 1  # the procedure's
+
+
+def loop_entry(word, base, count, weight):
+    """An entry that says of two words that they count a loop."""
+    return struct.pack("<iIBiIQ", word, 2, LOOP, base, count, weight)
+
+
+def jumps(test, room, end_of_room=0):
+    """Conditional jumps, each after a test, to the place so many bytes behind the last of them."""
+    function = FUNCTIONS.index("cj")
+    before, pieces, size = code(test), [], 0
+    while True:
+        jump = spelled(function, size + end_of_room)
+        if size + len(before) + len(jump) > room:
+            return b"".join(reversed(pieces))
+        pieces.append(before + jump)
+        size += len(pieces[-1])
+
+
+def compared(rows, wanted, test="ldc 0", changes=""):
+    """Jumps from a label with these entries, once words are changed, to one with those that are wanted."""
+    start = 2 * STOP_PROCESS
+    changing = code(changes) if changes else b""
+    room = MAX_CODE_2 - len(start) - len(changing) - len(STOP_PROCESS)
+    middle = changing + jumps(test, room)
+    body = start + middle + STOP_PROCESS
+    procedure = struct.pack("<IiiQH", len(STOP_PROCESS), FRAME_LO, FRAME_HI, 2, 0)
+    labels = [
+        label_row(len(start), CONTEXT, NUMBER_OF_LABELS, rows),
+        label_row(len(start) + len(middle), CONTEXT, 2, wanted),
+    ]
+    return module(body, version=2, procedures=[procedure], labels=labels)
+
+
+def numbers(skipped=()):
+    """An entry for each word of the frame, but for these words."""
+    words = [word for word in range(FRAME_LO, FRAME_HI) if word not in skipped]
+    return [entry for word in words for entry in each_word(word, word + 1)]
+
+
+def constant(word, number):
+    return number_entry(word, 1, number, number)
+
+
+def written(words):
+    """Instructions that write a constant to each of these words."""
+    return ", ".join(f"ldc 0, stl {word}" for word in words)
+
+
+def after(entries):
+    """The entries by their words."""
+    return sorted(entries, key=lambda entry: int.from_bytes(entry[:4], "little", signed=True))
+
+
+# ---- numbers
+
+THROUGH_POINTER = "ldc 5, ldl 1, stnl 0"
+
+
+def pointer_to(words):
+    """An entry that says of word 1 that it is the address of one of these words."""
+    return pointer_entry(1, 4 * words[0], 4 * words[-1], 4)
+
+
+def to_entries():
+    """To a label with an entry for each word of the frame."""
+    return compared(numbers(), numbers())
+
+
+def to_one_entry(words=8_300):
+    """The same to a label with one entry about all words, of which some were written before."""
+    wanted = [number_entry(FRAME_LO, FRAME_HI - FRAME_LO, LEAST, GREATEST)]
+    return compared(numbers(), wanted, changes=written(range(FRAME_HI - words, FRAME_HI)))
+
+
+def to_entries_behind_block(words=LEFT):
+    """To a label with an entry for each word, once a store went through a pointer to any of some words."""
+    rows = after([pointer_to(words), *numbers(skipped=(1,))])
+    return compared(rows, rows, changes=THROUGH_POINTER)
+
+
+def to_entries_behind_writes(words):
+    """To a label with an entry for each word, of which so many were written before."""
+    every = range(FRAME_LO, FRAME_HI)
+    step = len(every) // words
+    return compared(numbers(), numbers(), changes=written(every[::step][:words]))
+
+
+# ---- loops
+
+def loops(count, weight, skipped=()):
+    """A loop for each two words of the frame, but for these words."""
+    words = [word for word in range(FRAME_LO, FRAME_HI, 2) if word not in skipped]
+    return [loop_entry(word, word, count, weight) for word in words]
+
+
+def constants(count):
+    """The constants with which those loops begin."""
+    words = range(FRAME_LO, FRAME_HI, 2)
+    return [entry for word in words for entry in (constant(word, word), constant(word + 1, count))]
+
+
+def to_loops():
+    """To a label with a loop for each two words, which are those of that loop before."""
+    return compared(loops(3, 7), loops(3, 7))
+
+
+def to_loops_behind_block(words=LEFT):
+    """The same once a store went through a pointer to any of some words, which are numbers."""
+    skipped = {0, *words}
+    plain = [entry for word in words for entry in each_word(word, word + 1)]
+    rows = after([pointer_to(words), *plain, *loops(3, 7, skipped)])
+    return compared(rows, rows, changes=THROUGH_POINTER)
+
+
+def into_loops():
+    """To a label with a loop for each two words, which are constants before."""
+    return compared(constants(3), loops(3, 7))
