@@ -1,3 +1,4 @@
 pub mod Linked
 pub mod Plain
+pub mod PlainStep
 pub mod Staying
