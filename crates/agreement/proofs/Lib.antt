@@ -1,0 +1,4 @@
+pub mod Matching
+pub mod StepsAgree
+pub mod GoingOn
+pub mod TurnsAgree

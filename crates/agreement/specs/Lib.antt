@@ -1,0 +1,5 @@
+pub mod Matching
+pub mod StepsAgree
+pub mod Agrees
+pub mod GoingOn
+pub mod TurnsAgree

@@ -1,0 +1,26 @@
+//! Laws of the plain machine beside the machine's definitions.
+
+ghost use Rattle.agreement.specs.GoingOn.{GoingOnAgrees, PrefixesAgree, InstructionsAgree};
+ghost use Rattle.agreement.specs.StepsAgree.{StepsAgree};
+ghost use Rattle.agreement.specs.TurnsAgree.{TurnsAgree};
+
+/// An instruction that is at no fault touches memory alone, computes words alone, and leaves on plain words all that it
+/// leaves defined: more registers and bytes that are defined change nothing.
+pub fn steps_agree()
+    ensures { StepsAgree }
+{}
+
+/// Whatever a module that keeps the format does, the plain machine that agrees goes on to agree where the process that
+/// runs goes on: by a prefix, or by an instruction that asks nothing of others and gives up no turn.
+pub fn going_on_agrees()
+    ensures registers { GoingOnAgrees }
+    ensures prefixes { PrefixesAgree }
+    ensures instructions { InstructionsAgree }
+{}
+
+/// Whatever a module that keeps the format does, a Step that reports no fault finds a byte on the plain machine that
+/// agrees: a prefix, or the last one of an instruction that is safe. Where the process goes on and keeps its turn, the
+/// machine agrees with the world after the Step.
+pub fn turns_agree()
+    ensures { TurnsAgree }
+{}

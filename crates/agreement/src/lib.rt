@@ -1,0 +1,6 @@
+//! When the plain machine agrees with a world, and why it goes on to.
+#![tactic(auto)]
+
+mod laws;
+
+pub use laws::{going_on_agrees, steps_agree, turns_agree};
