@@ -3,6 +3,7 @@
 #![tactic(auto)]
 
 mod bytes;
+mod bytewise;
 mod flow;
 mod instructing;
 mod landings;
@@ -15,6 +16,7 @@ mod registers;
 mod words;
 mod workspace_queue;
 
+pub use bytewise::execute_byte;
 pub use flow::PlainFlow;
 pub use instructing::instruct;
 pub use plain_store::PlainStore;
