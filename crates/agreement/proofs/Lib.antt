@@ -1,4 +1,5 @@
 pub mod Matching
 pub mod StepsAgree
+pub mod Passing
 pub mod GoingOn
 pub mod TurnsAgree
