@@ -2,4 +2,5 @@ pub mod Matching
 pub mod StepsAgree
 pub mod Passing
 pub mod GoingOn
+pub mod Dispatching
 pub mod TurnsAgree

@@ -2,4 +2,5 @@ pub mod Matching
 pub mod StepsAgree
 pub mod Agrees
 pub mod GoingOn
+pub mod Leaving
 pub mod TurnsAgree
