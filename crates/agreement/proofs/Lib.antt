@@ -3,4 +3,5 @@ pub mod StepsAgree
 pub mod Passing
 pub mod GoingOn
 pub mod Dispatching
+pub mod Leaving
 pub mod TurnsAgree

@@ -24,12 +24,15 @@ use Rattle.machine_state.specs.Holding.{Holding, may_write, may_read, may_write_
 use Rattle.machine_state.specs.LocalStep as step
 use Rattle.machine_state.specs.Spans.{all_places}
 use Rattle.machine_state.specs.Memory.{Memory, place_of, word_at, with_word, byte_at, with_byte}
-use Rattle.machine_state.specs.Site.{Site, Local, Outcome, fails}
+use Rattle.machine_state.specs.Site.{jumps, Site, Local, Outcome, fails}
 use Rattle.machine_state.specs.Site.{ends_alternation}
 use Rattle.machine_state.proofs.Combining.{and_true}
 use Rattle.machine_state.proofs.Combining as each
 use Rattle.machine_state.proofs.Scheduling.{schedules-is}
+use Rattle.world_laws.specs.Parked.{HasWords}
 use Rattle.world_laws.proofs.BlankWords.{words_taken}
+use Rattle.std.proofs.lemmas.Bool.{ltb-true}
+use Rattle.machine_state.specs.declared.fault.FaultKind.TheVariants.{OutsideCode}
 use Rattle.world_laws.proofs.StepLeaves.{alone_tells, plain_is_outside}
 use Rattle.plain_machine.specs.declared.flow.PlainFlow.{PlainFlow}
 use Rattle.plain_machine.specs.declared.flow.PlainFlow.TheVariants as flow
@@ -201,9 +204,13 @@ module _ (site : Site) (original : Local) (state : PlainState) (start : agree.Fi
       each.goes_on (R p t) fault s l l (record { safe = λ none. can; shown = (left, λ inside. same) })
 
   lead : {safe : Type 0} {t : Stepped} → s.mode ≡ Plain → (to : ℕ) (l : Local) → safe
+      → l.registers.stack ≡ of_empty None → HasWords s.holding l.memory l.registers.workspace
       → IsLeft s state flow.Jump to l t → A safe t (step.leads_to s to l)
-  lead {safe = p} {t = t} plain_mode to l can left =
-      each.leads_to (R p t) fault s to l l (record { safe = λ none. can; shown = (left, plain_mode) })
+  unfolding step.leads_to
+  lead plain_mode to l can stack words left = passes _ OutsideCode (jumps to l) (λ inside. record {
+    safe = λ none. can;
+    shown = (left, plain_mode, record { inside = ltb-true to s.code_length inside; stack = stack; words = words });
+  })
 
   land : {safe : Type 0} {t : Stepped} → s.mode ≡ Plain → (to : ℕ) (l : Local) → safe
       → IsLeft s state flow.Next to l t → A safe t (step.lands_at s to l)
@@ -374,7 +381,8 @@ module _ (site : Site) (original : Local) (state : PlainState) (start : agree.Fi
       used _ _ _ (match.word_read before.memory state.memory _ memory)
       (used _ _ _ (match.word_read before.memory state.memory _ memory) (schedules _ _ (λ again.
       let both = and_true _ _ own in
-      lead p _ _ (record { index = own_word_inside _ both.0; count = own_word_inside _ both.1 })
+      lead p _ _ (record { index = own_word_inside _ both.0; count = own_word_inside _ both.1 }) refl
+      (words_taken s.holding _ state.registers.workspace again)
       (left_at flow.Jump _ _ _ _ (of_empty None) found
       (words_forgotten _ _ _ (turns _ _ _ _ _ both.0 (word_comes _ _ _ (Some _) _ refl both.1 found_memory)))
       (none found)))))))))
@@ -521,7 +529,8 @@ module _ (site : Site) (original : Local) (state : PlainState) (start : agree.Fi
       (word_comes before.memory state.memory _ (Some _) _ refl own found_memory) pops_both)))))
   instruction (instructions.WithConstant op) e =
       alone _ (λ p. one _ (computes _ _ (λ some. go p _ some (keep _ _ (tops _ _ refl)))))
-  instruction instructions.Jump e = alone _ (λ p. schedules before _ (λ own. lead p _ _ tt
+  instruction instructions.Jump e = alone _ (λ p. schedules before _ (λ own. lead p _ _ tt refl
+      (words_taken s.holding before.memory state.registers.workspace own)
       (left_at flow.Jump _ _ _ _ (of_empty None) found forgets (none found))))
   instruction instructions.ConditionalJump e = alone _ (λ p. one _ (either (step.address found.a == 0) _ _ _ _
       (land p _ _ tt (left_at flow.Next _ _ _ _ before.registers.stack found found_memory start.matches.stack))
