@@ -450,6 +450,7 @@ module _ (site : Site) (original : Local) (state : PlainState) (start : agree.Fi
     safe = λ none. tt;
     shown = (
       asked flow.Stop _ before.registers.stack forgotten start.matches.stack,
+      p,
       words_taken s.holding before.memory state.registers.workspace own,
     );
   }))
