@@ -4,3 +4,4 @@ pub mod Agrees
 pub mod GoingOn
 pub mod Leaving
 pub mod TurnsAgree
+pub mod Loading

@@ -1,8 +1,14 @@
 //! Laws of the plain machine beside the machine's definitions.
 
 ghost use Rattle.agreement.specs.GoingOn.{GoingOnAgrees, PrefixesAgree, InstructionsAgree};
+ghost use Rattle.agreement.specs.Loading.{LoadedAgrees};
 ghost use Rattle.agreement.specs.StepsAgree.{StepsAgree};
 ghost use Rattle.agreement.specs.TurnsAgree.{TurnsAgree};
+
+/// The loaded plain machine agrees with the loaded world.
+pub fn loaded_agrees()
+    ensures { LoadedAgrees }
+{}
 
 /// An instruction that is at no fault touches memory alone, computes words alone, and leaves on plain words all that it
 /// leaves defined: more registers and bytes that are defined change nothing.
