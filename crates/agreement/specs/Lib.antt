@@ -5,3 +5,4 @@ pub mod GoingOn
 pub mod Leaving
 pub mod TurnsAgree
 pub mod Loading
+pub mod Arriving

@@ -1,5 +1,6 @@
 //! Laws of the plain machine beside the machine's definitions.
 
+ghost use Rattle.agreement.specs.Arriving.{ArrivalsAgree, AcknowledgementsAgree, IdleStepsAgree};
 ghost use Rattle.agreement.specs.GoingOn.{GoingOnAgrees, PrefixesAgree, InstructionsAgree};
 ghost use Rattle.agreement.specs.Loading.{LoadedAgrees};
 ghost use Rattle.agreement.specs.StepsAgree.{StepsAgree};
@@ -29,4 +30,13 @@ pub fn going_on_agrees()
 /// of the ready list or stops, and the next ready process runs, the machine agrees with the world after the Step.
 pub fn turns_agree()
     ensures { TurnsAgree }
+{}
+
+/// Whatever a module that keeps the format does, the plain machine that agrees goes on to agree by an event that finds
+/// nobody: a Step while no process runs, a byte on a link where nobody waits and which nobody has enabled, and an
+/// acknowledgement that nobody waits for.
+pub fn quiet_events_agree()
+    ensures steps { IdleStepsAgree }
+    ensures arrivals { ArrivalsAgree }
+    ensures acknowledgements { AcknowledgementsAgree }
 {}

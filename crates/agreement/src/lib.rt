@@ -3,4 +3,4 @@
 
 mod laws;
 
-pub use laws::{going_on_agrees, loaded_agrees, steps_agree, turns_agree};
+pub use laws::{going_on_agrees, loaded_agrees, quiet_events_agree, steps_agree, turns_agree};
