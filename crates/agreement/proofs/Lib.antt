@@ -7,3 +7,4 @@ pub mod Leaving
 pub mod TurnsAgree
 pub mod Loading
 pub mod Arriving
+pub mod QueueWords

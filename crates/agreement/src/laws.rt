@@ -3,6 +3,7 @@
 ghost use Rattle.agreement.specs.Arriving.{ArrivalsAgree, AcknowledgementsAgree, IdleStepsAgree};
 ghost use Rattle.agreement.specs.GoingOn.{GoingOnAgrees, PrefixesAgree, InstructionsAgree};
 ghost use Rattle.agreement.specs.Loading.{LoadedAgrees};
+ghost use Rattle.agreement.specs.QueueWords.{QueueWordsMayChange};
 ghost use Rattle.agreement.specs.StepsAgree.{StepsAgree};
 ghost use Rattle.agreement.specs.TurnsAgree.{TurnsAgree};
 
@@ -39,4 +40,10 @@ pub fn quiet_events_agree()
     ensures steps { IdleStepsAgree }
     ensures arrivals { ArrivalsAgree }
     ensures acknowledgements { AcknowledgementsAgree }
+{}
+
+/// Whatever a module that keeps the format does, the plain machine that agrees may change the words in which its queue
+/// keeps links: those of processes that wait for no message inside, where the world has them undefined.
+pub fn queue_words_may_change()
+    ensures { QueueWordsMayChange }
 {}

@@ -3,4 +3,7 @@
 
 mod laws;
 
-pub use laws::{going_on_agrees, loaded_agrees, quiet_events_agree, steps_agree, turns_agree};
+pub use laws::{
+    going_on_agrees, loaded_agrees, queue_words_may_change, quiet_events_agree, steps_agree,
+    turns_agree,
+};
