@@ -1,16 +1,13 @@
 -- The loaded plain machine agrees with the loaded world.
-use Rattle.std.proofs.Common.{◌≡◌, ℕ, zero, suc, ◌+◌, ◌*◌, List, [], ◌∷◌, ◌++◌, map, length, replicate, Option, Some}
-use Rattle.std.proofs.Common.{None, inl, inr, refl, ap, ◌∙◌, sym, subst, slice_get, arith}
+use Rattle.std.proofs.Common.{◌≡◌, ℕ, zero, suc, ◌*◌, [], ◌∷◌, ◌++◌, map, length, replicate, Option, Some}
+use Rattle.std.proofs.Common.{None, refl, ap, ◌∙◌, sym, subst, slice_get, arith}
 use Rattle.std.proofs.lemmas.List.{map-append}
-use Rattle.module_format.specs.Contents.{Contents, Par}
+use Rattle.module_format.specs.Contents.{Contents}
 use Rattle.machine_state.specs.declared.process.Channel.{Channel}
-use Rattle.machine_state.specs.declared.process.Exchange.{Exchange}
-use Rattle.machine_state.specs.declared.process.Mode.TheVariants.{Plain}
 use Rattle.machine_state.specs.declared.process.Task.{Task}
 use Rattle.machine_state.specs.JoinLookups.{opened_by}
 use Rattle.machine_state.specs.Memory.{Memory, byte_at}
-use Rattle.machine_state.specs.World.{World, Join, loaded, loaded_memory, root_task, padding}
-use Rattle.world_laws.specs.Parked.{IsParked, IsAlternating, IsInside}
+use Rattle.machine_state.specs.World.{Join, loaded, loaded_memory, root_task, padding}
 use Rattle.world_laws.proofs.StepLeaves.{plain_is_outside}
 use Rattle.plain_machine.specs.Plain.{defined}
 use Rattle.agreement.specs.Agrees as agree
@@ -51,7 +48,8 @@ memory_matches : (m : Contents) → MatchesMemory (loaded_memory m) (defined (lo
 memory_matches m =
     subst (λ (n : Memory). MatchesMemory (loaded_memory m) n) (sym split)
     (append_matches _ _ _ _ (append_matches _ _ _ _ (append_matches _ _ _ _ (unknown_matches (4 * m.data_words))
-    (same_matches (map Some m.code))) (unknown_matches (padding (length m.code)))) (same_matches (map Some m.constants)))
+    (same_matches (map Some m.code))) (unknown_matches (padding (length m.code))))
+    (same_matches (map Some m.constants)))
   where
     split : defined (loaded_bytes m) ≡ map Some (replicate (4 * m.data_words) 0) ++ map Some m.code
         ++ map Some (replicate (padding (length m.code)) 0) ++ map Some m.constants
