@@ -60,6 +60,45 @@ fn long(bytes: &mut [u8], registers: &mut PlainRegisters, op: LongOp) -> PlainFl
     PlainFlow::Next
 }
 
+/// `bsub`: A and B are popped, and the address B bytes after A is pushed.
+#[inline(always)]
+fn byte_subscript(bytes: &mut [u8], registers: &mut PlainRegisters) -> PlainFlow
+    ensures { let step = plain_operation 0 operation.ByteSubscript (state_of registers.old bytes.old) in
+        Does step result registers.new bytes.new }
+{
+    let base = registers.stack.a.cast_unsigned();
+    let address = base.wrapping_add(registers.stack.b.cast_unsigned());
+    registers.replace_two(address.cast_signed());
+    PlainFlow::Next
+}
+
+/// `wsub`: A and B are popped, and the address B words after A is pushed.
+#[inline(always)]
+fn word_subscript(bytes: &mut [u8], registers: &mut PlainRegisters) -> PlainFlow
+    ensures { let step = plain_operation 0 operation.WordSubscript (state_of registers.old bytes.old) in
+        Does step result registers.new bytes.new }
+{
+    let address = local_address(registers.stack.a.cast_unsigned(), registers.stack.b);
+    registers.replace_two(address.cast_signed());
+    PlainFlow::Next
+}
+
+/// `ldpi`: A becomes the address A bytes after the instruction.
+#[inline(always)]
+fn load_pointer_to_instruction(
+    bytes: &mut [u8],
+    registers: &mut PlainRegisters,
+    code_start: u32,
+) -> PlainFlow
+    ensures { let step = plain_operation code_start operation.LoadPointerToInstruction (state_of registers.old bytes.old) in
+        Does step result registers.new bytes.new }
+{
+    let next = registers.code_address(code_start);
+    let pointer = next.wrapping_add(registers.stack.a.cast_unsigned());
+    registers.set_top(pointer.cast_signed());
+    PlainFlow::Next
+}
+
 /// Executes one operation of the process that runs. What the process asks of others it leaves as it is.
 #[inline(always)]
 pub(crate) fn operate(
@@ -87,27 +126,13 @@ pub(crate) fn operate(
         Op::Long(op) => long(bytes, registers, op),
         Op::LoadByte => load_at(bytes, registers),
         Op::StoreByte => store_at(bytes, registers),
-        Op::ByteSubscript => {
-            let base = registers.stack.a.cast_unsigned();
-            let address = base.wrapping_add(registers.stack.b.cast_unsigned());
-            registers.replace_two(address.cast_signed());
-            PlainFlow::Next
-        }
-        Op::WordSubscript => {
-            let address = local_address(registers.stack.a.cast_unsigned(), registers.stack.b);
-            registers.replace_two(address.cast_signed());
-            PlainFlow::Next
-        }
+        Op::ByteSubscript => byte_subscript(bytes, registers),
+        Op::WordSubscript => word_subscript(bytes, registers),
         Op::CheckSubscript | Op::CheckCount => {
             registers.pop();
             PlainFlow::Next
         }
-        Op::LoadPointerToInstruction => {
-            let next = registers.code_address(code_start);
-            let pointer = next.wrapping_add(registers.stack.a.cast_unsigned());
-            registers.set_top(pointer.cast_signed());
-            PlainFlow::Next
-        }
+        Op::LoadPointerToInstruction => load_pointer_to_instruction(bytes, registers, code_start),
         Op::Move => move_bytes(bytes, registers),
         Op::Return => return_from_call(bytes, registers, code_start),
         Op::LoopEnd => loop_end(bytes, registers),
