@@ -1,3 +1,5 @@
 pub mod Linked
 pub mod Plain
+pub mod PlainStep
+pub mod PlainByte
 pub mod Staying

@@ -69,3 +69,16 @@ pub(crate) fn copy(bytes: &mut [u8], source: usize, target: usize, count: usize)
         bytes.copy_within(source..source + inside, target);
     }
 }
+
+/// So many bytes from one place on go to another, as they were before. All lie in memory.
+#[inline(always)]
+pub(crate) fn copy_inside(bytes: &mut [u8], source: usize, target: usize, count: usize)
+    requires source { 0 < count → source + count ≤ length bytes.old }
+    requires target { 0 < count → target + count ≤ length bytes.old }
+    ensures { let before = defined bytes.old in
+        defined bytes.new ≡ copied before source target count before }
+{
+    if count > 0 {
+        bytes.copy_within(source..source + count, target);
+    }
+}

@@ -1,10 +1,26 @@
-//! What a machine stands on that keeps no records: memory as plain bytes, and the queue of ready processes in their
-//! workspaces.
+//! What a machine stands on that keeps no records: memory as plain bytes, the queue of ready processes in their
+//! workspaces, and the instructions on plain words.
 #![tactic(auto)]
 
 mod bytes;
+mod bytewise;
+mod flow;
+mod instructing;
+mod landings;
+mod locals;
+mod loops;
+mod operating;
+mod parking;
 mod plain_store;
+mod pointers;
+mod registers;
+mod words;
 mod workspace_queue;
 
+pub use bytewise::execute_byte;
+pub use flow::PlainFlow;
+pub use instructing::instruct;
+pub use parking::{park, resume};
 pub use plain_store::PlainStore;
+pub use registers::PlainRegisters;
 pub use workspace_queue::WorkspaceQueue;

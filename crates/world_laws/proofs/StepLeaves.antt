@@ -82,7 +82,7 @@ Leaves s before (ends_alternation to l) = ⊤
 -- ---- the combinators that test the mode
 
 module _ (P : Outcome → Type 0) (at_fault : (kind : FaultKind) → P (fails kind)) where
-  alone_tells : (mode : Mode) (o : Outcome) → (mode ≡ Plain → P o) → P (step.alone mode o)
+  pub alone_tells : (mode : Mode) (o : Outcome) → (mode ≡ Plain → P o) → P (step.alone mode o)
   unfolding step.outside_alternation step.outside_starts
   alone_tells Plain o h = h refl
   alone_tells (Enabling is_ready) o h = at_fault AlternationOrder

@@ -1,0 +1,49 @@
+//! Laws of the plain machine beside the machine's definitions.
+
+ghost use Rattle.agreement.specs.Arriving.{ArrivalsAgree, AcknowledgementsAgree, IdleStepsAgree};
+ghost use Rattle.agreement.specs.GoingOn.{GoingOnAgrees, PrefixesAgree, InstructionsAgree};
+ghost use Rattle.agreement.specs.Loading.{LoadedAgrees};
+ghost use Rattle.agreement.specs.QueueWords.{QueueWordsMayChange};
+ghost use Rattle.agreement.specs.StepsAgree.{StepsAgree};
+ghost use Rattle.agreement.specs.TurnsAgree.{TurnsAgree};
+
+/// The loaded plain machine agrees with the loaded world.
+pub fn loaded_agrees()
+    ensures { LoadedAgrees }
+{}
+
+/// An instruction that is at no fault touches memory alone, computes words alone, and leaves on plain words all that it
+/// leaves defined: more registers and bytes that are defined change nothing.
+pub fn steps_agree()
+    ensures { StepsAgree }
+{}
+
+/// Whatever a module that keeps the format does, the plain machine that agrees goes on to agree where the process that
+/// runs goes on: by a prefix, or by an instruction that asks nothing of others and gives up no turn.
+pub fn going_on_agrees()
+    ensures registers { GoingOnAgrees }
+    ensures prefixes { PrefixesAgree }
+    ensures instructions { InstructionsAgree }
+{}
+
+/// Whatever a module that keeps the format does, a Step that reports no fault finds a byte on the plain machine that
+/// agrees: a prefix, or the last one of an instruction that is safe. If the process that runs goes on, goes to the back
+/// of the ready list or stops, and the next ready process runs, the machine agrees with the world after the Step.
+pub fn turns_agree()
+    ensures { TurnsAgree }
+{}
+
+/// Whatever a module that keeps the format does, the plain machine that agrees goes on to agree by an event that finds
+/// nobody: a Step while no process runs, a byte on a link where nobody waits and which nobody has enabled, and an
+/// acknowledgement that nobody waits for.
+pub fn quiet_events_agree()
+    ensures steps { IdleStepsAgree }
+    ensures arrivals { ArrivalsAgree }
+    ensures acknowledgements { AcknowledgementsAgree }
+{}
+
+/// Whatever a module that keeps the format does, the plain machine that agrees may change the words in which its queue
+/// keeps links: those of processes that wait for no message inside, where the world has them undefined.
+pub fn queue_words_may_change()
+    ensures { QueueWordsMayChange }
+{}

@@ -1,0 +1,70 @@
+//! The code, a byte at a time.
+
+ghost use Rattle.std.specs.Prelude.{◌≡◌, ◌<◌, ◌^◌, length, slice_index};
+ghost use Rattle.prefix_decoder.specs.Operand.{IsRegister};
+ghost use Rattle.machine_state.specs.Instructions.{instruction_of};
+ghost use Rattle.plain_machine.specs.PlainByte.{function_step, byte_step, operand_after, IsFunctionSafe, IsByteSafe};
+ghost use Rattle.plain_machine.specs.PlainStep.{state_of, Does};
+
+use crate::flow::PlainFlow;
+use crate::instructing::instruct;
+use crate::registers::PlainRegisters;
+use machine_state::Instruction;
+use prefix_decoder::Fun;
+use prefix_decoder::operand::{after_prefix, with_nibble};
+
+/// Executes one function of the process that runs with its whole operand. The machine has the instruction.
+#[inline(always)]
+fn execute(
+    bytes: &mut [u8],
+    registers: &mut PlainRegisters,
+    code_start: u32,
+    fun: Fun,
+    operand: i32,
+) -> PlainFlow
+    requires { IsFunctionSafe (instruction_of fun operand) operand (state_of registers.old bytes.old) }
+    ensures { let s = state_of registers.old bytes.old in
+        Does (function_step code_start (instruction_of fun operand) operand s) result registers.new bytes.new }
+{
+    match Instruction::of(fun, operand) {
+        Some(instruction) => instruct(bytes, registers, code_start, instruction, operand),
+        None => unreachable!(),
+    }
+}
+
+/// Executes the next byte of the process that runs, of code that begins at this address: a prefix goes to the operand,
+/// and any other byte completes an instruction. `operand` is 0 between two instructions. Nothing is tested.
+#[inline(always)]
+pub fn execute_byte(
+    bytes: &mut [u8],
+    registers: &mut PlainRegisters,
+    operand: &mut i32,
+    code: &[u8],
+    code_start: u32,
+) -> PlainFlow
+    requires code { length code.now < 2 ^ 32 }
+    requires inside { registers.old.at < length code.now }
+    requires register { IsRegister operand.old }
+    requires safe { let byte = slice_index code.now registers.old.at in
+        IsByteSafe byte operand.old (state_of registers.old bytes.old) }
+    ensures step { let byte = slice_index code.now registers.old.at in
+        let step = byte_step code_start byte operand.old (state_of registers.old bytes.old) in
+        Does step result registers.new bytes.new }
+    ensures operand { operand.new ≡ operand_after (slice_index code.now registers.old.at) operand.old }
+    ensures register { IsRegister operand.new }
+{
+    let byte = code[registers.at as usize];
+    registers.at += 1;
+    let whole = with_nibble(*operand, byte);
+    let function = byte >> 4;
+    match Fun::from_code(function) {
+        Some(fun) => {
+            *operand = 0;
+            execute(bytes, registers, code_start, fun, whole)
+        }
+        None => {
+            *operand = after_prefix(function, whole);
+            PlainFlow::Next
+        }
+    }
+}
