@@ -1,0 +1,6 @@
+pub mod Wanting
+pub mod ByLink
+pub mod FirstInFirstOut
+pub mod RunLaws
+pub mod Awaiting
+pub mod EchoRuns

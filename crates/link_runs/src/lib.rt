@@ -1,0 +1,9 @@
+//! The run of a module with bytes for its links: first in, first out.
+#![tactic(auto)]
+
+mod laws;
+
+pub use laws::{
+    arrivals_come_to_an_end, echo_runs, runs_are_made_of_events, there_is_one_run,
+    unasked_bytes_change_nothing,
+};
