@@ -4,3 +4,4 @@ pub mod FirstInFirstOut
 pub mod RunLaws
 pub mod Awaiting
 pub mod EchoRuns
+pub mod Driving
