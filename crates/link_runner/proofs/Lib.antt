@@ -7,3 +7,4 @@ pub mod OneByte
 pub mod AskedOn
 pub mod OneMessage
 pub mod WholeRun
+pub mod AllBytes

@@ -2,7 +2,7 @@
 
 ghost use Rattle.machine_state.specs.World.{loaded};
 ghost use Rattle.link_runner.specs.Readers.{NoneFailed};
-ghost use Rattle.link_runner.specs.Runs.{Runs};
+ghost use Rattle.link_runner.specs.Runs.{Runs, RunsWith};
 
 use crate::providing::provide;
 use crate::reading::LinkReader;
@@ -26,6 +26,9 @@ pub fn drive<M: Machine, R: LinkReader, W: LinkWriter>(
     // What was read and written is what the first-in first-out run asks for and emits, up to some moment.
     ensures runs { Runs R.left R.failed W.written W.failed (M.contents machine.old) readers.old readers.new writers.old
         writers.new result }
+    // The same of all the bytes that the readers have, if they are known.
+    ensures known { RunsWith R.left R.failed W.written W.failed (M.contents machine.old) readers.old readers.new
+        writers.old writers.new result }
 {
     let mut tally = Tally {
         ended: Ended::at_start(readers),

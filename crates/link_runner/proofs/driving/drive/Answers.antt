@@ -14,6 +14,7 @@ use Rattle.link_runner.specs.Writers.{writers_of, IsDelivered, Delivers}
 use Rattle.link_runner.proofs.WholeRun.{IsAdvanced, at_first, provides_here, provide_fails, proceeding_stops, at_message}
 use Rattle.link_runner.proofs.WholeRun.{message_advances, message_stops, idle_advances, drives_further, less_is_left}
 use Rattle.link_runner.proofs.WholeRun.{provided, finishes, counts_at_first, report_is}
+use Rattle.link_runner.proofs.AllBytes.{knows_all}
 use Rattle.link_runner.proofs.driving.drive.Goals as goal
 use Rattle.link_runner.proofs.driving.drive.Goals.{in-Emitted+in_ok-deliver-in-Emitted, in-Idle, then-finished, else-finished}
 
@@ -36,6 +37,7 @@ returns-in_err-provide g c =
     let driving = c.loop-machine.invariant in
     rw (p.1, p.2) (record {
       runs = provide_fails g.R.LinkReader.left g.R.LinkReader.failed g.W.LinkWriter.written g.W.LinkWriter.failed m c.args.readers.now c.args.writers.now driving.moment c.loop-machine.readers c.loop-machine.writers driving.driven c.provide.new.readers c.in_err-provide.field-0.0 c.provide.new.tally (g.M.Machine.shows c.provide.new.machine) (provides_here g.R.LinkReader.left g.R.LinkReader.failed g.W.LinkWriter.written g.W.LinkWriter.failed g.M.Machine.contents g.M.Machine.shows m c.args.readers.now c.args.writers.now c.loop-machine.machine c.loop-machine.readers c.loop-machine.writers c.loop-machine.tally c.loop-machine.executed driving c.provide.new.readers (Err c.in_err-provide.field-0.0) c.provide.new.tally (g.M.Machine.shows c.provide.new.machine) c.in_err-provide.ensures.provides);
+      known = tt;
     })
 
 pub proceed-requires : goal.proceed-requires
@@ -57,6 +59,7 @@ returns-in_err-link g c =
     let there = c.in_ok-provide.ensures.contents ∙ driving.same in
     rw (e.1, e.2) (record {
       runs = proceeding_stops g.R.LinkReader.left g.R.LinkReader.failed g.W.LinkWriter.written g.W.LinkWriter.failed g.M.Machine.contents g.M.Machine.shows m c.args.readers.now c.args.writers.now c.loop-machine.machine c.loop-machine.readers c.loop-machine.writers c.loop-machine.tally c.loop-machine.executed driving c.provide.new.readers c.provide.new.tally (g.M.Machine.shows c.provide.new.machine) p (g.M.Machine.shows c.proceed.new.self) (subst (λ (n : Contents). Breaks n p.moment.world (g.M.Machine.shows c.proceed.new.self)) there (c.in_err-link.ensures.proceeds p.moment.world p.is_shown));
+      known = tt;
     })
 
 pub deliver-requires : goal.deliver-requires
@@ -85,6 +88,7 @@ returns-in_err-deliver-in-Emitted g c =
     let at = at_message g.R.LinkReader.left g.R.LinkReader.failed g.W.LinkWriter.written g.W.LinkWriter.failed g.M.Machine.contents g.M.Machine.shows m c.args.readers.now c.args.writers.now c.loop-machine.machine c.loop-machine.readers c.loop-machine.writers c.loop-machine.tally c.loop-machine.executed driving c.provide.new.readers c.provide.new.tally (g.M.Machine.shows c.provide.new.machine) p c.in-Emitted.link message (g.M.Machine.shows c.proceed.new.self) emits in
     rw (e.1, e.2) (record {
       runs = message_stops g.R.LinkReader.left g.R.LinkReader.failed g.W.LinkWriter.written g.W.LinkWriter.failed g.M.Machine.contents g.M.Machine.shows m c.args.readers.now c.args.writers.now c.loop-machine.machine c.loop-machine.readers c.loop-machine.writers c.loop-machine.tally c.loop-machine.executed driving c.provide.new.readers c.provide.new.tally (g.M.Machine.shows c.provide.new.machine) p c.in-Emitted.link message (g.M.Machine.shows c.proceed.new.self) emits c.deliver.new.writers c.in_err-deliver-in-Emitted.field-0.0 c.deliver.new.tally (g.M.Machine.shows c.deliver.new.machine) (subst (λ (n : Contents). Delivers g.W.LinkWriter.written g.W.LinkWriter.failed n c.in-Emitted.link message at c.loop-machine.writers c.deliver.new.writers (Err c.in_err-deliver-in-Emitted.field-0.0) c.deliver.new.tally (g.M.Machine.shows c.deliver.new.machine)) (c.in_ok-link.ensures.contents ∙ there) (c.in_err-deliver-in-Emitted.ensures.delivers at emits.is_shown p.counts));
+      known = tt;
     })
 
 pub loop-machine-preserved : goal.loop-machine-preserved
@@ -152,6 +156,10 @@ returns g c =
       | then-finished w ↦ w.result-is ∙ ap (λ (b : Bool). cond b outcomes.Ended outcomes.Idle) (sym w.if-finished.true ∙ finished)
       | else-finished w ↦ w.result-is ∙ ap (λ (b : Bool). cond b outcomes.Ended outcomes.Idle) (sym w.if-finished.false ∙ finished)
     ] in
+    let over = finishes g.R.LinkReader.left g.R.LinkReader.failed g.W.LinkWriter.written g.W.LinkWriter.failed m c.args.readers.now c.args.writers.now p.moment c.provide.new.readers c.loop-machine.writers driven _ (p.over refl) (report_is p.moment c.if-finished.result c.loop-machine.executed c.to_array.result c.to_array-2.result outcome (driving.count ∙ sym p.goes.count) (c.to_array.ensures ∙ ap (λ (t : Tally). in_order t.read) p.counts) (c.to_array-2.ensures ∙ ap (λ (t : Tally). in_order t.written) p.counts)) in
     record {
-      runs = finishes g.R.LinkReader.left g.R.LinkReader.failed g.W.LinkWriter.written g.W.LinkWriter.failed m c.args.readers.now c.args.writers.now p.moment c.provide.new.readers c.loop-machine.writers driven _ (p.over refl) (report_is p.moment c.if-finished.result c.loop-machine.executed c.to_array.result c.to_array-2.result outcome (driving.count ∙ sym p.goes.count) (c.to_array.ensures ∙ ap (λ (t : Tally). in_order t.read) p.counts) (c.to_array-2.ensures ∙ ap (λ (t : Tally). in_order t.written) p.counts));
+      runs = over;
+      known = λ inputs has. knows_all g.R.LinkReader.left g.R.LinkReader.failed g.W.LinkWriter.written
+          g.W.LinkWriter.failed m c.args.readers.now c.provide.new.readers c.args.writers.now c.loop-machine.writers inputs
+          _ has over;
     }
