@@ -1,12 +1,14 @@
 -- The run over all bytes that the readers have.
-use Rattle.std.proofs.Common.{◌≡◌, ℕ, Bool, true, false, cond, is_some, ◌&&◌, List, [], ◌∷◌, ◌++◌, Option, Some, None, refl, sym}
+use Rattle.std.proofs.Common.{◌≡◌, ℕ, Bool, true, false, cond, is_some, ◌&&◌, List, [], ◌∷◌, ◌++◌, Option, Some, None}
+use Rattle.std.proofs.Common.{refl, sym}
 use Rattle.std.proofs.Common.{ap, subst, ◌∙◌, append-nil}
 use Rattle.std.specs.Io.KnownBytes.{Consumes, IsAtEnd}
 use Rattle.module_format.specs.Contents.{Contents}
 use Rattle.machine_state.specs.declared.link.Link.{Link}
 use Rattle.machine_state.specs.declared.link.Link.TheVariants.{Zero, One, Two, Three}
 use Rattle.link_runs.specs.ByLink.{ByLink, of_link, with_link, by_link}
-use Rattle.link_runs.specs.FirstInFirstOut.{Supply, RunMoment, IsRun, IsOver, stepped, asked, can_be_asked, answered_by, next}
+use Rattle.link_runs.specs.FirstInFirstOut.{Supply, RunMoment, IsRun, IsOver, stepped, asked, can_be_asked}
+use Rattle.link_runs.specs.FirstInFirstOut.{answered_by, next}
 use Rattle.link_runs.specs.RunLaws.{more_of, more_on, with_more}
 use Rattle.link_runs.specs.Wanting.{is_running, wants}
 use Rattle.link_runs.proofs.ByLink.{first_alike, with_same}
@@ -35,7 +37,8 @@ extends m writers n link bytes inputs s None is none run =
     (run ∙ ap (λ (all : ByLink Supply). Some (record s { left = all })) (sym (on_nothing link s.left))))
 extends m writers n link bytes inputs s (Some rest) is none run = unasked link bytes m inputs writers n s rest run is
 
-module _ (m : Contents) (writers : ByLink Bool) (n : ℕ) (inputs : ByLink Supply) (s : RunMoment) (all : ByLink (List ℕ)) where
+module _ (m : Contents) (writers : ByLink Bool) (n : ℕ) (inputs : ByLink Supply) (s : RunMoment) (all : ByLink (List
+    ℕ)) where
   abbrev pub with_all : ByLink Supply → ByLink Supply
   with_all supplies = record {
     first = more_of supplies.first all.first;
@@ -69,7 +72,8 @@ module _ (m : Contents) (writers : ByLink Bool) (n : ℕ) (inputs : ByLink Suppl
   nobody_asked None is over = is
   nobody_asked (Some link) is over = absurd (cc)
 
-  over_there : (b : Bool) → is_running s.world ≡ b → cond b (Some (stepped m writers s)) (answered_by m s (asked s)) ≡ None
+  over_there : (b : Bool) → is_running s.world ≡ b
+      → cond b (Some (stepped m writers s)) (answered_by m s (asked s)) ≡ None
       → IsOver m writers later
   over_there true runs over = absurd (cc)
   over_there false rests over = next_none m writers later rests
@@ -134,7 +138,8 @@ module _ {R W : Type 0} (left : R → Option (List ℕ)) (read_failed : R → Bo
       of_known r s (left s) all taken now has refl
       (subst (λ (o : Option (List ℕ)). Consumes o (left s) taken) has takes) spent ends
 
-  pub knows_all : (inputs : ByLink Supply) (report : Report) → ((link : Link) → HasHere (at_link readers link) (of_link inputs link))
+  pub knows_all : (inputs : ByLink Supply) (report : Report) → ((link : Link)
+      → HasHere (at_link readers link) (of_link inputs link))
       → Finishes left read_failed written write_failed m readers readers_after writers writers_after report
       → FinishesWith left read_failed written write_failed m readers readers_after writers writers_after inputs report
   knows_all inputs report has finishes =
@@ -164,14 +169,16 @@ module _ {R W : Type 0} (left : R → Option (List ℕ)) (read_failed : R → Bo
             (extends_all m flags reads.turns (inputs_of readers reads.taken) s all
             (none_of s all a.none b.none c.none d.none) reads.run);
         over = over_still m flags reads.turns (inputs_of readers reads.taken) s all finishes.over;
-        unread = kept_of (with_all m flags reads.turns (inputs_of readers reads.taken) s all s.left) a.keeps b.keeps c.keeps d.keeps;
+        unread = kept_of (with_all m flags reads.turns (inputs_of readers reads.taken) s all s.left) a.keeps b.keeps
+            c.keeps d.keeps;
         writes = finishes.writes;
         reported = finishes.reported;
       }
     where
       none_of : (s : RunMoment) (all : ByLink (List ℕ)) → (s.left.first ≡ None → all.first ≡ [])
           → (s.left.second ≡ None → all.second ≡ []) → (s.left.third ≡ None → all.third ≡ [])
-          → (s.left.fourth ≡ None → all.fourth ≡ []) → (link : Link) → of_link s.left link ≡ None → of_link all link ≡ []
+          → (s.left.fourth ≡ None → all.fourth ≡ []) → (link : Link) → of_link s.left link ≡ None
+          → of_link all link ≡ []
       none_of s all a b c d Zero = a
       none_of s all a b c d One = b
       none_of s all a b c d Two = c

@@ -1,5 +1,6 @@
 -- Links that are asked until a process runs.
-use Rattle.std.proofs.Common.{◌≡◌, ◌⊎◌, inl, inr, ℕ, ◌+◌, ◌<◌, Bool, true, false, cond, not, is_some, is_none, ◌&&◌, List, Option}
+use Rattle.std.proofs.Common.{◌≡◌, ◌⊎◌, inl, inr, ℕ, ◌+◌, ◌<◌, Bool, true, false, cond, not, is_some, is_none, ◌&&◌}
+use Rattle.std.proofs.Common.{List, Option}
 use Rattle.std.proofs.Common.{Some, None, Result, Ok, Err, refl, sym, ap, subst, ◌∙◌, arith}
 use Rattle.module_format.specs.Contents.{Contents}
 use Rattle.machine_state.specs.declared.link.Link.{Link}
@@ -16,7 +17,8 @@ use Rattle.link_runner.specs.declared.report.RunError.TheVariants.{ReadFailed, W
 use Rattle.link_runner.specs.declared.tally.Ended.{Ended}
 use Rattle.link_runner.specs.declared.tally.Tally.{Tally}
 use Rattle.link_runner.specs.Counting.{flag_of, ended_at, tally_of}
-use Rattle.link_runner.specs.Readers.{IsReadTo, NoneFailed, ReadsOn, count_open, askable, IsSupplied, Supplies, IsProvided}
+use Rattle.link_runner.specs.Readers.{IsReadTo, NoneFailed, ReadsOn, count_open, askable, IsSupplied, Supplies}
+use Rattle.link_runner.specs.Readers.{IsProvided}
 use Rattle.link_runner.specs.Readers.{Provides, FailsToRead}
 
 -- ---- what is asked next
@@ -95,14 +97,16 @@ module _ {M R : Type 0} (left : R → Option (List ℕ)) (failed : R → Bool) (
     }
 
     -- asking failed
-    pub stops_asking : (before : M) (tally new newest : Tally) (shown last : World → Type 0) (link : Link) (e : RunError)
+    pub stops_asking : (before : M) (tally new newest : Tally) (shown last : World
+        → Type 0) (link : Link) (e : RunError)
         → (led : IsLed m first readers writers s before tally)
         → Supplies left failed m first later writers led.moment link (Err e) new shown
         → Provides left failed m first later writers s (Err e) newest last
     stops_asking before tally new newest shown last link (ReadFailed on) led supplies = record {
       moment = led.moment;
       written = led.goes.written;
-      fails = subst (λ (l : Link). FailsToRead left failed m first later writers led.moment l) (sym supplies.0) supplies.1;
+      fails = subst (λ (l : Link). FailsToRead left failed m first later writers led.moment l) (sym supplies.0)
+          supplies.1;
     }
     stops_asking before tally new newest shown last link (WriteFailed on) led supplies = absurd supplies
     stops_asking before tally new newest shown last link Memory led supplies = record {
@@ -116,7 +120,8 @@ module _ {M R : Type 0} (left : R → Option (List ℕ)) (failed : R → Bool) (
       → ((is_running v ≡ true) ⊎ (awaited v + count_open tally_is.ended < awaited w + n))
       → cond is 0 (awaits later + count_open tally_is.ended + 1)
       < cond was 0 (awaits machine + count_open tally_was.ended + 1)
-  falls w v tally_was tally_is n machine later was true idle before after open_was running closer = rw idle (omega arith)
+  falls w v tally_was tally_is n machine later was true idle before after open_was running closer = rw idle (omega
+      arith)
   falls w v tally_was tally_is n machine later was false idle before after open_was running closer =
       rw idle (elim closer [
         | inl runs ↦ let both : false ≡ true = running ∙ runs in absurd (cc)

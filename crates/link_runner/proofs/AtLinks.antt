@@ -1,5 +1,6 @@
 -- What stands at the number of a link, after one was set.
-use Rattle.std.proofs.Common.{◌≡◌, ◌≢◌, ℕ, Bool, true, false, nat_eq, List, Option, Some, None, refl, sym, ap, subst, ◌∙◌, slice_get, slice_set}
+use Rattle.std.proofs.Common.{◌≡◌, ◌≢◌, ℕ, Bool, true, false, nat_eq, List, Option, Some, None, refl, sym, ap, subst}
+use Rattle.std.proofs.Common.{◌∙◌, slice_get, slice_set}
 use Rattle.std.proofs.Common.{is_some, eq-eqb}
 use Rattle.machine_state.specs.declared.link.Link.{Link}
 use Rattle.machine_state.specs.declared.link.Link.TheVariants.{Zero, One, Two, Three}
@@ -24,7 +25,8 @@ of_by_link f Two = refl
 of_by_link f Three = refl
 
 -- a fact of this link and of all the others is one of each
-pub everywhere : (P : Link → Type 0) (link : Link) → P link → ((on : Link) → (link_index link ≡ link_index on → ⊥) → P on)
+pub everywhere : (P : Link → Type 0) (link : Link) → P link → ((on : Link) → (link_index link ≡ link_index on → ⊥)
+    → P on)
     → (on : Link) → P on
 everywhere P link here elsewhere on = elim (compared link on) [
   | same is ↦ subst P is here

@@ -1,5 +1,6 @@
 -- A run that is driven on.
-use Rattle.std.proofs.Common.{◌≡◌, ◌≢◌, ℕ, suc, ◌+◌, ◌<◌, ◌≤◌, Bool, true, false, cond, is_none, List, [], ◌∷◌, ◌++◌, Option}
+use Rattle.std.proofs.Common.{◌≡◌, ◌≢◌, ℕ, suc, ◌+◌, ◌<◌, ◌≤◌, Bool, true, false, cond, is_none, List, [], ◌∷◌, ◌++◌}
+use Rattle.std.proofs.Common.{Option}
 use Rattle.std.proofs.Common.{Some, None, Ok, Err, Result, refl, sym, ap, subst, ◌∙◌, arith}
 use Rattle.module_format.specs.Contents.{Contents}
 use Rattle.machine_state.specs.declared.event.Event.TheVariants.{Acknowledge}
@@ -22,7 +23,8 @@ use Rattle.link_runner.specs.Readers.{inputs_of, IsReadTo}
 abbrev pub moved_to : World → RunMoment → RunMoment
 moved_to w s = record s { world = w }
 
-module _ {R : Type 0} (left : R → Option (List ℕ)) (m : Contents) (first readers : List (Option R)) (writers : ByLink Bool) where
+module _ {R : Type 0} (left : R
+    → Option (List ℕ)) (m : Contents) (first readers : List (Option R)) (writers : ByLink Bool) where
   -- a turn that reads nothing
   pub turns_on : (s t : RunMoment) → IsReadTo left m first readers writers s → is_running s.world ≡ true
       → stepped m writers s ≡ t → t.left ≡ s.left → IsReadTo left m first readers writers t
@@ -77,7 +79,8 @@ counts_more m v w (drives.goes_on u quietly runs_there answer) runs rests =
     omega (arith, before, more)
 
 -- a Step that emits a message counts, and its acknowledgement does not
-pub emission_counts : (m : Contents) (flags : ByLink Bool) (v w : World) (link : Link) (message : List ℕ) (s : RunMoment)
+pub emission_counts : (m : Contents) (flags : ByLink Bool) (v w : World) (link : Link) (message : List ℕ) (s :
+    RunMoment)
     → Quietly m v w → (turn m w plain_step).answer ≡ Ok (emitted link message) → s.world ≡ happens m w plain_step
     → v.counters.executed < (delivered m flags link message s).world.counters.executed
 emission_counts m flags v w link message s quietly answer at_step = by_writer (of_link flags link) refl

@@ -1,5 +1,6 @@
 -- What becomes of asking one link.
-use Rattle.std.proofs.Common.{◌≡◌, ◌⊎◌, inl, inr, ℕ, ◌+◌, ◌-◌, ◌<◌, ◌^◌, min, Bool, true, false, is_none, cond, List, [], ◌∷◌}
+use Rattle.std.proofs.Common.{◌≡◌, ◌⊎◌, inl, inr, ℕ, ◌+◌, ◌-◌, ◌<◌, ◌^◌, min, Bool, true, false, is_none, cond, List}
+use Rattle.std.proofs.Common.{[], ◌∷◌}
 use Rattle.std.proofs.Common.{Option, Some, None, Result, Ok, Err, refl, sym, ap, subst, ◌∙◌, arith, add-zero}
 use Rattle.std.specs.Prelude.{⊤}
 use Rattle.std.specs.Io.KnownBytes.{Consumes, IsAtEnd, Keeps}
@@ -27,8 +28,10 @@ use Rattle.link_runner.specs.declared.tally.Ended.{Ended}
 use Rattle.link_runner.specs.declared.tally.Tally.{Tally}
 use Rattle.link_runner.specs.Counting.{saturated, with_flag, with_count, ended_at, counts_of, tally_of}
 use Rattle.link_runner.specs.Devices.{Gives}
-use Rattle.link_runner.specs.Readers.{at_link, flag_at, NoneFailed, OneFailed, SameElsewhere, Takes, EndsRightly, IsReadTo}
-use Rattle.link_runner.specs.Readers.{IsCalled, Asks, ReadsOn, FailsToRead, count_open, askable, IsSupplied, ReadsOnWithoutMemory}
+use Rattle.link_runner.specs.Readers.{at_link, flag_at, NoneFailed, OneFailed, SameElsewhere, Takes, EndsRightly}
+use Rattle.link_runner.specs.Readers.{IsReadTo}
+use Rattle.link_runner.specs.Readers.{IsCalled, Asks, ReadsOn, FailsToRead, count_open, askable, IsSupplied}
+use Rattle.link_runner.specs.Readers.{ReadsOnWithoutMemory}
 use Rattle.link_runner.proofs.AtLinks.{still_none, now_one}
 use Rattle.link_runner.proofs.ReadOn.{byte_read, end_read, none_read, takes_same, asked_is_open, asked_is_wanted}
 
@@ -56,7 +59,10 @@ open_fewer : (link : Link) (s : RunMoment) → of_link s.left link ≡ Some []
 open_fewer Zero s here = let was = ap {B = ℕ} (λ (o : Option (List ℕ)). cond (is_none o) 0 1) here in omega (arith, was)
 open_fewer One s here = let was = ap {B = ℕ} (λ (o : Option (List ℕ)). cond (is_none o) 0 1) here in omega (arith, was)
 open_fewer Two s here = let was = ap {B = ℕ} (λ (o : Option (List ℕ)). cond (is_none o) 0 1) here in omega (arith, was)
-open_fewer Three s here = let was = ap {B = ℕ} (λ (o : Option (List ℕ)). cond (is_none o) 0 1) here in omega (arith, was)
+open_fewer Three s here = let was = ap {B = ℕ} (λ (o : Option (List ℕ)). cond (is_none o) 0 1) here in omega (
+  arith,
+  was,
+)
 
 -- ---- an arrival executes nothing
 
@@ -130,12 +136,14 @@ module _ {R : Type 0} (left : R → Option (List ℕ)) (failed : R → Bool) (m 
   gives_byte byte None y was is called = absurd called
   gives_byte byte (Some old) None was is called = absurd called
   gives_byte byte (Some old) (Some new) was is called = record {
-    reads_on = byte_read left m first before after writers s link elsewhere reads nobody ask byte old new was is called.0;
+    reads_on = byte_read left m first before after writers s link elsewhere reads nobody ask byte old new was is
+        called.0;
     none_failed = still_none failed before after link none elsewhere
         (ap (flag_at failed) is ∙ (called.1 ∙ (sym (ap (flag_at failed) was) ∙ none.none link)));
   }
 
-  pub byte_given : (byte : ℕ) → IsCalled left failed {E = Failed} (at_link before link) (Ok (Some byte)) (at_link after link)
+  pub byte_given : (byte : ℕ)
+      → IsCalled left failed {E = Failed} (at_link before link) (Ok (Some byte)) (at_link after link)
       → GivesByte byte
   byte_given byte called = gives_byte byte (at_link before link) (at_link after link) refl refl called
 

@@ -1,5 +1,6 @@
 -- A message that is written in parts.
-use Rattle.std.proofs.Common.{◌≡◌, ◌≢◌, ℕ, ◌+◌, ◌-◌, ◌≤◌, ◌<◌, Bool, true, false, ◌||◌, List, [], ◌∷◌, ◌++◌, length, take, drop, Option, ap}
+use Rattle.std.proofs.Common.{◌≡◌, ◌≢◌, ℕ, ◌+◌, ◌-◌, ◌≤◌, ◌<◌, Bool, true, false, ◌||◌, List, [], ◌∷◌, ◌++◌, length}
+use Rattle.std.proofs.Common.{take, drop, Option, ap}
 use Rattle.std.proofs.Common.{sym, refl, ◌∙◌, ◌&&◌, nat_lt, arith, subst, append-nil, take-append-drop}
 use Rattle.std.specs.Io.KnownBytes.{Appends, Keeps}
 use Rattle.std.proofs.KnownBytes.{Appends-trans, Appends-kept}
@@ -76,7 +77,8 @@ module _ (a b c : Option (List ℕ)) (was is : Bool) (message : List ℕ) (n cou
       let rest : take (length message - n) (drop n message) ≡ drop n message = take_rest message n in
       let size : length (take (length message - n) (drop n message)) ≡ length message - n =
       ap length rest ∙ length-drop n message in
-      let unchanged = subst (λ (k : ℕ). Appends b c (take k (take (length message - n) (drop n message)))) none appends in (
+      let unchanged = subst (λ (k : ℕ). Appends b c (take k (take (length message - n) (drop n message)))) none
+      appends in (
         subst (Appends a c) (append-nil (take n message)) (Appends-trans a b c (take n message) [] begun.beginning
             (subst (Appends b c) (take_none_of (take (length message - n) (drop n message))) unchanged)),
         is_part message n below,

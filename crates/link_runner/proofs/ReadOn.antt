@@ -1,5 +1,6 @@
 -- A run that is read on.
-use Rattle.std.proofs.Common.{◌≡◌, ◌≢◌, ◌⊎◌, inl, inr, ℕ, suc, ◌+◌, ◌<◌, Bool, true, false, is_some, not, ◌&&◌, List, [], ◌∷◌}
+use Rattle.std.proofs.Common.{◌≡◌, ◌≢◌, ◌⊎◌, inl, inr, ℕ, suc, ◌+◌, ◌<◌, Bool, true, false, is_some, not, ◌&&◌, List}
+use Rattle.std.proofs.Common.{[], ◌∷◌}
 use Rattle.std.proofs.Common.{◌++◌, Option, Some, None, Ok, Err, Result, refl, sym, ap, subst, ◌∙◌, append-nil, arith}
 use Rattle.std.specs.Io.KnownBytes.{Consumes, IsAtEnd, Keeps}
 use Rattle.std.proofs.KnownBytes.{Consumes-trans, Consumes-kept}
@@ -14,10 +15,12 @@ use Rattle.link_runs.specs.ByLink.{ByLink, of_link, with_link, by_link}
 use Rattle.link_runs.specs.Wanting.{is_running, wants}
 use Rattle.link_runs.specs.FirstInFirstOut.{Supply, RunMoment, IsRun, asked, can_be_asked, supplied}
 use Rattle.link_runs.specs.RunLaws.{more_on, with_more}
-use Rattle.link_runs.proofs.ByLink.{of_same, of_other, with_same, with_twice, first_passes, Compared, same, other, compared}
+use Rattle.link_runs.proofs.ByLink.{of_same, of_other, with_same, with_twice, first_passes, Compared, same, other}
+use Rattle.link_runs.proofs.ByLink.{compared}
 use Rattle.link_runs.proofs.Turns.{next_asked, one_more, some_same}
 use Rattle.link_runs.proofs.Unasked.{more_is, more_there, asked_alike, unasked}
-use Rattle.link_runner.specs.Readers.{at_link, supply_of, inputs_of, IsSpent, Takes, EndsRightly, IsReadTo, SameElsewhere}
+use Rattle.link_runner.specs.Readers.{at_link, supply_of, inputs_of, IsSpent, Takes, EndsRightly, IsReadTo}
+use Rattle.link_runner.specs.Readers.{SameElsewhere}
 use Rattle.link_runner.proofs.AtLinks.{of_by_link, everywhere}
 
 and_right : (a b : Bool) → (a && b) ≡ true → b ≡ true
@@ -188,7 +191,8 @@ module _ {R : Type 0} (left : R → Option (List ℕ)) (m : Contents) (first bef
           (subst IsSpent (sym (of_same link None s.left)) tt)
           (λ on differ. subst IsSpent (sym (of_other link on None s.left differ)) (reads.spent on));
       ends = everywhere (λ on. EndsRightly left (of_link (with_link link None s.left) on) (at_link after on)) link
-          (subst (λ (supply : Supply). EndsRightly left supply (at_link after link)) (sym (of_same link None s.left)) at_end)
+          (subst (λ (supply : Supply). EndsRightly left supply (at_link after link)) (sym (of_same link None s.left))
+          at_end)
           (λ on differ. subst (λ (supply : Supply). EndsRightly left supply (at_link after on))
           (sym (of_other link on None s.left differ)) (ends_elsewhere on differ));
     }

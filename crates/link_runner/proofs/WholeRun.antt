@@ -1,5 +1,6 @@
 -- A run that is driven on to its end.
-use Rattle.std.proofs.Common.{◌≡◌, ℕ, ◌+◌, ◌-◌, ◌<◌, ◌≤◌, Bool, true, false, is_none, is_some, List, [], ◌++◌, Option, Some, None, Ok, Err}
+use Rattle.std.proofs.Common.{◌≡◌, ℕ, ◌+◌, ◌-◌, ◌<◌, ◌≤◌, Bool, true, false, is_none, is_some, List, [], ◌++◌, Option}
+use Rattle.std.proofs.Common.{Some, None, Ok, Err}
 use Rattle.std.proofs.Common.{Result, refl, sym, ap, subst, ◌∙◌, arith}
 use Rattle.std.specs.Prelude.{⊤}
 use Rattle.module_format.specs.Contents.{Contents}
@@ -34,7 +35,8 @@ module _ {R W : Type 0} (left : R → Option (List ℕ)) (read_failed : R → Bo
   -- the run came to this moment, with nothing failed
   pub record IsDrivenTo (s : RunMoment) (readers : List (Option R)) (writers : List (Option W)) : Type 0 where
     pub reads : IsReadTo left m first readers (writers_of first_writers) s
-    pub writes : (link : Link) → Puts written (at_link first_writers link) (at_link writers link) (of_link s.written link)
+    pub writes : (link : Link)
+        → Puts written (at_link first_writers link) (at_link writers link) (of_link s.written link)
     pub no_read_failed : NoneFailed read_failed readers
     pub no_write_failed : NoneFailed write_failed writers
 
@@ -101,7 +103,8 @@ module _ {R W : Type 0} (left : R → Option (List ℕ)) (read_failed : R → Bo
         → ReadsOn left read_failed m first later (writers_of first_writers) s t → IsDrivenTo t later writers
     provided t later goes = record {
       reads = goes.reads;
-      writes = λ link. subst (λ (all : ByLink (List ℕ)). Puts written (at_link first_writers link) (at_link writers link)
+      writes = λ link. subst (λ (all : ByLink (List ℕ)). Puts written (at_link first_writers link) (at_link writers
+          link)
           (of_link all link)) (sym goes.written) (driven.writes link);
       no_read_failed = goes.none_failed;
       no_write_failed = driven.no_write_failed;
@@ -133,7 +136,8 @@ module _ {R W : Type 0} (left : R → Option (List ℕ)) (read_failed : R → Bo
         reads = subst (λ (flags : ByLink Bool). IsReadTo left m first readers (writers_of first_writers)
             (delivered m flags link message emitting)) same_writers
             (emits_next left m first readers (writers_of first_writers) s link message driven.reads runs emits);
-        writes = puts_message written m first_writers writers after link message (writers_of writers) emitting driven.writes
+        writes = puts_message written m first_writers writers after link message (writers_of writers) emitting
+            driven.writes
             puts;
         no_read_failed = driven.no_read_failed;
         no_write_failed = none;
@@ -190,7 +194,8 @@ module _ {R W : Type 0} (left : R → Option (List ℕ)) (read_failed : R → Bo
     provide_fails later (ReadFailed link) tally shown provides = record {
       moment = provides.moment;
       fails = provides.fails;
-      writes = λ link. subst (λ (all : ByLink (List ℕ)). Puts written (at_link first_writers link) (at_link writers link)
+      writes = λ link. subst (λ (all : ByLink (List ℕ)). Puts written (at_link first_writers link) (at_link writers
+          link)
           (of_link all link)) (sym provides.written) (driven.writes link);
       no_write_failed = driven.no_write_failed;
     }
@@ -249,7 +254,8 @@ module _ {M R W : Type 0} (left : R → Option (List ℕ)) (read_failed : R → 
         driving.driven.reads) driving.driven.no_read_failed driving.counts)
 
     -- where the loop's body has come to
-    pub record IsAdvanced (machine_after : M) (later : List (Option R)) (after : List (Option W)) (new : Tally) : Type 0 where
+    pub record IsAdvanced (machine_after : M) (later : List (Option R)) (after : List (Option W)) (new : Tally) :
+        Type 0 where
       pub moment : RunMoment
       pub is_shown : shows machine_after moment.world
       pub driven : IsDrivenTo left read_failed written write_failed m first first_writers moment later after
@@ -265,7 +271,8 @@ module _ {M R W : Type 0} (left : R → Option (List ℕ)) (read_failed : R → 
       pub driven_on : (v : World) → Quietly m p.moment.world v
           → IsDrivenTo left read_failed written write_failed m first first_writers (moved_to v p.moment) later writers
       driven_on v quietly =
-          quieted left read_failed written write_failed m first first_writers p.moment later writers driven_there v quietly
+          quieted left read_failed written write_failed m first first_writers p.moment later writers driven_there v
+          quietly
 
       pub idle_advances : (machine_after : M) → ComesToRest m p.moment.world (shows machine_after)
           → IsAdvanced machine_after later writers new
@@ -293,7 +300,8 @@ module _ {M R W : Type 0} (left : R → Option (List ℕ)) (read_failed : R → 
           moment = delivered m (writers_of writers) link message at_message;
           is_shown = delivers.is_shown;
           driven = message_delivered left read_failed written write_failed m first first_writers
-              (moved_to emits.world p.moment) later writers (driven_on emits.world emits.quietly) link message emits.runs
+              (moved_to emits.world p.moment) later writers (driven_on emits.world emits.quietly) link message
+              emits.runs
               emits.emits after newest (shows machine_after) delivers;
           counts = delivers.counts;
           more =
@@ -309,17 +317,20 @@ module _ {M R W : Type 0} (left : R → Option (List ℕ)) (read_failed : R → 
             → Delivers written write_failed m link message at_message writers after (Err e) newest shown_last
             → Runs left read_failed written write_failed m first later first_writers after (Err e)
         message_stops after e newest shown_last delivers =
-            message_fails left read_failed written write_failed m first first_writers (moved_to emits.world p.moment) later
+            message_fails left read_failed written write_failed m first first_writers (moved_to emits.world p.moment)
+            later
             writers (driven_on emits.world emits.quietly) link message emits.runs emits.emits after e newest shown_last
             delivers
 
       pub proceeding_stops : (shown_last : World → Type 0) → Breaks m p.moment.world shown_last
           → StopsForMemory left read_failed written write_failed m first later first_writers writers
       proceeding_stops shown_last breaks =
-          memory_runs_out left read_failed written write_failed m first first_writers (moved_to breaks.world p.moment) later
+          memory_runs_out left read_failed written write_failed m first first_writers (moved_to breaks.world
+          p.moment) later
           writers (driven_on breaks.world breaks.quietly)
 
-    pub drives_further : (machine_after : M) (later : List (Option R)) (after : List (Option W)) (new : Tally) (count : ℕ)
+    pub drives_further : (machine_after : M) (later : List (Option R)) (after : List (Option W)) (new : Tally) (count
+        : ℕ)
         → contents machine_after ≡ m → (advanced : IsAdvanced machine_after later after new)
         → count ≡ advanced.moment.world.counters.executed
         → IsDriving m first first_writers machine_after later after new count

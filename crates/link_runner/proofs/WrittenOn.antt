@@ -60,13 +60,15 @@ pub delivered_written : (m : Contents) (flags : ByLink Bool) (link : Link) (mess
 delivered_written m flags link message s true is = rw is refl
 delivered_written m flags link message s false is = rw is (sym (with_nothing link s.written))
 
-module _ {W : Type 0} (written : W → Option (List ℕ)) (m : Contents) (first before after : List (Option W)) (link : Link)
+module _ {W : Type 0} (written : W
+    → Option (List ℕ)) (m : Contents) (first before after : List (Option W)) (link : Link)
     (message : List ℕ) (flags : ByLink Bool) (s : RunMoment)
     (puts : (on : Link) → Puts written (at_link first on) (at_link before on) (of_link s.written on))
     (more : PutsOn written link (written_if (of_link flags link) message) before after) where
   pub puts_message : (on : Link) → Puts written (at_link first on) (at_link after on)
       (of_link (delivered m flags link message s).written on)
-  puts_message on = subst (λ (all : ByLink (List ℕ)). Puts written (at_link first on) (at_link after on) (of_link all on))
+  puts_message on = subst (λ (all : ByLink (List ℕ)). Puts written (at_link first on) (at_link after on) (of_link all
+      on))
       (sym (delivered_written m flags link message s (of_link flags link) refl))
       (puts_more written first before after link s.written (written_if (of_link flags link) message) puts more on)
 

@@ -1,5 +1,6 @@
 -- What is taken from the readers of the input links.
-use Rattle.std.specs.Prelude.{◌≡◌, ℕ, ◌+◌, ◌<◌, ◌⊎◌, ◌==◌, Bool, true, false, if◌then◌else◌, is_none, List, [], ◌∷◌, Option}
+use Rattle.std.specs.Prelude.{◌≡◌, ℕ, ◌+◌, ◌<◌, ◌⊎◌, ◌==◌, Bool, true, false, if◌then◌else◌, is_none, List, [], ◌∷◌}
+use Rattle.std.specs.Prelude.{Option}
 use Rattle.std.specs.Prelude.{Some, None, Result, Ok, Err, ⊤, slice_get}
 use Rattle.std.specs.Io.KnownBytes.{Consumes, IsAtEnd, Keeps}
 use Rattle.module_format.specs.Contents.{Contents}
@@ -52,7 +53,8 @@ pub record OneFailed {A : Type 0} (flag : A → Bool) (all : List (Option A)) (l
 
 -- all but the one of this link are as before
 abbrev pub SameElsewhere : {A : Type 0} → List (Option A) → List (Option A) → Link → Type 0
-SameElsewhere before after link = (on : Link) → (link_index link ≡ link_index on → ⊥) → at_link after on ≡ at_link before on
+SameElsewhere before after link = (on : Link) → (link_index link ≡ link_index on → ⊥)
+    → at_link after on ≡ at_link before on
 
 -- ---- what was taken
 
@@ -84,7 +86,8 @@ module _ {R : Type 0} (left : R → Option (List ℕ)) where
 
   -- The run over the bytes that were taken came to this moment. All of them were asked for, and a link has ended only
   -- where nothing is left.
-  pub record IsReadTo (m : Contents) (before after : List (Option R)) (writers : ByLink Bool) (s : RunMoment) : Type 0 where
+  pub record IsReadTo (m : Contents) (before after : List (Option R)) (writers : ByLink Bool) (s : RunMoment) : Type
+      0 where
     pub taken : ByLink (List ℕ)
     pub takes : (link : Link) → Takes (at_link before link) (at_link after link) (of_link taken link)
     pub turns : ℕ
@@ -100,12 +103,14 @@ module _ {R : Type 0} (left : R → Option (List ℕ)) where
     IsCalled (Some before) result None = ⊥
     IsCalled (Some before) result (Some after) = Gives (left before) (failed before) result (left after) (failed after)
 
-    pub record Asks {E : Type 0} (link : Link) (result : Result (Option ℕ) E) (before after : List (Option R)) : Type 0 where
+    pub record Asks {E : Type 0} (link : Link) (result : Result (Option ℕ) E) (before after : List (Option R)) : Type
+        0 where
       pub called : IsCalled (at_link before link) result (at_link after link)
       pub elsewhere : SameElsewhere before after link
 
     -- a moment that the run comes to by reading alone
-    pub record ReadsOn (m : Contents) (first readers : List (Option R)) (writers : ByLink Bool) (s t : RunMoment) : Type 0 where
+    pub record ReadsOn (m : Contents) (first readers : List (Option R)) (writers : ByLink Bool) (s t : RunMoment) :
+        Type 0 where
       pub reads : IsReadTo m first readers writers t
       pub none_failed : NoneFailed failed readers
       pub written : t.written ≡ s.written

@@ -1,6 +1,8 @@
 -- A byte that is wanted makes a process run, or leaves fewer to come.
-use Rattle.std.proofs.Common.{◌≡◌, ◌≢◌, ◌⊎◌, inl, inr, ℕ, zero, suc, ◌+◌, ◌-◌, ◌<◌, ◌≤◌, Bool, true, false, cond, nat_eq}
-use Rattle.std.proofs.Common.{is_some, is_none, ◌&&◌, ◌||◌, List, [], ◌∷◌, ◌++◌, length, Option, Some, None, refl, sym, ap}
+use Rattle.std.proofs.Common.{◌≡◌, ◌≢◌, ◌⊎◌, inl, inr, ℕ, zero, suc, ◌+◌, ◌-◌, ◌<◌, ◌≤◌, Bool, true, false, cond}
+use Rattle.std.proofs.Common.{nat_eq}
+use Rattle.std.proofs.Common.{is_some, is_none, ◌&&◌, ◌||◌, List, [], ◌∷◌, ◌++◌, length, Option, Some, None, refl}
+use Rattle.std.proofs.Common.{sym, ap}
 use Rattle.std.proofs.Common.{subst, ◌∙◌, arith, slice_get, slice_set, Err}
 use Rattle.std.proofs.lemmas.Bool.{cases_eq}
 use Rattle.std.specs.Prelude.{◌%◌, ◌^◌}
@@ -30,7 +32,8 @@ use Rattle.machine_state.specs.Turn.{Turn}
 use Rattle.machine_state.proofs.Lines.{got_set, got_other, got_within}
 use Rattle.machine_state.proofs.Waiting.{filled, links_have_their_waiters}
 use Rattle.link_runs.specs.Wanting.{is_running, asks, wants}
-use Rattle.link_runs.specs.Awaiting.{needed_by, needed_in, needed_of, keepable, awaited_at, awaited_on, awaited, ArrivalsComeToAnEnd}
+use Rattle.link_runs.specs.Awaiting.{needed_by, needed_in, needed_of, keepable, awaited_at, awaited_on, awaited}
+use Rattle.link_runs.specs.Awaiting.{ArrivalsComeToAnEnd}
 
 -- ---- who is made ready
 
@@ -131,13 +134,15 @@ module _ (w : World) (k byte p : ℕ) (link : InputLink) (here : slice_get w.lin
   ]) x.here
 
   falls_there : Falls w (with_condition p (OnLink x.exchange (x.done + 1)) with_it) k
-  falls_there = subst (λ (after : World). Falls w after k) (sym (changed_task (OnLink x.exchange (x.done + 1)))) (record {
-    others = λ j. no_more_at w p (input_word k) x (slice_get w.links.inputs j);
-    this = subst (λ (o : Option InputLink). awaited_at (slice_set w.tasks p (later w p (input_word k) x)) o
-        < awaited_at w.tasks o) (sym here) (fewer_at w p (input_word k) x link waits);
-  })
+  falls_there = subst (λ (after : World). Falls w after k) (sym (changed_task (OnLink x.exchange (x.done + 1))))
+      (record {
+        others = λ j. no_more_at w p (input_word k) x (slice_get w.links.inputs j);
+        this = subst (λ (o : Option InputLink). awaited_at (slice_set w.tasks p (later w p (input_word k) x)) o
+            < awaited_at w.tasks o) (sym here) (fewer_at w p (input_word k) x link waits);
+      })
 
-  by_last : (b : Bool) → (is_running (dispatch 0 (cond b (wake p (with_input k (record link { waiting = None }) with_it))
+  by_last : (b : Bool) → (is_running (dispatch 0 (cond b (wake p (with_input k (record link { waiting = None })
+      with_it))
       (with_condition p (OnLink x.exchange (x.done + 1)) with_it))) ≡ true)
       ⊎ Falls w (dispatch 0 (cond b (wake p (with_input k (record link { waiting = None }) with_it))
       (with_condition p (OnLink x.exchange (x.done + 1)) with_it))) k
@@ -208,7 +213,8 @@ rouse_is p o w here = ap (λ (o : Option Task). elim o as (λ o. World)
 
 rouses_found : (p : ℕ) (o : Option Task) (w : World) → slice_get w.tasks p ≡ o → Rouses w (rouse (Some p) w)
 rouses_found p None w here = subst (Rouses w) (sym (rouse_is p None w here)) (stays_so w)
-rouses_found p (Some t) w here = subst (Rouses w) (sym (rouse_is p (Some t) w here)) (task_rouses p t t.condition w here)
+rouses_found p (Some t) w here = subst (Rouses w) (sym (rouse_is p (Some t) w here)) (task_rouses p t t.condition w
+    here)
 
 rouses : (o : Option ℕ) (w : World) → Rouses w (rouse o w)
 rouses None w = stays_so w

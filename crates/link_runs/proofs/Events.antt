@@ -1,5 +1,6 @@
 -- A run is a list of events.
-use Rattle.std.proofs.Common.{◌≡◌, ◌≢◌, ℕ, zero, suc, ◌+◌, Bool, true, false, cond, nat_eq, List, [], ◌∷◌, ◌++◌, length, Option, Some, None}
+use Rattle.std.proofs.Common.{◌≡◌, ◌≢◌, ℕ, zero, suc, ◌+◌, Bool, true, false, cond, nat_eq, List, [], ◌∷◌, ◌++◌}
+use Rattle.std.proofs.Common.{length, Option, Some, None}
 use Rattle.std.proofs.Common.{Result, Ok, Err, refl, sym, ap, subst, ◌∙◌, append_assoc, append-nil, add-zero, eq-eqb}
 use Rattle.std.proofs.lemmas.List.{length-append}
 use Rattle.module_format.specs.Contents.{Contents}
@@ -25,7 +26,8 @@ use Rattle.link_runs.proofs.Turns.{Goes, Before, one_before, some_same}
 
 -- ---- two lists of events, one after the other
 
-pub run_on : (m : Contents) (w : World) (es more : List Event) → run_from m w (es ++ more) ≡ run_from m (run_from m w es) more
+pub run_on : (m : Contents) (w : World) (es more : List Event)
+    → run_from m w (es ++ more) ≡ run_from m (run_from m w es) more
 run_on m w [] more = refl
 run_on m w (e ∷ es) more = run_on m (happens m w e) es more
 
@@ -43,7 +45,8 @@ consed : (b : Bool) (byte : ℕ) (xs ys : List ℕ)
 consed true byte xs ys = refl
 consed false byte xs ys = refl
 
-arrivals_of_both : (link : Link) (es more : List Event) → arrivals link (es ++ more) ≡ arrivals link es ++ arrivals link more
+arrivals_of_both : (link : Link) (es more : List Event)
+    → arrivals link (es ++ more) ≡ arrivals link es ++ arrivals link more
 arrivals_of_both link [] more = refl
 arrivals_of_both link (Step slice pick ∷ es) more = arrivals_of_both link es more
 arrivals_of_both link (Acknowledge on ∷ es) more = arrivals_of_both link es more
@@ -70,7 +73,8 @@ rests_silently link w turns.is_busy = refl
 rests_silently link w turns.arrives_nowhere = refl
 rests_silently link w turns.is_ignored = refl
 
-fails_silently : (link : Link) (e : Event) (w : World) (f : Fault) → IsSilent link e (record { world = w; answer = Err f })
+fails_silently : (link : Link) (e : Event) (w : World) (f : Fault)
+    → IsSilent link e (record { world = w; answer = Err f })
 fails_silently link (Step slice pick) w f = tt
 fails_silently link (Arrive on byte) w f = refl
 fails_silently link (Acknowledge on) w f = refl
@@ -178,7 +182,8 @@ module _ (m : Contents) (writers : ByLink Bool) where
   quiet w on (Ok (emitted link bytes)) = by_writer (of_link writers link)
     where
       by_writer : (b : Bool) → emitted_from m w on (cond b (Acknowledge link ∷ []) []) ≡ []
-      by_writer true = ap (λ (xs : List ℕ). xs ++ []) (silent m w on (Acknowledge link) _ (turn_happens m w (Acknowledge link)))
+      by_writer true = ap (λ (xs : List ℕ). xs ++ []) (silent m w on (Acknowledge link) _ (turn_happens m w
+          (Acknowledge link)))
       by_writer false = refl
   quiet w on (Ok ran) = refl
   quiet w on (Ok idle) = refl
@@ -212,7 +217,8 @@ module _ (m : Contents) (inputs : ByLink Supply) (writers : ByLink Bool) (s t : 
             (adds.left on (of_link inputs on) (arrivals on es) (before.arrived on));
         read = λ on. adds.read on
             ∙ (ap (λ (n : ℕ). n + length (arrivals on more)) (before.read on)
-            ∙ (sym (length-append (arrivals on es) (arrivals on more)) ∙ ap length (sym (arrivals_of_both on es more))));
+            ∙ (sym (length-append (arrivals on es) (arrivals on more))
+            ∙ ap length (sym (arrivals_of_both on es more))));
         written = λ on. adds.written on
             ∙ (ap (λ (xs : List ℕ). xs ++ written_if (of_link writers on) (emitted_from m s.world on more))
             (before.written on)
@@ -241,7 +247,8 @@ module _ (m : Contents) (writers : ByLink Bool) (s : RunMoment) where
             (bytes ++ arrivals on (acknowledgements writers answer)) (of_link left on)) (sym follows_up.1)
             (subst (λ (more : List ℕ). WasAsked all (bytes ++ more) (of_link s.left on))
             (sym (quiet_arrivals m writers on answer))
-            (subst (λ (all_bytes : List ℕ). WasAsked all all_bytes (of_link s.left on)) (sym (append-nil bytes)) asked));
+            (subst (λ (all_bytes : List ℕ). WasAsked all all_bytes (of_link s.left on)) (sym (append-nil bytes))
+            asked));
         read = λ on. ap (λ (read : ByLink ℕ). of_link read on) follows_up.2 ∙ sym (add-zero (of_link s.read on))
             ∙ sym (ap (λ (more : List ℕ). of_link s.read on + length more) (quiet_arrivals m writers on answer));
         written = λ on. written_after m writers between on answer

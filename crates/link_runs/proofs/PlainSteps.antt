@@ -1,5 +1,6 @@
 -- What a plain Step can do.
-use Rattle.std.proofs.Common.{◌≡◌, ◌≢◌, ℕ, ◌+◌, ◌<◌, nat_le, Bool, true, false, List, Option, Some, None, is_some, Ok, Err}
+use Rattle.std.proofs.Common.{◌≡◌, ◌≢◌, ℕ, ◌+◌, ◌<◌, nat_le, Bool, true, false, List, Option, Some, None, is_some, Ok}
+use Rattle.std.proofs.Common.{Err}
 use Rattle.std.proofs.Common.{slice_get, refl, ap, sym, subst, ◌∙◌, arith, cond, length, nat_lt, ℤ}
 use Rattle.std.proofs.lemmas.Bool.{leb-true}
 use Rattle.prefix_decoder.specs.declared.function.Fun.{Fun}

@@ -7,13 +7,15 @@ use Rattle.machine_state.specs.declared.fault.Fault.{Fault}
 use Rattle.machine_state.specs.declared.link.Link.{Link}
 use Rattle.machine_state.specs.Moves.{link_index}
 use Rattle.machine_state.specs.World.{World}
-use Rattle.machine_state.specs.Happens.{Effect, emitted, ran, idle, taken, kept, busy, acknowledged, ignored, turn, happens}
+use Rattle.machine_state.specs.Happens.{Effect, emitted, ran, idle, taken, kept, busy, acknowledged, ignored, turn}
+use Rattle.machine_state.specs.Happens.{happens}
 use Rattle.link_runs.specs.ByLink.{ByLink, of_link, with_link}
 use Rattle.link_runs.specs.Wanting.{is_running, wants}
 use Rattle.link_runs.specs.FirstInFirstOut.{Supply, RunMoment, plain_step, beginning, delivered, followed_up, stepped}
 use Rattle.link_runs.specs.FirstInFirstOut.{can_be_asked, asked, supplied, next, IsRun}
 use Rattle.link_runs.specs.RunLaws.{more_of, more_on, with_more, UnaskedBytesChangeNothing}
-use Rattle.link_runs.proofs.ByLink.{of_same, of_other, with_twice, with_both, Compared, same, other, compared, first_alike}
+use Rattle.link_runs.proofs.ByLink.{of_same, of_other, with_twice, with_both, Compared, same, other, compared}
+use Rattle.link_runs.proofs.ByLink.{first_alike}
 use Rattle.link_runs.proofs.Turns as run_turns
 use Rattle.link_runs.proofs.Turns.{Goes, some_same, next_running, next_asked, one_before, one_more}
 
@@ -60,7 +62,8 @@ module _ (link : Link) (bytes : List ℕ) where
 
   module _ (m : Contents) (writers : ByLink Bool) where
     delivered_alike : (s : RunMoment) (on : Link) (message : List ℕ) (b : Bool) → of_link writers on ≡ b
-        → delivered m writers on message (with_more link bytes s) ≡ with_more link bytes (delivered m writers on message s)
+        → delivered m writers on message (with_more link bytes s) ≡ with_more link bytes (delivered m writers on
+        message s)
     delivered_alike s on message true is = rw is refl
     delivered_alike s on message false is = rw is refl
 
@@ -112,7 +115,8 @@ module _ (link : Link) (bytes : List ℕ) where
         → supplied m link (of_link (more_on link bytes s.left) link) (with_more link bytes s)
         ≡ with_more link bytes (supplied m link (of_link s.left link) s)
     this_alike later going =
-        ap (λ (supply : Supply). supplied m link supply (with_more link bytes s)) (more_there link bytes rest s.left here)
+        ap (λ (supply : Supply). supplied m link supply (with_more link bytes s)) (more_there link bytes rest s.left
+        here)
         ∙ (by_rest rest here
         (subst (λ (supply : Supply). of_link (supplied m link supply s).left link ≡ Some later) here going)
         ∙ ap (λ (supply : Supply). with_more link bytes (supplied m link supply s)) (sym here))
@@ -171,7 +175,8 @@ module _ (link : Link) (bytes : List ℕ) where
   open_before m writers s t later (run_turns.steps runs) going = (
     later,
     sym (ap (λ (left : ByLink Supply). of_link left link)
-        (followed_left m writers (record s { world = happens m s.world plain_step }) (turn m s.world plain_step).answer))
+        (followed_left m writers (record s { world = happens m s.world plain_step }) (turn m s.world
+        plain_step).answer))
         ∙ going,
   )
   open_before m writers s t later (run_turns.asks on nobody ask) going =
@@ -203,6 +208,7 @@ module _ (link : Link) (bytes : List ℕ) where
       (goes_alike m writers before.moment s first.0 later before.goes first.1 going)
 
 pub bytes_change_nothing : UnaskedBytesChangeNothing
-bytes_change_nothing m inputs writers n s link rest bytes run going = unasked link bytes m inputs writers n s rest run going
+bytes_change_nothing m inputs writers n s link rest bytes run going = unasked link bytes m inputs writers n s rest
+    run going
 
 pub ruleset unasked_change_nothing = (bytes_change_nothing)

@@ -31,10 +31,12 @@ abbrev pub EndsAfter : Option RunMoment → ByLink Bool → ℕ → Bool → Sup
 EndsAfter None writers executed finished left written = ⊥
 EndsAfter (Some s) writers executed finished left written = Ended writers s executed finished left written
 
--- The byte is sent on, and of two the second is not asked for. With no byte to come the link ends, and the module waits.
+-- The byte is sent on, and of two the second is not asked for. With no byte to come the link ends, and the module
+-- waits.
 -- With no writer it waits for an acknowledgement.
 pub record EchoRuns : Type 0 where
-  pub one : EndsAfter (moment_after echo (on_first (0x41 ∷ [])) first_writer 16) first_writer 15 true (Some []) (0x41 ∷ [])
+  pub one : EndsAfter (moment_after echo (on_first (0x41 ∷ [])) first_writer 16) first_writer 15 true (Some []) (0x41
+      ∷ [])
   pub two : EndsAfter (moment_after echo (on_first (0x41 ∷ 0x42 ∷ [])) first_writer 16) first_writer 15 true
       (Some (0x42 ∷ [])) (0x41 ∷ [])
   pub none : EndsAfter (moment_after echo (on_first []) first_writer 9) first_writer 8 false None []

@@ -32,7 +32,8 @@ pub record RunMoment : Type 0 where
 abbrev pub beginning : Contents → ByLink Supply → RunMoment
 beginning m inputs = record { world = loaded m; left = inputs; read = for_all 0; written = for_all [] }
 
--- A message that was emitted goes to the link's writer and is acknowledged. Where there is none it goes nowhere, and its
+-- A message that was emitted goes to the link's writer and is acknowledged. Where there is none it goes nowhere, and
+-- its
 -- sender waits for good.
 abbrev pub delivered : Contents → ByLink Bool → Link → List ℕ → RunMoment → RunMoment
 delivered m writers link bytes s =

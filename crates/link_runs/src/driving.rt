@@ -32,7 +32,8 @@ pub enum Reaction {
     Ignored,
 }
 
-/// A machine that no event brings to a fault. It may be seen as several worlds, and what is said of one is said of each.
+/// A machine that no event brings to a fault. It may be seen as several worlds, and what is said of one is said of
+/// each.
 pub trait Machine {
     /// What its module says.
     ghost contents: { Self → Contents };

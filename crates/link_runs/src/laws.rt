@@ -5,7 +5,8 @@ ghost use Rattle.link_runs.specs.RunLaws.{UnaskedBytesChangeNothing};
 ghost use Rattle.link_runs.specs.Awaiting.{ArrivalsComeToAnEnd};
 ghost use Rattle.link_runs.specs.EchoRuns.{EchoRuns};
 
-/// A first-in first-out run is a list of events: its world is the one that they lead to, and what it asks for and writes
+/// A first-in first-out run is a list of events: its world is the one that they lead to, and what it asks for and
+/// writes
 /// is what arrives and what is emitted by them.
 #[tactic(auto, using(crate::proofs::Events::made_of_events))]
 pub fn runs_are_made_of_events()
@@ -32,7 +33,8 @@ pub fn arrivals_come_to_an_end()
     ensures { ArrivalsComeToAnEnd }
 {}
 
-/// A small module that sends on the byte that it receives: the byte is written, none is asked for ahead, and with no byte
+/// A small module that sends on the byte that it receives: the byte is written, none is asked for ahead, and with no
+/// byte
 /// or no writer the module waits.
 #[tactic(auto, using(crate::proofs::EchoRuns::echo_rules))]
 pub fn echo_runs()

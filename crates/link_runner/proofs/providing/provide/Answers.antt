@@ -20,7 +20,8 @@ returns-in_default-clause-provides g c = λ first writers s shown reads none cou
     let was : c.loop-running.running ≡ false = search rules in
     let nobody = sym (c.loop-running.invariant.runs led.moment.world led.is_shown) ∙ was in
     let ask =
-    asked_by_tally led.moment c.loop-running.tally None led.counts (c.in_default.ensures led.moment.world led.is_shown) in
+    asked_by_tally led.moment c.loop-running.tally None led.counts (c.in_default.ensures led.moment.world
+    led.is_shown) in
     record {
       moment = led.moment;
       goes = led.goes;
