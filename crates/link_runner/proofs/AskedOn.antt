@@ -1,7 +1,7 @@
 -- Links that are asked until a process runs.
 use Rattle.std.proofs.Common.{◌≡◌, ◌⊎◌, inl, inr, ℕ, ◌+◌, ◌<◌, Bool, true, false, cond, not, is_some, is_none, ◌&&◌}
 use Rattle.std.proofs.Common.{List, Option}
-use Rattle.std.proofs.Common.{Some, None, Result, Ok, Err, refl, sym, ap, subst, ◌∙◌, arith}
+use Rattle.std.proofs.Common.{Some, None, Err, refl, sym, ap, subst, ◌∙◌, arith}
 use Rattle.module_format.specs.Contents.{Contents}
 use Rattle.machine_state.specs.declared.link.Link.{Link}
 use Rattle.machine_state.specs.declared.link.Link.TheVariants.{Zero, One, Two, Three}
@@ -11,14 +11,11 @@ use Rattle.link_runs.specs.ByLink.{ByLink, of_link, first_link}
 use Rattle.link_runs.specs.FirstInFirstOut.{RunMoment, asked, can_be_asked}
 use Rattle.link_runs.specs.Wanting.{is_running, wants}
 use Rattle.link_runs.proofs.ByLink.{first_alike}
-use Rattle.link_runs.proofs.Turns.{next_none}
 use Rattle.link_runner.specs.declared.report.RunError.{RunError}
 use Rattle.link_runner.specs.declared.report.RunError.TheVariants.{ReadFailed, WriteFailed, Memory}
-use Rattle.link_runner.specs.declared.tally.Ended.{Ended}
 use Rattle.link_runner.specs.declared.tally.Tally.{Tally}
 use Rattle.link_runner.specs.Counting.{flag_of, ended_at, tally_of}
-use Rattle.link_runner.specs.Readers.{IsReadTo, NoneFailed, ReadsOn, count_open, askable, IsSupplied, Supplies}
-use Rattle.link_runner.specs.Readers.{IsProvided}
+use Rattle.link_runner.specs.Readers.{IsReadTo, NoneFailed, ReadsOn, count_open, IsSupplied, Supplies}
 use Rattle.link_runner.specs.Readers.{Provides, FailsToRead}
 
 -- ---- what is asked next

@@ -1,13 +1,13 @@
 -- What stands at the number of a link, after one was set.
-use Rattle.std.proofs.Common.{◌≡◌, ◌≢◌, ℕ, Bool, true, false, nat_eq, List, Option, Some, None, refl, sym, ap, subst}
+use Rattle.std.proofs.Common.{◌≡◌, Bool, true, false, nat_eq, List, Option, Some, refl, sym, ap, subst}
 use Rattle.std.proofs.Common.{◌∙◌, slice_get, slice_set}
-use Rattle.std.proofs.Common.{is_some, eq-eqb}
+use Rattle.std.proofs.Common.{eq-eqb}
 use Rattle.machine_state.specs.declared.link.Link.{Link}
 use Rattle.machine_state.specs.declared.link.Link.TheVariants.{Zero, One, Two, Three}
 use Rattle.machine_state.specs.Moves.{link_index}
 use Rattle.machine_state.proofs.Lines.{got_set, got_other}
-use Rattle.link_runs.specs.ByLink.{ByLink, of_link, by_link}
-use Rattle.link_runs.proofs.ByLink.{Compared, same, other, compared}
+use Rattle.link_runs.specs.ByLink.{of_link, by_link}
+use Rattle.link_runs.proofs.ByLink.{same, other, compared}
 use Rattle.link_runner.specs.Readers.{found, at_link, flag_at, NoneFailed, OneFailed, SameElsewhere}
 
 pub at_same : {A : Type 0} (all : List (Option A)) (link : Link) (x y : Option A)

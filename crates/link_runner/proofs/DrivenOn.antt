@@ -1,17 +1,15 @@
 -- A run that is driven on.
-use Rattle.std.proofs.Common.{◌≡◌, ◌≢◌, ℕ, suc, ◌+◌, ◌<◌, ◌≤◌, Bool, true, false, cond, is_none, List, [], ◌∷◌, ◌++◌}
+use Rattle.std.proofs.Common.{◌≡◌, ℕ, suc, ◌<◌, ◌≤◌, Bool, true, false, List}
 use Rattle.std.proofs.Common.{Option}
-use Rattle.std.proofs.Common.{Some, None, Ok, Err, Result, refl, sym, ap, subst, ◌∙◌, arith}
+use Rattle.std.proofs.Common.{Some, Ok, Result, refl, sym, ap, ◌∙◌, arith}
 use Rattle.module_format.specs.Contents.{Contents}
-use Rattle.machine_state.specs.declared.event.Event.TheVariants.{Acknowledge}
 use Rattle.machine_state.specs.declared.fault.Fault.{Fault}
 use Rattle.machine_state.specs.declared.link.Link.{Link}
-use Rattle.machine_state.specs.declared.link.Link.TheVariants.{Zero, One, Two, Three}
 use Rattle.machine_state.specs.World.{World}
 use Rattle.machine_state.specs.Happens.{Effect, ran, emitted, turn, happens}
-use Rattle.link_runs.specs.ByLink.{ByLink, of_link, with_link}
+use Rattle.link_runs.specs.ByLink.{ByLink, of_link}
 use Rattle.link_runs.specs.Wanting.{is_running}
-use Rattle.link_runs.specs.FirstInFirstOut.{Supply, RunMoment, IsRun, plain_step, stepped, followed_up, delivered}
+use Rattle.link_runs.specs.FirstInFirstOut.{RunMoment, plain_step, stepped, followed_up, delivered}
 use Rattle.link_runs.proofs.Turns.{next_running, one_more}
 use Rattle.link_runs.specs.Driving.{Quietly}
 use Rattle.link_runs.specs.Driving as drives

@@ -1,9 +1,7 @@
 -- What becomes of asking one link.
-use Rattle.std.proofs.Common.{◌≡◌, ◌⊎◌, inl, inr, ℕ, ◌+◌, ◌-◌, ◌<◌, ◌^◌, min, Bool, true, false, is_none, cond, List}
-use Rattle.std.proofs.Common.{[], ◌∷◌}
-use Rattle.std.proofs.Common.{Option, Some, None, Result, Ok, Err, refl, sym, ap, subst, ◌∙◌, arith, add-zero}
-use Rattle.std.specs.Prelude.{⊤}
-use Rattle.std.specs.Io.KnownBytes.{Consumes, IsAtEnd, Keeps}
+use Rattle.std.proofs.Common.{◌≡◌, ◌⊎◌, inl, inr, ℕ, ◌+◌, ◌<◌, Bool, true, false, is_none, cond, List}
+use Rattle.std.proofs.Common.{[]}
+use Rattle.std.proofs.Common.{Option, Some, None, Ok, Err, refl, sym, ap, subst, ◌∙◌, arith, add-zero}
 use Rattle.module_format.specs.Contents.{Contents}
 use Rattle.machine_state.specs.declared.event.Event.{Event}
 use Rattle.machine_state.specs.declared.event.Event.TheVariants.{Step, Arrive, Acknowledge}
@@ -13,7 +11,7 @@ use Rattle.machine_state.specs.World.{World}
 use Rattle.machine_state.specs.EventLaws.{bytes_of}
 use Rattle.machine_state.specs.Endings as turns
 use Rattle.machine_state.specs.Endings.{Happened, Rests}
-use Rattle.machine_state.specs.Happens.{Turn, turn, happens, world_after}
+use Rattle.machine_state.specs.Happens.{Turn, turn, happens}
 use Rattle.machine_state.proofs.EventLaws.{events_count_bytes}
 use Rattle.machine_state.proofs.Turns.{turn_happens}
 use Rattle.link_runs.specs.ByLink.{ByLink, of_link, with_link}
@@ -27,10 +25,9 @@ use Rattle.link_runner.specs.declared.tally.Counts.{Counts}
 use Rattle.link_runner.specs.declared.tally.Ended.{Ended}
 use Rattle.link_runner.specs.declared.tally.Tally.{Tally}
 use Rattle.link_runner.specs.Counting.{saturated, with_flag, with_count, ended_at, counts_of, tally_of}
-use Rattle.link_runner.specs.Devices.{Gives}
-use Rattle.link_runner.specs.Readers.{at_link, flag_at, NoneFailed, OneFailed, SameElsewhere, Takes, EndsRightly}
+use Rattle.link_runner.specs.Readers.{at_link, flag_at, NoneFailed, SameElsewhere, Takes, EndsRightly}
 use Rattle.link_runner.specs.Readers.{IsReadTo}
-use Rattle.link_runner.specs.Readers.{IsCalled, Asks, ReadsOn, FailsToRead, count_open, askable, IsSupplied}
+use Rattle.link_runner.specs.Readers.{IsCalled, FailsToRead, count_open, IsSupplied}
 use Rattle.link_runner.specs.Readers.{ReadsOnWithoutMemory}
 use Rattle.link_runner.proofs.AtLinks.{still_none, now_one}
 use Rattle.link_runner.proofs.ReadOn.{byte_read, end_read, none_read, takes_same, asked_is_open, asked_is_wanted}

@@ -1,9 +1,8 @@
 -- What becomes of one message.
-use Rattle.std.proofs.Common.{◌≡◌, ℕ, ◌+◌, ◌-◌, ◌^◌, min, Bool, true, false, is_some, List, [], ◌∷◌, ◌++◌, length}
+use Rattle.std.proofs.Common.{◌≡◌, ℕ, ◌+◌, Bool, true, false, is_some, List, [], ◌++◌, length}
 use Rattle.std.proofs.Common.{Option, Some, None}
-use Rattle.std.proofs.Common.{Result, Ok, Err, refl, sym, ap, subst, ◌∙◌, arith}
+use Rattle.std.proofs.Common.{Ok, Err, refl, sym, ap, subst, ◌∙◌, arith}
 use Rattle.std.proofs.lemmas.List.{length-append}
-use Rattle.std.specs.Prelude.{⊤}
 use Rattle.module_format.specs.Contents.{Contents}
 use Rattle.machine_state.specs.declared.event.Event.TheVariants.{Acknowledge}
 use Rattle.machine_state.specs.declared.link.Link.{Link}
@@ -17,9 +16,8 @@ use Rattle.link_runner.specs.declared.device.Failed.{Failed}
 use Rattle.link_runner.specs.declared.tally.Counts.{Counts}
 use Rattle.link_runner.specs.declared.tally.Tally.{Tally}
 use Rattle.link_runner.specs.Counting.{saturated, with_count, counts_of, lengths_of, tally_of}
-use Rattle.link_runner.specs.Readers.{at_link, flag_at, NoneFailed, OneFailed, SameElsewhere}
-use Rattle.link_runner.specs.Writers.{writers_of, IsPart, Puts, PutsOn, IsTold, PutsMessage, FailsToPut, IsDelivered}
-use Rattle.link_runner.specs.Writers.{PutsWithoutMemory}
+use Rattle.link_runner.specs.Readers.{at_link, flag_at, NoneFailed, SameElsewhere}
+use Rattle.link_runner.specs.Writers.{writers_of, Puts, PutsOn, IsTold, FailsToPut, IsDelivered}
 use Rattle.link_runner.proofs.AtLinks.{of_by_link, still_none, now_one}
 
 saturated_more : (n k : ℕ) → saturated (saturated n + k) ≡ saturated (n + k)

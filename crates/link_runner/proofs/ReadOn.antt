@@ -1,27 +1,25 @@
 -- A run that is read on.
-use Rattle.std.proofs.Common.{◌≡◌, ◌≢◌, ◌⊎◌, inl, inr, ℕ, suc, ◌+◌, ◌<◌, Bool, true, false, is_some, not, ◌&&◌, List}
+use Rattle.std.proofs.Common.{◌≡◌, ℕ, suc, ◌+◌, Bool, true, false, is_some, ◌&&◌, List}
 use Rattle.std.proofs.Common.{[], ◌∷◌}
-use Rattle.std.proofs.Common.{◌++◌, Option, Some, None, Ok, Err, Result, refl, sym, ap, subst, ◌∙◌, append-nil, arith}
-use Rattle.std.specs.Io.KnownBytes.{Consumes, IsAtEnd, Keeps}
+use Rattle.std.proofs.Common.{◌++◌, Option, Some, None, refl, sym, ap, subst, ◌∙◌}
+use Rattle.std.specs.Io.KnownBytes.{Consumes, Keeps}
 use Rattle.std.proofs.KnownBytes.{Consumes-trans, Consumes-kept}
 use Rattle.module_format.specs.Contents.{Contents}
 use Rattle.machine_state.specs.declared.event.Event.TheVariants.{Arrive}
 use Rattle.machine_state.specs.declared.link.Link.{Link}
 use Rattle.machine_state.specs.declared.link.Link.TheVariants.{Zero, One, Two, Three}
 use Rattle.machine_state.specs.Moves.{link_index}
-use Rattle.machine_state.specs.World.{World}
 use Rattle.machine_state.specs.Happens.{happens}
-use Rattle.link_runs.specs.ByLink.{ByLink, of_link, with_link, by_link}
+use Rattle.link_runs.specs.ByLink.{ByLink, of_link, with_link}
 use Rattle.link_runs.specs.Wanting.{is_running, wants}
 use Rattle.link_runs.specs.FirstInFirstOut.{Supply, RunMoment, IsRun, asked, can_be_asked, supplied}
 use Rattle.link_runs.specs.RunLaws.{more_on, with_more}
-use Rattle.link_runs.proofs.ByLink.{of_same, of_other, with_same, with_twice, first_passes, Compared, same, other}
-use Rattle.link_runs.proofs.ByLink.{compared}
-use Rattle.link_runs.proofs.Turns.{next_asked, one_more, some_same}
+use Rattle.link_runs.proofs.ByLink.{of_same, of_other, with_same, with_twice, first_passes}
+use Rattle.link_runs.proofs.Turns.{next_asked, one_more}
 use Rattle.link_runs.proofs.Unasked.{more_is, more_there, asked_alike, unasked}
-use Rattle.link_runner.specs.Readers.{at_link, supply_of, inputs_of, IsSpent, Takes, EndsRightly, IsReadTo}
+use Rattle.link_runner.specs.Readers.{at_link, inputs_of, IsSpent, Takes, EndsRightly, IsReadTo}
 use Rattle.link_runner.specs.Readers.{SameElsewhere}
-use Rattle.link_runner.proofs.AtLinks.{of_by_link, everywhere}
+use Rattle.link_runner.proofs.AtLinks.{everywhere}
 
 and_right : (a b : Bool) → (a && b) ≡ true → b ≡ true
 and_right true b is = is

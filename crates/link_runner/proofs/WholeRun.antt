@@ -1,14 +1,13 @@
 -- A run that is driven on to its end.
-use Rattle.std.proofs.Common.{◌≡◌, ℕ, ◌+◌, ◌-◌, ◌<◌, ◌≤◌, Bool, true, false, is_none, is_some, List, [], ◌++◌, Option}
+use Rattle.std.proofs.Common.{◌≡◌, ℕ, ◌-◌, ◌<◌, ◌≤◌, Bool, true, is_none, is_some, List, [], Option}
 use Rattle.std.proofs.Common.{Some, None, Ok, Err}
 use Rattle.std.proofs.Common.{Result, refl, sym, ap, subst, ◌∙◌, arith}
-use Rattle.std.specs.Prelude.{⊤}
 use Rattle.module_format.specs.Contents.{Contents}
 use Rattle.machine_state.specs.declared.link.Link.{Link}
 use Rattle.machine_state.specs.declared.link.Link.TheVariants.{Zero, One, Two, Three}
-use Rattle.machine_state.specs.World.{World, loaded}
+use Rattle.machine_state.specs.World.{World}
 use Rattle.machine_state.specs.Happens.{emitted, turn, happens}
-use Rattle.link_runs.specs.ByLink.{ByLink, of_link, with_link, for_all}
+use Rattle.link_runs.specs.ByLink.{ByLink, of_link, for_all}
 use Rattle.link_runs.specs.Driving.{Quietly, ComesToRest, ComesToEmit, Breaks}
 use Rattle.link_runs.specs.FirstInFirstOut.{RunMoment, beginning, delivered, plain_step, IsOver}
 use Rattle.link_runs.specs.Wanting.{is_running}
@@ -23,7 +22,7 @@ use Rattle.link_runner.specs.Counting.{tally_of, report_of}
 use Rattle.link_runner.specs.Readers.{at_link, inputs_of, supply_of, IsSpent, Takes, EndsRightly, IsReadTo, NoneFailed}
 use Rattle.link_runner.specs.Readers.{ReadsOn, Provides, IsProvided, absent_of}
 use Rattle.link_runner.specs.Writers.{writers_of, Puts, PutsOn, IsDelivered, Delivers}
-use Rattle.link_runner.specs.Runs.{Finishes, StopsAtRead, StopsAtWrite, StopsForMemory, Runs}
+use Rattle.link_runner.specs.Runs.{Finishes, StopsAtWrite, StopsForMemory, Runs}
 use Rattle.link_runs.specs.RunLaws.{written_if}
 use Rattle.link_runner.proofs.AtLinks.{of_by_link}
 use Rattle.link_runner.proofs.DrivenOn.{moved_to, goes_quietly, emits_next, counts_more, emission_counts}

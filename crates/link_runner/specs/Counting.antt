@@ -1,10 +1,9 @@
 -- What a runner counts.
-use Rattle.std.specs.Prelude.{◌≡◌, ℕ, ◌+◌, ◌-◌, ◌^◌, min, Bool, true, if◌then◌else◌, is_none, List, [], ◌∷◌, length}
+use Rattle.std.specs.Prelude.{ℕ, ◌+◌, ◌-◌, ◌^◌, min, Bool, true, if◌then◌else◌, is_none, List, [], ◌∷◌, length}
 use Rattle.machine_state.specs.declared.link.Link.{Link}
 use Rattle.machine_state.specs.declared.link.Link.TheVariants.{Zero, One, Two, Three}
 use Rattle.link_runs.specs.ByLink.{ByLink}
 use Rattle.link_runs.specs.FirstInFirstOut.{RunMoment}
-use Rattle.link_runner.specs.declared.report.Outcome.{Outcome}
 use Rattle.link_runner.specs.declared.report.Outcome.TheVariants as outcomes
 use Rattle.link_runner.specs.declared.report.Report.{Report}
 use Rattle.link_runner.specs.declared.tally.Counts.{Counts}

@@ -1,5 +1,5 @@
 -- What is written to the writers of the output links.
-use Rattle.std.specs.Prelude.{◌≡◌, ◌≢◌, ℕ, Bool, true, false, is_some, List, [], ◌++◌, length, Option, Some, None}
+use Rattle.std.specs.Prelude.{◌≡◌, ◌≢◌, ℕ, Bool, true, false, is_some, List, [], ◌++◌, Option, Some, None}
 use Rattle.std.specs.Prelude.{Result, Ok}
 use Rattle.std.specs.Prelude.{Err, ⊤}
 use Rattle.std.specs.Io.KnownBytes.{Appends}
@@ -13,7 +13,7 @@ use Rattle.link_runner.specs.declared.report.RunError.{RunError}
 use Rattle.link_runner.specs.declared.report.RunError.TheVariants.{ReadFailed, WriteFailed, Memory}
 use Rattle.link_runner.specs.declared.tally.Tally.{Tally}
 use Rattle.link_runner.specs.Counting.{tally_of}
-use Rattle.link_runner.specs.Readers.{at_link, flag_at, NoneFailed, OneFailed, SameElsewhere}
+use Rattle.link_runner.specs.Readers.{at_link, NoneFailed, OneFailed, SameElsewhere}
 
 -- on which links there is a writer
 abbrev pub writers_of : {W : Type 0} → List (Option W) → ByLink Bool

@@ -1,12 +1,11 @@
 -- A byte that is wanted makes a process run, or leaves fewer to come.
-use Rattle.std.proofs.Common.{◌≡◌, ◌≢◌, ◌⊎◌, inl, inr, ℕ, zero, suc, ◌+◌, ◌-◌, ◌<◌, ◌≤◌, Bool, true, false, cond}
+use Rattle.std.proofs.Common.{◌≡◌, ◌⊎◌, inl, inr, ℕ, ◌+◌, ◌-◌, ◌<◌, ◌≤◌, Bool, true, false, cond}
 use Rattle.std.proofs.Common.{nat_eq}
 use Rattle.std.proofs.Common.{is_some, is_none, ◌&&◌, ◌||◌, List, [], ◌∷◌, ◌++◌, length, Option, Some, None, refl}
 use Rattle.std.proofs.Common.{sym, ap}
 use Rattle.std.proofs.Common.{subst, ◌∙◌, arith, slice_get, slice_set, Err}
 use Rattle.std.proofs.lemmas.Bool.{cases_eq}
 use Rattle.std.specs.Prelude.{◌%◌, ◌^◌}
-use Rattle.std.specs.List.{remove}
 use Rattle.module_format.specs.Contents.{Contents}
 use Rattle.machine_state.specs.declared.event.Event.{Event}
 use Rattle.machine_state.specs.declared.event.Event.TheVariants.{Arrive}
@@ -17,21 +16,20 @@ use Rattle.machine_state.specs.declared.link.InputLink.{InputLink}
 use Rattle.machine_state.specs.declared.process.Condition.{Condition}
 use Rattle.machine_state.specs.declared.process.Condition.TheVariants.{Ready, Sending, Receiving, OnLink, Alternating}
 use Rattle.machine_state.specs.declared.process.Condition.TheVariants.{Stopped, Ended}
-use Rattle.machine_state.specs.declared.process.Exchange.{Exchange}
 use Rattle.machine_state.specs.declared.process.Mode.{Mode}
 use Rattle.machine_state.specs.declared.process.Mode.TheVariants.{Plain, Enabling, Disabling, Starting}
 use Rattle.machine_state.specs.declared.process.Task.{Task}
 use Rattle.machine_state.specs.Memory.{place_of, with_byte}
-use Rattle.machine_state.specs.Moves.{link_index, on_task, with_condition, wake, picked, dispatch, with_input, fill}
-use Rattle.machine_state.specs.Moves.{fill_condition, rouse, rouse_task, rouse_enabling}
+use Rattle.machine_state.specs.Moves.{link_index, with_condition, wake, picked, dispatch, with_input, fill}
+use Rattle.machine_state.specs.Moves.{rouse, rouse_task, rouse_enabling}
 use Rattle.machine_state.specs.Waiting.{WaitsOn}
-use Rattle.machine_state.specs.World.{World, Queue, input_word}
+use Rattle.machine_state.specs.World.{World, input_word}
 use Rattle.machine_state.specs.Happens.{turn, world_after, answered, ignored, taken, kept, busy, arrive_at, arrive_turn}
 use Rattle.machine_state.specs.Happens.{event_turn}
 use Rattle.machine_state.specs.Turn.{Turn}
 use Rattle.machine_state.proofs.Lines.{got_set, got_other, got_within}
 use Rattle.machine_state.proofs.Waiting.{filled, links_have_their_waiters}
-use Rattle.link_runs.specs.Wanting.{is_running, asks, wants}
+use Rattle.link_runs.specs.Wanting.{is_running, asks}
 use Rattle.link_runs.specs.Awaiting.{needed_by, needed_in, needed_of, keepable, awaited_at, awaited_on, awaited}
 use Rattle.link_runs.specs.Awaiting.{ArrivalsComeToAnEnd}
 

@@ -1,5 +1,5 @@
 -- One of something for each link, after it changed for one.
-use Rattle.std.proofs.Common.{◌≡◌, ◌≢◌, ℕ, Bool, true, false, nat_eq, refl, ap, cond, Option, Some, None, sym, ◌∙◌}
+use Rattle.std.proofs.Common.{◌≡◌, ◌≢◌, Bool, true, false, nat_eq, refl, ap, cond, Some, None, sym, ◌∙◌}
 use Rattle.machine_state.specs.declared.link.Link.{Link}
 use Rattle.machine_state.specs.declared.link.Link.TheVariants.{Zero, One, Two, Three}
 use Rattle.machine_state.specs.Moves.{link_index}

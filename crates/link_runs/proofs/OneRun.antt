@@ -1,10 +1,10 @@
 -- There is one run.
-use Rattle.std.proofs.Common.{◌≡◌, ℕ, zero, suc, ◌<◌, Bool, true, false, nat_lt, Option, Some, None, refl, sym, ap}
+use Rattle.std.proofs.Common.{◌≡◌, ℕ, zero, suc, ◌<◌, Bool, true, false, nat_lt, Some, None, refl, sym, ap}
 use Rattle.std.proofs.Common.{subst, ◌∙◌, arith}
 use Rattle.std.proofs.lemmas.Bool.{ltb-true, ltb-false}
 use Rattle.module_format.specs.Contents.{Contents}
 use Rattle.link_runs.specs.ByLink.{ByLink}
-use Rattle.link_runs.specs.FirstInFirstOut.{Supply, RunMoment, next, next_of, moment_after, IsRun, IsOver}
+use Rattle.link_runs.specs.FirstInFirstOut.{Supply, RunMoment, next_of, moment_after, IsRun, IsOver}
 use Rattle.link_runs.specs.RunLaws.{OneMomentAfterEachTurn, OneMomentIsLast}
 use Rattle.link_runs.proofs.Turns.{some_same}
 

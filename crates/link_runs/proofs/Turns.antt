@@ -1,5 +1,5 @@
 -- One turn of a run.
-use Rattle.std.proofs.Common.{◌≡◌, ℕ, suc, Bool, true, false, cond, Option, Some, None, refl, sym, ap, subst, ◌∙◌}
+use Rattle.std.proofs.Common.{◌≡◌, ℕ, suc, Bool, true, false, cond, Option, Some, None, refl, ap, subst, ◌∙◌}
 use Rattle.module_format.specs.Contents.{Contents}
 use Rattle.machine_state.specs.declared.link.Link.{Link}
 use Rattle.link_runs.specs.ByLink.{ByLink, of_link}

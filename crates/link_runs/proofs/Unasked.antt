@@ -1,17 +1,16 @@
 -- Bytes that are not asked for change nothing.
 use Rattle.std.proofs.Common.{◌≡◌, ◌≢◌, ℕ, zero, suc, ◌+◌, Bool, true, false, is_some, ◌&&◌, List, [], ◌∷◌, ◌++◌}
-use Rattle.std.proofs.Common.{Option, Some, None, Result, Ok, Err, refl, sym, ap, subst, ◌∙◌}
+use Rattle.std.proofs.Common.{Some, None, Result, Ok, Err, refl, sym, ap, subst, ◌∙◌}
 use Rattle.module_format.specs.Contents.{Contents}
 use Rattle.machine_state.specs.declared.event.Event.TheVariants.{Arrive}
 use Rattle.machine_state.specs.declared.fault.Fault.{Fault}
 use Rattle.machine_state.specs.declared.link.Link.{Link}
 use Rattle.machine_state.specs.Moves.{link_index}
-use Rattle.machine_state.specs.World.{World}
 use Rattle.machine_state.specs.Happens.{Effect, emitted, ran, idle, taken, kept, busy, acknowledged, ignored, turn}
 use Rattle.machine_state.specs.Happens.{happens}
 use Rattle.link_runs.specs.ByLink.{ByLink, of_link, with_link}
-use Rattle.link_runs.specs.Wanting.{is_running, wants}
-use Rattle.link_runs.specs.FirstInFirstOut.{Supply, RunMoment, plain_step, beginning, delivered, followed_up, stepped}
+use Rattle.link_runs.specs.Wanting.{wants}
+use Rattle.link_runs.specs.FirstInFirstOut.{Supply, RunMoment, plain_step, beginning, delivered, followed_up}
 use Rattle.link_runs.specs.FirstInFirstOut.{can_be_asked, asked, supplied, next, IsRun}
 use Rattle.link_runs.specs.RunLaws.{more_of, more_on, with_more, UnaskedBytesChangeNothing}
 use Rattle.link_runs.proofs.ByLink.{of_same, of_other, with_twice, with_both, Compared, same, other, compared}

@@ -1,6 +1,5 @@
 -- A small module that sends on the byte that it receives, with and without what it talks to.
 use Rattle.std.specs.Prelude.{◌≡◌, ℕ, Bool, true, false, List, [], ◌∷◌, Option, Some, None}
-use Rattle.module_format.specs.Contents.{Contents}
 use Rattle.machine_state.specs.declared.link.Link.TheVariants.{Zero}
 use Rattle.machine_state.specs.SmallModules.{echo}
 use Rattle.link_runs.specs.ByLink.{ByLink, with_link, for_all}

@@ -1,11 +1,10 @@
-use Rattle.std.proofs.Common.{◌≡◌, ◌≤◌, refl, sym, ap, subst, cond, Bool, false, true, ◌∙◌, Ok, Err, rules, ℕ, List, []}
+use Rattle.std.proofs.Common.{◌≡◌, ◌≤◌, refl, sym, ap, subst, cond, Bool, ◌∙◌, Ok, Err, rules, []}
 use Rattle.std.proofs.lemmas.Result.{err_from_is_err_and}
 use Rattle.module_format.specs.Contents.{Contents}
-use Rattle.machine_state.specs.World.{World, loaded}
+use Rattle.machine_state.specs.World.{loaded}
 use Rattle.link_runs.specs.ByLink.{for_all}
 use Rattle.link_runs.specs.Driving.{Breaks, ComesToEmit, ComesToRest}
 use Rattle.link_runs.specs.FirstInFirstOut.{beginning}
-use Rattle.link_runner.specs.declared.report.Outcome.{Outcome}
 use Rattle.link_runner.specs.declared.report.Outcome.TheVariants as outcomes
 use Rattle.link_runner.specs.declared.tally.Tally.{Tally}
 use Rattle.link_runner.specs.Counting.{in_order, report_of}

@@ -1,4 +1,4 @@
-use Rattle.std.proofs.Common.{◌≡◌, refl, sym, ap, subst, false, true, ◌∙◌, None, Some, Err, rules}
+use Rattle.std.proofs.Common.{◌≡◌, sym, ap, subst, false, true, ◌∙◌, None, Some, Err, rules}
 use Rattle.module_format.specs.Contents.{Contents}
 use Rattle.std.proofs.lemmas.Result.{err_from_is_err_and}
 use Rattle.link_runs.proofs.Turns.{next_none}
