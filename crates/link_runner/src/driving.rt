@@ -13,9 +13,9 @@ use crate::writing::LinkWriter;
 use link_runs::{Machine, Progress};
 
 /// Runs a machine that is loaded, first in, first out, with a reader on each input link and a writer on each output
-/// link where one is given. A byte is read only while no process is running, and some process waits for it. A message is
-/// written before the next byte is read. A reader or writer that failed is not called again. No reader and no writer
-/// may have failed before.
+/// link where one is given. A byte is read only while no process is running, and some process waits for it. A message
+/// is written before the next byte is read. A reader or writer that failed is not called again. No reader and no
+/// writer may have failed before.
 pub fn drive<M: Machine, R: LinkReader, W: LinkWriter>(
     machine: &mut M,
     readers: &mut [Option<R>; 4],
