@@ -1,0 +1,126 @@
+-- Links that are asked until a process runs.
+use Rattle.std.proofs.Common.{◌≡◌, ◌⊎◌, inl, inr, ℕ, ◌+◌, ◌<◌, Bool, true, false, cond, not, is_some, is_none, ◌&&◌}
+use Rattle.std.proofs.Common.{List, Option}
+use Rattle.std.proofs.Common.{Some, None, Err, refl, sym, ap, subst, ◌∙◌, arith}
+use Rattle.module_format.specs.Contents.{Contents}
+use Rattle.machine_state.specs.declared.link.Link.{Link}
+use Rattle.machine_state.specs.declared.link.Link.TheVariants.{Zero, One, Two, Three}
+use Rattle.machine_state.specs.World.{World}
+use Rattle.link_runs.specs.Awaiting.{awaited}
+use Rattle.link_runs.specs.ByLink.{ByLink, of_link, first_link}
+use Rattle.link_runs.specs.FirstInFirstOut.{RunMoment, asked, can_be_asked}
+use Rattle.link_runs.specs.Wanting.{is_running, wants}
+use Rattle.link_runs.proofs.ByLink.{first_alike}
+use Rattle.link_runner.specs.declared.report.RunError.{RunError}
+use Rattle.link_runner.specs.declared.report.RunError.TheVariants.{ReadFailed, WriteFailed, Memory}
+use Rattle.link_runner.specs.declared.tally.Tally.{Tally}
+use Rattle.link_runner.specs.Counting.{flag_of, ended_at, tally_of}
+use Rattle.link_runner.specs.Readers.{IsReadTo, NoneFailed, ReadsOn, count_open, IsSupplied, Supplies}
+use Rattle.link_runner.specs.Readers.{Provides, FailsToRead}
+
+-- ---- what is asked next
+
+not_none : {A : Type 0} (o : Option A) → not (is_none o) ≡ is_some o
+not_none None = refl
+not_none (Some x) = refl
+
+open_by_tally : (s : RunMoment) (link : Link) → not (flag_of (ended_at s) link) ≡ is_some (of_link s.left link)
+open_by_tally s Zero = not_none s.left.first
+open_by_tally s One = not_none s.left.second
+open_by_tally s Two = not_none s.left.third
+open_by_tally s Three = not_none s.left.fourth
+
+pub asked_by_tally : (s : RunMoment) (tally : Tally) (o : Option Link) → tally ≡ tally_of s
+    → o ≡ first_link (λ link. wants link s.world && not (flag_of tally.ended link)) → asked s ≡ o
+asked_by_tally s tally o counts is =
+    first_alike (can_be_asked s) (λ link. wants link s.world && not (flag_of tally.ended link))
+    (λ link. ap (λ (b : Bool). wants link s.world && b)
+    (sym (open_by_tally s link) ∙ ap (λ (t : Tally). not (flag_of t.ended link)) (sym counts)))
+    ∙ sym is
+
+-- ---- where the asking has come to
+
+module _ {M R : Type 0} (left : R → Option (List ℕ)) (failed : R → Bool) (contents : M → Contents)
+    (shows : M → World → Type 0) (awaits : M → ℕ) where
+  -- a moment that was read on to, as the machine and the tally have it
+  pub record IsLed (m : Contents) (first readers : List (Option R)) (writers : ByLink Bool) (s : RunMoment)
+      (machine : M) (tally : Tally) : Type 0 where
+    pub moment : RunMoment
+    pub goes : ReadsOn left failed m first readers writers s moment
+    pub is_shown : shows machine moment.world
+    pub counts : tally ≡ tally_of moment
+
+  pub record IsAsking (machine_before : M) (readers_before : List (Option R)) (tally_before : Tally) (machine : M)
+      (readers : List (Option R)) (tally : Tally) (running : Bool) : Type 0 where
+    pub same : contents machine ≡ contents machine_before
+    pub runs : (w : World) → shows machine w → running ≡ is_running w
+    pub leads : (first : List (Option R)) (writers : ByLink Bool) (s : RunMoment) → shows machine_before s.world
+        → IsReadTo left (contents machine_before) first readers_before writers s → NoneFailed failed readers_before
+        → tally_before ≡ tally_of s
+        → IsLed (contents machine_before) first readers writers s machine tally
+
+  pub begins_asking : (machine : M) (readers : List (Option R)) (tally : Tally) (running : Bool)
+      → ((w : World) → shows machine w → running ≡ is_running w)
+      → IsAsking machine readers tally machine readers tally running
+  begins_asking machine readers tally running runs = record {
+    same = refl;
+    runs = runs;
+    leads = λ first writers s shown reads none counts. record {
+      moment = s;
+      goes = record { reads = reads; none_failed = none; written = refl; count = refl };
+      is_shown = shown;
+      counts = counts;
+    };
+  }
+
+  module _ (m : Contents) (first readers later : List (Option R)) (writers : ByLink Bool) (s : RunMoment) where
+    joined : (t u : RunMoment) → ReadsOn left failed m first readers writers s t
+        → ReadsOn left failed m first later writers t u → ReadsOn left failed m first later writers s u
+    joined t u goes then = record {
+      reads = then.reads;
+      none_failed = then.none_failed;
+      written = then.written ∙ goes.written;
+      count = then.count ∙ goes.count;
+    }
+
+    pub led_on : (before after : M) (tally new : Tally) (led : IsLed m first readers writers s before tally)
+        → IsSupplied left failed m first later writers led.moment new (shows after)
+        → IsLed m first later writers s after new
+    led_on before after tally new led supplied = record {
+      moment = supplied.moment;
+      goes = joined led.moment supplied.moment led.goes supplied.goes;
+      is_shown = supplied.is_shown;
+      counts = supplied.counts;
+    }
+
+    -- asking failed
+    pub stops_asking : (before : M) (tally new newest : Tally) (shown last : World
+        → Type 0) (link : Link) (e : RunError)
+        → (led : IsLed m first readers writers s before tally)
+        → Supplies left failed m first later writers led.moment link (Err e) new shown
+        → Provides left failed m first later writers s (Err e) newest last
+    stops_asking before tally new newest shown last link (ReadFailed on) led supplies = record {
+      moment = led.moment;
+      written = led.goes.written;
+      fails = subst (λ (l : Link). FailsToRead left failed m first later writers led.moment l) (sym supplies.0)
+          supplies.1;
+    }
+    stops_asking before tally new newest shown last link (WriteFailed on) led supplies = absurd supplies
+    stops_asking before tally new newest shown last link Memory led supplies = record {
+      moment = supplies.moment;
+      goes = joined led.moment supplies.moment led.goes supplies.goes;
+    }
+
+  -- what is asked ends
+  pub falls : (w v : World) (tally_was tally_is : Tally) (n : ℕ) (machine later : M) (was is : Bool) → was ≡ false
+      → awaits machine ≡ awaited w → awaits later ≡ awaited v → count_open tally_was.ended ≡ n → is ≡ is_running v
+      → ((is_running v ≡ true) ⊎ (awaited v + count_open tally_is.ended < awaited w + n))
+      → cond is 0 (awaits later + count_open tally_is.ended + 1)
+      < cond was 0 (awaits machine + count_open tally_was.ended + 1)
+  falls w v tally_was tally_is n machine later was true idle before after open_was running closer = rw idle (omega
+      arith)
+  falls w v tally_was tally_is n machine later was false idle before after open_was running closer =
+      rw idle (elim closer [
+        | inl runs ↦ let both : false ≡ true = running ∙ runs in absurd (cc)
+        | inr less ↦ omega (arith, less, before, after, open_was)
+      ])

@@ -1,0 +1,10 @@
+pub mod AtLinks
+pub mod ReadOn
+pub mod WrittenOn
+pub mod DrivenOn
+pub mod PartlyWritten
+pub mod OneByte
+pub mod AskedOn
+pub mod OneMessage
+pub mod WholeRun
+pub mod AllBytes

@@ -1,0 +1,244 @@
+-- What becomes of asking one link.
+use Rattle.std.proofs.Common.{◌≡◌, ◌⊎◌, inl, inr, ℕ, ◌+◌, ◌<◌, Bool, true, false, is_none, cond, List}
+use Rattle.std.proofs.Common.{[]}
+use Rattle.std.proofs.Common.{Option, Some, None, Ok, Err, refl, sym, ap, subst, ◌∙◌, arith, add-zero}
+use Rattle.module_format.specs.Contents.{Contents}
+use Rattle.machine_state.specs.declared.event.Event.{Event}
+use Rattle.machine_state.specs.declared.event.Event.TheVariants.{Step, Arrive, Acknowledge}
+use Rattle.machine_state.specs.declared.link.Link.{Link}
+use Rattle.machine_state.specs.declared.link.Link.TheVariants.{Zero, One, Two, Three}
+use Rattle.machine_state.specs.World.{World}
+use Rattle.machine_state.specs.EventLaws.{bytes_of}
+use Rattle.machine_state.specs.Endings as turns
+use Rattle.machine_state.specs.Endings.{Happened, Rests}
+use Rattle.machine_state.specs.Happens.{Turn, turn, happens}
+use Rattle.machine_state.proofs.EventLaws.{events_count_bytes}
+use Rattle.machine_state.proofs.Turns.{turn_happens}
+use Rattle.link_runs.specs.ByLink.{ByLink, of_link, with_link}
+use Rattle.link_runs.specs.Awaiting.{awaited}
+use Rattle.link_runs.specs.Driving.{IsReached}
+use Rattle.link_runs.specs.FirstInFirstOut.{RunMoment, asked}
+use Rattle.link_runs.specs.Wanting.{is_running, wants}
+use Rattle.link_runs.proofs.Arriving.{closer}
+use Rattle.link_runner.specs.declared.device.Failed.{Failed}
+use Rattle.link_runner.specs.declared.tally.Counts.{Counts}
+use Rattle.link_runner.specs.declared.tally.Ended.{Ended}
+use Rattle.link_runner.specs.declared.tally.Tally.{Tally}
+use Rattle.link_runner.specs.Counting.{saturated, with_flag, with_count, ended_at, counts_of, tally_of}
+use Rattle.link_runner.specs.Readers.{at_link, flag_at, NoneFailed, SameElsewhere, Takes, EndsRightly}
+use Rattle.link_runner.specs.Readers.{IsReadTo}
+use Rattle.link_runner.specs.Readers.{IsCalled, FailsToRead, count_open, IsSupplied}
+use Rattle.link_runner.specs.Readers.{ReadsOnWithoutMemory}
+use Rattle.link_runner.proofs.AtLinks.{still_none, now_one}
+use Rattle.link_runner.proofs.ReadOn.{byte_read, end_read, none_read, takes_same, asked_is_open, asked_is_wanted}
+
+-- ---- counts
+
+saturated_more : (n k : ℕ) → saturated (saturated n + k) ≡ saturated (n + k)
+saturated_more n k = omega arith
+
+pub counted_one : (link : Link) (all : ByLink ℕ)
+    → with_count link 1 (counts_of all) ≡ counts_of (with_link link (of_link all link + 1) all)
+counted_one Zero all = ap (λ (n : ℕ). record (counts_of all) { first = n }) (saturated_more all.first 1)
+counted_one One all = ap (λ (n : ℕ). record (counts_of all) { second = n }) (saturated_more all.second 1)
+counted_one Two all = ap (λ (n : ℕ). record (counts_of all) { third = n }) (saturated_more all.third 1)
+counted_one Three all = ap (λ (n : ℕ). record (counts_of all) { fourth = n }) (saturated_more all.fourth 1)
+
+pub ended_one : (link : Link) (s : RunMoment)
+    → with_flag link (ended_at s) ≡ ended_at (record s { left = with_link link None s.left })
+ended_one Zero s = refl
+ended_one One s = refl
+ended_one Two s = refl
+ended_one Three s = refl
+
+open_fewer : (link : Link) (s : RunMoment) → of_link s.left link ≡ Some []
+    → count_open (ended_at (record s { left = with_link link None s.left })) < count_open (ended_at s)
+open_fewer Zero s here = let was = ap {B = ℕ} (λ (o : Option (List ℕ)). cond (is_none o) 0 1) here in omega (arith, was)
+open_fewer One s here = let was = ap {B = ℕ} (λ (o : Option (List ℕ)). cond (is_none o) 0 1) here in omega (arith, was)
+open_fewer Two s here = let was = ap {B = ℕ} (λ (o : Option (List ℕ)). cond (is_none o) 0 1) here in omega (arith, was)
+open_fewer Three s here = let was = ap {B = ℕ} (λ (o : Option (List ℕ)). cond (is_none o) 0 1) here in omega (
+  arith,
+  was,
+)
+
+-- ---- an arrival executes nothing
+
+abbrev CountsNothing : Event → Turn → Type 0
+CountsNothing (Step slice pick) t = Unit {0}
+CountsNothing (Arrive link byte) t = bytes_of t.answer ≡ 0
+CountsNothing (Acknowledge link) t = bytes_of t.answer ≡ 0
+
+rests_uncounted : {e : Event} {effect : _} (w : World) → Rests e effect
+    → CountsNothing e (record { world = w; answer = Ok effect })
+rests_uncounted w turns.is_idle = tt
+rests_uncounted w turns.is_busy = refl
+rests_uncounted w turns.arrives_nowhere = refl
+rests_uncounted w turns.is_ignored = refl
+
+fails_uncounted : (e : Event) (w : World) (f : _) → CountsNothing e (record { world = w; answer = Err f })
+fails_uncounted (Step slice pick) w f = tt
+fails_uncounted (Arrive link byte) w f = refl
+fails_uncounted (Acknowledge link) w f = refl
+
+uncounted : (m : Contents) (w : World) (e : Event) (t : Turn) → Happened m w e t → CountsNothing e t
+uncounted m w e t (turns.was_at_fault f is) = fails_uncounted e w f
+uncounted m w e t (turns.it_rests rests) = rests_uncounted w rests
+uncounted m w e t (turns.is_outside p task why runs here) = tt
+uncounted m w e t (turns.is_prefix p task byte operand runs here at none it next) = tt
+uncounted m w e t (turns.is_step p task byte f runs here at is ends) = tt
+uncounted m w e t (turns.is_taken input p here waits) = refl
+uncounted m w e t (turns.is_kept input here nobody empty) = refl
+uncounted m w e t (turns.is_acknowledged output p here waits) = refl
+
+pub arrival_counts_nothing : (m : Contents) (w : World) (link : Link) (byte : ℕ)
+    → (happens m w (Arrive link byte)).counters.executed ≡ w.counters.executed
+arrival_counts_nothing m w link byte =
+    events_count_bytes m w (Arrive link byte)
+    ∙ (ap (λ (n : ℕ). w.counters.executed + n)
+    (uncounted m w (Arrive link byte) (turn m w (Arrive link byte)) (turn_happens m w (Arrive link byte)))
+    ∙ add-zero w.counters.executed)
+
+pub acknowledgement_counts_nothing : (m : Contents) (w : World) (link : Link)
+    → (happens m w (Acknowledge link)).counters.executed ≡ w.counters.executed
+acknowledgement_counts_nothing m w link =
+    events_count_bytes m w (Acknowledge link)
+    ∙ (ap (λ (n : ℕ). w.counters.executed + n)
+    (uncounted m w (Acknowledge link) (turn m w (Acknowledge link)) (turn_happens m w (Acknowledge link)))
+    ∙ add-zero w.counters.executed)
+
+pub wanted_comes_closer : (m : Contents) (w : World) (link : Link) (byte : ℕ) → IsReached m w → wants link w ≡ true
+    → (is_running (happens m w (Arrive link byte)) ≡ true) ⊎ (awaited (happens m w (Arrive link byte)) < awaited w)
+wanted_comes_closer m w link byte reached wanted =
+    subst (λ (v : World). v.fault ≡ None → wants link v ≡ true
+    → (is_running (happens m v (Arrive link byte)) ≡ true) ⊎ (awaited (happens m v (Arrive link byte)) < awaited v))
+    (sym reached.world) (closer m reached.events link byte) reached.no_fault wanted
+
+-- ---- the link that is asked
+
+module _ {R : Type 0} (left : R → Option (List ℕ)) (failed : R → Bool) (m : Contents)
+    (first before after : List (Option R)) (writers : ByLink Bool) (s : RunMoment) (link : Link)
+    (nobody : is_running s.world ≡ false) (ask : asked s ≡ Some link)
+    (reads : IsReadTo left m first before writers s) (none : NoneFailed failed before)
+    (elsewhere : SameElsewhere before after link) where
+  -- a byte
+  pub record GivesByte (byte : ℕ) : Type 0 where
+    pub reads_on : IsReadTo left m first after writers (record s {
+      world = happens m s.world (Arrive link byte);
+      read = with_link link (of_link s.read link + 1) s.read;
+    })
+    pub none_failed : NoneFailed failed after
+
+  gives_byte : (byte : ℕ) (x y : Option R) → at_link before link ≡ x → at_link after link ≡ y
+      → IsCalled left failed {E = Failed} x (Ok (Some byte)) y → GivesByte byte
+  gives_byte byte None y was is called = absurd called
+  gives_byte byte (Some old) None was is called = absurd called
+  gives_byte byte (Some old) (Some new) was is called = record {
+    reads_on = byte_read left m first before after writers s link elsewhere reads nobody ask byte old new was is
+        called.0;
+    none_failed = still_none failed before after link none elsewhere
+        (ap (flag_at failed) is ∙ (called.1 ∙ (sym (ap (flag_at failed) was) ∙ none.none link)));
+  }
+
+  pub byte_given : (byte : ℕ)
+      → IsCalled left failed {E = Failed} (at_link before link) (Ok (Some byte)) (at_link after link)
+      → GivesByte byte
+  byte_given byte called = gives_byte byte (at_link before link) (at_link after link) refl refl called
+
+  -- the end
+  pub record GivesEnd : Type 0 where
+    pub reads_on : IsReadTo left m first after writers (record s { left = with_link link None s.left })
+    pub none_failed : NoneFailed failed after
+
+  gives_end : (x y : Option R) → at_link before link ≡ x → at_link after link ≡ y
+      → IsCalled left failed {E = Failed} x (Ok None) y → GivesEnd
+  gives_end None None was is called = record {
+    reads_on = end_read left m first before after writers s link elsewhere reads nobody ask
+        (subst (λ (o : Option R). Takes left (at_link first link) o (of_link reads.taken link)) (was ∙ sym is)
+        (reads.takes link))
+        (subst (EndsRightly left None) (sym is) tt);
+    none_failed = still_none failed before after link none elsewhere (ap (flag_at failed) is);
+  }
+  gives_end None (Some new) was is called = absurd called
+  gives_end (Some old) None was is called = absurd called
+  gives_end (Some old) (Some new) was is called = record {
+    reads_on = end_read left m first before after writers s link elsewhere reads nobody ask
+        (takes_same left m first before after writers s link elsewhere (at_link first link) (at_link before link)
+        (at_link after link) old new (of_link reads.taken link) was is (reads.takes link) called.0)
+        (subst (EndsRightly left None) (sym is) called.1);
+    none_failed = still_none failed before after link none elsewhere
+        (ap (flag_at failed) is ∙ (called.2 ∙ (sym (ap (flag_at failed) was) ∙ none.none link)));
+  }
+
+  pub end_given : IsCalled left failed {E = Failed} (at_link before link) (Ok None) (at_link after link) → GivesEnd
+  end_given called = gives_end (at_link before link) (at_link after link) refl refl called
+
+  -- a failure
+  gives_nothing : (e : Failed) (x y : Option R) → at_link before link ≡ x → at_link after link ≡ y
+      → IsCalled left failed x (Err e) y → FailsToRead left failed m first after writers s link
+  gives_nothing e None y was is called = absurd called
+  gives_nothing e (Some old) None was is called = absurd called
+  gives_nothing e (Some old) (Some new) was is called = record {
+    reads = none_read left m first before after writers s link elsewhere reads nobody ask
+        (takes_same left m first before after writers s link elsewhere (at_link first link) (at_link before link)
+        (at_link after link) old new (of_link reads.taken link) was is (reads.takes link) called.0);
+    nobody_runs = nobody;
+    asks = ask;
+    one_failed = now_one failed before after link none elsewhere (ap (flag_at failed) is ∙ called.1);
+  }
+
+  pub read_failed : (e : Failed) → IsCalled left failed (at_link before link) (Err e) (at_link after link)
+      → FailsToRead left failed m first after writers s link
+  read_failed e called = gives_nothing e (at_link before link) (at_link after link) refl refl called
+
+  -- ---- what the caller learns
+
+  pub supplies_byte : (byte : ℕ) (tally : Tally) (shown : World → Type 0) → GivesByte byte → IsReached m s.world
+      → tally ≡ record (tally_of s) { read = with_count link 1 (counts_of s.read) }
+      → shown (happens m s.world (Arrive link byte)) → IsSupplied left failed m first after writers s tally shown
+  supplies_byte byte tally shown gives reached counts is_shown = record {
+    moment = record s {
+      world = happens m s.world (Arrive link byte);
+      read = with_link link (of_link s.read link + 1) s.read;
+    };
+    goes = record {
+      reads = gives.reads_on;
+      none_failed = gives.none_failed;
+      written = refl;
+      count = arrival_counts_nothing m s.world link byte;
+    };
+    is_shown = is_shown;
+    counts = counts ∙ ap (λ (counts : Counts). record (tally_of s) { read = counts }) (counted_one link s.read);
+    closer = elim (wanted_comes_closer m s.world link byte reached (asked_is_wanted s link ask)) [
+      | inl runs ↦ inl runs
+      | inr less ↦ inr (let same = ap (λ (t : Tally). count_open t.ended) counts in omega (arith, less, same))
+    ];
+  }
+
+  pub reads_without_memory : (byte : ℕ) → GivesByte byte → ReadsOnWithoutMemory left failed m first after writers s
+  reads_without_memory byte gives = record {
+    moment = record s {
+      world = happens m s.world (Arrive link byte);
+      read = with_link link (of_link s.read link + 1) s.read;
+    };
+    goes = record {
+      reads = gives.reads_on;
+      none_failed = gives.none_failed;
+      written = refl;
+      count = arrival_counts_nothing m s.world link byte;
+    };
+  }
+
+  pub supplies_end : (tally : Tally) (shown : World → Type 0) → GivesEnd
+      → tally ≡ record (tally_of s) { ended = with_flag link (ended_at s) } → shown s.world
+      → IsSupplied left failed m first after writers s tally shown
+  supplies_end tally shown gives counts is_shown = record {
+    moment = record s { left = with_link link None s.left };
+    goes = record { reads = gives.reads_on; none_failed = gives.none_failed; written = refl; count = refl };
+    is_shown = is_shown;
+    counts = counts ∙ ap (λ (ended : Ended). record (tally_of s) { ended = ended }) (ended_one link s);
+    closer = inr (
+        let same = ap (λ (t : Tally). count_open t.ended) counts in
+        let ended = ap count_open (ended_one link s) in
+        let fewer = open_fewer link s (asked_is_open s link ask reads.spent) in
+        omega (arith, same, ended, fewer));
+  }

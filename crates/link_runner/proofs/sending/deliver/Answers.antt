@@ -1,0 +1,40 @@
+use Rattle.std.proofs.Common.{refl, ap, ◌∙◌, length, List, ℕ}
+use Rattle.link_runner.specs.declared.tally.Counts.{Counts}
+use Rattle.link_runner.specs.declared.tally.Tally.{Tally}
+use Rattle.link_runner.specs.Counting.{with_count}
+use Rattle.link_runner.proofs.OneMessage.{put_whole, put_nowhere, put_partly, delivers_whole, delivers_nowhere}
+use Rattle.link_runner.proofs.sending.deliver.Goals as goal
+
+pub returns-in-Some-Err-clause-delivers : goal.returns-in-Some-Err-clause-delivers
+returns-in-Some-Err-clause-delivers g c = λ s shown counts.
+    let puts = rw (c.in-Some-Err.field-0-is, c.message-message.ensures) at c.in-Some-Err.ensures in (
+      refl,
+      put_partly g.W.LinkWriter.written g.W.LinkWriter.failed c.args.link (g.M.Machine.last c.args.machine.now)
+          c.args.writers.now c.put.new.writers c.requires.none_failed puts.elsewhere _ puts.told,
+    )
+
+pub returns-in_ok-react-in-Some-Ok-clause-delivers : goal.returns-in_ok-react-in-Some-Ok-clause-delivers
+returns-in_ok-react-in-Some-Ok-clause-delivers g c = λ s shown counts.
+    let puts = rw (c.in-Some-Ok.field-0-is, c.message-message.ensures) at c.in-Some-Ok.ensures in
+    delivers_whole g.W.LinkWriter.written g.W.LinkWriter.failed c.args.link (g.M.Machine.last c.args.machine.now)
+    c.args.writers.now c.put.new.writers c.requires.none_failed puts.elsewhere
+    (g.M.Machine.contents c.args.machine.now) s _ (g.M.Machine.shows c.react.new.self)
+    (put_whole g.W.LinkWriter.written g.W.LinkWriter.failed c.args.link (g.M.Machine.last c.args.machine.now)
+    c.args.writers.now c.put.new.writers c.requires.none_failed puts.elsewhere puts.told)
+    (ap (λ (written : Counts). record c.args.tally.now { written = written }) c.add.ensures
+    ∙ (ap (λ (bytes : List ℕ). record c.args.tally.now {
+      written = with_count c.args.link (length bytes) c.args.tally.now.written;
+    }) c.message-message.ensures
+    ∙ ap (λ (t : Tally). record t {
+      written = with_count c.args.link (length (g.M.Machine.last c.args.machine.now)) t.written;
+    }) counts))
+    (c.in_ok-react-in-Some-Ok.ensures.reacts s.world shown).is_shown
+
+pub returns-in-None-clause-delivers : goal.returns-in-None-clause-delivers
+returns-in-None-clause-delivers g c = λ s shown counts.
+    let puts = rw c.message-message.ensures at c.in-None.ensures in
+    delivers_nowhere g.W.LinkWriter.written g.W.LinkWriter.failed c.args.link (g.M.Machine.last c.args.machine.now)
+    c.args.writers.now c.put.new.writers c.requires.none_failed puts.elsewhere
+    (g.M.Machine.contents c.args.machine.now) s _ (g.M.Machine.shows c.args.machine.now)
+    (put_nowhere g.W.LinkWriter.written g.W.LinkWriter.failed c.args.link (g.M.Machine.last c.args.machine.now)
+    c.args.writers.now c.put.new.writers c.requires.none_failed puts.elsewhere puts.told) counts shown

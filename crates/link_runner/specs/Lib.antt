@@ -1,0 +1,5 @@
+pub mod Devices
+pub mod Counting
+pub mod Readers
+pub mod Writers
+pub mod Runs

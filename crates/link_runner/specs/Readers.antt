@@ -1,0 +1,190 @@
+-- What is taken from the readers of the input links.
+use Rattle.std.specs.Prelude.{◌≡◌, ℕ, ◌+◌, ◌<◌, ◌⊎◌, ◌==◌, Bool, true, false, if◌then◌else◌, is_none, List, []}
+use Rattle.std.specs.Prelude.{Option}
+use Rattle.std.specs.Prelude.{Some, None, Result, Ok, Err, ⊤, slice_get}
+use Rattle.std.specs.Io.KnownBytes.{Consumes, IsAtEnd}
+use Rattle.module_format.specs.Contents.{Contents}
+use Rattle.machine_state.specs.declared.link.Link.{Link}
+use Rattle.machine_state.specs.declared.link.Link.TheVariants.{Zero, One, Two, Three}
+use Rattle.machine_state.specs.Moves.{link_index}
+use Rattle.machine_state.specs.World.{World}
+use Rattle.link_runs.specs.Awaiting.{awaited}
+use Rattle.link_runs.specs.ByLink.{ByLink, of_link, by_link}
+use Rattle.link_runs.specs.FirstInFirstOut.{Supply, RunMoment, IsRun, IsOver, asked}
+use Rattle.link_runs.specs.Wanting.{is_running}
+use Rattle.link_runner.specs.declared.report.RunError.{RunError}
+use Rattle.link_runner.specs.declared.report.RunError.TheVariants.{ReadFailed, WriteFailed, Memory}
+use Rattle.link_runner.specs.declared.tally.Ended.{Ended}
+use Rattle.link_runner.specs.declared.tally.Tally.{Tally}
+use Rattle.link_runner.specs.Counting.{tally_of}
+use Rattle.link_runner.specs.Devices.{Gives}
+
+-- ---- one for each link, where there is one
+
+abbrev pub found : {A : Type 0} → Option (Option A) → Option A
+found None = None
+found (Some there) = there
+
+-- what stands at a link's number
+abbrev pub at_link : {A : Type 0} → List (Option A) → Link → Option A
+at_link all link = found (slice_get all (link_index link))
+
+-- where there is none
+abbrev pub absent_of : {A : Type 0} → List (Option A) → Ended
+absent_of all = record {
+  first = is_none (at_link all Zero);
+  second = is_none (at_link all One);
+  third = is_none (at_link all Two);
+  fourth = is_none (at_link all Three);
+}
+
+-- the flag of one that is there
+abbrev pub flag_at : {A : Type 0} → (A → Bool) → Option A → Bool
+flag_at flag None = false
+flag_at flag (Some there) = flag there
+
+-- no flag is set
+pub record NoneFailed {A : Type 0} (flag : A → Bool) (all : List (Option A)) : Type 0 where
+  pub none : (link : Link) → flag_at flag (at_link all link) ≡ false
+
+-- the flag of this link is set, and no other
+pub record OneFailed {A : Type 0} (flag : A → Bool) (all : List (Option A)) (link : Link) : Type 0 where
+  pub flags : (on : Link) → flag_at flag (at_link all on) ≡ (link_index link == link_index on)
+
+-- all but the one of this link are as before
+abbrev pub SameElsewhere : {A : Type 0} → List (Option A) → List (Option A) → Link → Type 0
+SameElsewhere before after link = (on : Link) → (link_index link ≡ link_index on → ⊥)
+    → at_link after on ≡ at_link before on
+
+-- ---- what was taken
+
+-- what the readers gave: nothing ever where there is none
+abbrev pub supply_of : {R : Type 0} → Option R → List ℕ → Supply
+supply_of None bytes = None
+supply_of (Some reader) bytes = Some bytes
+
+abbrev pub inputs_of : {R : Type 0} → List (Option R) → ByLink (List ℕ) → ByLink Supply
+inputs_of readers taken = by_link (λ link. supply_of (at_link readers link) (of_link taken link))
+
+-- nothing is left to be asked for
+abbrev pub IsSpent : Supply → Type 0
+IsSpent None = ⊤
+IsSpent (Some bytes) = bytes ≡ []
+
+module _ {R : Type 0} (left : R → Option (List ℕ)) where
+  -- a reader gave these bytes
+  abbrev pub Takes : Option R → Option R → List ℕ → Type 0
+  Takes None None bytes = bytes ≡ []
+  Takes None (Some after) bytes = ⊥
+  Takes (Some before) None bytes = ⊥
+  Takes (Some before) (Some after) bytes = Consumes (left before) (left after) bytes
+
+  -- a link that has ended has no reader, or one that has nothing left
+  abbrev pub EndsRightly : Supply → Option R → Type 0
+  EndsRightly None (Some reader) = IsAtEnd (left reader)
+  EndsRightly supply reader = ⊤
+
+  -- The run over the bytes that were taken came to this moment. All of them were asked for, and a link has ended only
+  -- where nothing is left.
+  pub record IsReadTo (m : Contents) (before after : List (Option R)) (writers : ByLink Bool) (s : RunMoment) : Type
+      0 where
+    pub taken : ByLink (List ℕ)
+    pub takes : (link : Link) → Takes (at_link before link) (at_link after link) (of_link taken link)
+    pub turns : ℕ
+    pub run : IsRun m (inputs_of before taken) writers turns s
+    pub spent : (link : Link) → IsSpent (of_link s.left link)
+    pub ends : (link : Link) → EndsRightly (of_link s.left link) (at_link after link)
+
+  module _ (failed : R → Bool) where
+    -- the reader of a link was called; none is one at its end
+    abbrev pub IsCalled : {E : Type 0} → Option R → Result (Option ℕ) E → Option R → Type 0
+    IsCalled None (Ok None) None = ⊤
+    IsCalled None result after = ⊥
+    IsCalled (Some before) result None = ⊥
+    IsCalled (Some before) result (Some after) = Gives (left before) (failed before) result (left after) (failed after)
+
+    pub record Asks {E : Type 0} (link : Link) (result : Result (Option ℕ) E) (before after : List (Option R)) : Type
+        0 where
+      pub called : IsCalled (at_link before link) result (at_link after link)
+      pub elsewhere : SameElsewhere before after link
+
+    -- a moment that the run comes to by reading alone
+    pub record ReadsOn (m : Contents) (first readers : List (Option R)) (writers : ByLink Bool) (s t : RunMoment) :
+        Type 0 where
+      pub reads : IsReadTo m first readers writers t
+      pub none_failed : NoneFailed failed readers
+      pub written : t.written ≡ s.written
+      pub count : t.world.counters.executed ≡ s.world.counters.executed
+
+    -- Reading this link failed at this moment, where it is asked.
+    pub record FailsToRead (m : Contents) (first readers : List (Option R)) (writers : ByLink Bool) (t : RunMoment)
+        (link : Link) : Type 0 where
+      pub reads : IsReadTo m first readers writers t
+      pub nobody_runs : is_running t.world ≡ false
+      pub asks : asked t ≡ Some link
+      pub one_failed : OneFailed failed readers link
+
+-- how many links have not ended
+abbrev pub count_if : Bool → ℕ
+count_if ended = if ended then 0 else 1
+
+abbrev pub count_open : Ended → ℕ
+count_open ended = count_if ended.first + count_if ended.second + count_if ended.third + count_if ended.fourth
+
+-- what can be asked yet before a process runs
+abbrev pub askable : RunMoment → Tally → ℕ
+askable s tally = awaited s.world + count_open tally.ended
+
+module _ {R : Type 0} (left : R → Option (List ℕ)) (failed : R → Bool) (m : Contents)
+    (first readers : List (Option R)) (writers : ByLink Bool) (s : RunMoment) where
+  -- The link was asked, and a process runs, or less can be asked.
+  pub record IsSupplied (tally : Tally) (shown : World → Type 0) : Type 0 where
+    pub moment : RunMoment
+    pub goes : ReadsOn left failed m first readers writers s moment
+    pub is_shown : shown moment.world
+    pub counts : tally ≡ tally_of moment
+    pub closer : (is_running moment.world ≡ true) ⊎ (askable moment tally < askable s (tally_of s))
+
+  -- the run was read on to some moment when memory ran out
+  pub record ReadsOnWithoutMemory : Type 0 where
+    pub moment : RunMoment
+    pub goes : ReadsOn left failed m first readers writers s moment
+
+  -- reading failed at some moment that the run was read on to
+  pub record FailsLater (link : Link) : Type 0 where
+    pub moment : RunMoment
+    pub written : moment.written ≡ s.written
+    pub fails : FailsToRead left failed m first readers writers moment link
+
+  -- what became of asking this link
+  abbrev pub Supplies : Link → Result ⊤ RunError → Tally → (World → Type 0) → Type 0
+  Supplies link (Ok _) tally shown = IsSupplied tally shown
+  Supplies link (Err (ReadFailed on)) tally shown = (on ≡ link) × FailsToRead left failed m first readers writers s link
+  Supplies link (Err (WriteFailed on)) tally shown = ⊥
+  Supplies link (Err Memory) tally shown = ReadsOnWithoutMemory
+
+  -- The links were asked until a process runs, or until nothing is left to be done.
+  pub record IsProvided (running : Bool) (tally : Tally) (shown : World → Type 0) : Type 0 where
+    pub moment : RunMoment
+    pub goes : ReadsOn left failed m first readers writers s moment
+    pub is_shown : shown moment.world
+    pub counts : tally ≡ tally_of moment
+    pub runs : is_running moment.world ≡ running
+    pub over : running ≡ false → IsOver m writers moment
+
+  abbrev pub Provides : Result Bool RunError → Tally → (World → Type 0) → Type 0
+  Provides (Ok running) tally shown = IsProvided running tally shown
+  Provides (Err (ReadFailed link)) tally shown = FailsLater link
+  Provides (Err (WriteFailed link)) tally shown = ⊥
+  Provides (Err Memory) tally shown = ReadsOnWithoutMemory
+
+-- a run that is under way: it came to some moment by reading
+pub record IsUnderWay {M R : Type 0} (left : R → Option (List ℕ)) (failed : R → Bool) (contents : M → Contents)
+    (shows : M → World → Type 0) (machine : M) (readers : List (Option R)) (tally : Tally) : Type 0 where
+  pub first : List (Option R)
+  pub writers : ByLink Bool
+  pub moment : RunMoment
+  pub is_shown : shows machine moment.world
+  pub reads : IsReadTo left (contents machine) first readers writers moment
+  pub none_failed : NoneFailed failed readers
+  pub counts : tally ≡ tally_of moment

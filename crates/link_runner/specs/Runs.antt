@@ -1,0 +1,100 @@
+-- What becomes of a run with readers and writers.
+use Rattle.std.specs.Prelude.{◌≡◌, ℕ, Bool, true, List, [], ◌++◌, Option, Some, None, Result, Ok, Err, ⊤}
+use Rattle.module_format.specs.Contents.{Contents}
+use Rattle.machine_state.specs.declared.link.Link.{Link}
+use Rattle.machine_state.specs.Happens.{emitted, turn}
+use Rattle.link_runs.specs.ByLink.{ByLink, of_link, with_link}
+use Rattle.link_runs.specs.FirstInFirstOut.{Supply, RunMoment, IsRun, IsOver, plain_step}
+use Rattle.link_runs.specs.Wanting.{is_running}
+use Rattle.link_runner.specs.declared.report.Report.{Report}
+use Rattle.link_runner.specs.declared.report.RunError.{RunError}
+use Rattle.link_runner.specs.declared.report.RunError.TheVariants.{ReadFailed, WriteFailed, Memory}
+use Rattle.link_runner.specs.Counting.{report_of}
+use Rattle.link_runner.specs.Readers.{at_link, NoneFailed, OneFailed, IsReadTo, FailsToRead}
+use Rattle.link_runner.specs.Writers.{writers_of, Puts, IsPart}
+
+module _ {R W : Type 0} (left : R → Option (List ℕ)) (read_failed : R → Bool) (written : W → Option (List ℕ))
+    (write_failed : W → Bool) (m : Contents) (readers readers_after : List (Option R))
+    (writers writers_after : List (Option W)) where
+  -- these bytes were written on each link
+  abbrev pub Writes : ByLink (List ℕ) → Type 0
+  Writes bytes = (link : Link) → Puts written (at_link writers link) (at_link writers_after link) (of_link bytes link)
+
+  -- The run came to an end: all the bytes that were taken were asked for, all that it emitted was written, and nothing
+  -- is left to do.
+  pub record Finishes (report : Report) : Type 0 where
+    pub moment : RunMoment
+    pub reads : IsReadTo left m readers readers_after (writers_of writers) moment
+    pub writes : Writes moment.written
+    pub over : IsOver m (writers_of writers) moment
+    pub reported : report ≡ report_of moment
+    pub no_read_failed : NoneFailed read_failed readers_after
+    pub no_write_failed : NoneFailed write_failed writers_after
+
+  -- The run came to a moment where this link is asked, and reading it failed. All that was emitted is written.
+  pub record StopsAtRead (link : Link) : Type 0 where
+    pub moment : RunMoment
+    pub fails : FailsToRead left read_failed m readers readers_after (writers_of writers) moment link
+    pub writes : Writes moment.written
+    pub no_write_failed : NoneFailed write_failed writers_after
+
+  -- The run came to a moment where the next Step emits a message on this link, which has a writer. A part of it was
+  -- written, and not all, after all that was emitted before.
+  pub record StopsAtWrite (link : Link) : Type 0 where
+    pub moment : RunMoment
+    pub reads : IsReadTo left m readers readers_after (writers_of writers) moment
+    pub runs : is_running moment.world ≡ true
+    pub message : List ℕ
+    pub emits : (turn m moment.world plain_step).answer ≡ Ok (emitted link message)
+    pub there : of_link (writers_of writers) link ≡ true
+    pub part : List ℕ
+    pub is_part : IsPart part message
+    pub writes : Writes (with_link link (of_link moment.written link ++ part) moment.written)
+    pub no_read_failed : NoneFailed read_failed readers_after
+    pub one_failed : OneFailed write_failed writers_after link
+
+  -- Memory ran out on the way from this moment, or at the arrival or acknowledgement that leads to it. All the bytes
+  -- that were taken were asked for, and what was written was emitted.
+  pub record StopsForMemory : Type 0 where
+    pub moment : RunMoment
+    pub reads : IsReadTo left m readers readers_after (writers_of writers) moment
+    pub writes : Writes moment.written
+    pub no_read_failed : NoneFailed read_failed readers_after
+    pub no_write_failed : NoneFailed write_failed writers_after
+
+  abbrev pub Runs : Result Report RunError → Type 0
+  Runs (Ok report) = Finishes report
+  Runs (Err (ReadFailed link)) = StopsAtRead link
+  Runs (Err (WriteFailed link)) = StopsAtWrite link
+  Runs (Err Memory) = StopsForMemory
+
+  -- ---- readers that are known
+
+  -- the bytes that a reader has to give
+  abbrev pub Has : Option R → Supply → Type 0
+  Has None supply = supply ≡ None
+  Has (Some reader) None = ⊥
+  Has (Some reader) (Some bytes) = left reader ≡ Some bytes
+
+  -- what is left at a link is left in its reader; a link that has ended has nothing left
+  abbrev pub Keeps : Option R → Supply → Type 0
+  Keeps None supply = ⊤
+  Keeps (Some reader) None = left reader ≡ Some []
+  Keeps (Some reader) (Some bytes) = left reader ≡ Some bytes
+
+  -- The run over all bytes that the readers had came to an end: they have left what it did not ask for, and what it
+  -- emitted was written.
+  pub record FinishesWith (inputs : ByLink Supply) (report : Report) : Type 0 where
+    pub turns : ℕ
+    pub moment : RunMoment
+    pub run : IsRun m inputs (writers_of writers) turns moment
+    pub over : IsOver m (writers_of writers) moment
+    pub unread : (link : Link) → Keeps (at_link readers_after link) (of_link moment.left link)
+    pub writes : Writes moment.written
+    pub reported : report ≡ report_of moment
+
+  -- where all readers are known, and have these bytes
+  abbrev pub RunsWith : Result Report RunError → Type 0
+  RunsWith (Ok report) = (inputs : ByLink Supply) → ((link : Link) → Has (at_link readers link) (of_link inputs link))
+      → FinishesWith inputs report
+  RunsWith (Err _) = ⊤

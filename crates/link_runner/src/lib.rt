@@ -1,0 +1,18 @@
+//! Runs of accepted modules with readers and writers on their links, first in, first out.
+#![tactic(auto)]
+
+mod device;
+mod driving;
+mod providing;
+mod reading;
+mod report;
+mod sending;
+mod supplying;
+mod tally;
+mod writing;
+
+pub use device::Failed;
+pub use driving::drive;
+pub use reading::{LinkReader, Reading};
+pub use report::{Outcome, Report, RunError};
+pub use writing::{LinkWriter, Writing};

@@ -1,0 +1,81 @@
+-- What a machine does that is driven event by event, and that no event brings to a fault.
+use Rattle.std.specs.Prelude.{◌≡◌, ℕ, ◌≤◌, true, false, List, None, Result, Ok, Err}
+use Rattle.module_format.specs.Contents.{Contents}
+use Rattle.machine_state.specs.declared.event.Event.{Event}
+use Rattle.machine_state.specs.declared.link.Link.{Link}
+use Rattle.machine_state.specs.World.{World}
+use Rattle.machine_state.specs.Happens.{Effect, ran, idle, emitted, taken, kept, busy, acknowledged, ignored, turn}
+use Rattle.machine_state.specs.Happens.{happens, world_after}
+use Rattle.link_runs.specs.FirstInFirstOut.{plain_step}
+use Rattle.link_runs.specs.Wanting.{is_running}
+use Rattle.link_runs.specs.declared.driving.Progress.{Progress}
+use Rattle.link_runs.specs.declared.driving.Progress.TheVariants as progresses
+use Rattle.link_runs.specs.declared.driving.Reaction.{Reaction}
+use Rattle.link_runs.specs.declared.driving.Reaction.TheVariants as reactions
+
+-- Events lead to this world, nothing is at fault there, and no more was executed than the budget says.
+pub record IsReached (m : Contents) (w : World) : Type 0 where
+  pub events : List Event
+  pub world : w ≡ world_after m events
+  pub no_fault : w.fault ≡ None
+  pub within_budget : w.counters.executed ≤ m.budget
+
+-- the machine is in some world
+abbrev pub IsShown : {M : Type 0} → (M → World → Type 0) → M → Type 0
+IsShown shows machine = (w : World) × shows machine w
+
+-- Steps that emit nothing lead from the one world to the other.
+pub data Quietly (m : Contents) (before : World) : World → Type 0 where
+  at_once : Quietly m before before
+  goes_on : (w : World) → Quietly m before w → is_running w ≡ true → (turn m w plain_step).answer ≡ Ok ran
+      → Quietly m before (happens m w plain_step)
+
+-- After such Steps no process is running.
+pub record ComesToRest (m : Contents) (before : World) (shown : World → Type 0) : Type 0 where
+  pub world : World
+  pub quietly : Quietly m before world
+  pub nobody_runs : is_running world ≡ false
+  pub is_shown : shown world
+
+-- After such Steps one more emits this message.
+pub record ComesToEmit (m : Contents) (before : World) (link : Link) (message : List ℕ)
+    (shown : World → Type 0) : Type 0 where
+  pub world : World
+  pub quietly : Quietly m before world
+  pub runs : is_running world ≡ true
+  pub emits : (turn m world plain_step).answer ≡ Ok (emitted link message)
+  pub is_shown : shown (happens m world plain_step)
+
+-- After such Steps memory ran out.
+pub record Breaks (m : Contents) (before : World) (shown : World → Type 0) : Type 0 where
+  pub world : World
+  pub quietly : Quietly m before world
+  pub is_shown : shown world
+
+-- what was done by the machine when it was to go on
+abbrev pub Proceeds : {E : Type 0} → Contents → World → Result Progress E → List ℕ → (World → Type 0) → Type 0
+Proceeds m before (Ok progresses.Idle) last shown = ComesToRest m before shown
+Proceeds m before (Ok (progresses.Emitted link)) last shown = ComesToEmit m before link last shown
+Proceeds m before (Err e) last shown = Breaks m before shown
+
+-- what a reaction reports
+abbrev pub reported : Reaction → List ℕ → Effect
+reported reactions.Ran last = ran
+reported reactions.Idle last = idle
+reported (reactions.Emitted link) last = emitted link last
+reported reactions.Taken last = taken
+reported reactions.Kept last = kept
+reported reactions.Busy last = busy
+reported reactions.Acknowledged last = acknowledged
+reported reactions.Ignored last = ignored
+
+-- The event happened, and this reports what it did.
+pub record HasReacted (m : Contents) (w : World) (e : Event) (reaction : Reaction) (last : List ℕ)
+    (shown : World → Type 0) : Type 0 where
+  pub answer : (turn m w e).answer ≡ Ok (reported reaction last)
+  pub is_shown : shown (happens m w e)
+
+-- the same, or memory ran out, and nothing changed
+abbrev pub Reacts : {E : Type 0} → Contents → World → Event → Result Reaction E → List ℕ → (World → Type 0) → Type 0
+Reacts m w e (Ok reaction) last shown = HasReacted m w e reaction last shown
+Reacts m w e (Err _) last shown = shown w

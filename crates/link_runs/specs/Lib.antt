@@ -1,0 +1,7 @@
+pub mod Wanting
+pub mod ByLink
+pub mod FirstInFirstOut
+pub mod RunLaws
+pub mod Awaiting
+pub mod EchoRuns
+pub mod Driving
