@@ -1,6 +1,8 @@
 pub mod Spelling
 pub mod Quoted
 pub mod Numbers
+pub mod QuotedBytes
+pub mod LiteralWords
 pub mod Scanning
 pub mod Loop
 pub mod Rows

@@ -35,7 +35,7 @@ is_above base max number i digits some lt over so_far =
 
 -- ---- hexadecimal digits fit a word
 
-digit-below : (c : ℕ) → is_ascii_hexdigit c ≡ true → digit_value c < 16
+pub digit-below : (c : ℕ) → is_ascii_hexdigit c ≡ true → digit_value c < 16
 digit-below c h = grind (arith, nat_tests)
 
 front : (b : Bool) (c n : ℕ) (rest : List ℕ) → (b ≡ true → digit_value c < 16)
@@ -73,7 +73,7 @@ bounded (suc k) n (d ∷ digits) le small =
 pub not_above : (number max : ℕ) → number ≤ max → None ≡ cond (leb number max) (Some number) None → ⊥
 not_above number max le e = grind (arith, nat_tests)
 
-fits_word : (bytes : List ℕ) → prefix_len is_ascii_hexdigit bytes ≤ 8
+pub fits_word : (bytes : List ℕ) → prefix_len is_ascii_hexdigit bytes ≤ 8
     → value 16 (take (prefix_len is_ascii_hexdigit bytes) bytes) < 2 ^ 32
 fits_word bytes le = bounded 8 0 _ (omega (arith, le, length-prefix_len is_ascii_hexdigit bytes)) (hex-front bytes)
 

@@ -4,3 +4,4 @@ pub mod Kind
 pub mod Reading
 pub mod Tokens
 pub mod Pieces
+pub mod Words

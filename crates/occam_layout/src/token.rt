@@ -1,5 +1,9 @@
 //! Lines and their tokens.
 
+ghost use Rattle.std.specs.Prelude.{◌≡◌, true};
+ghost use Rattle.occam_layout.specs.Kind.{kind_of};
+ghost use Rattle.occam_layout.specs.Words.{is_in_words};
+
 use crate::mark::Mark;
 use crate::text::Text;
 
@@ -22,6 +26,8 @@ pub struct Token<'a> {
     pub start: u32,
     /// The offset behind the token's last byte.
     pub end: u32,
+    /// An integer literal is a word, a character is a byte, and so is each byte of a string.
+    pub ghost words: { is_in_words (kind_of kind) ≡ true },
 }
 
 /// What a token is: a name, a literal, or a mark.

@@ -3,6 +3,7 @@ pub mod Marks
 pub mod Lists
 pub mod Levels
 pub mod LevelLaws
+pub mod WordLaws
 pub mod Carried
 pub mod Seen
 pub mod Sound

@@ -32,7 +32,7 @@ others_push : (terms : Terms) (others : List Term) (x : Term)
 others_push terms [] x = refl
 others_push terms (y ∷ others) x = others_push (Then terms y) others x
 
-operands_push : (terms : Terms) (found pushed : List Operand) (x : Operand) → pushed ≡ found ++ x ∷ []
+pub operands_push : (terms : Terms) (found pushed : List Operand) (x : Operand) → pushed ≡ found ++ x ∷ []
     → with_others terms (map term_of pushed) ≡ Then (with_others terms (map term_of found)) (term_of x)
 operands_push terms found pushed x e = ap (λ xs. with_others terms (map term_of xs)) e ∙ ap (with_others terms)
     (map_push term_of found x) ∙ others_push terms (map term_of found) (term_of x)

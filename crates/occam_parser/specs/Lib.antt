@@ -12,5 +12,6 @@ pub mod Constructs
 pub mod BlockReading
 pub mod BlockViews
 pub mod Levels
+pub mod Words
 pub mod Programs
 pub mod Told

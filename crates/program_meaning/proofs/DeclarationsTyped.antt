@@ -3,14 +3,17 @@ use Rattle.std.proofs.Common.{◌≡◌, ℕ, zero, suc, ℤ, pos, Bool, true, f
 use Rattle.std.proofs.Common.{None, Ok, Err, Result, refl, arith}
 use Rattle.std.proofs.lemmas.Int.{ints}
 use Rattle.std.specs.Prelude.{map, fold, replicate, nat_eq, int_le, unsigned_abs, option_map, option_and_then, IfSome}
-use Rattle.std.specs.List.{AllByRecursion}
-use Rattle.word_arithmetic.specs.Range.{Ends, InRange, constant, bytes as byte_values}
+use Rattle.std.specs.List.{AllByRecursion, list_all}
+use Rattle.word_arithmetic.specs.Range.{Ends, constant}
+use Rattle.word_arithmetic.proofs.EndsLaws.{and_out}
 use Rattle.occam_parser.specs.declared.tree.ValueType.{ValueType}
 use Rattle.occam_parser.specs.declared.tree.ValueType.TheVariants as value_type
 use Rattle.occam_parser.specs.Expressions.{Expression}
 use Rattle.occam_parser.specs.OneOrMore.{as_list}
 use Rattle.occam_parser.specs.Lines.{Value, Table, Bytes, Declaration, Constants, Variables, Channels}
 use Rattle.occam_parser.specs.Lines as lines
+use Rattle.occam_layout.specs.Words.{is_byte, are_bytes}
+use Rattle.occam_parser.specs.Words.{has_words, value_has_words}
 use Rattle.scalar_ranges.specs.declared.types.ExprType.{ExprType}
 use Rattle.scalar_ranges.specs.declared.types.ExprType.TheVariants as types
 use Rattle.scalar_ranges.specs.declared.scope.ArrayKind.TheVariants as array
@@ -24,10 +27,10 @@ use Rattle.program_uses.specs.Constants.{has_type, value_as, size_in}
 use Rattle.program_uses.specs.Declaring.{add, add_all, add_declaration, with_value, range_of_items, range_of_bytes}
 use Rattle.program_uses.specs.Declaring.{table_of, constant_meaning, variable_meaning, channel_meaning}
 use Rattle.program_meaning.specs.Storing.{bind, bind_all, numbers_of, held_by, zeros, zero_for}
-use Rattle.program_meaning.specs.TypedValues.{HasWords, IsNumberOf, IsOfType, HoldsOf, HasType, AreTyped}
+use Rattle.program_meaning.specs.TypedValues.{IsNumberOf, IsOfType, HoldsOf, HasType, AreTyped}
 use Rattle.program_meaning.specs.Declarations.{IsKnown}
-use Rattle.program_meaning.specs.DeclaredTypes.{DeclarationsTyped, ValueHasWords}
-use Rattle.program_meaning.proofs.ValuesTyped.{values_are_typed}
+use Rattle.program_meaning.specs.DeclaredTypes.{DeclarationsTyped}
+use Rattle.program_meaning.proofs.ValuesTyped.{byte_in_range, values_are_typed}
 use Rattle.program_meaning.proofs.TypesStay.{types_stay}
 use Rattle.program_meaning.proofs.DeclarationsHold.{declarations_hold}
 
@@ -54,7 +57,7 @@ typed_by value_type.Byte (Err e) value v is = absurd (cc is)
 
 -- a constant's number is one of its type
 value_typed : (type : ValueType) (es : List Entry) (env : Environment) (e : Expression) (v : ℤ) → Meets env es
-    → AreTyped env es → HasWords e → value_as es (type_of_values type) e ≡ Some v
+    → AreTyped env es → has_words e ≡ true → value_as es (type_of_values type) e ≡ Some v
     → IfSome (number_of env e) (IsOfType type)
 value_typed type es env e v meets typed words is =
     some_from type (number_of env e) (values_are_typed es env e (type_of_values type)
@@ -99,14 +102,15 @@ first_value es type None e items is h = let begun = h.begun_is in absurd (cc beg
 first_value es type (Some v) e items is h = ((v, is), h.values)
 
 items_typed : (type : ValueType) (es : List Entry) (env : Environment) (items : List Expression) → Meets env es
-    → AreTyped env es → AllByRecursion HasWords items
+    → AreTyped env es → list_all has_words items ≡ true
     → AllByRecursion (λ e. (v : ℤ) × (value_as es (type_of_values type) e ≡ Some v)) items
     → IfSome (numbers_of env items) (AllByRecursion (IsOfType type))
 items_typed type es env [] meets typed words values = tt
 items_typed type es env (e ∷ items) meets typed words values =
+    let each = and_out (has_words e) (list_all has_words items) words in
     all_typed type (number_of env e) (numbers_of env items)
-    (value_typed type es env e (values.0).0 meets typed words.0 (values.0).1)
-    (items_typed type es env items meets typed words.1 values.1)
+    (value_typed type es env e (values.0).0 meets typed each.0 (values.0).1)
+    (items_typed type es env items meets typed each.1 values.1)
 
 -- ---- what is held
 
@@ -133,14 +137,14 @@ table_holds type (Some k) count (Some r) o h known = by_count (nat_eq k count)
     by_count false = h r refl
 
 bytes_of_type : (type : ValueType) (bytes : List ℕ) (r : Ends) → range_of_bytes type bytes ≡ Some r
-    → AllByRecursion (λ b. InRange byte_values (pos b)) bytes → AllByRecursion (IsOfType type) (map pos bytes)
+    → are_bytes bytes ≡ true → AllByRecursion (IsOfType type) (map pos bytes)
 bytes_of_type value_type.Int bytes r is all = absurd (cc is)
 bytes_of_type value_type.Byte bytes r is all = each bytes all
   where
-    each : (bytes : List ℕ) → AllByRecursion (λ b. InRange byte_values (pos b)) bytes
-        → AllByRecursion (IsOfType value_type.Byte) (map pos bytes)
+    each : (bytes : List ℕ) → are_bytes bytes ≡ true → AllByRecursion (IsOfType value_type.Byte) (map pos bytes)
     each [] all = tt
-    each (b ∷ bytes) all = (all.0, each bytes all.1)
+    each (b ∷ bytes) all =
+        let both = and_out (is_byte b) (are_bytes bytes) all in (byte_in_range b both.0, each bytes both.1)
 
 known_value : (type : ValueType) (value : Option ℤ) → IsKnown (Constant type value)
     → (v : ℤ) × (value ≡ Some v)
@@ -148,7 +152,7 @@ known_value type None known = absurd known
 known_value type (Some v) known = (v, refl)
 
 constant_typed : (es : List Entry) (env : Environment) (type : ValueType) (value : Value) → Meets env es
-    → AreTyped env es → IsKnown (constant_meaning es type value) → ValueHasWords value
+    → AreTyped env es → IsKnown (constant_meaning es type value) → value_has_words value ≡ true
     → IfSome (held_by env value) (HasType (constant_meaning es type value))
 constant_typed es env type (lines.Scalar e) meets typed known words =
     let v = known_value type (value_as es (type_of_values type) e) known in
@@ -157,12 +161,13 @@ constant_typed es env type (Table size items) meets typed known words =
     let first = value_as es (type_of_values type) items.first in
     table_holds type (size_in es size) (length (as_list items)) (range_of_items es type items)
     (option_map Many (numbers_of env (as_list items)))
-    (λ r is. many_held type (numbers_of env (as_list items)) (items_typed type es env (as_list items) meets typed words
+    (λ r is. many_held type (numbers_of env (as_list items)) (items_typed type es env (as_list items) meets typed
+    (and_out (has_words size) (list_all has_words (as_list items)) words).1
     (first_value es type first items.first items.others refl
     (have_values es type (option_map constant first) items.others r is)))) known
 constant_typed es env type (Bytes size bytes) meets typed known words =
     table_holds type (size_in es size) (length bytes) (range_of_bytes type bytes) (Some (Many (map pos bytes)))
-    (λ r is. bytes_of_type type bytes r is words) known
+    (λ r is. bytes_of_type type bytes r is (and_out (has_words size) (are_bytes bytes) words).1) known
 
 zero_of : (type : ValueType) → IsOfType type (pos 0)
 zero_of value_type.Int = omega (arith, ints)

@@ -4,14 +4,17 @@ use Rattle.std.proofs.Common.{None, Ok, refl, subst, arith, ◌∙◌, ◌<◌, 
 use Rattle.std.proofs.lemmas.Int.{ints}
 use Rattle.std.proofs.lemmas.Nat.{shr_le}
 use Rattle.std.specs.Prelude.{option_map, option_and_then, IfSome, FitsSigned, unsigned_abs}
+use Rattle.std.proofs.lemmas.Bool.{ltb-true}
 use Rattle.std.specs.Int.{w32, cast_unsigned}
 use Rattle.std.specs.List.{AllByRecursion}
 use Rattle.word_arithmetic.specs.Word.{word_not, least_word, greatest_word, shifted_left, shifted_right}
-use Rattle.word_arithmetic.specs.Range.{InRange, in_range, full}
+use Rattle.word_arithmetic.specs.Range.{InRange, in_range, full, bytes}
 use Rattle.word_arithmetic.specs.declared.binary.Binary.TheVariants as binary
 use Rattle.word_arithmetic.proofs.BinaryLaws.{binary_gives_words}
 use Rattle.word_arithmetic.proofs.BitLaws.{not_fits, wrapped_fits, cast_fits, bits_below}
-use Rattle.word_arithmetic.proofs.EndsLaws.{in_range_out}
+use Rattle.word_arithmetic.proofs.EndsLaws.{in_range_out, and_out}
+use Rattle.word_arithmetic.proofs.WordLaws.{is_word_out}
+use Rattle.occam_layout.specs.Words.{is_byte}
 use Rattle.occam_parser.specs.declared.tree.ValueType.{ValueType}
 use Rattle.occam_parser.specs.declared.tree.ValueType.TheVariants as value_type
 use Rattle.occam_parser.specs.declared.tree.PrefixOperator.TheVariants as prefix
@@ -34,8 +37,15 @@ use Rattle.scalar_ranges.specs.Values.{number_of, number_of_terms, number_of_ter
 use Rattle.scalar_ranges.specs.Values.{converted, operation_of, counts}
 use Rattle.scalar_ranges.specs.Steps.{both_some}
 use Rattle.scalar_ranges.proofs.Parts.{both_ok, then_ok, ok_same}
-use Rattle.program_meaning.specs.TypedValues.{HasWords, HaveWords, HasWordsTerm, IsNumberOf, IsOfType, HoldsOf, HasType}
-use Rattle.program_meaning.specs.TypedValues.{ValuesAreTyped}
+use Rattle.occam_parser.specs.Words.{has_words, have_words, has_words_in}
+use Rattle.program_meaning.specs.TypedValues.{IsNumberOf, IsOfType, HoldsOf, HasType, ValuesAreTyped}
+
+-- ---- literals
+
+pub byte_in_range : (b : ℕ) → is_byte b ≡ true → InRange bytes (pos b)
+byte_in_range b h =
+    let less = ltb-true b 256 h in
+    record { from_lo = omega (arith, ints); to_hi = omega (arith, ints, less) }
 
 -- ---- numbers of types
 
@@ -181,7 +191,7 @@ element_typed (Some m) h a s t n typed is sub = absurd (cc is)
 module _ (es : List Entry) (env : Environment)
     (typed : (name : List ℕ) (m : Meaning) → meaning_in name es ≡ Some m → HasType m (held_in name env)) where
   mutual
-    expression_typed : (e : Expression) (t : ExprType) → HasWords e → type_of es e ≡ Ok t
+    expression_typed : (e : Expression) (t : ExprType) → has_words e ≡ true → type_of es e ≡ Ok t
         → IfSome (number_of env e) (IsNumberOf t)
     expression_typed (Alone a) t w is = term_typed a t w is
     expression_typed (Prefixed prefix.Negate a) t w is =
@@ -193,28 +203,32 @@ module _ (es : List Entry) (env : Environment)
     expression_typed (Prefixed prefix.Not a) t w is = tt
     expression_typed (Paired (pair.Arithmetic op) a b) t w is =
         let h = both_ok (type_of_term es a) (type_of_term es b) (pair_type (pair.Arithmetic op)) t is in
-        pair_typed op h.0 h.1 t (number_of_term env a) (number_of_term env b) (term_typed a h.0 w.0 h.2)
-        (term_typed b h.1 w.1 h.3) h.4
+        let v = and_out (has_words_in a) (has_words_in b) w in
+        pair_typed op h.0 h.1 t (number_of_term env a) (number_of_term env b) (term_typed a h.0 v.0 h.2)
+        (term_typed b h.1 v.1 h.3) h.4
     expression_typed (Paired (pair.Comparison op) a b) t w is = tt
     expression_typed (Chained (chain.Arithmetic op) ts) t w is = terms_typed op ts t w is
     expression_typed (Chained (chain.Logic op) ts) t w is = tt
 
-    terms_typed : (op : ArithmeticChain) (ts : Terms) (t : ExprType) → HaveWords ts
+    terms_typed : (op : ArithmeticChain) (ts : Terms) (t : ExprType) → have_words ts ≡ true
         → type_of_terms es (chain.Arithmetic op) ts ≡ Ok t → IfSome (number_of_terms env op ts) (IsNumberOf t)
     terms_typed op (Two a b) t w is =
         let h = both_ok (type_of_term es a) (type_of_term es b) (chain_type (chain.Arithmetic op)) t is in
-        chain_typed op h.0 h.1 t (number_of_term env a) (number_of_term env b) (term_typed a h.0 w.0 h.2)
-        (term_typed b h.1 w.1 h.3) h.4
+        let v = and_out (has_words_in a) (has_words_in b) w in
+        chain_typed op h.0 h.1 t (number_of_term env a) (number_of_term env b) (term_typed a h.0 v.0 h.2)
+        (term_typed b h.1 v.1 h.3) h.4
     terms_typed op (Then ts b) t w is =
         let h = both_ok (type_of_terms es (chain.Arithmetic op) ts) (type_of_term es b)
         (chain_type (chain.Arithmetic op)) t is in
-        chain_typed op h.0 h.1 t (number_of_terms env op ts) (number_of_term env b) (terms_typed op ts h.0 w.0 h.2)
-        (term_typed b h.1 w.1 h.3) h.4
+        let v = and_out (have_words ts) (has_words_in b) w in
+        chain_typed op h.0 h.1 t (number_of_terms env op ts) (number_of_term env b) (terms_typed op ts h.0 v.0 h.2)
+        (term_typed b h.1 v.1 h.3) h.4
 
-    term_typed : (a : Term) (t : ExprType) → HasWordsTerm a → type_of_term es a ≡ Ok t
+    term_typed : (a : Term) (t : ExprType) → has_words_in a ≡ true → type_of_term es a ≡ Ok t
         → IfSome (number_of_term env a) (IsNumberOf t)
-    term_typed (Number value) t w is = subst (λ u. IsNumberOf u value) (ok_same types.Int t is) w
-    term_typed (Byte byte) t w is = subst (λ u. IsNumberOf u (pos byte)) (ok_same types.Byte t is) w
+    term_typed (Number value) t w is = subst (λ u. IsNumberOf u value) (ok_same types.Int t is) (is_word_out value w)
+    term_typed (Byte byte) t w is =
+        subst (λ u. IsNumberOf u (pos byte)) (ok_same types.Byte t is) (byte_in_range byte w)
     term_typed (Truth holds) t w is = tt
     term_typed MostPos t w is =
         subst (λ u. IsNumberOf u greatest_word) (ok_same types.Int t is) (omega (arith, ints))

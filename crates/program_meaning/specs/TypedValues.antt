@@ -1,38 +1,18 @@
 -- Where names hold numbers of their types, so does each expression have one of its type, if it has one.
-use Rattle.std.specs.Prelude.{◌≡◌, ℕ, ℤ, pos, FitsSigned, List, [], ◌∷◌, Some, Ok, IfSome}
+use Rattle.std.specs.Prelude.{◌≡◌, ℕ, ℤ, FitsSigned, true, List, [], ◌∷◌, Some, Ok, IfSome}
 use Rattle.std.specs.Int.{w32}
 use Rattle.std.specs.List.{AllByRecursion}
 use Rattle.word_arithmetic.specs.Range.{InRange, bytes}
 use Rattle.occam_parser.specs.declared.tree.ValueType.{ValueType}
 use Rattle.occam_parser.specs.declared.tree.ValueType.TheVariants as value_type
-use Rattle.occam_parser.specs.Expressions.{Expression, Alone, Prefixed, Paired, Chained, Terms, Two, Then, Term}
-use Rattle.occam_parser.specs.Expressions.{Number, Byte, Element, Bracketed, Converted}
+use Rattle.occam_parser.specs.Expressions.{Expression}
+use Rattle.occam_parser.specs.Words.{has_words}
 use Rattle.scalar_ranges.specs.declared.types.ExprType.{ExprType}
 use Rattle.scalar_ranges.specs.declared.types.ExprType.TheVariants as types
 use Rattle.scalar_ranges.specs.Entries.{Meaning, Constant, Scalar, Array, Entry, meaning_in}
 use Rattle.scalar_ranges.specs.Environments.{Held, Nothing, One, Many, Environment, held_in}
 use Rattle.scalar_ranges.specs.Types.{type_of}
 use Rattle.scalar_ranges.specs.Values.{number_of}
-
--- the numbers of a tree are words, and its characters bytes
-abbrev mutual
-  pub HasWords : Expression → Type 0
-  HasWords (Alone t) = HasWordsTerm t
-  HasWords (Prefixed op t) = HasWordsTerm t
-  HasWords (Paired op a b) = HasWordsTerm a × HasWordsTerm b
-  HasWords (Chained op ts) = HaveWords ts
-
-  pub HaveWords : Terms → Type 0
-  HaveWords (Two a b) = HasWordsTerm a × HasWordsTerm b
-  HaveWords (Then ts t) = HaveWords ts × HasWordsTerm t
-
-  pub HasWordsTerm : Term → Type 0
-  HasWordsTerm (Number value) = FitsSigned w32 value
-  HasWordsTerm (Byte byte) = InRange bytes (pos byte)
-  HasWordsTerm (Element name e) = HasWords e
-  HasWordsTerm (Bracketed e) = HasWords e
-  HasWordsTerm (Converted to t) = HasWordsTerm t
-  HasWordsTerm t = Unit {0}
 
 -- a number of the type of an expression
 abbrev pub IsNumberOf : ExprType → ℤ → Type 0
@@ -61,8 +41,8 @@ HasType m h = Unit {0}
 -- Where all names hold what is of their types, the number of an expression is of its type, if it has one.
 abbrev pub ValuesAreTyped : Type 0
 ValuesAreTyped = (es : List Entry) (env : Environment) (e : Expression) (t : ExprType)
-    → ((name : List ℕ) (m : Meaning) → meaning_in name es ≡ Some m → HasType m (held_in name env)) → HasWords e
-    → type_of es e ≡ Ok t → IfSome (number_of env e) (IsNumberOf t)
+    → ((name : List ℕ) (m : Meaning) → meaning_in name es ≡ Some m → HasType m (held_in name env))
+    → has_words e ≡ true → type_of es e ≡ Ok t → IfSome (number_of env e) (IsNumberOf t)
 
 -- the same of an environment, entry by entry
 abbrev pub AreTyped : Environment → List Entry → Type 0

@@ -29,7 +29,7 @@ all_operands r op terms (x ∷ xs) = all_operands r op (Then terms (term_of x)) 
 
 -- ---- the loop over the further operands
 
-taken_one : (xs : List Operand) (i : ℕ) (x : Operand) → i < length xs → x ≡ get_or xs i x
+pub taken_one : (xs : List Operand) (i : ℕ) (x : Operand) → i < length xs → x ≡ get_or xs i x
     → take (i + 1) xs ≡ take i xs ++ x ∷ []
 taken_one xs i x h is = take_more xs i x h ∙ ap (λ y. take i xs ++ y ∷ []) (sym is)
 

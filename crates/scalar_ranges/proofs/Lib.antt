@@ -2,6 +2,7 @@ pub mod Parts
 pub mod Words
 pub mod Comparisons
 pub mod Chains
+pub mod FrontLoop
 pub mod Lookups
 pub mod Operators
 pub mod BoundLaws

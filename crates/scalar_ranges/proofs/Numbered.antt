@@ -6,9 +6,10 @@ use Rattle.std.proofs.lemmas.List.{reverse-append}
 use Rattle.scalar_ranges.specs.Environments.{item_at}
 use Rattle.scalar_ranges.specs.Moves.{outermost, at_number, is_one_of}
 use Rattle.scalar_ranges.specs.MoveLaws.{meaning_at}
-use Rattle.scalar_ranges.specs.Entries.{Entry}
+use Rattle.scalar_ranges.specs.Entries.{Entry, entry_at}
 use Rattle.scalar_ranges.specs.Changes.{modify, each}
 use Rattle.scalar_ranges.proofs.Rows.{eq_suc, at_last, at_further, cut_none, cut_last, meaning_last, meaning_further}
+use Rattle.scalar_ranges.proofs.Rows.{entry_last, entry_further}
 
 pub modify_long : {A : Type 0} (f : A → A) (n : ℕ) (xs : List A) → length (modify f n xs) ≡ length xs
 modify_long f n [] = refl
@@ -65,6 +66,12 @@ reverse_meaning n [] = refl
 reverse_meaning zero (e ∷ es) = ap (meaning_at 0) (reverse_cons e es) ∙ meaning_last (reverse es) e
 reverse_meaning (suc n) (e ∷ es) =
     ap (meaning_at (suc n)) (reverse_cons e es) ∙ meaning_further n (reverse es) e ∙ reverse_meaning n es
+
+pub reverse_entry : (n : ℕ) (es : List Entry) → entry_at n (reverse es) ≡ item_at n es
+reverse_entry n [] = refl
+reverse_entry zero (e ∷ es) = ap (entry_at 0) (reverse_cons e es) ∙ entry_last (reverse es) e
+reverse_entry (suc n) (e ∷ es) =
+    ap (entry_at (suc n)) (reverse_cons e es) ∙ entry_further n (reverse es) e ∙ reverse_entry n es
 
 -- a change after which one before it is not seen
 pub modify_over : {A : Type 0} (f g : A → A) (n : ℕ) (xs : List A) → ((x : A) → g (f x) ≡ g x)

@@ -2,7 +2,7 @@
 use Rattle.std.proofs.Common.{◌≡◌, ℕ, suc, ◌<◌, ◌≤◌, Bool, true, false, cond, List, [], ◌∷◌, ◌++◌, length}
 use Rattle.std.proofs.Common.{Some, None, refl, ap, arith, ◌∙◌, nat_eq, nat_lt}
 use Rattle.std.proofs.lemmas.Bool.Decides.{nat_tests}
-use Rattle.scalar_ranges.specs.Entries.{Entry}
+use Rattle.scalar_ranges.specs.Entries.{Entry, entry_at}
 use Rattle.scalar_ranges.specs.Moves.{outermost, at_number}
 use Rattle.scalar_ranges.specs.MoveLaws.{meaning_at}
 
@@ -107,3 +107,17 @@ meaning_further n [] y = ap (λ t. cond t (Some y.meaning) None) (eq_some n)
 meaning_further n (x ∷ xs) y =
     λ i. cond ((ap (λ k. nat_eq k (suc n)) (one_longer xs y) ∙ eq_suc (length xs) n) i) (Some x.meaning)
     (meaning_further n xs y i)
+
+-- an entry itself
+pub entry_last : (ys : List Entry) (y : Entry) → entry_at 0 (ys ++ y ∷ []) ≡ Some y
+entry_last [] y = refl
+entry_last (x ∷ xs) y =
+    ap (λ t. cond t (Some x) (entry_at 0 (xs ++ y ∷ [])))
+    (ap (λ n. nat_eq n 0) (one_longer xs y) ∙ eq_none (length xs))
+    ∙ entry_last xs y
+
+pub entry_further : (n : ℕ) (ys : List Entry) (y : Entry) → entry_at (suc n) (ys ++ y ∷ []) ≡ entry_at n ys
+entry_further n [] y = ap (λ t. cond t (Some y) None) (eq_some n)
+entry_further n (x ∷ xs) y =
+    λ i. cond ((ap (λ k. nat_eq k (suc n)) (one_longer xs y) ∙ eq_suc (length xs) n) i) (Some x)
+    (entry_further n xs y i)

@@ -4,14 +4,15 @@ use Rattle.std.proofs.Common.{get_or, Option, Some, None, refl, sym, ap, subst, 
 use Rattle.std.proofs.lemmas.List.{drop_more, drop_all, get_or-map, length-map, take_all}
 use Rattle.scalar_ranges.specs.declared.slots.Slot as code_slot
 use Rattle.scalar_ranges.specs.declared.slots.Change as code_change
-use Rattle.scalar_ranges.specs.Entries.{Meaning, Entry}
+use Rattle.scalar_ranges.specs.Entries.{Meaning, Entry, entry_at}
 use Rattle.scalar_ranges.specs.Environments.{item_at}
 use Rattle.scalar_ranges.specs.Changes.{Slot, Change, Tracked, entry_in, seen, modify, restored, undone, numbers_of}
-use Rattle.scalar_ranges.specs.Changes.{each, put_if, puts}
+use Rattle.scalar_ranges.specs.Changes.{each, put_if, puts, known_if}
 use Rattle.scalar_ranges.specs.ChangeViews.{meaning_of, slot_of, slots_from, change_of, changes_from, afters_from}
-use Rattle.scalar_ranges.specs.ChangeViews.{put_afters, AfterBlock}
+use Rattle.scalar_ranges.specs.ChangeViews.{put_afters, known_afters, AfterBlock}
+use Rattle.scalar_ranges.specs.Moves.{Known}
 use Rattle.scalar_ranges.specs.MoveLaws.{meaning_at}
-use Rattle.scalar_ranges.proofs.Numbered.{item_mapped, reverse_meaning}
+use Rattle.scalar_ranges.proofs.Numbered.{item_mapped, reverse_meaning, reverse_entry}
 
 -- ---- one slot
 
@@ -68,6 +69,9 @@ meaning_seen n ss =
     reverse_meaning n (map entry_in ss)
     ∙ ap (option_map (λ (e : Entry). e.meaning)) (item_mapped entry_in n ss)
     ∙ meaning_of_item (item_at n ss)
+
+pub entry_seen : (n : ℕ) (ss : List Slot) → entry_at n (seen entry_in ss) ≡ option_map entry_in (item_at n ss)
+entry_seen n ss = reverse_entry n (map entry_in ss) ∙ item_mapped entry_in n ss
 
 -- ---- a loop over numbers, or over a list of changes
 
@@ -176,16 +180,16 @@ conclude_more ms cs k x d less found same is so_far =
     subst (λ j. take j (afters_from (set cs k x)) ≡ take j (wanted ms (set cs k x))) next
     (conclude_turn ms cs k x less (is ∙ ap (λ n. item_at n ms) number) so_far)
 
-pub put_turn : (cs : List code_change.Change) (i : ℕ) (c : code_change.Change) (before after all : Tracked)
-    → i < length cs → c ≡ get_or cs i c → after ≡ put_if (option_map meaning_of c.after) c.number before
-    → put_afters (drop i cs) before ≡ all → put_afters (drop (i + 1) cs) after ≡ all
+pub put_turn : (cs : List code_change.Change) (i : ℕ) (c : code_change.Change) (before after all : Known)
+    → i < length cs → c ≡ get_or cs i c → after ≡ known_if (option_map meaning_of c.after) c.number before
+    → known_afters (drop i cs) before ≡ all → known_afters (drop (i + 1) cs) after ≡ all
 put_turn cs i c before after all less found is so_far =
-    ap (put_afters (drop (i + 1) cs)) is
-    ∙ ap (λ ks. put_afters ks before) (ap (λ k. k ∷ drop (i + 1) cs) found ∙ sym (drop_more cs i c less)) ∙ so_far
+    ap (known_afters (drop (i + 1) cs)) is
+    ∙ ap (λ ks. known_afters ks before) (ap (λ k. k ∷ drop (i + 1) cs) found ∙ sym (drop_more cs i c less)) ∙ so_far
 
-pub put_done : (cs : List code_change.Change) (i : ℕ) (now all : Tracked) → length cs ≤ i
-    → put_afters (drop i cs) now ≡ all → now ≡ all
-put_done cs i now all least so_far = ap (λ ks. put_afters ks now) (sym (drop_all i cs least)) ∙ so_far
+pub put_done : (cs : List code_change.Change) (i : ℕ) (now all : Known) → length cs ≤ i
+    → known_afters (drop i cs) now ≡ all → now ≡ all
+put_done cs i now all least so_far = ap (λ ks. known_afters ks now) (sym (drop_all i cs least)) ∙ so_far
 
 pub puts_are : (ms : List Meaning) (cs : List code_change.Change) (t : Tracked) → AfterBlock ms cs
     → put_afters cs t ≡ puts (numbers_of (changes_from cs)) ms t

@@ -1,21 +1,22 @@
 -- What the program makes of its slots and blocks is the move that the definitions make of them.
 use Rattle.std.proofs.Common.{◌≡◌, ℕ, Bool, true, false, cond, List, [], ◌∷◌, ◌++◌, length, map, take, sym, ap}
-use Rattle.std.proofs.Common.{subst, ◌∙◌}
+use Rattle.std.proofs.Common.{subst, ◌∙◌, refl, Option, Some, None, option_map}
 use Rattle.std.proofs.lemmas.List.{take-map, map-append}
 use Rattle.scalar_ranges.specs.declared.changes.Tracked as code_tracked
-use Rattle.scalar_ranges.specs.Entries.{Entry}
+use Rattle.scalar_ranges.specs.Entries.{Entry, Meaning}
 use Rattle.scalar_ranges.specs.declared.slots.Slot as code_slot
 use Rattle.scalar_ranges.specs.declared.slots.Change as code_change
 use Rattle.scalar_ranges.specs.declared.slots.Branching as code_branching
 use Rattle.scalar_ranges.specs.Changes.{Slot, Branching, Tracked, modify, undone, before, numbers_of, AreTracked}
 use Rattle.scalar_ranges.specs.Changes.{turned_slots, turned_block, next_in, component_slots, component_block}
 use Rattle.scalar_ranges.specs.Changes.{component_in, meaning_after, puts, ended_in, fresh, cut}
-use Rattle.scalar_ranges.specs.Changes.{note, touch, put_by, known_in, Follows}
+use Rattle.scalar_ranges.specs.Changes.{note, touch, put_by, put_if, known_if, known_in, Follows}
 use Rattle.scalar_ranges.specs.Moves.{Known}
 use Rattle.scalar_ranges.specs.ChangeViews.{slot_of, slots_from, changes_from, branching_of, branchings_from}
-use Rattle.scalar_ranges.specs.ChangeViews.{tracked_from, put_afters, AfterBlock, BelongTogether}
+use Rattle.scalar_ranges.specs.ChangeViews.{meaning_of, tracked_from, put_afters, known_afters, AfterBlock}
+use Rattle.scalar_ranges.specs.ChangeViews.{BelongTogether}
 use Rattle.scalar_ranges.specs.TrackedViews.{tracked_of}
-use Rattle.scalar_ranges.proofs.Following.{begun_follows}
+use Rattle.scalar_ranges.proofs.Following.{begun_follows, put_follows}
 use Rattle.scalar_ranges.proofs.Cutting.{declared_tracked}
 use Rattle.scalar_ranges.proofs.SlotLoops.{slots_modified, puts_are}
 use Rattle.scalar_ranges.proofs.Noting.{Innermost, branchings_apart, put_back}
@@ -125,6 +126,25 @@ taken_back slots cut lent now back listed changes depth b taken same is all conc
       after = subst (λ ss. AfterBlock (map (meaning_after depth b.ended) ss) changes) seen concluding;
       begins = ap slots_from whole ∙ undoing ∙ (λ i. undone (changes_from (is i)) (seen i));
     }
+
+-- What is known after changes does not hang on whether lists take note of those that change nothing.
+known_put : (o : Option Meaning) (n : ℕ) (t : Tracked) → AreTracked t.slots t.blocks
+    → known_if o n (known_in t) ≡ known_in (put_if o n t)
+known_put None n t tracked = refl
+known_put (Some m) n t tracked = sym (known_is (put_follows n m t tracked))
+
+put_keeps : (o : Option Meaning) (n : ℕ) (t : Tracked) → AreTracked t.slots t.blocks
+    → AreTracked (put_if o n t).slots (put_if o n t).blocks
+put_keeps None n t tracked = tracked
+put_keeps (Some m) n t tracked = (put_follows n m t tracked).tracked
+
+pub afters_known : (cs : List code_change.Change) (t : Tracked) → AreTracked t.slots t.blocks
+    → known_afters cs (known_in t) ≡ known_in (put_afters cs t)
+afters_known [] t tracked = refl
+afters_known (c ∷ cs) t tracked =
+    let o = option_map meaning_of c.after in
+    ap (known_afters cs) (known_put o c.number t tracked)
+    ∙ afters_known cs (put_if o c.number t) (put_keeps o c.number t tracked)
 
 -- what is around the block belongs together
 pub around : (depth : ℕ) (slots back : List code_slot.Slot) (blocks rest : List code_branching.Branching)

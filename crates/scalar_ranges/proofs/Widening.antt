@@ -81,20 +81,25 @@ widen_step numbers i es before after less b a =
     ∙ widen_one (take i numbers) (get_or numbers i 0) es
     ∙ ap (λ ns. widen ns es) (sym (take_more numbers i 0 less))
 
--- ---- what is wide already
+-- ---- what stays
 
-still_by : (t : Bool) (m : Meaning) (e : Entry) (es more : List Entry) (o : Option Meaning)
-    → cond t (Some e.meaning) o ≡ Some m → widened m ≡ m → (o ≡ Some m → more ≡ es)
-    → cond t (with_meaning widened e ∷ es) (e ∷ more) ≡ e ∷ es
-still_by true m e es more o is wide further =
+still_by : (f : Meaning → Meaning) (t : Bool) (m : Meaning) (e : Entry) (es more : List Entry) (o : Option Meaning)
+    → cond t (Some e.meaning) o ≡ Some m → f m ≡ m → (o ≡ Some m → more ≡ es)
+    → cond t (with_meaning f e ∷ es) (e ∷ more) ≡ e ∷ es
+still_by f true m e es more o is stays further =
     let same : e.meaning ≡ m = cc in
-    λ i. record { name = e.name; meaning = (ap widened same ∙ wide ∙ sym same) i } ∷ es
-still_by false m e es more o is wide further = ap (λ es. e ∷ es) (further is)
+    λ i. record { name = e.name; meaning = (ap f same ∙ stays ∙ sym same) i } ∷ es
+still_by f false m e es more o is stays further = ap (λ es. e ∷ es) (further is)
+
+-- An entry that keeps its meaning stays as it is.
+pub still : (f : Meaning → Meaning) (n : ℕ) (m : Meaning) (es : List Entry) → meaning_at n es ≡ Some m → f m ≡ m
+    → at_number (with_meaning f) n es ≡ es
+still f n m [] is stays = refl
+still f n m (e ∷ es) is stays =
+    still_by f (nat_eq (length es) n) m e es (at_number (with_meaning f) n es) (meaning_at n es) is stays
+    (λ h. still f n m es h stays)
 
 -- Widening a variable of which no more is known than its type changes nothing.
 pub widened_still : (n : ℕ) (m : Meaning) (es : List Entry) → meaning_at n es ≡ Some m → widened m ≡ m
     → at_number (with_meaning widened) n es ≡ es
-widened_still n m [] is wide = refl
-widened_still n m (e ∷ es) is wide =
-    still_by (nat_eq (length es) n) m e es (at_number (with_meaning widened) n es) (meaning_at n es) is wide
-    (λ h. widened_still n m es h wide)
+widened_still n m es is wide = still widened n m es is wide

@@ -12,9 +12,9 @@ use Rattle.scalar_ranges.specs.declared.slots.Branching as code_branching
 use Rattle.scalar_ranges.specs.Entries.{Meaning}
 use Rattle.scalar_ranges.specs.Environments.{item_at}
 use Rattle.scalar_ranges.specs.Changes.{Slot, Change, Branching, Tracked, before, AreTracked, numbers_of, put_if}
-use Rattle.scalar_ranges.specs.Changes.{with_new, with_start, with_end, with_restart, marked, touched, restored}
+use Rattle.scalar_ranges.specs.Changes.{with_new, with_start, with_end, with_restart, marked, touched, known_if}
 use Rattle.scalar_ranges.specs.Narrowing.{left_of, with_range}
-use Rattle.scalar_ranges.specs.Moves.{hull_meaning}
+use Rattle.scalar_ranges.specs.Moves.{hull_meaning, Known}
 
 abbrev pub slot_of : code_slot.Slot → Slot
 slot_of s = record {
@@ -42,7 +42,6 @@ updated updates.Touch = touched
 updated (updates.Mean m) = with_new (meaning_of m)
 updated (updates.Begin comparison constant) = with_start (with_range (left_of comparison constant))
 updated (updates.End depth turn) = turned depth turn
-updated (updates.Restore before) = restored (slot_of before)
 
 -- the outermost one first
 abbrev pub slots_from : List code_slot.Slot → List Slot
@@ -83,6 +82,11 @@ AfterBlock ms changes = afters_from changes ≡ map (λ n. item_at n ms) (number
 abbrev pub put_afters : List code_change.Change → Tracked → Tracked
 put_afters [] t = t
 put_afters (c ∷ cs) t = put_afters cs (put_if (option_map meaning_of c.after) c.number t)
+
+-- the same of what is known
+abbrev pub known_afters : List code_change.Change → Known → Known
+known_afters [] k = k
+known_afters (c ∷ cs) k = known_afters cs (known_if (option_map meaning_of c.after) c.number k)
 
 -- ---- what belongs together
 

@@ -361,6 +361,14 @@ pub record Follows (t : Tracked) (k : Known) : Type 0 where
 abbrev pub changed_to : Meaning → ℕ → List Entry → List Entry
 changed_to m n es = at_number (with_meaning (λ k. m)) n es
 
+-- the same of all that is known
+abbrev pub known_with : ℕ → Meaning → Known → Known
+known_with n m k = record { entries = changed_to m n k.entries; blocks = k.blocks }
+
+abbrev pub known_if : Option Meaning → ℕ → Known → Known
+known_if None n k = k
+known_if (Some m) n k = known_with n m k
+
 -- an entry that means something else where the branches of the innermost block begin
 abbrev pub changed_start : (Meaning → Meaning) → ℕ → List Block → List Block
 changed_start f n [] = []

@@ -1,5 +1,5 @@
 -- What a scope knows of its names: a list of entries, the innermost one first.
-use Rattle.std.specs.Prelude.{ℕ, ℤ, List, [], ◌∷◌, length, bytes_eq, if◌then◌else◌, Option, Some, None}
+use Rattle.std.specs.Prelude.{ℕ, ℤ, List, [], ◌∷◌, length, bytes_eq, nat_eq, if◌then◌else◌, Option, Some, None}
 use Rattle.occam_parser.specs.declared.tree.ValueType.{ValueType}
 use Rattle.occam_parser.specs.declared.tree.ValueType.TheVariants as value_type
 use Rattle.word_arithmetic.specs.Range.{Ends, full, bytes}
@@ -29,6 +29,11 @@ meaning_in name (e ∷ es) = if bytes_eq e.name name then Some e.meaning else me
 abbrev pub number_in : List ℕ → List Entry → Option ℕ
 number_in name [] = None
 number_in name (e ∷ es) = if bytes_eq e.name name then Some (length es) else number_in name es
+
+-- the entry with a number, counted from the outermost one, whether or not its name is hidden
+abbrev pub entry_at : ℕ → List Entry → Option Entry
+entry_at n [] = None
+entry_at n (e ∷ es) = if nat_eq (length es) n then Some e else entry_at n es
 
 -- the numbers of a type
 abbrev pub type_range : ValueType → Ends

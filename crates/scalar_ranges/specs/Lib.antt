@@ -9,6 +9,8 @@ pub mod BoundViews
 pub mod OperandViews
 pub mod Shifts
 pub mod Narrowing
+pub mod Fronts
+pub mod FrontViews
 pub mod Moves
 pub mod Changes
 pub mod EntryViews

@@ -3,11 +3,12 @@
 ghost use Rattle.std.specs.Prelude.{◌≡◌, ◌≤◌, [], OnOk, OnErr, map, length, option_map};
 ghost use Rattle.scalar_ranges.specs.Environments.{item_at};
 ghost use Rattle.scalar_ranges.specs.Changes.{modify, numbers_of, each, turned_slots, joined_by, component_slots};
-ghost use Rattle.scalar_ranges.specs.Changes.{undone, meaning_after, IsWithin};
-ghost use Rattle.scalar_ranges.specs.ChangeViews.{meaning_of, entry_of, updated, slots_from, changes_from};
-ghost use Rattle.scalar_ranges.specs.ChangeViews.{branching_of, put_afters};
+ghost use Rattle.scalar_ranges.specs.Changes.{undone, restored, meaning_after, known_with, IsWithin};
+ghost use Rattle.scalar_ranges.specs.ChangeViews.{meaning_of, entry_of, slot_of, updated, slots_from, changes_from};
+ghost use Rattle.scalar_ranges.specs.ChangeViews.{branching_of, known_afters};
 ghost use Rattle.scalar_ranges.specs.ChangeViews.{AfterBlock, BelongTogether, BelongTogether-prop};
 
+use crate::moves::is_same;
 use crate::scope::{Entry, Meaning};
 use crate::slots::{Branching, Change, Slot, Turn, Update};
 use occam_parser::Comparison;
@@ -25,6 +26,7 @@ pub(crate) struct Tracked<'a> {
 
 impl<'a> Tracked<'a> {
     ghost use Rattle.scalar_ranges.specs.Moves.{begun_with, next, next_component, end};
+    ghost use Rattle.scalar_ranges.specs.Entries.{entry_at};
     ghost use Rattle.scalar_ranges.specs.MoveLaws.{meaning_at};
     ghost use Rattle.scalar_ranges.specs.Changes.{is_new, note, is_open, touch, put_by, put, put_start, begun};
     ghost use Rattle.scalar_ranges.specs.Changes.{declared, cut};
@@ -54,6 +56,21 @@ impl<'a> Tracked<'a> {
     {
         if number < self.slots.len() {
             Some(self.slots[number].meaning)
+        } else {
+            None
+        }
+    }
+
+    /// The entry with this number.
+    pub(crate) fn entry(&self, number: usize) -> Option<Entry<'a>>
+        ensures { option_map entry_of result ≡ entry_at number (known_by self.now).entries }
+    {
+        if number < self.slots.len() {
+            let slot = self.slots[number];
+            Some(Entry {
+                name: slot.name,
+                meaning: slot.meaning,
+            })
         } else {
             None
         }
@@ -141,9 +158,9 @@ impl<'a> Tracked<'a> {
     }
 
     /// An entry is updated, once the innermost block and its branch have it in their lists.
-    fn update(&mut self, number: usize, update: Update<'a>)
+    fn update(&mut self, number: usize, update: Update)
         requires { IsWithin (updated update) }
-        ensures { tracked_of self.new ≡ put_by (updated update.entry) number (tracked_of self.old) }
+        ensures { tracked_of self.new ≡ put_by (updated update) number (tracked_of self.old) }
     {
         self.note(number);
         self.touch(number);
@@ -235,11 +252,22 @@ impl<'a> Tracked<'a> {
 
     /// The entries mean what the changes say of the end of a block.
     fn put_afters(&mut self, changes: &[Change])
-        ensures { tracked_of self.new ≡ put_afters changes.now (tracked_of self.old) }
+        ensures { known_by self.new ≡ known_afters changes.now (known_by self.old) }
     {
         for change in changes {
             if let Some(meaning) = change.after {
-                self.put(change.number, meaning);
+                self.put_other(change.number, meaning);
+            }
+        }
+    }
+
+    /// An entry means this. What it means already takes no place in the lists of blocks.
+    fn put_other(&mut self, number: usize, meaning: Meaning)
+        ensures { known_by self.new ≡ known_with number (meaning_of meaning) (known_by self.old) }
+    {
+        if let Some(before) = self.meaning(number) {
+            if !is_same(before, meaning) {
+                self.put(number, meaning);
             }
         }
     }
@@ -292,17 +320,26 @@ fn take_back<'a>(slots: &mut [Slot<'a>], changes: &mut [Change<'a>], depth: usiz
 }
 
 /// The slot with this number is updated, if there is one.
-fn modify<'a>(slots: &mut [Slot<'a>], number: usize, update: Update<'a>)
-    ensures { slots_from slots.new ≡ modify (updated update.entry) number (slots_from slots.old) }
+fn modify<'a>(slots: &mut [Slot<'a>], number: usize, update: Update)
+    ensures { slots_from slots.new ≡ modify (updated update) number (slots_from slots.old) }
 {
     if number < slots.len() {
         slots[number].update(update);
     }
 }
 
+/// The slot with this number is as it was, if there is one.
+fn restore<'a>(slots: &mut [Slot<'a>], number: usize, before: Slot<'a>)
+    ensures { slots_from slots.new ≡ modify (restored (slot_of before.entry)) number (slots_from slots.old) }
+{
+    if number < slots.len() {
+        slots[number].restore(before);
+    }
+}
+
 /// The slots with these numbers are updated, one after another.
-fn each_numbered<'a>(slots: &mut [Slot<'a>], numbers: &[usize], update: Update<'a>)
-    ensures { slots_from slots.new ≡ each (updated update.entry) numbers.now (slots_from slots.old) }
+fn each_numbered<'a>(slots: &mut [Slot<'a>], numbers: &[usize], update: Update)
+    ensures { slots_from slots.new ≡ each (updated update) numbers.now (slots_from slots.old) }
 {
     for number in numbers {
         modify(slots, *number, update);
@@ -310,9 +347,9 @@ fn each_numbered<'a>(slots: &mut [Slot<'a>], numbers: &[usize], update: Update<'
 }
 
 /// The slots in a list are updated, one after another.
-fn each_listed<'a>(slots: &mut [Slot<'a>], changes: &[Change<'a>], update: Update<'a>)
+fn each_listed<'a>(slots: &mut [Slot<'a>], changes: &[Change<'a>], update: Update)
     ensures { slots_from slots.new
-        ≡ each (updated update.entry) (numbers_of (changes_from changes.now)) (slots_from slots.old) }
+        ≡ each (updated update) (numbers_of (changes_from changes.now)) (slots_from slots.old) }
 {
     for change in changes {
         modify(slots, change.number, update);
@@ -347,6 +384,6 @@ fn undo<'a>(slots: &mut [Slot<'a>], changes: &[Change<'a>])
 {
     for place in 0..changes.len() {
         let change = changes[changes.len() - 1 - place];
-        modify(slots, change.number, Update::Restore(change.before));
+        restore(slots, change.number, change.before);
     }
 }

@@ -5,6 +5,7 @@ mod bounds;
 mod branches;
 mod changes;
 mod entries;
+mod fronts;
 mod laws;
 mod leaving;
 mod moves;
@@ -20,12 +21,13 @@ mod steps;
 mod types;
 
 pub use bounds::{OUT_OF_RANGE, OUTSIDE};
+pub use fronts::{Front, front_of};
 pub use laws::{
     bounds_hold, branches_hold, changes_hold, constants_hold, lists_hold, loops_hold, names_hold,
     narrowing_holds, shapes_stay,
 };
-pub use narrowing::narrow_by;
+pub use narrowing::{Test, narrow_by, test_of};
 pub use ranges::{range_of, value_of};
-pub use reading::{Reading, read};
+pub use reading::{Reading, read, read_operand};
 pub use scope::{ArrayKind, Declared, Entry, Meaning, ScalarKind, Scope};
 pub use types::{ExprType, UNKNOWN_NAME, WRONG_TYPE, type_of};

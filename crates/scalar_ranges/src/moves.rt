@@ -9,6 +9,7 @@ ghost use Rattle.scalar_ranges.specs.Scopes.{meaning_of, entries_of, blocks_of};
 
 use crate::bounds::type_range;
 use crate::scope::{Meaning, ScalarKind, Scope};
+use occam_parser::ValueType;
 use word_arithmetic::Range;
 
 impl Scope<'_> {
@@ -83,6 +84,37 @@ fn is_wide(meaning: Meaning) -> bool
             range,
         } => range == type_range(value_type),
         _ => true,
+    }
+}
+
+/// Whether both are one type.
+fn is_same_type(first: ValueType, second: ValueType) -> bool
+    ensures { result ≡ true → first ≡ second }
+{
+    matches!(
+        (first, second),
+        (ValueType::Int, ValueType::Int) | (ValueType::Byte, ValueType::Byte)
+    )
+}
+
+/// Whether both are one scalar with one range.
+pub(crate) fn is_same(first: Meaning, second: Meaning) -> bool
+    ensures { result ≡ true → meaning_of first ≡ meaning_of second }
+{
+    match (first, second) {
+        (
+            Meaning::Scalar {
+                kind,
+                value_type,
+                range,
+            },
+            Meaning::Scalar {
+                kind: other_kind,
+                value_type: other_type,
+                range: other_range,
+            },
+        ) => is_same_type(value_type, other_type) && kind == other_kind && range == other_range,
+        _ => false,
     }
 }
 

@@ -17,10 +17,13 @@ use word_arithmetic::Range;
 
 /// What a condition says: the scalar of this name compares so with this constant.
 #[derive(Clone, Copy)]
-pub(crate) struct Test<'e> {
-    pub(crate) name: &'e [u8],
-    pub(crate) comparison: Comparison,
-    pub(crate) constant: i32,
+pub struct Test<'e> {
+    /// The name of a scalar that a line declares, or of a `VAL` parameter.
+    pub name: &'e [u8],
+    /// The comparison with the scalar on its left.
+    pub comparison: Comparison,
+    /// A number of the scalar's type.
+    pub constant: i32,
 }
 
 /// The scope where a condition has this truth. Only a condition that is exactly a scalar, a comparison and a constant of
@@ -46,8 +49,9 @@ fn narrowed_by(scope: &Scope, condition: &Expr, holds: bool) -> Option<(usize, M
     Some((number, narrowed(meaning, comparison, test.constant)))
 }
 
-/// What a condition says, if it is exactly a scalar and a constant of its type with a comparison between them.
-pub(crate) fn test_of<'e>(scope: &Scope, condition: &'e Expr) -> Option<Test<'e>>
+/// What a condition says, if it is exactly a scalar and a constant of its type with a comparison between them, in either
+/// order. [`narrow_by`] narrows the scalar's range by such a condition, and nothing by another one.
+pub fn test_of<'e>(scope: &Scope, condition: &'e Expr) -> Option<Test<'e>>
     ensures { option_map tested_of result ≡ test_of (entries_of scope.now) (expression_of condition.now) }
 {
     match &*condition.operation {

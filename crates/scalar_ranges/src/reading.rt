@@ -63,9 +63,9 @@ pub fn read(scope: &Scope, expr: &Expr) -> Reading
     }
 }
 
-/// What is read of an operand.
+/// What is read of an operand, as [`read`] reads an expression.
 #[cycle(read)]
-pub(crate) fn read_operand(scope: &Scope, operand: &Operand) -> Reading
+pub fn read_operand(scope: &Scope, operand: &Operand) -> Reading
     ensures types { result.expr_type ≡ type_of_term (entries_of scope.now) (term_of operand.now) }
     ensures bounds { all_known result.bound ≡ bound_of_term (entries_of scope.now) (term_of operand.now) }
 {
@@ -156,7 +156,7 @@ impl Reading {
     }
 
     /// Two operands with what stands between them.
-    fn combined(self, between: Between, right: Reading) -> Reading
+    pub(crate) fn combined(self, between: Between, right: Reading) -> Reading
         ensures types { result.expr_type ≡ both self.expr_type right.expr_type (between_type between) }
         ensures bounds { all_known result.bound
             ≡ both (all_known self.bound) (all_known right.bound) (between_bound between) }

@@ -1,7 +1,7 @@
 //! What is known of the names in a part of a program.
 
 ghost use Rattle.std.specs.Prelude.{◌≡◌, [], ◌∷◌, option_map, OnOk, OnErr};
-ghost use Rattle.scalar_ranges.specs.Entries.{meaning_in, number_in};
+ghost use Rattle.scalar_ranges.specs.Entries.{meaning_in, number_in, entry_at};
 ghost use Rattle.scalar_ranges.specs.EntryViews.{meaning_of, entry_of};
 ghost use Rattle.scalar_ranges.specs.Naming.{names_from};
 ghost use Rattle.scalar_ranges.specs.TrackedViews.{known_by};
@@ -153,5 +153,13 @@ impl<'a> Scope<'a> {
             None => None,
             Some(number) => self.known.meaning(number),
         }
+    }
+
+    /// The entry with this number, counted from the outermost one on, whether or not its name is hidden; `None` if there
+    /// are no more than so many entries. [`len`](Scope::len) tells how many there are.
+    pub fn entry(&self, number: usize) -> Option<Entry<'a>>
+        ensures { option_map entry_of result ≡ entry_at number (entries_of self.now) }
+    {
+        self.known.entry(number)
     }
 }

@@ -54,7 +54,7 @@ pub(crate) struct Branching<'a> {
 
 /// What becomes of an entry, and of what a block has of it.
 #[derive(Clone, Copy)]
-pub(crate) enum Update<'a> {
+pub(crate) enum Update {
     /// The block of this depth has it in its list from now on.
     Mark {
         depth: usize,
@@ -70,8 +70,6 @@ pub(crate) enum Update<'a> {
     },
     /// A branch of the block of this depth ends, which matters if the block has it in its list.
     End(usize, Turn),
-    /// It is again as it was.
-    Restore(Slot<'a>),
 }
 
 /// What becomes of an entry that changed in a branch, where the branch ends.
@@ -140,8 +138,8 @@ impl<'a> Slot<'a> {
     }
 
     /// What an update says becomes of the slot.
-    pub(crate) fn update(&mut self, update: Update<'a>)
-        ensures { slot_of self.new ≡ updated update.entry (slot_of self.old) }
+    pub(crate) fn update(&mut self, update: Update)
+        ensures { slot_of self.new ≡ updated update (slot_of self.old) }
     {
         match update {
             Update::Mark { depth } => {
@@ -157,12 +155,11 @@ impl<'a> Slot<'a> {
                 constant,
             } => self.start = narrowed(self.start, comparison, constant),
             Update::End(depth, turn) => self.turn(depth, turn),
-            Update::Restore(before) => self.restore(before),
         }
     }
 
     /// The slot is as it was, with its name.
-    fn restore(&mut self, before: Slot<'a>)
+    pub(crate) fn restore(&mut self, before: Slot<'a>)
         ensures { slot_of self.new ≡ record (slot_of before.entry) { name = (slot_of self.old).name } }
     {
         self.meaning = before.meaning;

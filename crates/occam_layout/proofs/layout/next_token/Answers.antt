@@ -1,6 +1,8 @@
-use Rattle.std.proofs.Common.{arith, sym, ◌∙◌}
+use Rattle.std.proofs.Common.{arith, sym, subst, ◌∙◌}
 use Rattle.std.proofs.lemmas.Result.{err_from_is_err_and}
 use Rattle.occam_layout.specs.Kind.{kind_of}
+use Rattle.occam_layout.proofs.LiteralWords.{found_words}
+use Rattle.occam_layout.proofs.QuotedBytes.{AreSmall, are_small, back_small}
 use Rattle.occam_layout.proofs.Scanning.{is_over, is_refused, is_found, takes_some}
 use Rattle.occam_layout.proofs.layout.next_token.Goals as goal
 
@@ -29,3 +31,10 @@ returns-clause-within c =
     let first = c.split_at.ensures.back_len in
     let second = c.split_at-2.ensures.back_len in
     (omega arith, omega arith)
+
+pub invariant_of-result : goal.invariant_of-result
+invariant_of-result c =
+    let body = c.split_at.result.1.now in
+    let all = are_small c.args.line.now (λ i. omega (arith, c.type_inv.line i)) in
+    let small = subst AreSmall (sym c.split_at.ensures.back) (back_small c.spaces_len-gap.result c.args.line.now all) in
+    record { words = found_words body (kind_of c.in_ok-kind.kind) c.in_ok-kind.len small c.in_ok-kind.ensures.found }

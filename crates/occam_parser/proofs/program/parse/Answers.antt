@@ -2,11 +2,16 @@ use Rattle.std.proofs.Common.{◌∙◌, sym}
 use Rattle.occam_parser.specs.Blocks.{rows_of}
 use Rattle.occam_parser.proofs.Programs.{program_sound, program_again, one_program, no_rows}
 use Rattle.occam_parser.proofs.LevelLaws.{program_levels}
+use Rattle.occam_parser.proofs.WordLaws.{program_has_words}
 use Rattle.occam_parser.proofs.Answering.{told_of_program, refused_so}
 use Rattle.occam_parser.proofs.program.parse.Goals as goal
 
-pub new-requires : goal.new-requires
-new-requires c = program_levels (rows_of c.args.lines.now) _
+pub new-requires-clause-levels : goal.new-requires-clause-levels
+new-requires-clause-levels c = program_levels (rows_of c.args.lines.now) _
+    (program_sound (rows_of c.args.lines.now) _ c.in-Ok.ensures)
+
+pub new-requires-clause-words : goal.new-requires-clause-words
+new-requires-clause-words c = program_has_words c.args.lines.now _
     (program_sound (rows_of c.args.lines.now) _ c.in-Ok.ensures)
 
 pub returns-in-Ok-clause-found : goal.returns-in-Ok-clause-found

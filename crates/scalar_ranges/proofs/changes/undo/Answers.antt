@@ -8,8 +8,8 @@ loop-place-init c = undo_begins c.args.changes.now (slots_from c.args.slots.now)
 pub loop-place-preserved : goal.loop-place-preserved
 loop-place-preserved c =
     undo_turn c.args.changes.now c.loop-place.place c.index-changes-changes.result (slots_from c.loop-place.slots)
-    (slots_from c.modify.new.slots) (slots_from c.args.slots.now) c.loop-place-test.true c.index-changes-changes.is
-    c.modify.ensures c.loop-place.invariant
+    (slots_from c.restore.new.slots) (slots_from c.args.slots.now) c.loop-place-test.true c.index-changes-changes.is
+    c.restore.ensures c.loop-place.invariant
 
 pub returns : goal.returns
 returns c =

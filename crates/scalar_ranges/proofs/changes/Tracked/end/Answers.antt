@@ -1,11 +1,12 @@
-use Rattle.std.proofs.Common.{arith, rules, ◌∙◌}
+use Rattle.std.proofs.Common.{arith, rules, refl, ◌∙◌}
 use Rattle.std.proofs.lemmas.List.{with_items_is, places}
 use Rattle.std.specs.Vec.{with_items}
 use Rattle.scalar_ranges.specs.Moves.{end}
+use Rattle.scalar_ranges.specs.ChangeViews.{tracked_from, put_afters}
 use Rattle.scalar_ranges.specs.TrackedViews.{tracked_of, known_by}
 use Rattle.scalar_ranges.proofs.Ending.{end_follows}
 use Rattle.scalar_ranges.proofs.Noting.{Innermost, innermost}
-use Rattle.scalar_ranges.proofs.Turning.{followed, known_is, TakenBack, taken_back, around, end_is}
+use Rattle.scalar_ranges.proofs.Turning.{followed, known_is, TakenBack, taken_back, afters_known, around, end_is}
 use Rattle.scalar_ranges.proofs.changes.Tracked.end.Goals as goal
 use Rattle.scalar_ranges.proofs.changes.Tracked.end.Goals.{After-take_back}
 
@@ -38,9 +39,16 @@ pub returns-in-Some : goal.returns-in-Some
 returns-in-Some c =
     let at = (goal.at.returns-in-Some c).After-take_back in
     let old = c.args.self.now in
+    let depth = c.len-depth.result in
+    let back = (with_items c.truncate.new.self c.take_back.new.slots).items in
+    let rest = c.pop.new.self.items in
+    let lent = c.deref.result.now in
+    let start = tracked_from back rest in
     let held = with_items_is c.in-Some.block.changes c.take_back.new.changes (search (rules, places)) in
-    known_is (followed (end (known_by old)) (end_is c.len-depth.result old.slots.items _ old.blocks.items
-    c.pop.new.self.items c.in-Some.block c.take_back.new.changes c.deref.result.now
-    (tracked_of c.put_afters.new.self) (inner at) (begun at) (c.deref.ensures.value ∙ held)
-    c.put_afters.ensures)
+    let together = around depth old.slots.items back old.blocks.items rest c.in-Some.block (inner at)
+    (begun at).begins old.tracked in
+    c.put_afters.ensures ∙ afters_known lent start together
+    ∙ known_is (followed (end (known_by old)) (end_is depth old.slots.items back old.blocks.items rest
+    c.in-Some.block c.take_back.new.changes lent (put_afters lent start) (inner at) (begun at)
+    (c.deref.ensures.value ∙ held) refl)
     (end_follows (tracked_of old).slots (tracked_of old).blocks old.tracked))
