@@ -2,6 +2,7 @@
 
 ghost use Rattle.std.specs.Prelude.{◌≡◌, ◌⊎◌, true, Some, map, IfOk, IfErr};
 ghost use Rattle.occam_parser.specs.BlockViews.{item_of};
+ghost use Rattle.occam_parser.specs.Words.{items_have_words};
 ghost use Rattle.program_uses.specs.Signatures.{signatures_of};
 ghost use Rattle.usage_checks.specs.ItemRules.{after_items, BreaksProgram, BreaksNoRule};
 ghost use Rattle.program_uses.specs.Telling.{IsFirst};
@@ -13,12 +14,13 @@ use occam_parser::Program;
 use program_uses::{MEMORY, Signature, UsageFault};
 use std::alloc::Global;
 
-/// A program that breaks no rule, with what is known of its procedures.
+/// A program that breaks no rule, with what is known of its procedures. Its literals are words and bytes.
 #[derive(Drop)]
 pub struct CheckedProgram<'a> {
     program: Program<'a>,
     signatures: Vec<Signature>,
     ghost unbroken: { BreaksNoRule (map item_of program.items.items) },
+    ghost signed: { signatures_of signatures.items ≡ (after_items (map item_of program.items.items)).signatures },
 }
 
 impl<'a> CheckedProgram<'a> {
@@ -26,6 +28,7 @@ impl<'a> CheckedProgram<'a> {
     pub fn program(&self) -> &Program<'a>
         ensures program { result.now ≡ self.now.program }
         ensures unbroken { BreaksNoRule (map item_of result.now.items.items) }
+        ensures words { items_have_words (map item_of result.now.items.items) ≡ true }
     {
         &self.program
     }
@@ -33,7 +36,9 @@ impl<'a> CheckedProgram<'a> {
     /// What is known of each procedure by those that call it, in the order of the program: of each formal what it
     /// stands for, and in rising order the ends that the procedure uses of it.
     pub fn signatures(&self) -> &[Signature]
-        ensures { result.now ≡ self.now.signatures.items }
+        ensures signatures { result.now ≡ self.now.signatures.items }
+        ensures signed { signatures_of result.now
+            ≡ (after_items (map item_of self.now.program.items.items)).signatures }
     {
         &self.signatures
     }

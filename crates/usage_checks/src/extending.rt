@@ -32,8 +32,9 @@ fn add_parameters<'a>(
     Ok(())
 }
 
-/// The names of formals. What one stands for does not see those before it.
-pub(crate) fn add_formals<'a>(
+/// The names of formals, with what they stand for in the body of their procedure. What one stands for does not see those
+/// before it. If memory runs out, the scope has some entries more and nothing else.
+pub fn add_formals<'a>(
     alloc: Global,
     scope: &mut Scope<'a>,
     formals: &[Formal<'a>],

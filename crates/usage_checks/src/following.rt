@@ -49,13 +49,13 @@ fn after_assignment(scope: &mut Scope, target: &Place, value: &Expr)
     assign_if(scope, number, range);
 }
 
-/// What is known after something was received.
-pub(crate) fn after_input(scope: &mut Scope, target: &Place)
+/// What is known after something was received into a variable or an element.
+pub fn after_input(scope: &mut Scope, target: &Place)
     ensures entries { entries_of scope.new ≡ after_input (place_of target.now) (entries_of scope.old) }
     ensures blocks { blocks_of scope.new ≡ blocks_of scope.old }
 {
-    let number = variable_at(scope, place_ref(target));
-    receive_if(scope, number);
+    let received = variable_at(scope, place_ref(target));
+    receive_if(scope, received);
 }
 
 /// The variable that is passed to a parameter as one.
@@ -88,8 +88,10 @@ fn after_actuals(
     }
 }
 
-/// What is known after an action.
-pub(crate) fn after_action(scope: &mut Scope, signatures: &[Signature], action: &Action)
+/// What is known after an action: a variable that is assigned to has the range of what is assigned, and one that is
+/// received into or passed as a variable has the range of its type. `signatures` are those of the procedures before this
+/// place.
+pub fn after_action(scope: &mut Scope, signatures: &[Signature], action: &Action)
     ensures entries { entries_of scope.new
         ≡ after_action (signatures_of signatures.now) (action_of action.now) (entries_of scope.old) }
     ensures blocks { blocks_of scope.new ≡ blocks_of scope.old }

@@ -28,9 +28,15 @@ mod weighing;
 
 pub use channel_rules::Position;
 pub use checked::{CheckedProgram, check};
+pub use extending::add_formals;
+pub use following::{after_action, after_input};
 pub use laws::{items_hold, nothing_shared, outlines_stay, places_hold, signatures_stay};
 pub use program_uses::{
     Around, CHANNEL_USE, CONSTANT_WANTED, DECLARED_TWICE, Direction, End, MEMORY, NO_MAIN,
     OTHER_ACTUAL, PASSED_TWICE, Parameter, SHARED_VARIABLE, Signature, UsageFault, Use, Uses,
+};
+pub use sizes::{
+    GREATEST_SIZE, size_of_action, size_of_condition, size_of_constant, size_of_declaration,
+    size_of_guard, size_of_head, size_of_replicator,
 };
 pub use wanting::{Wanted, fault_of};

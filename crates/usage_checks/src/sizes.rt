@@ -1,4 +1,5 @@
-//! The sizes of lines, as far as just above the greatest size that a program may have.
+//! The sizes of lines, as far as just above the greatest size that a program may have. `docs/LANGUAGE.md` says how sizes
+//! are counted.
 
 ghost use Rattle.std.specs.Prelude.{◌≡◌, ◌+◌, length, map, sum_by};
 ghost use Rattle.occam_parser.specs.Lines.{Constants};
@@ -18,7 +19,7 @@ use occam_parser::{
 };
 
 /// The size that a program may have at most.
-pub(crate) const GREATEST_SIZE: u32 = 8_388_608;
+pub const GREATEST_SIZE: u32 = 8_388_608;
 
 /// The sum of two sizes.
 pub(crate) fn plus(a: u32, b: u32) -> u32
@@ -185,7 +186,7 @@ fn size_of_names(names: &Names) -> u32
 }
 
 /// The size of the line of a constant.
-pub(crate) fn size_of_constant(constant: &Constant) -> u32
+pub fn size_of_constant(constant: &Constant) -> u32
     ensures { result ≡ capped (size_of_declaration (Constants (constant_of constant.now))) }
 {
     let value = size_of_value(&constant.value);
@@ -193,7 +194,7 @@ pub(crate) fn size_of_constant(constant: &Constant) -> u32
 }
 
 /// The size of the line of a declaration.
-fn size_of_declaration(declaration: &Declaration) -> u32
+pub fn size_of_declaration(declaration: &Declaration) -> u32
     ensures { result ≡ capped (size_of_declaration (declaration_of declaration.now)) }
 {
     match declaration {
@@ -225,7 +226,7 @@ fn size_of_instance(name: &[u8], actuals: &[Expr]) -> u32
 }
 
 /// The size of the line of an action.
-pub(crate) fn size_of_action(action: &Action) -> u32
+pub fn size_of_action(action: &Action) -> u32
     ensures { result ≡ capped (size_of_action (action_of action.now)) }
 {
     match action {
@@ -244,14 +245,14 @@ pub(crate) fn size_of_action(action: &Action) -> u32
 }
 
 /// The size of the line of a choice.
-pub(crate) fn size_of_condition(condition: &Expr) -> u32
+pub fn size_of_condition(condition: &Expr) -> u32
     ensures { result ≡ capped (1 + size_of_expression (expression_of condition.now)) }
 {
     plus(1, size_of_expression(condition))
 }
 
 /// The size of the line of a guard.
-pub(crate) fn size_of_guard(guard: &Guard) -> u32
+pub fn size_of_guard(guard: &Guard) -> u32
     ensures { result ≡ capped (size_of_guard (guard_of guard.now)) }
 {
     match guard {
@@ -268,7 +269,7 @@ pub(crate) fn size_of_guard(guard: &Guard) -> u32
 }
 
 /// The size of the line of a replicator.
-pub(crate) fn size_of_replicator(replicator: &Replicator) -> u32
+pub fn size_of_replicator(replicator: &Replicator) -> u32
     ensures { result ≡ capped (size_of_replicator (replicator_of replicator.now)) }
 {
     let base = size_of_expression(&replicator.base);
@@ -298,7 +299,7 @@ fn size_of_formals(formals: &[Formal]) -> u32
 }
 
 /// The size of the first line of a procedure.
-pub(crate) fn size_of_head(proc: &Proc) -> u32
+pub fn size_of_head(proc: &Proc) -> u32
     ensures { result ≡ capped (size_of_head (procedure_of proc.now).head) }
 {
     let formals = plus_between(
