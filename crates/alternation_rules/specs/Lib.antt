@@ -1,0 +1,3 @@
+pub mod AlternationRules
+pub mod Guards
+pub mod Telling
