@@ -1,1 +1,2 @@
+pub mod ChoiceJudged
 pub mod Paying

@@ -1,6 +1,6 @@
 //! The rule of `altend`.
 
-ghost use Rattle.std.specs.Prelude.{◌≡◌, true, false, List, IfOk};
+ghost use Rattle.std.specs.Prelude.{◌≡◌, List, IfOk};
 ghost use Rattle.std.specs.List.{list_any, list_all};
 ghost use Rattle.module_format.specs.Contents.{Contents};
 ghost use Rattle.module_format.specs.Keeping.{Keeps};

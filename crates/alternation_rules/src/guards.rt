@@ -1,16 +1,14 @@
 //! The guards of an alternation.
 
-ghost use Rattle.std.specs.Prelude.{◌≡◌, ◌<◌, ◌++◌, ◌∷◌, [], IfOk, slice_set, length, vec_len, vec_capacity, map};
-ghost use Rattle.std.specs.List.{list_any, list_all};
-ghost use Rattle.states.specs.Views.{state_of};
-ghost use Rattle.module_format.specs.Keeping.{Keeps};
+ghost use Rattle.std.specs.Prelude.{◌≡◌, ◌<◌, ◌++◌, ◌∷◌, [], IfOk, length, vec_len, vec_capacity};
+ghost use Rattle.std.specs.List.{list_any};
 ghost use Rattle.rulings.specs.Rulings.{settles};
 ghost use Rattle.rulings.specs.Telling.{Gives};
 ghost use Rattle.rulings.specs.Places.{site_of};
 ghost use Rattle.alternation_rules.specs.declared.guards.TheConstants.{MAX_GUARDS};
 ghost use Rattle.alternation_rules.specs.Guards.{is_same_kind, is_same_name, is_guard, is_named_by, source_name};
 ghost use Rattle.alternation_rules.specs.Guards.{name_of, kind_of, distance_of, is_new, has_room, guard_at};
-ghost use Rattle.alternation_rules.specs.Guards.{enabled_guard, exit_at, leads_to_label, leads_forward};
+ghost use Rattle.alternation_rules.specs.Guards.{enabled_guard, exit_at};
 
 use certificate::Fact;
 use rulings::Place;

@@ -4,8 +4,10 @@
 mod alternations;
 mod ends;
 mod guards;
+mod laws;
 mod modes;
 
 pub use alternations::advance_alternation;
 pub use ends::end_alternation;
 pub use guards::{MAX_GUARDS, exit_at};
+pub use laws::rules_judge_choice;

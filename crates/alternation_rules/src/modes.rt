@@ -1,6 +1,6 @@
 //! The modes in which the instructions of an alternation may stand, and the channels of its guards.
 
-ghost use Rattle.std.specs.Prelude.{◌≡◌, IfOk};
+ghost use Rattle.std.specs.Prelude.{◌≡◌};
 ghost use Rattle.states.specs.Views.{state_of, BelongsTo};
 ghost use Rattle.rulings.specs.Telling.{Admits, Gives, Leaves};
 ghost use Rattle.rulings.specs.Places.{site_of};
