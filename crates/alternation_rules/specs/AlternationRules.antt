@@ -26,7 +26,7 @@ use Rattle.rulings.specs.Rulings.{Ruling, breaks, selects, Site, uses, wants, se
 use Rattle.rulings.specs.Rulings.{goes_on, without_registers}
 use Rattle.rulings.specs.Pointers.{are_near}
 use Rattle.rulings.specs.Channels.{channel_of}
-use Rattle.alternation_rules.specs.Guards.{name_of, kind_of, distance_of, is_guard, is_named_by, is_new, has_room}
+use Rattle.alternation_rules.specs.Guards.{name_of, may_name, guard_channel, distance_of, is_guard, is_named_by, is_new, has_room}
 use Rattle.alternation_rules.specs.Guards.{enabled_guard, guard_at, disabled_guard, exits, leads_to_label}
 use Rattle.alternation_rules.specs.Guards.{leads_forward, is_below_exit, has_unpaid_exit}
 
@@ -111,7 +111,8 @@ enables site s kind =
     while_enabling s.mode
     (wants (is_new kind s.guards) rules.Alternation
     (wants (has_room s.guards) rules.Alternation
-    (settles (name_of s.stack.a) (λ name. goes_on site (with_enabled kind name s)))))
+    (settles (name_of s.stack.a) (λ name.
+    wants (may_name site s name) rules.Alternation (goes_on site (with_enabled kind name s))))))
 
 -- enbc: the channel that B names is enabled, if A is true
 unfoldable pub enbc_rule : Site → State → Ruling
@@ -145,11 +146,14 @@ disables site s kind distance =
     (settles (distance_of distance) (λ distance.
     keeps_selection site (with_disabled done (disabled_guard distance guard) s) (goes_on site))))))
 
--- disc: the guard of the channel that C names is disabled
+-- disc: the guard of the channel that C names is disabled. Where the context has not the end, the guard waits for
+-- another one.
 unfoldable pub disc_rule : Site → State → Ruling
 disc_rule site s =
     uses s.stack.a (λ a. uses s.stack.b (λ b. uses s.stack.c (λ c.
-    wants (is_near_channel c) rules.Pointer (settles (kind_of c) (λ kind. disables site s kind a)))))
+    wants (is_near_channel c) rules.Pointer
+    (settles (guard_channel c) (λ kind.
+    wants (may_receive site s kind) rules.Alternation (disables site s (Channel kind) a))))))
 
 -- diss: a skip is disabled
 unfoldable pub diss_rule : Site → State → Ruling

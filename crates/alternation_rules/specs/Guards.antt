@@ -1,9 +1,12 @@
 -- The guards of an alternation: what they wait for, what their truth is known by, and where they lead.
-use Rattle.std.specs.Prelude.{ℕ, ◌+◌, ◌&&◌, not, nat_lt, if◌then◌else◌, Bool, true, false, ℤ, pos, int_le}
+use Rattle.std.specs.Prelude.{ℕ, ◌+◌, ◌&&◌, ◌||◌, not, nat_lt, if◌then◌else◌, Bool, true, false}
+use Rattle.std.specs.Prelude.{ℤ, pos, ◌-ℤ◌, int_le, int_lt}
 use Rattle.std.specs.Prelude.{List, [], ◌∷◌, length, slice_get, Option, Some, None, is_some, Result, Ok, Err}
 use Rattle.std.specs.List.{list_any}
 use Rattle.module_format.specs.Rows.{Fact}
 use Rattle.module_format.specs.declared.fact.Fact.TheVariants.{Number}
+use Rattle.module_format.specs.declared.rows.EndKind.{EndKind}
+use Rattle.certificate.specs.Rights.{may_read_word}
 use Rattle.module_format.specs.Contents.{label_at}
 use Rattle.machine_state.specs.LocalStep.{target}
 use Rattle.states.specs.declared.rule.Rule.{Rule}
@@ -49,6 +52,16 @@ abbrev pub source_name : Source → Result GuardName Rule
 source_name (From word) = Ok (Word word)
 source_name _ = Err rules.Alternation
 
+-- the word is none of the three below the workspace
+abbrev pub is_off_scheduling : ℤ → ℤ → Bool
+is_off_scheduling depth word = int_lt word (depth -ℤ pos 3) || int_le depth word
+
+-- A name by which a guard may be enabled. `ldl` has asked for the one, and what `alt` left for the other: both are asked
+-- again, so that the rule says by itself that the guard has a value which stays.
+abbrev pub may_name : Site → State → GuardName → Bool
+may_name site s (Constant value) = true
+may_name site s (Word word) = may_read_word site.contents s.context word && is_off_scheduling s.depth word
+
 -- what the truth of a number is known by: its value, if it is a constant, or the word that it comes from
 unfoldable pub name_of : Known → Result GuardName Rule
 name_of known = elim known.fact [
@@ -56,9 +69,9 @@ name_of known = elim known.fact [
   | _ ↦ Err rules.Alternation
 ]
 
--- what a guard waits for that is at the channel which a word names
-unfoldable pub kind_of : Fact → Result GuardKind Rule
-kind_of fact = elim (channel_of (Alone fact)) [ None ↦ Err rules.Alternation | Some kind ↦ Ok (Channel kind) ]
+-- the channel that a word names, where a guard is disabled
+unfoldable pub guard_channel : Fact → Result EndKind Rule
+guard_channel fact = elim (channel_of (Alone fact)) [ None ↦ Err rules.Alternation | Some kind ↦ Ok kind ]
 
 -- how far after `altend` a guard leads: a constant
 unfoldable pub distance_of : Fact → Result ℤ Rule

@@ -11,7 +11,8 @@ ghost use Rattle.alternation_rules.specs.AlternationRules.{alt_rule, enables, en
 ghost use Rattle.alternation_rules.specs.AlternationRules.{disables, disc_rule, diss_rule, alternation_rule};
 
 use crate::guards::{
-    distance_of, enable, guard_at, has_room, is_any_named_by, is_guard, is_new, kind_of, name_of,
+    distance_of, enable, guard_at, guard_channel, has_room, is_any_named_by, is_guard, is_new,
+    may_name, name_of,
 };
 use crate::modes::{
     is_near_channel, keeps_selection, may_receive, names_channel, while_disabling, while_enabling,
@@ -60,6 +61,7 @@ fn enables(place: &Place, state: &mut State, kind: GuardKind) -> Result<Continua
     wants(is_new(kind, &state.guards), Rule::Alternation)?;
     wants(has_room(&state.guards), Rule::Alternation)?;
     let name = name_of(state.stack.a)?;
+    wants(may_name(place, state, name), Rule::Alternation)?;
     enable(&mut state.guards, kind, name);
     state.stack = a_alone(state.stack.a);
     place.goes_on(state)
@@ -149,8 +151,9 @@ fn disable_channel(place: &Place, state: &mut State) -> Result<Continuation, Rul
     uses(state.stack.b)?;
     let c = uses(state.stack.c)?;
     wants(is_near_channel(c), Rule::Pointer)?;
-    let kind = kind_of(c)?;
-    disables(place, state, kind, a)
+    let kind = guard_channel(c)?;
+    wants(may_receive(place, state, kind), Rule::Alternation)?;
+    disables(place, state, GuardKind::Channel(kind), a)
 }
 
 /// `diss`: a skip is disabled.

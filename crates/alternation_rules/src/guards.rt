@@ -2,18 +2,19 @@
 
 ghost use Rattle.std.specs.Prelude.{◌≡◌, ◌<◌, ◌++◌, ◌∷◌, [], IfOk, length, vec_len, vec_capacity};
 ghost use Rattle.std.specs.List.{list_any};
+ghost use Rattle.states.specs.Views.{state_of};
 ghost use Rattle.rulings.specs.Rulings.{settles};
 ghost use Rattle.rulings.specs.Telling.{Gives};
 ghost use Rattle.rulings.specs.Places.{site_of};
 ghost use Rattle.alternation_rules.specs.declared.guards.TheConstants.{MAX_GUARDS};
 ghost use Rattle.alternation_rules.specs.Guards.{is_same_kind, is_same_name, is_guard, is_named_by, source_name};
-ghost use Rattle.alternation_rules.specs.Guards.{name_of, kind_of, distance_of, is_new, has_room, guard_at};
-ghost use Rattle.alternation_rules.specs.Guards.{enabled_guard, exit_at};
+ghost use Rattle.alternation_rules.specs.Guards.{name_of, guard_channel, distance_of, is_new, has_room, guard_at};
+ghost use Rattle.alternation_rules.specs.Guards.{enabled_guard, exit_at, is_off_scheduling, may_name};
 
-use certificate::Fact;
+use certificate::{EndKind, Fact};
 use rulings::Place;
 use rulings::channels::{channel_of, channels_meet};
-use states::{Guard, GuardKind, GuardName, Known, Rule, Source, WordFact};
+use states::{Guard, GuardKind, GuardName, Known, Rule, Source, State, WordFact};
 
 /// How many guards an alternation may have.
 pub const MAX_GUARDS: usize = 64;
@@ -71,6 +72,26 @@ fn source_name(source: Source) -> Result<GuardName, Rule>
     }
 }
 
+/// Whether a word is none of the three below the workspace.
+fn is_off_scheduling(depth: i32, word: i32) -> bool
+    ensures { result ≡ is_off_scheduling depth word }
+{
+    i64::from(word) < i64::from(depth) - 3 || depth <= word
+}
+
+/// Whether a guard may be enabled by a name: a constant, or a word that the context may read and the alternation leaves.
+pub(crate) fn may_name(place: &Place, state: &State, name: GuardName) -> bool
+    ensures { result ≡ may_name (site_of place.now) (state_of state.now) name }
+{
+    match name {
+        GuardName::Constant(_) => true,
+        GuardName::Word(word) => {
+            let may_read = place.module.may_read_word(state.context, i64::from(word));
+            may_read && is_off_scheduling(state.depth, word)
+        }
+    }
+}
+
 /// What the truth of a number is known by: its value, if it is a constant, or the word that it comes from.
 #[tactic(auto, unfolding(rulings::specs::Rulings::settles, crate::specs::Guards::name_of))]
 pub(crate) fn name_of(known: Known) -> Result<GuardName, Rule>
@@ -83,15 +104,12 @@ pub(crate) fn name_of(known: Known) -> Result<GuardName, Rule>
     }
 }
 
-/// What a guard waits for that is at the channel which a word names.
-#[tactic(auto, unfolding(rulings::specs::Rulings::settles, crate::specs::Guards::kind_of))]
-pub(crate) fn kind_of(fact: Fact) -> Result<GuardKind, Rule>
-    ensures { Gives (λ kind. kind) result (settles (kind_of fact)) }
+/// The channel that a word names, where a guard is disabled.
+#[tactic(auto, unfolding(rulings::specs::Rulings::settles, crate::specs::Guards::guard_channel))]
+pub(crate) fn guard_channel(fact: Fact) -> Result<EndKind, Rule>
+    ensures { Gives (λ kind. kind) result (settles (guard_channel fact)) }
 {
-    match channel_of(WordFact::Alone(fact)) {
-        Some(kind) => Ok(GuardKind::Channel(kind)),
-        None => Err(Rule::Alternation),
-    }
+    channel_of(WordFact::Alone(fact)).ok_or(Rule::Alternation)
 }
 
 /// How far after `altend` a guard leads: a constant.
