@@ -26,7 +26,8 @@ use Rattle.rulings.specs.Rulings.{Ruling, breaks, selects, Site, uses, wants, se
 use Rattle.rulings.specs.Rulings.{goes_on, without_registers}
 use Rattle.rulings.specs.Pointers.{are_near}
 use Rattle.rulings.specs.Channels.{channel_of}
-use Rattle.alternation_rules.specs.Guards.{name_of, may_name, guard_channel, distance_of, is_guard, is_named_by, is_new, has_room}
+use Rattle.alternation_rules.specs.Guards.{name_of, may_name, guard_channel, distance_of, is_guard, is_named_by}
+use Rattle.alternation_rules.specs.Guards.{is_new, has_room}
 use Rattle.alternation_rules.specs.Guards.{enabled_guard, guard_at, disabled_guard, exits, leads_to_label}
 use Rattle.alternation_rules.specs.Guards.{leads_forward, is_below_exit, has_unpaid_exit}
 

@@ -100,12 +100,16 @@ choice_ruling v =
 abbrev pub well : Variation
 well = record { budget = 34; second = 1; guard = 1; labels = bare_label 32 2 ∷ bare_label 34 2 ∷ [] }
 
+-- the same with other labels
+abbrev pub well_but_for : List Label → Variation
+well_but_for labels = record well { labels = labels }
+
 -- What the rules say of it: the process goes on at one of two labels. If the second link has no length, its end is not
 -- held. A guard is disabled by the name by which it was enabled, and it leads to a label, which the number covers.
 pub record ChoiceIsJudged : Type 0 where
   pub goes_on : choice_ruling well ≡ selects (32 ∷ 34 ∷ [])
   pub unheld : choice_ruling (record well { second = 0 }) ≡ breaks rules.Channel
   pub other_name : choice_ruling (record well { guard = 0 }) ≡ breaks rules.Alternation
-  pub no_label : choice_ruling (record well { labels = bare_label 34 2 ∷ [] }) ≡ breaks rules.Alternation
+  pub no_label : choice_ruling (well_but_for (bare_label 34 2 ∷ [])) ≡ breaks rules.Alternation
   pub unpaid : choice_ruling (record well { budget = 33 }) ≡ breaks rules.Budget
-  pub unpaid_label : choice_ruling (record well { labels = bare_label 32 3 ∷ bare_label 34 2 ∷ [] }) ≡ breaks rules.Budget
+  pub unpaid_label : choice_ruling (well_but_for (bare_label 32 3 ∷ bare_label 34 2 ∷ [])) ≡ breaks rules.Budget

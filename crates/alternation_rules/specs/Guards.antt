@@ -56,7 +56,7 @@ source_name _ = Err rules.Alternation
 abbrev pub is_off_scheduling : ℤ → ℤ → Bool
 is_off_scheduling depth word = int_lt word (depth -ℤ pos 3) || int_le depth word
 
--- A name by which a guard may be enabled. `ldl` has asked for the one, and what `alt` left for the other: both are asked
+-- A name by which a guard may be enabled. `ldl` has asked for the one, and `alt` has left the other: both are asked
 -- again, so that the rule says by itself that the guard has a value which stays.
 abbrev pub may_name : Site → State → GuardName → Bool
 may_name site s (Constant value) = true

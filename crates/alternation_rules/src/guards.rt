@@ -79,7 +79,7 @@ fn is_off_scheduling(depth: i32, word: i32) -> bool
     i64::from(word) < i64::from(depth) - 3 || depth <= word
 }
 
-/// Whether a guard may be enabled by a name: a constant, or a word that the context may read and the alternation leaves.
+/// Whether a guard may be enabled by a name: a constant, or a word that the context may read and scheduling leaves.
 pub(crate) fn may_name(place: &Place, state: &State, name: GuardName) -> bool
     ensures { result ≡ may_name (site_of place.now) (state_of state.now) name }
 {
