@@ -1,7 +1,11 @@
 -- The tests of guards hold of equals alone.
 use Rattle.std.proofs.Common.{◌≡◌, ◌⊎◌, ℤ, pos, ◌+ℤ◌, ◌≤ℤ◌, ◌<ℤ◌, Bool, true, false, ◌&&◌, inl, inr, refl, sym, ap, ◌∙◌}
-use Rattle.std.proofs.Common.{arith}
-use Rattle.std.specs.Prelude.{int_lt}
+use Rattle.std.proofs.Common.{arith, ℕ, List, Some, slice_get}
+use Rattle.std.specs.List.{list_any}
+use Rattle.std.proofs.lemmas.List.Folds.{list_any_at}
+use Rattle.std.proofs.lemmas.Option.{slice_get_within, get_or_from_slice_get}
+use Rattle.states.specs.declared.known.Guard.{Guard}
+use Rattle.std.specs.Prelude.{int_lt, not}
 use Rattle.std.proofs.lemmas.Int.{ints}
 use Rattle.std.proofs.lemmas.Bool.{and_parts}
 use Rattle.module_format.specs.declared.rows.EndKind.{EndKind}
@@ -13,7 +17,7 @@ use Rattle.states.specs.declared.known.GuardName.TheVariants.{Constant, Word}
 use Rattle.states.specs.State.{is_word}
 use Rattle.rulings.specs.Channels.{runs_meet, channels_meet}
 use Rattle.rulings.proofs.Words.{word_test, same_word_by}
-use Rattle.alternation_rules.specs.Guards.{is_same_kind, is_same_name}
+use Rattle.alternation_rules.specs.Guards.{is_same_kind, is_same_name, is_new, is_named_by}
 use Rattle.alternation_rules.specs.SameGuards.{TestsCompare}
 
 -- the test of two numbers
@@ -88,6 +92,33 @@ name_itself : (name : GuardName) → is_same_name name name ≡ true
 name_itself (Constant value) = word_itself value
 name_itself (Word word) = word_itself word
 
+-- one guard of the list passes
+found_any : (test : Guard → Bool) (guards : List Guard) (i : ℕ) (g : Guard) → slice_get guards i ≡ Some g
+    → test g ≡ true → list_any test guards ≡ true
+found_any test guards i g here holds =
+    list_any_at test guards i g (slice_get_within guards i g here) (ap test
+    (get_or_from_slice_get guards i g g here) ∙ holds)
+
+other_channels : (kind : EndKind) (guards : List Guard) → is_new (Channel kind) guards ≡ true → (i : ℕ) (g : Guard)
+    → slice_get guards i ≡ Some g → g.kind ≡ Channel kind → ⊥
+other_channels kind guards new i g here same =
+    let any = found_any (λ h. is_same_kind h.kind (Channel kind)) guards i g here
+    (ap (λ k. is_same_kind k (Channel kind)) same ∙ kind_itself (Channel kind)) in
+    let no' : false ≡ true = sym (ap not any) ∙ new in absurd (cc)
+
+other_words : (word : ℤ) (guards : List Guard) → list_any (is_named_by word) guards ≡ false → (i : ℕ) (g : Guard)
+    → slice_get guards i ≡ Some g → g.name ≡ Word word → ⊥
+other_words word guards none i g here same =
+    let any = found_any (is_named_by word) guards i g here
+    (ap (λ name. is_same_name name (Word word)) same ∙ name_itself (Word word)) in
+    let no' : false ≡ true = sym none ∙ any in absurd (cc)
+
 pub tests_compare : TestsCompare
-tests_compare =
-    record { kinds = same_kind; kind_itself = kind_itself; names = same_name; name_itself = name_itself }
+tests_compare = record {
+  kinds = same_kind;
+  kind_itself = kind_itself;
+  names = same_name;
+  name_itself = name_itself;
+  other_channels = other_channels;
+  other_words = other_words;
+}

@@ -10,7 +10,8 @@ pub fn operations_ask_their_mode()
     ensures { ModesAreAsked }
 {}
 
-/// What guards wait for, and their names, pass the tests that compare them exactly if they are the same.
+/// What guards wait for, and their names, pass the tests that compare them exactly if they are the same. So a new
+/// channel is that of no guard, and where no guard passes the test of a word, none is named by it.
 #[tactic(auto, using(crate::proofs::EqualGuards::tests_compare))]
 pub fn tests_tell_guards_apart()
     ensures { TestsCompare }
