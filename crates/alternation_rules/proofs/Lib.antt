@@ -1,0 +1,4 @@
+pub mod AlternationOtherModes
+pub mod ChoiceJudged
+pub mod EqualGuards
+pub mod Paying

@@ -1,0 +1,25 @@
+//! Laws of the rules of alternations.
+ghost use Rattle.alternation_rules.specs.Choice.{ChoiceIsJudged};
+ghost use Rattle.alternation_rules.specs.ModesAsked.{ModesAreAsked};
+ghost use Rattle.alternation_rules.specs.SameGuards.{TestsCompare};
+
+/// Each operation breaks a rule but in the mode that it stands in: `alt` in the middle of nothing, `enbc`, `enbs` and
+/// `altwt` while guards are enabled, `disc`, `diss` and `altend` while they are disabled.
+#[tactic(auto, using(crate::proofs::AlternationOtherModes::modes_are_asked))]
+pub fn operations_ask_their_mode()
+    ensures { ModesAreAsked }
+{}
+
+/// What guards wait for, and their names, pass the tests that compare them exactly if they are the same. So a new
+/// channel is that of no guard, and where no guard passes the test of a word, none is named by it.
+#[tactic(auto, using(crate::proofs::EqualGuards::tests_compare))]
+pub fn tests_tell_guards_apart()
+    ensures { TestsCompare }
+{}
+
+/// A module that alternates between two links goes on at the labels of its guards. It is refused where an end is not
+/// held, a guard is disabled by another name, a label is missing, or the number does not cover what is paid.
+#[tactic(auto, using(crate::proofs::ChoiceJudged::choice_is_judged))]
+pub fn rules_judge_choice()
+    ensures { ChoiceIsJudged }
+{}
