@@ -1,5 +1,5 @@
 //! What readers and writers have in common.
 
 /// A read or a write failed.
-#[derive(Clone, Copy)]
+#[derive(Clone, Copy, Debug, PartialEq, Eq)]
 pub struct Failed;

@@ -6,13 +6,16 @@ mod driving;
 mod providing;
 mod reading;
 mod report;
+mod running;
 mod sending;
 mod supplying;
 mod tally;
+#[cfg(test)]
+mod tests;
 mod writing;
 
 pub use device::Failed;
-pub use driving::drive;
 pub use reading::{LinkReader, Reading};
 pub use report::{Outcome, Report, RunError};
+pub use running::run;
 pub use writing::{LinkWriter, Writing};

@@ -7,7 +7,7 @@ use machine_state::Link;
 use std::alloc::AllocError;
 
 /// How a run ended.
-#[derive(Clone, Copy)]
+#[derive(Clone, Copy, Debug, PartialEq, Eq)]
 pub enum Outcome {
     /// Some process has stopped where the module says that it ends.
     Ended,
@@ -16,7 +16,7 @@ pub enum Outcome {
 }
 
 /// What became of a run. A count of bytes stays at `u64::MAX` once it is there.
-#[derive(Clone, Copy)]
+#[derive(Clone, Copy, Debug, PartialEq, Eq)]
 pub struct Report {
     pub outcome: Outcome,
     /// How many instruction bytes were executed.
@@ -28,7 +28,7 @@ pub struct Report {
 }
 
 /// Why a run ended too early.
-#[derive(Clone, Copy)]
+#[derive(Clone, Copy, Debug, PartialEq, Eq)]
 pub enum RunError {
     /// A read of this link failed.
     ReadFailed(Link),

@@ -9,29 +9,23 @@ use Rattle.module_format.specs.Contents.{Contents}
 use Rattle.machine_state.specs.declared.event.Event.{Event}
 use Rattle.machine_state.specs.declared.link.Link.{Link}
 use Rattle.machine_state.specs.declared.link.Link.TheVariants.{Zero, One, Two, Three}
-use Rattle.machine_state.specs.declared.fault.Fault.{Fault}
-use Rattle.machine_state.proofs.EventLaws.{faults_are_kept}
 use Rattle.machine_state.specs.World.{World}
 use Rattle.machine_state.specs.World.{loaded}
 use Rattle.machine_state.specs.Happens.{happens, turn, run_from, world_after, emitted, emitted_by, emitted_from}
 use Rattle.machine_state.specs.Happens.{emitted_on}
-use Rattle.std.proofs.lemmas.Grind.{not_there}
-use Rattle.verifier.specs.Headline.{IsEvent, RunsWell}
-use Rattle.machine.specs.Asking.{Execution}
-use Rattle.machine.specs.Replaying.{NeverFails, GoesOut, bytes_of, out_on}
+use Rattle.machine.specs.Driving.{Drive, RunsOn}
+use Rattle.machine.specs.Replaying.{GoesOut, bytes_of, out_on}
 use Rattle.machine_state.proofs.Lines.{got_set, got_other}
 
--- no event that can happen is a fault
-pub no_fault : (m : Contents) (w : World) (e : Event) (f : Fault) → NeverFails m w → IsEvent e
-    → (turn m w e).answer ≡ Err f → ⊥
-no_fault m w e f never is fails = never.always (e ∷ []) f (is, tt)
-    (faults_are_kept m w e f fails)
+-- the machine is in this world
+abbrev pub Shows : Drive → World → Type 0
+Shows c w = (w ≡ c.world) × RunsOn c.contents w
 
 -- The run of a module that runs well, in the middle of a list of events: what is left of them leads to the same
 -- world, and puts out what is left to be put out.
-pub record IsGoing (m : Contents) (events rest : List Event) (c : Execution) (out : List (Vec ℕ)) : Type 0 where
+pub record IsGoing (m : Contents) (events rest : List Event) (c : Drive) (out : List (Vec ℕ)) : Type 0 where
   pub contents : c.contents ≡ m
-  pub never : NeverFails m c.world
+  pub runs : RunsOn c.contents c.world
   pub world : run_from m c.world rest ≡ world_after m events
   pub puts : (link : Link) → out_on out link ++ emitted_from m c.world link rest ≡ emitted_on m link events
 
@@ -42,27 +36,28 @@ nothing_out a b c d p q r s One = q
 nothing_out a b c d p q r s Two = r
 nothing_out a b c d p q r s Three = s
 
-pub begins : (m : Contents) (events rest : List Event) (c : Execution) (out : List (Vec ℕ)) → ∥ RunsWell m ∥₁
-    → c ≡ record { contents = m; world = loaded m } → rest ≡ events
+pub begins : (m : Contents) (events rest : List Event) (c : Drive) (out : List (Vec ℕ)) → c.contents ≡ m
+    → c.world ≡ loaded m → RunsOn c.contents c.world → rest ≡ events
     → ((link : Link) → out_on out link ≡ []) → IsGoing m events rest c out
-begins m events rest c out well is all none = rw (is, all) (record {
-  contents = refl;
-  never = record { always = λ es f are e. not_there well (λ run. cc ((run es are).no_fault, e)) };
-  world = refl;
-  puts = λ link. rw (none link) refl;
-})
+begins m events rest c out contents world runs all none = record {
+  contents = contents;
+  runs = runs;
+  world = rw (world, all) refl;
+  puts = λ link. rw (none link, world, all) refl;
+}
 
-pub goes_on : (m : Contents) (events : List Event) (e : Event) (rest : List Event) (before after : Execution)
-    (old new : List (Vec ℕ)) → IsGoing m events (e ∷ rest) before old
-    → IsEvent e → after.contents ≡ before.contents → after.world ≡ happens before.contents before.world e
+pub goes_on : (m : Contents) (events : List Event) (e : Event) (rest : List Event) (before after : Drive)
+    (old new : List (Vec ℕ)) → IsGoing m events (e ∷ rest) before old → after.contents ≡ before.contents
+    → Shows after (happens before.contents before.world e)
     → GoesOut (turn before.contents before.world e).answer old new
     → IsGoing m events rest after new
-goes_on m events e rest before after old new going is same moved puts =
+goes_on m events e rest before after old new going same shown puts =
     let w = before.world in
-    let here : after.world ≡ happens m w e = moved ∙ ap (λ (c : Contents). happens c w e) going.contents in
+    let here : after.world ≡ happens m w e =
+    sym shown.0 ∙ ap (λ (c : Contents). happens c w e) going.contents in
     record {
       contents = same ∙ going.contents;
-      never = rw here (record { always = λ es f are. going.never.always (e ∷ es) f (is, are) });
+      runs = subst (λ (v : World). RunsOn after.contents v) shown.0 shown.1;
       world = rw here going.world;
       puts = λ link. rw here (
           let puts_here : out_on new link ≡ out_on old link ++ emitted_by link (turn m w e).answer = puts link ∙ ap
@@ -71,7 +66,7 @@ goes_on m events e rest before after old new going is same moved puts =
           (emitted_from m (happens m w e) link rest) ∙ going.puts link));
     }
 
-pub is_over : (m : Contents) (events rest : List Event) (c : Execution) (out : List (Vec ℕ))
+pub is_over : (m : Contents) (events rest : List Event) (c : Drive) (out : List (Vec ℕ))
     → IsGoing m events rest c out → rest ≡ []
     → (c.world ≡ world_after m events) × ((link : Link) → out_on out link ≡ emitted_on m link events)
 is_over m events rest c out going done = (

@@ -1,3 +1,4 @@
-mod Going
+pub mod Going
+pub mod NeverAtFault
 pub mod Granting
 pub mod Performing

@@ -1,15 +1,13 @@
 -- What a replay reports of a run.
-use Rattle.std.specs.Prelude.{◌≡◌, ◌≢◌, ℕ, List, [], ◌++◌, Option, Some, None, Result, slice_get}
+use Rattle.std.specs.Prelude.{◌≡◌, ℕ, List, [], ◌++◌, Option, Some, None, Result, slice_get}
 use Rattle.std.specs.Global.{Vec}
 use Rattle.module_format.specs.Contents.{Contents}
 use Rattle.machine_state.specs.declared.event.Event.{Event}
 use Rattle.machine_state.specs.declared.link.Link.{Link}
 use Rattle.machine_state.specs.Moves.{link_index}
-use Rattle.machine_state.specs.World.{World}
 use Rattle.machine_state.specs.declared.fault.Fault.{Fault}
-use Rattle.machine_state.specs.Happens.{Effect, run_from, world_after, emitted_by, emitted_on}
+use Rattle.machine_state.specs.Happens.{Effect, world_after, emitted_by, emitted_on}
 use Rattle.machine.specs.declared.report.Replay.{Replay}
-use Rattle.verifier.specs.Headline.{AreEvents}
 
 abbrev pub bytes_of : Option (Vec ℕ) → List ℕ
 bytes_of None = []
@@ -24,10 +22,6 @@ pub record Tells (m : Contents) (events : List Event) (r : Replay) : Type 0 wher
   pub finished : r.finished ≡ (world_after m events).counters.is_finished
   pub executed : r.executed ≡ (world_after m events).counters.executed
   pub out : (link : Link) → out_on r.out link ≡ emitted_on m link events
-
--- Whatever events come to this world, there is never a fault.
-pub record NeverFails (m : Contents) (w : World) : Type 0 where
-  pub always : (events : List Event) (f : Fault) → AreEvents events → (run_from m w events).fault ≢ Some f
 
 -- what went out on each link is followed by what this answer emits there
 abbrev pub GoesOut : Result Effect Fault → List (Vec ℕ) → List (Vec ℕ) → Type 0

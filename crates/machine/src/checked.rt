@@ -6,16 +6,19 @@ mod links;
 mod machine;
 mod step;
 
-ghost use Rattle.std.specs.Prelude.{◌≡◌, IfOk};
+ghost use Rattle.std.specs.Prelude.{◌≡◌, IfOk, IsTrue};
+ghost use Rattle.machine_state.specs.Exchanges.{bytes_at};
+ghost use Rattle.machine_state.specs.LocalStep.{are_defined};
+ghost use Rattle.machine_state.specs.Memory.{place_of};
 ghost use Rattle.machine_state.specs.World.{loaded};
 ghost use Rattle.machine_state.specs.Happens.{turn};
 ghost use Rattle.machine.specs.Applying.{Applies, IsDefined, effect_of};
-ghost use Rattle.machine.specs.Asking.{is_running, wants};
+ghost use Rattle.link_runs.specs.Wanting.{is_running, wants};
 
-use act::Act;
+pub(crate) use act::Act;
 use certificate::Module;
 use machine::Machine;
-use machine_state::{Effect, Event, Link};
+use machine_state::{Effect, Event, Exchange, Link};
 use std::alloc::{AllocError, Global};
 use std::marker::Model;
 pub use traffic::Stop;
@@ -50,7 +53,7 @@ impl<'a> Checked<'a> {
 
     /// One event, with what it did still in the machine.
     #[tactic(auto, unfolding(machine_state::specs::Happens::turn))]
-    fn advance(&mut self, event: Event) -> Result<Act, Stop>
+    pub(crate) fn advance(&mut self, event: Event) -> Result<Act, Stop>
         ensures applies { let expected = turn self.old.contents self.old.world event in
             Applies self.old.world self.new.world result expected }
         ensures defined { IfOk result (λ act. IsDefined act self.new.world.memory) }
@@ -85,7 +88,7 @@ impl<'a> Checked<'a> {
         match act {
             Act::Emitted { link, exchange } => Effect::Emitted {
                 link,
-                bytes: self.machine.traffic.bytes(exchange),
+                bytes: self.bytes(exchange),
             },
             Act::Ran => Effect::Ran,
             Act::Idle => Effect::Idle,
@@ -95,6 +98,14 @@ impl<'a> Checked<'a> {
             Act::Acknowledged => Effect::Acknowledged,
             Act::Ignored => Effect::Ignored,
         }
+    }
+
+    /// The bytes of a message, which are defined.
+    pub(crate) fn bytes(&self, exchange: Exchange) -> &[u8]
+        requires { IsTrue (are_defined self.now.world.memory exchange.address exchange.length) }
+        ensures { result.now ≡ bytes_at self.now.world.memory (place_of exchange.address) exchange.length }
+    {
+        self.machine.traffic.bytes(exchange)
     }
 
     /// How many bytes were executed.

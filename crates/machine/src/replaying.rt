@@ -1,13 +1,15 @@
 //! Runs of accepted modules over given events.
 
 ghost use Rattle.std.specs.Prelude.{◌≡◌, OnOk, IfOk, Ok};
+ghost use Rattle.machine_state.specs.World.{World};
 ghost use Rattle.machine_state.specs.Happens.{emitted, turn, happens};
-ghost use Rattle.verifier.specs.Headline.{IsEvent};
-ghost use Rattle.machine.specs.Replaying.{NeverFails, GoesOut, Tells};
+ghost use Rattle.link_runs.specs.Driving.{IsShown};
+ghost use Rattle.machine.specs.Replaying.{GoesOut, Tells};
 
-use crate::checked::{Checked, Stop};
+use crate::driven::Driven;
 use crate::report::Replay;
-use machine_state::{Effect, Event, Link};
+use link_runs::{Machine, Reaction};
+use machine_state::{Event, Link};
 use std::alloc::{AllocError, Global};
 use verifier::Verified;
 
@@ -18,24 +20,22 @@ fn put_out(out: &mut [Vec<u8>; 4], link: Link, bytes: &[u8]) -> Result<(), Alloc
     out[link.index()].extend_from_slice(bytes)
 }
 
-/// Each event is one that can happen: what arrives is a byte.
-fn can_happen(_event: Event)
-    ensures { IsEvent _event }
-{}
-
-/// One event of a machine that is never at fault: what it emits goes after what went out before.
-fn follow(machine: &mut Checked, event: Event, out: &mut [Vec<u8>; 4]) -> Result<(), AllocError>
-    requires never { NeverFails machine.old.contents machine.old.world }
-    requires event { IsEvent event }
-    ensures contents { machine.new.contents ≡ machine.old.contents }
-    ensures world { OnOk result (machine.new.world ≡ happens machine.old.contents machine.old.world event) }
-    ensures out { OnOk result (GoesOut (turn machine.old.contents machine.old.world event).answer out.old out.new) }
+/// One event of a machine: what it emits goes after what went out before.
+fn follow<M: Machine>(
+    machine: &mut M,
+    event: Event,
+    out: &mut [Vec<u8>; 4],
+) -> Result<(), AllocError>
+    requires { IsShown M.shows machine.old }
+    ensures contents { M.contents machine.new ≡ M.contents machine.old }
+    ensures world { OnOk result ((w : World) → M.shows machine.old w
+        → M.shows machine.new (happens (M.contents machine.old) w event)) }
+    ensures out { OnOk result ((w : World) → M.shows machine.old w
+        → GoesOut (turn (M.contents machine.old) w event).answer out.old out.new) }
 {
-    match machine.apply(event) {
-        Ok(Effect::Emitted { link, bytes }) => put_out(out, link, bytes),
-        Ok(_) => Ok(()),
-        Err(Stop::Memory) => Err(AllocError),
-        Err(Stop::Fault(_)) => unreachable!(),
+    match machine.react(event)? {
+        Reaction::Emitted { link } => put_out(out, link, machine.message()),
+        _ => Ok(()),
     }
 }
 
@@ -44,7 +44,7 @@ fn follow(machine: &mut Checked, event: Event, out: &mut [Vec<u8>; 4]) -> Result
 pub fn replay(alloc: Global, verified: &Verified, events: &[Event]) -> Result<Replay, AllocError>
     ensures { IfOk result (Tells verified.now events.now) }
 {
-    let mut machine = Checked::load(alloc, verified.module())?;
+    let mut machine = Driven::load(alloc, verified)?;
     let mut out = [
         Vec::new(alloc),
         Vec::new(alloc),
@@ -52,7 +52,6 @@ pub fn replay(alloc: Global, verified: &Verified, events: &[Event]) -> Result<Re
         Vec::new(alloc),
     ];
     for event in events {
-        can_happen(*event);
         follow(&mut machine, *event, &mut out)?;
     }
     Ok(Replay {

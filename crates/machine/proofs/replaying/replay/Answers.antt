@@ -6,10 +6,14 @@ use Rattle.machine_state.specs.World.{World}
 use Rattle.machine.proofs.Going.{IsGoing, nothing_out, begins, goes_on, is_over}
 use Rattle.machine.proofs.replaying.replay.Goals as goal
 
+pub follow-requires : goal.follow-requires
+follow-requires c = (c.loop-event.machine.world, refl, c.loop-event.invariant.runs)
+
 pub loop-event-init : goal.loop-event-init
 loop-event-init c =
-    begins c.args.verified.now c.args.events.now c.args.events.now c.in_ok-machine.machine _
-    c.module.ensures.runs_well (search rules) refl
+    let loaded = c.in_ok-machine.ensures in
+    begins c.args.verified.now c.args.events.now c.args.events.now c.in_ok-machine.machine _ loaded.contents loaded.world
+    loaded.runs refl
     (nothing_out c.new.result c.new-2.result c.new-3.result c.new-4.result c.new.ensures.items c.new-2.ensures.items
     c.new-3.ensures.items c.new-4.ensures.items)
 
@@ -18,18 +22,22 @@ loop-event-preserved c =
     let m = c.args.verified.now in
     let events = c.args.events.now in
     let i = c.loop-event.event-index in
-    goes_on m events _ (drop (i + 1) events) c.loop-event.machine c.follow.new.machine c.loop-event.out
-    c.follow.new.out
-    (subst (λ (rest : List Event). IsGoing m events rest c.loop-event.machine c.loop-event.out)
+    let before = c.loop-event.machine in
+    let here = (refl, c.loop-event.invariant.runs) in
+    goes_on m events _ (drop (i + 1) events) before c.follow.new.machine c.loop-event.out c.follow.new.out
+    (subst (λ (rest : List Event). IsGoing m events rest before c.loop-event.out)
     (item_at events i _ c.loop-event-test.true) c.loop-event.invariant)
-    c.can_happen.ensures c.in_ok-follow.ensures.contents c.in_ok-follow.ensures.world c.in_ok-follow.ensures.out
+    c.in_ok-follow.ensures.contents (c.in_ok-follow.ensures.world before.world here)
+    (c.in_ok-follow.ensures.out before.world here)
 
 pub returns : goal.returns
 returns c =
     let over = is_over c.args.verified.now c.args.events.now _ _ _ c.loop-event.invariant
     (drop_all c.loop-event.event-index c.args.events.now (search rules)) in
+    let machine = c.loop-event.machine in
+    let here = (refl, c.loop-event.invariant.runs) in
     record {
-      finished = c.finished.ensures ∙ ap (λ (w : World). w.counters.is_finished) over.0;
-      executed = c.executed.ensures ∙ ap (λ (w : World). w.counters.executed) over.0;
+      finished = c.finished.ensures machine.world here ∙ ap (λ (w : World). w.counters.is_finished) over.0;
+      executed = c.executed.ensures machine.world here ∙ ap (λ (w : World). w.counters.executed) over.0;
       out = over.1;
     }
