@@ -1,8 +1,7 @@
 -- Bytes that arrive and messages that are acknowledged: who waits on a link goes on.
-use Rattle.std.proofs.Common.{◌≡◌, ◌≢◌, ℕ, suc, ◌+◌, ◌-◌, ◌<◌, Bool, true, false, if◌then◌else◌, leb, eqb}
-use Rattle.std.proofs.Common.{◌&&◌, ◌||◌, inl, inr, List, Some, None, refl, sym, ap, ◌∙◌, subst, arith}
-use Rattle.std.proofs.lemmas.Bool.{le-leb}
-use Rattle.std.proofs.lemmas.Bool.Decides.{leb_tells, eqb_tells}
+use Rattle.std.proofs.Common.{◌≡◌, ℕ, ◌+◌, ◌-◌, ◌<◌, Bool, true, false, if◌then◌else◌, eqb}
+use Rattle.std.proofs.Common.{◌||◌, inl, inr, List, Some, None, refl, sym, ap, ◌∙◌, subst, arith}
+use Rattle.std.proofs.lemmas.Bool.Decides.{eqb_tells}
 use Rattle.std.proofs.lemmas.Option.{slice_get_within}
 use Rattle.std.specs.Prelude.{slice_get, slice_set}
 use Rattle.module_format.specs.Contents.{Contents}
@@ -12,22 +11,20 @@ use Rattle.machine_state.specs.declared.process.Condition.{Condition}
 use Rattle.machine_state.specs.declared.process.Condition.TheVariants.{Ready, OnLink}
 use Rattle.machine_state.specs.declared.link.InputLink.{InputLink}
 use Rattle.machine_state.specs.declared.link.OutputLink.{OutputLink}
-use Rattle.machine_state.specs.Memory.{Memory, byte_at, with_byte}
-use Rattle.machine_state.specs.Holding.{may_write}
+use Rattle.machine_state.specs.Memory.{Memory, with_byte}
 use Rattle.machine_state.specs.World.{World, held, input_word}
 use Rattle.machine_state.specs.Frame.{ChangesOwn}
 use Rattle.machine_state.specs.Waiting.{WaitsOn}
 use Rattle.machine_state.specs.Moves.{dispatch, enqueue, wake, with_condition, with_input, with_output, fill}
 use Rattle.machine_state.specs.Moves.{fill_condition, rouse}
 use Rattle.machine_state.proofs.Moving.{at_some, on_task_is}
-use Rattle.machine_state.proofs.Reading.{length-with_byte, byte_at-with_byte, byte_at-with_byte_other}
-use Rattle.rulings.specs.Buffers.{is_filled, message_place, IsByte}
+use Rattle.rulings.specs.Buffers.{is_filled, message_place}
 use Rattle.verifier.specs.Lives.{awaits, IsExchanging, Lives, it_lives}
 use Rattle.verifier.proofs.Coming.{input_awaits, output_awaits, more_filled, ready_is_quiet, link_is_quiet, byte_changes}
 use Rattle.verifier.proofs.Coming.{byte_lives}
 use Rattle.verifier.proofs.LawfulWorlds.{IsLawful}
 use Rattle.machine_state.proofs.Lines.{set_either}
-use Rattle.verifier.proofs.Tables.{IsSound, AreBytes, equal_lengths, Puts, Living, living, lives_on, lives_whatever, holds_put}
+use Rattle.verifier.proofs.Tables.{IsSound, AreBytes, equal_lengths, Puts, Living, living, lives_whatever, holds_put}
 use Rattle.verifier.proofs.Tables.{holds_elsewhere}
 use Rattle.verifier.proofs.Tables.{dispatch_holds}
 use Rattle.verifier.proofs.Rousing.{rouse_holds}

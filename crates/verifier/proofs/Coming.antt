@@ -1,20 +1,19 @@
 -- How a process that waits for a message goes on, and how it waits further: bytes come to it, or its own have gone.
-use Rattle.std.proofs.Common.{◌≡◌, ◌≢◌, ℕ, zero, suc, ◌+◌, ◌-◌, ◌≤◌, ◌<◌, ◌%◌, ◌^◌, Bool, true, false, if◌then◌else◌, ◌&&◌}
-use Rattle.std.proofs.Common.{◌||◌, ◌⊎◌, inl, inr, List, length, Option, Some, None, refl, sym, ap, ◌∙◌, subst, arith, eqb}
+use Rattle.std.proofs.Common.{◌≡◌, ◌≢◌, ℕ, zero, suc, ◌+◌, ◌-◌, ◌≤◌, ◌<◌, ◌%◌, ◌^◌, Bool, true, false, ◌&&◌}
+use Rattle.std.proofs.Common.{◌||◌, ◌⊎◌, inl, inr, length, Some, refl, sym, ap, ◌∙◌, subst, arith, eqb}
 use Rattle.std.proofs.Common.{leb}
 use Rattle.std.proofs.lemmas.Bool.{cases_lt, cases_eq, le-leb}
 use Rattle.std.proofs.lemmas.Bool.Decides.{eqb_tells, leb_tells}
-use Rattle.std.specs.Prelude.{slice_get, slice_set}
 use Rattle.module_format.specs.Contents.{Contents}
 use Rattle.machine_state.specs.declared.process.Condition.{Condition}
 use Rattle.machine_state.specs.declared.process.Condition.TheVariants.{Ready, Sending, Receiving, OnLink}
 use Rattle.machine_state.specs.declared.process.Exchange.{Exchange}
 use Rattle.machine_state.specs.declared.process.Task.{Task}
 use Rattle.machine_state.specs.Frame.{ChangesOwn}
-use Rattle.machine_state.specs.Holding.{Holding, may_write, may_read}
+use Rattle.machine_state.specs.Holding.{Holding, may_write}
 use Rattle.machine_state.specs.LocalStep.{copied}
 use Rattle.machine_state.specs.Memory.{Memory, byte_at, with_byte, place_of}
-use Rattle.machine_state.specs.World.{input_word, output_word}
+use Rattle.machine_state.specs.World.{input_word}
 use Rattle.machine_state.proofs.Copying.{copied-beside}
 use Rattle.machine_state.proofs.Reading.{length-with_byte, byte_at-with_byte, byte_at-with_byte_other}
 use Rattle.rulings.proofs.Moving.{copied-inside, length-copied}

@@ -1,6 +1,5 @@
 -- A module that takes a byte from a link and sends it back is certified by computation, and what it cannot do without.
-use Rattle.std.proofs.Common.{◌≡◌, ℕ, List, [], ◌∷◌, Ok, refl}
-use Rattle.word_arithmetic.specs.Binary.{result_range}
+use Rattle.std.proofs.Common.{◌≡◌, ℕ, [], ◌∷◌, Ok, refl}
 use Rattle.module_format.specs.Contents.{Contents}
 use Rattle.module_format.specs.Contexts.{context_at}
 use Rattle.machine_state.specs.Instructions.{op_of, instruction_of}

@@ -12,13 +12,13 @@ use Rattle.machine_state.specs.declared.process.Task.{Task}
 use Rattle.machine_state.specs.declared.process.Condition.TheVariants.{Ready, Stopped}
 use Rattle.machine_state.specs.declared.fault.FaultKind.{FaultKind}
 use Rattle.machine_state.specs.Memory.{Memory}
-use Rattle.machine_state.specs.Holding.{Holding, nothing}
+use Rattle.machine_state.specs.Holding.{nothing}
 use Rattle.machine_state.specs.World.{World, Role, Queue, held}
 use Rattle.machine_state.specs.Site.{Local, Outcome}
 use Rattle.machine_state.specs.LocalStep.{local_step}
 use Rattle.machine_state.specs.Frame.{ChangesOwn}
 use Rattle.machine_state.specs.Moves.{counted, put, picked, dispatch}
-use Rattle.machine_state.specs.Turn.{Here, Turn, at_here, between, continued}
+use Rattle.machine_state.specs.Turn.{Turn, at_here, between, continued}
 use Rattle.machine_state.specs.Happens.{site_of}
 use Rattle.machine_state.specs.Endings.{Ends, at_fault, has_run, has_emitted, it_goes, it_jumps, it_is_sliced}
 use Rattle.machine_state.specs.Endings.{it_lands, it_stops, Refused, no_code_follows, local_here, IsOutsideCode}
@@ -26,7 +26,7 @@ use Rattle.machine_state.specs.Endings.{no_byte, no_byte_follows}
 use Rattle.rulings.specs.Meaning.{IsWellFormed}
 use Rattle.verifier.specs.Certified.{IsCertified}
 use Rattle.rulings.proofs.Combining.{elsewhere}
-use Rattle.verifier.specs.Point.{Began, Point, MeetsPoint, Decodes}
+use Rattle.verifier.specs.Point.{Point, MeetsPoint, Decodes}
 use Rattle.verifier.specs.Lives.{awaits, Lives, Meets, it_lives, it_stopped}
 use Rattle.machine_state.specs.declared.process.Mode.TheVariants as modes
 use Rattle.verifier.proofs.Steps.{site_in, byte_here, owes, prefixed_point, Comes, comes_on, comes_to, comes_straight}

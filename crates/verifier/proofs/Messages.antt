@@ -1,8 +1,8 @@
 -- The invariant holds once a process has come to an instruction that wants a message, whichever way that ends.
-use Rattle.std.proofs.Common.{◌≡◌, ◌≢◌, ℕ, ◌+◌, ◌≤◌, ◌<◌, true, false, inl, inr, List, length, Option, Some, None, refl}
+use Rattle.std.proofs.Common.{◌≡◌, ◌≢◌, ℕ, ◌+◌, ◌≤◌, ◌<◌, true, false, List, length, Some, None, refl}
 use Rattle.std.proofs.Common.{sym, ap, ◌∙◌, subst, arith, eqb-true}
-use Rattle.std.specs.Prelude.{slice_get, slice_set, ◌==◌, ◌%◌, ◌^◌}
-use Rattle.module_format.specs.Contents.{Contents, link_length}
+use Rattle.std.specs.Prelude.{slice_get, slice_set}
+use Rattle.module_format.specs.Contents.{Contents}
 use Rattle.module_format.specs.declared.rows.Direction.TheVariants.{In, Out}
 use Rattle.machine_state.specs.declared.link.InputLink.{InputLink}
 use Rattle.machine_state.specs.declared.process.Channel.{Channel}
@@ -13,17 +13,17 @@ use Rattle.machine_state.specs.declared.process.Task.{Task}
 use Rattle.machine_state.specs.Frame.{ChangesOwn}
 use Rattle.machine_state.specs.LocalStep.{copied}
 use Rattle.machine_state.specs.Memory.{Memory, byte_at, with_byte, place_of}
-use Rattle.machine_state.specs.World.{World, Role, Counters, held, input_word, output_word}
-use Rattle.machine_state.specs.Moves.{cell_of, channel_at, counted, put, leave, dispatch, enqueue, wake, rouse}
-use Rattle.machine_state.specs.Moves.{with_channel, with_input, with_output}
+use Rattle.machine_state.specs.World.{World, Counters, held, input_word, output_word}
+use Rattle.machine_state.specs.Moves.{cell_of, channel_at, counted, put, leave, dispatch, enqueue, rouse}
+use Rattle.machine_state.specs.Moves.{with_channel, with_output}
 use Rattle.machine_state.specs.Site.{Local, receives, sends}
 use Rattle.machine_state.specs.Turn.{Here, at_here, between, continued, waiting}
-use Rattle.machine_state.specs.Exchanges.{input_link, output_link, condition_of, waits_at, met}
+use Rattle.machine_state.specs.Exchanges.{output_link, condition_of, waits_at, met}
 use Rattle.machine_state.specs.Endings.{Moved, receives_first, receives_from, receives_none, receives_last, receives_one}
-use Rattle.machine_state.specs.Endings.{sends_first, sends_to, with_first}
+use Rattle.machine_state.specs.Endings.{sends_first, sends_to}
 use Rattle.machine_state.proofs.Changes.{channel_there, rouses}
 use Rattle.machine_state.proofs.Lines.{got_set, got_other}
-use Rattle.machine_state.proofs.Moving.{OnlyTasks, rouse_only}
+use Rattle.machine_state.proofs.Moving.{rouse_only}
 use Rattle.machine_state.proofs.Roles.{set_twice}
 use Rattle.machine_state.proofs.Waiting.{link_found, link_low}
 use Rattle.rulings.specs.Buffers.{message_place, IsByte}

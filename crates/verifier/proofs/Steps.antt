@@ -54,7 +54,6 @@ use Rattle.rulings.proofs.Dues.{label_owed}
 use Rattle.rulings.proofs.Regions.{keeps_all, keeps_more}
 use Rattle.rulings.specs.Regions.{Scope, scope_of, scope_in, scope_among, Keeps, HoldsNamed}
 use Rattle.rulings.proofs.Lending.{lift}
-use Rattle.rulings.proofs.Within.{within}
 use Rattle.verifier.proofs.Given.{nothing_given, is_given, given_label, given_none, label_is_start, given_procedure}
 use Rattle.verifier.proofs.Given.{procedure_is_start}
 use Rattle.std.proofs.lemmas.Int.{ints}

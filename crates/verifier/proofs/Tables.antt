@@ -16,7 +16,6 @@ use Rattle.machine_state.specs.Holding.{Holding, may_write, may_read, IsApart}
 use Rattle.machine_state.specs.World.{World, Role, Queue, Links, held}
 use Rattle.machine_state.specs.Frame.{ChangesOwn}
 use Rattle.machine_state.specs.declared.process.Channel.{Channel}
-use Rattle.machine_state.specs.declared.holding.End.{End}
 use Rattle.machine_state.specs.Moves.{picked, dispatch, cell_of}
 use Rattle.machine_state.proofs.Claims.{only_one}
 use Rattle.machine_state.proofs.Lines.{got_set, got_other, set_either}

@@ -1,31 +1,29 @@
 -- What a process comes to that wants a message: it is never at fault, and whichever way its turn ends the invariant holds.
-use Rattle.std.proofs.Common.{◌≡◌, ◌≢◌, ℕ, zero, suc, ◌+◌, ◌-◌, ◌≤◌, ◌<◌, ◌%◌, ◌^◌, true, false, inl, inr, List, length}
-use Rattle.std.proofs.Common.{Option, Some, None, refl, sym, ap, ◌∙◌, subst, arith, ◌⊎◌, eqb-true}
-use Rattle.std.proofs.lemmas.Bool.{cases_lt}
+use Rattle.std.proofs.Common.{◌≡◌, ◌≢◌, ℕ, suc, ◌+◌, true, false, inl, inr, length}
+use Rattle.std.proofs.Common.{Option, Some, None, refl, sym, ap, ◌∙◌, subst, arith}
 use Rattle.std.proofs.lemmas.Bool.Decides.{leb_tells, eqb_tells}
-use Rattle.std.specs.Prelude.{slice_get, slice_set, nat_lt, ◌==◌}
+use Rattle.std.specs.Prelude.{slice_get, nat_lt, ◌==◌}
 use Rattle.module_format.specs.Contents.{Contents, link_length}
 use Rattle.module_format.specs.declared.rows.Direction.{Direction}
 use Rattle.module_format.specs.declared.rows.Direction.TheVariants.{In, Out}
 use Rattle.machine_state.specs.declared.fault.FaultKind.{FaultKind}
-use Rattle.machine_state.specs.declared.holding.End.{End}
 use Rattle.machine_state.specs.declared.process.Channel.{Channel}
 use Rattle.machine_state.specs.declared.process.Condition.{Condition}
 use Rattle.machine_state.specs.declared.process.Condition.TheVariants.{Ready, Sending, Receiving}
 use Rattle.machine_state.specs.declared.process.Exchange.{Exchange}
 use Rattle.machine_state.specs.declared.process.Task.{Task}
 use Rattle.machine_state.specs.Holding.{Holding, has_end}
-use Rattle.machine_state.specs.World.{World, Role, held, holding_at, input_word, output_word}
+use Rattle.machine_state.specs.World.{World, held, holding_at, input_word, output_word}
 use Rattle.machine_state.specs.Moves.{cell_of, channel_at}
 use Rattle.machine_state.specs.Site.{Local, receives, sends}
 use Rattle.machine_state.specs.Turn.{at_here}
 use Rattle.machine_state.specs.Exchanges.{input_link, output_link, condition_of}
 use Rattle.machine_state.specs.ChannelLaws.{WaitsAt, WaitsTo}
-use Rattle.machine_state.specs.Endings.{Refused, no_code_follows, HasNoSource, no_channel, no_link, receives_nowhere}
+use Rattle.machine_state.specs.Endings.{Refused, no_code_follows, no_channel, no_link, receives_nowhere}
 use Rattle.machine_state.specs.Endings.{receives_from_no_sender, receives_other_length, receives_other_than_link}
 use Rattle.machine_state.specs.Endings.{sends_nowhere, sends_to_no_receiver, sends_other_length, sends_other_than_link}
 use Rattle.machine_state.proofs.Changes.{channel_there}
-use Rattle.machine_state.proofs.Claims.{only_one, not_some}
+use Rattle.machine_state.proofs.Claims.{only_one}
 use Rattle.machine_state.proofs.Lines.{got_within}
 use Rattle.machine_state.proofs.Waiting.{link_found, link_low}
 use Rattle.machine_state.proofs.WhoWaitsOnLinks.{one_holds}
