@@ -5,7 +5,8 @@ use Rattle.module_format.specs.Contents.{Contents}
 use Rattle.machine_state.specs.declared.event.Event.{Event}
 use Rattle.machine_state.specs.declared.link.Link.{Link}
 use Rattle.machine_state.specs.World.{World}
-use Rattle.machine_state.specs.Happens.{Effect, ran, idle, emitted, taken, kept, busy, acknowledged, ignored, turn, happens}
+use Rattle.machine_state.specs.Happens.{Effect, ran, idle, emitted, taken, kept, busy, acknowledged, ignored, turn}
+use Rattle.machine_state.specs.Happens.{happens}
 use Rattle.link_runs.specs.FirstInFirstOut.{plain_step}
 use Rattle.link_runs.specs.Driving.{Quietly, ComesToRest, ComesToEmit, Proceeds, reported}
 use Rattle.link_runs.specs.declared.driving.Progress.{Progress}

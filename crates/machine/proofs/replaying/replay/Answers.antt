@@ -13,8 +13,8 @@ follow-requires c = (c.loop-event.machine.world, (refl, c.loop-event.invariant.r
 pub loop-event-init : goal.loop-event-init
 loop-event-init c =
     let loaded = c.in_ok-machine.ensures in
-    begins c.args.verified.now c.args.events.now c.args.events.now c.in_ok-machine.machine _ loaded.contents loaded.world
-    loaded.runs refl
+    begins c.args.verified.now c.args.events.now c.args.events.now c.in_ok-machine.machine _ loaded.contents
+    loaded.world loaded.runs refl
     (nothing_out c.new.result c.new-2.result c.new-3.result c.new-4.result c.new.ensures.items c.new-2.ensures.items
     c.new-3.ensures.items c.new-4.ensures.items)
 
