@@ -12,8 +12,9 @@ use std::alloc::Global;
 use verifier::Verified;
 
 /// Runs an accepted module, first in, first out, with a reader on each input link and a writer on each output link
-/// where one is given. A byte is read only while no process is running, and a process waits for it. A message is written
-/// before the next byte is read. A failed reader or writer is not called again.
+/// where one is given. A byte is read only while no process is running, and a process waits for it. A message is
+/// written before the next byte is read. A reader or writer that failed is not called again, and none of them may have
+/// failed before.
 pub fn run<R: LinkReader, W: LinkWriter>(
     alloc: Global,
     verified: &Verified,

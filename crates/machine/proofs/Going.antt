@@ -1,6 +1,6 @@
 -- A run goes on, event by event.
 use Rattle.std.proofs.Common.{◌≡◌, ℕ, Bool, true, false, if◌then◌else◌, nat_eq, List, [], ◌∷◌, ◌++◌, Some, Ok}
-use Rattle.std.proofs.Common.{Err, refl, sym, ap, subst, ◌∙◌, append_assoc, slice_get, slice_set, eqb-true}
+use Rattle.std.proofs.Common.{refl, sym, ap, subst, ◌∙◌, append_assoc, slice_get, slice_set, eqb-true}
 use Rattle.std.proofs.lemmas.Bool.{eqb-false}
 use Rattle.std.proofs.lemmas.List.{append-nil}
 use Rattle.std.specs.Global.{Vec}
@@ -14,12 +14,9 @@ use Rattle.machine_state.specs.World.{loaded}
 use Rattle.machine_state.specs.Happens.{happens, turn, run_from, world_after, emitted, emitted_by, emitted_from}
 use Rattle.machine_state.specs.Happens.{emitted_on}
 use Rattle.machine.specs.Driving.{Drive, RunsOn}
+use Rattle.machine.proofs.Proceeding.{Shows}
 use Rattle.machine.specs.Replaying.{GoesOut, bytes_of, out_on}
 use Rattle.machine_state.proofs.Lines.{got_set, got_other}
-
--- the machine is in this world
-abbrev pub Shows : Drive → World → Type 0
-Shows c w = (w ≡ c.world) × RunsOn c.contents w
 
 -- The run of a module that runs well, in the middle of a list of events: what is left of them leads to the same
 -- world, and puts out what is left to be put out.

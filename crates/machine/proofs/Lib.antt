@@ -2,3 +2,4 @@ pub mod Going
 pub mod NeverAtFault
 pub mod Granting
 pub mod Performing
+pub mod Proceeding

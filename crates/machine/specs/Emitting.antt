@@ -6,6 +6,8 @@ use Rattle.machine_state.specs.LocalStep.{are_defined}
 use Rattle.machine_state.specs.Memory.{Memory, place_of}
 use Rattle.machine.specs.declared.checked.act.Act.{Act}
 use Rattle.machine.specs.declared.checked.act.Act.TheVariants as acts
+use Rattle.link_runs.specs.declared.driving.Progress.{Progress}
+use Rattle.link_runs.specs.declared.driving.Progress.TheVariants as progresses
 use Rattle.link_runs.specs.declared.driving.Reaction.{Reaction}
 use Rattle.link_runs.specs.declared.driving.Reaction.TheVariants.{Ran, Idle, Emitted, Taken, Kept, Busy, Acknowledged}
 use Rattle.link_runs.specs.declared.driving.Reaction.TheVariants.{Ignored}
@@ -35,3 +37,9 @@ reaction_to acts.Kept = Kept
 reaction_to acts.Busy = Busy
 reaction_to acts.Acknowledged = Acknowledged
 reaction_to acts.Ignored = Ignored
+
+-- how far a Step that answers so goes on by itself; where there is none, the next one follows
+abbrev pub progress_by : Reaction → Option Progress
+progress_by Ran = None
+progress_by (Emitted link) = Some (progresses.Emitted link)
+progress_by _ = Some progresses.Idle

@@ -5,7 +5,7 @@ ghost use Rattle.machine_state.specs.World.{loaded};
 ghost use Rattle.machine_state.specs.Happens.{turn, happens};
 ghost use Rattle.verifier.specs.Headline.{IsEvent};
 ghost use Rattle.link_runs.specs.Awaiting.{awaited};
-ghost use Rattle.machine.specs.Emitting.{emitted_in, reaction_to};
+ghost use Rattle.machine.specs.Emitting.{emitted_in, reaction_to, progress_by};
 
 use crate::checked::{Act, Checked, Stop};
 use link_runs::{Machine, Progress, Reaction};
@@ -73,6 +73,17 @@ fn reaction_of(act: Act) -> Reaction
     }
 }
 
+/// How far a Step that did this goes on by itself, or none where the next one follows.
+fn progress_of(reaction: Reaction) -> Option<Progress>
+    ensures { result ≡ progress_by reaction }
+{
+    match reaction {
+        Reaction::Ran => None,
+        Reaction::Emitted { link } => Some(Progress::Emitted { link }),
+        _ => Some(Progress::Idle),
+    }
+}
+
 impl<'a> Driven<'a> {
     ghost use Rattle.link_runs.specs.Driving.{reported};
     ghost use Rattle.machine.specs.Driving.{RunsOn};
@@ -119,7 +130,6 @@ impl<'a> Driven<'a> {
 
 impl<'a> Machine for Driven<'a> {
     ghost use Rattle.std.proofs.Common.{ap, sym};
-    ghost use Rattle.machine.proofs.NeverAtFault.{is_reached};
     ghost use Rattle.machine.specs.Driving.{RunsOn};
 
     ghost contents = { λ d. d.contents };
@@ -132,10 +142,9 @@ impl<'a> Machine for Driven<'a> {
 
     fn proceed(&mut self) -> Result<Progress, AllocError> {
         'steps: loop {
-            match self.drive(STEP)? {
-                Reaction::Ran => {}
-                Reaction::Emitted { link } => return Ok(Progress::Emitted { link }),
-                _ => return Ok(Progress::Idle),
+            let reaction = self.drive(STEP)?;
+            if let Some(progress) = progress_of(reaction) {
+                return Ok(progress);
             }
         }
     }
@@ -167,7 +176,7 @@ impl<'a> Machine for Driven<'a> {
         self.checked.wants(link)
     }
 
-    ghost reached = { λ d w shown. is_reached d.contents w shown.1 };
+    ghost reached = { λ d w shown. shown.1.reached };
 
     ghost awaits_so = { λ d w shown. ap awaited (sym shown.0) };
 }

@@ -31,7 +31,8 @@ use Rattle.machine_state.proofs.Waiting.{lines_are_ready}
 use Rattle.machine_state.specs.Endings as turns
 use Rattle.machine_state.proofs.Turns.{settled_ends}
 use Rattle.machine_state.specs.Endings.{Ends}
-use Rattle.machine.specs.Asking.{Execution, is_running}
+use Rattle.machine.specs.Asking.{Execution}
+use Rattle.link_runs.specs.Wanting.{is_running}
 use Rattle.machine.specs.Lending.{shown}
 use Rattle.verifier.specs.Certified.{IsCertified}
 use Rattle.verifier.specs.Invariant.{Holds}

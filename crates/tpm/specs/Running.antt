@@ -5,7 +5,7 @@ use Rattle.machine_state.specs.declared.event.Event.{Event}
 use Rattle.machine_state.specs.declared.event.Event.TheVariants.{Step}
 use Rattle.machine_state.specs.World.{World}
 use Rattle.machine_state.specs.Happens.{world_after}
-use Rattle.machine.specs.Asking.{is_running}
+use Rattle.link_runs.specs.Wanting.{is_running}
 use Rattle.tpm.specs.declared.report.Report.{Report}
 use Rattle.tpm.specs.declared.report.Report.TheVariants.{Ended, Idle}
 

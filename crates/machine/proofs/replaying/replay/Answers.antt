@@ -4,16 +4,17 @@ use Rattle.module_format.proofs.Loop.{item_at}
 use Rattle.machine_state.specs.declared.event.Event.{Event}
 use Rattle.machine_state.specs.World.{World}
 use Rattle.machine.proofs.Going.{IsGoing, nothing_out, begins, goes_on, is_over}
+use Rattle.machine.proofs.Proceeding.{Shows}
 use Rattle.machine.proofs.replaying.replay.Goals as goal
 
 pub follow-requires : goal.follow-requires
-follow-requires c = (c.loop-event.machine.world, refl, c.loop-event.invariant.runs)
+follow-requires c = (c.loop-event.machine.world, (refl, c.loop-event.invariant.runs))
 
 pub loop-event-init : goal.loop-event-init
 loop-event-init c =
     let loaded = c.in_ok-machine.ensures in
-    begins c.args.verified.now c.args.events.now c.args.events.now c.in_ok-machine.machine _ loaded.contents loaded.world
-    loaded.runs refl
+    begins c.args.verified.now c.args.events.now c.args.events.now c.in_ok-machine.machine _ loaded.contents
+    loaded.world loaded.runs refl
     (nothing_out c.new.result c.new-2.result c.new-3.result c.new-4.result c.new.ensures.items c.new-2.ensures.items
     c.new-3.ensures.items c.new-4.ensures.items)
 
@@ -23,7 +24,7 @@ loop-event-preserved c =
     let events = c.args.events.now in
     let i = c.loop-event.event-index in
     let before = c.loop-event.machine in
-    let here = (refl, c.loop-event.invariant.runs) in
+    let here : Shows before before.world = (refl, c.loop-event.invariant.runs) in
     goes_on m events _ (drop (i + 1) events) before c.follow.new.machine c.loop-event.out c.follow.new.out
     (subst (λ (rest : List Event). IsGoing m events rest before c.loop-event.out)
     (item_at events i _ c.loop-event-test.true) c.loop-event.invariant)
@@ -35,7 +36,7 @@ returns c =
     let over = is_over c.args.verified.now c.args.events.now _ _ _ c.loop-event.invariant
     (drop_all c.loop-event.event-index c.args.events.now (search rules)) in
     let machine = c.loop-event.machine in
-    let here = (refl, c.loop-event.invariant.runs) in
+    let here : Shows machine machine.world = (refl, c.loop-event.invariant.runs) in
     record {
       finished = c.finished.ensures machine.world here ∙ ap (λ (w : World). w.counters.is_finished) over.0;
       executed = c.executed.ensures machine.world here ∙ ap (λ (w : World). w.counters.executed) over.0;

@@ -1,5 +1,5 @@
 use Rattle.std.proofs.Common.{◌≡◌, ◌+◌, ◌-◌, cond, false}
-use Rattle.machine.specs.Asking.{is_running}
+use Rattle.link_runs.specs.Wanting.{is_running}
 use Rattle.tpm.proofs.Steps.{IsAt}
 use Rattle.tpm.proofs.running.run_out.Given as goal
 
