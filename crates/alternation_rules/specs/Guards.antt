@@ -24,7 +24,7 @@ use Rattle.states.specs.State.{State, is_word}
 use Rattle.states.specs.Below.{below}
 use Rattle.rulings.specs.Rulings.{Site}
 use Rattle.rulings.specs.Channels.{channel_of, channels_meet}
-use Rattle.alternation_rules.specs.declared.guards.TheConstants.{MAX_GUARDS}
+use Rattle.states.specs.declared.state.TheConstants.{MAX_GUARDS}
 
 -- ---- what a guard is known by
 

@@ -1,15 +1,9 @@
 -- What the functions of the code tell of an alternation's end, and what they want of a state.
-use Rattle.std.specs.Prelude.{◌≡◌, ℕ, ◌≤◌, List, Result, Ok, Err, vec_capacity}
+use Rattle.std.specs.Prelude.{◌≡◌, ℕ, List, Result, Ok, Err}
 use Rattle.states.specs.declared.rule.Rule.{Rule}
-use Rattle.states.specs.declared.state.State.{State as InMemory}
 use Rattle.rulings.specs.Rulings.{Ruling, selects, breaks}
-use Rattle.alternation_rules.specs.declared.guards.TheConstants.{MAX_GUARDS}
 
 -- a process goes on at one of these labels, or a rule is broken
 abbrev pub Selects : {A : Type 0} → Result A Rule → List ℕ → Ruling → Type 0
 Selects (Ok x) labels ruling = ruling ≡ selects labels
 Selects (Err broken) labels ruling = ruling ≡ breaks broken
-
--- memory for as many guards as an alternation may have is there
-pub record HasRoomForGuards (s : InMemory) : Type 0 where
-  pub room : MAX_GUARDS ≤ vec_capacity s.guards

@@ -6,7 +6,7 @@ ghost use Rattle.rulings.specs.Telling.{Advances};
 ghost use Rattle.rulings.specs.Places.{site_of};
 ghost use Rattle.module_format.specs.Stack.{of_empty, with_top};
 ghost use Rattle.states.specs.State.{unknown};
-ghost use Rattle.alternation_rules.specs.Telling.{HasRoomForGuards};
+ghost use Rattle.states.specs.Room.{HasRoomForGuards};
 ghost use Rattle.alternation_rules.specs.AlternationRules.{alt_rule, enables, enbc_rule, enbs_rule, altwt_rule};
 ghost use Rattle.alternation_rules.specs.AlternationRules.{disables, disc_rule, diss_rule, alternation_rule};
 

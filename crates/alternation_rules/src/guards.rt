@@ -6,7 +6,7 @@ ghost use Rattle.states.specs.Views.{state_of};
 ghost use Rattle.rulings.specs.Rulings.{settles};
 ghost use Rattle.rulings.specs.Telling.{Gives};
 ghost use Rattle.rulings.specs.Places.{site_of};
-ghost use Rattle.alternation_rules.specs.declared.guards.TheConstants.{MAX_GUARDS};
+ghost use Rattle.states.specs.declared.state.TheConstants.{MAX_GUARDS};
 ghost use Rattle.alternation_rules.specs.Guards.{is_same_kind, is_same_name, is_guard, is_named_by, source_name};
 ghost use Rattle.alternation_rules.specs.Guards.{name_of, guard_channel, distance_of, is_new, has_room, guard_at};
 ghost use Rattle.alternation_rules.specs.Guards.{enabled_guard, exit_at, is_off_scheduling, may_name};
@@ -14,10 +14,7 @@ ghost use Rattle.alternation_rules.specs.Guards.{enabled_guard, exit_at, is_off_
 use certificate::{EndKind, Fact};
 use rulings::Place;
 use rulings::channels::{channel_of, channels_meet};
-use states::{Guard, GuardKind, GuardName, Known, Rule, Source, State, WordFact};
-
-/// How many guards an alternation may have.
-pub const MAX_GUARDS: usize = 64;
+use states::{Guard, GuardKind, GuardName, Known, MAX_GUARDS, Rule, Source, State, WordFact};
 
 /// Whether two guards wait for the same channel, or both for nothing.
 fn is_same_kind(kind: GuardKind, other: GuardKind) -> bool

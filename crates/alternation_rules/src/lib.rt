@@ -9,5 +9,5 @@ mod modes;
 
 pub use alternations::advance_alternation;
 pub use ends::end_alternation;
-pub use guards::{MAX_GUARDS, exit_at};
+pub use guards::exit_at;
 pub use laws::{operations_ask_their_mode, rules_judge_choice, tests_tell_guards_apart};

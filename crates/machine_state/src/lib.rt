@@ -36,6 +36,7 @@ pub use laws::{
     waiting_is_in_order,
 };
 pub use link::{InputLink, Link, OutputLink};
+pub use loading::loaded_bytes;
 pub use op::{LongOp, Op, Shift};
 pub use process::{Channel, Condition, Exchange, Mode, Registers, Task, Word};
 pub use request::Request;

@@ -19,8 +19,9 @@ pub(crate) fn padding(code_length: usize) -> usize
     (4 - code_length % 4) % 4
 }
 
-/// The bytes that a module begins with.
-pub(crate) fn loaded_bytes(alloc: Global, tables: &Tables) -> Result<Vec<u8>, AllocError>
+/// The memory that a module begins with, as bytes: `data_words` words, the code, what lies between it and the next
+/// word, and the constants; 0 where the module says nothing. The only error is that memory ran out.
+pub fn loaded_bytes(alloc: Global, tables: &Tables) -> Result<Vec<u8>, AllocError>
     requires { IsLoadable (contents_of tables.now) }
     ensures { let t = tables.now in
         let gap = replicate (padding (length t.code.now)) 0 in

@@ -26,4 +26,4 @@ pub use rule::{
     UNKNOWN_REGISTER,
 };
 pub use span::{Leaving, Together};
-pub use state::State;
+pub use state::{MAX_GUARDS, State};

@@ -13,7 +13,7 @@ ghost use Rattle.states.specs.State.{is_silent, procedure_state, label_state};
 ghost use Rattle.states.specs.Frames.{with_alone};
 ghost use Rattle.states.specs.Rows.{LoopFits, IsRowOf};
 ghost use Rattle.states.specs.Views.{state_of, CanWrite, CanWriteSpan, BelongsTo, IsUsable, AreUsable};
-ghost use Rattle.states.specs.Room.{Covers};
+ghost use Rattle.states.specs.Room.{Covers, HasRoomForGuards};
 ghost use Rattle.states.specs.Spans.{is_in_span, all_words, together, on_span, after_change};
 
 use crate::frame::Frame;
@@ -24,7 +24,7 @@ use certificate::{Fact, LabelRow, Module, ProcedureRow, Stack, Tables};
 use std::alloc::{AllocError, Global};
 
 /// How many guards an alternation may have.
-const MAX_GUARDS: usize = 64;
+pub const MAX_GUARDS: usize = 64;
 
 /// What is known of a process at a place of its code. All that it needs is allocated when it is made.
 #[derive(Drop)]
@@ -140,6 +140,7 @@ impl<'a> State<'a> {
     pub fn root(alloc: Global, module: &'a Module<'a>) -> Result<Self, AllocError>
         ensures state { IfOk result (λ s. state_of s ≡ root_state «module».now) }
         ensures belongs { IfOk result (BelongsTo «module».now) }
+        ensures room { IfOk result HasRoomForGuards }
     {
         let tables = module.tables();
         let (lo, hi) = room_of(tables);
@@ -379,6 +380,7 @@ impl<'a> State<'a> {
     pub fn copy(&self, alloc: Global) -> Result<Self, AllocError>
         ensures state { IfOk result (λ s. state_of s ≡ state_of self.now) }
         ensures belongs { (m : Contents) → BelongsTo m self.now → IfOk result (BelongsTo m) }
+        ensures room { IfOk result HasRoomForGuards }
     {
         let mut guards = Vec::with_capacity(alloc, MAX_GUARDS)?;
         guards.extend_from_slice(&self.guards)?;
