@@ -17,7 +17,7 @@ use Rattle.scalar_ranges.proofs.Following.{put_follows}
 
 -- ---- a block ends
 
-undone_other : (cs : List Change) (i : ℕ) (ss : List Slot) → is_one_of (numbers_of cs) i ≡ false
+pub undone_other : (cs : List Change) (i : ℕ) (ss : List Slot) → is_one_of (numbers_of cs) i ≡ false
     → item_at i (undone cs ss) ≡ item_at i ss
 undone_other [] i ss others = refl
 undone_other (c ∷ cs) i ss others =
@@ -25,14 +25,14 @@ undone_other (c ∷ cs) i ss others =
     other_item (restored c.before) c.number i (undone cs ss) (first_not (nat_eq c.number i) listed others)
     ∙ undone_other cs i ss (second_not (nat_eq c.number i) listed others)
 
-undone_names : (cs : List Change) (ss : List Slot)
+pub undone_names : (cs : List Change) (ss : List Slot)
     → map (λ (s : Slot). s.name) (undone cs ss) ≡ map (λ (s : Slot). s.name) ss
 undone_names [] ss = refl
 undone_names (c ∷ cs) ss =
     map_unmodified (λ (s : Slot). s.name) (restored c.before) c.number (undone cs ss) (λ s is. refl)
     ∙ undone_names cs ss
 
-undone_long : (cs : List Change) (ss : List Slot) → length (undone cs ss) ≡ length ss
+pub undone_long : (cs : List Change) (ss : List Slot) → length (undone cs ss) ≡ length ss
 undone_long [] ss = refl
 undone_long (c ∷ cs) ss = modify_long (restored c.before) c.number (undone cs ss) ∙ undone_long cs ss
 
@@ -161,7 +161,7 @@ entries_alike (x ∷ xs) (y ∷ ys) names meanings =
     let further : map (λ (e : Entry). e.meaning) xs ≡ map (λ (e : Entry). e.meaning) ys = cc in
     λ i. record { name = name i; meaning = meaning i } ∷ entries_alike xs ys more further i
 
-abbrev final_entry : ℕ → Bool → Slot → Entry
+abbrev pub final_entry : ℕ → Bool → Slot → Entry
 final_entry d ended s = record { name = s.name; meaning = meaning_after d ended s }
 
 final_by : (d : ℕ) (ended : Bool) (o : Option Slot) → ((s : Slot) → o ≡ Some s → nat_eq s.mark d ≡ false)
@@ -170,7 +170,7 @@ final_by d ended None unmarked = refl
 final_by d ended (Some s) unmarked =
     λ i. Some (cond (sym (unmarked s refl) i) (cond ended s.ends s.start) s.meaning)
 
-final_seen : (d : ℕ) (ended : Bool) (ss : List Slot) → seen (final_entry d ended) ss
+pub final_seen : (d : ℕ) (ended : Bool) (ss : List Slot) → seen (final_entry d ended) ss
     ≡ unwrap_or (ends_seen ended (seen (end_in d) ss)) (seen (start_in d) ss)
 final_seen d true ss = refl
 final_seen d false ss = refl

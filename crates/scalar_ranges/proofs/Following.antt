@@ -106,12 +106,12 @@ up_to : (ss : List Slot) (bs : List Branching) → AreTracked ss bs → AreUpTo 
 up_to ss [] tracked = tracked
 up_to ss (b ∷ bs) tracked = tracked.0.1
 
-map_alike : {A B : Type 0} (g h : A → B) (xs : List A) → ((i : ℕ) (x : A) → item_at i xs ≡ Some x → g x ≡ h x)
+pub map_alike : {A B : Type 0} (g h : A → B) (xs : List A) → ((i : ℕ) (x : A) → item_at i xs ≡ Some x → g x ≡ h x)
     → map g xs ≡ map h xs
 map_alike g h [] same = refl
 map_alike g h (x ∷ xs) same = λ i. same 0 x refl i ∷ map_alike g h xs (λ k y is. same (suc k) y is) i
 
-not_yet : (a d : ℕ) → a ≤ d → nat_eq a (suc d) ≡ false
+pub not_yet : (a d : ℕ) → a ≤ d → nat_eq a (suc d) ≡ false
 not_yet a d h = grind (arith, nat_tests)
 
 whole : (ss : List Slot) → take (length ss) ss ≡ ss

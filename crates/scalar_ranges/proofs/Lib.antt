@@ -24,6 +24,7 @@ pub mod Touching
 pub mod Following
 pub mod Ending
 pub mod Components
+pub mod HandingOver
 pub mod Cutting
 pub mod SlotLoops
 pub mod Noting

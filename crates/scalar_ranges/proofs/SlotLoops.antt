@@ -1,13 +1,15 @@
 -- What the program makes of its slots and lists is what the definitions make of them.
 use Rattle.std.proofs.Common.{◌≡◌, ℕ, zero, suc, ◌+◌, ◌-◌, ◌<◌, ◌≤◌, List, [], ◌∷◌, length, map, take, drop, set}
-use Rattle.std.proofs.Common.{get_or, Option, Some, None, refl, sym, ap, subst, arith, ◌∙◌, option_map}
-use Rattle.std.proofs.lemmas.List.{drop_more, drop_all, get_or-map, length-map, take_all}
+use Rattle.std.proofs.Common.{get_or, Option, Some, None, refl, sym, ap, subst, arith, ◌∙◌, option_map, ◌++◌}
+use Rattle.std.proofs.Common.{nat_eq, Bool, false}
+use Rattle.std.proofs.lemmas.Bool.Decides.{nat_tests}
+use Rattle.std.proofs.lemmas.List.{drop_more, drop_all, get_or-map, length-map, take_all, append_assoc}
 use Rattle.scalar_ranges.specs.declared.slots.Slot as code_slot
 use Rattle.scalar_ranges.specs.declared.slots.Change as code_change
 use Rattle.scalar_ranges.specs.Entries.{Meaning, Entry, entry_at}
 use Rattle.scalar_ranges.specs.Environments.{item_at}
 use Rattle.scalar_ranges.specs.Changes.{Slot, Change, Tracked, entry_in, seen, modify, restored, undone, numbers_of}
-use Rattle.scalar_ranges.specs.Changes.{each, put_if, puts, known_if}
+use Rattle.scalar_ranges.specs.Changes.{each, put_if, puts, known_if, handed_slot, handed, AreForeign}
 use Rattle.scalar_ranges.specs.ChangeViews.{meaning_of, slot_of, slots_from, change_of, changes_from, afters_from}
 use Rattle.scalar_ranges.specs.ChangeViews.{put_afters, known_afters, AfterBlock}
 use Rattle.scalar_ranges.specs.Moves.{Known}
@@ -75,7 +77,7 @@ entry_seen n ss = reverse_entry n (map entry_in ss) ∙ item_mapped entry_in n s
 
 -- ---- a loop over numbers, or over a list of changes
 
-change_at : (cs : List code_change.Change) (i : ℕ) (c : code_change.Change) → i < length cs → c ≡ get_or cs i c
+pub change_at : (cs : List code_change.Change) (i : ℕ) (c : code_change.Change) → i < length cs → c ≡ get_or cs i c
     → drop i (changes_from cs) ≡ change_of c ∷ drop (i + 1) (changes_from cs)
 change_at cs i c less found =
     let long = length-map cs change_of in
@@ -137,6 +139,64 @@ pub undo_done : (cs : List code_change.Change) (place : ℕ) (now all : List Slo
 undo_done cs place now all least so_far =
     let none : length cs - place ≡ 0 = omega arith in
     so_far ∙ ap (λ k. undone (drop k (changes_from cs)) all) none
+
+-- the entries of a list come to the lists of the block around, the last one first
+pub hand_turn : (inner outer : ℕ) (ended : Bool) (cs : List code_change.Change) (place : ℕ) (c : code_change.Change)
+    (before after all : List Slot) → place < length cs → c ≡ get_or cs (length cs - 1 - place) c
+    → after ≡ modify (handed_slot inner outer ended (meaning_of c.before.meaning)) c.number before
+    → before ≡ handed inner outer ended (drop (length cs - place) (changes_from cs)) all
+    → after ≡ handed inner outer ended (drop (length cs - (place + 1)) (changes_from cs)) all
+hand_turn inner outer ended cs place c before after all less found is so_far =
+    let f = handed_slot inner outer ended (meaning_of c.before.meaning) in
+    let k = length cs - 1 - place in
+    let first : length cs - (place + 1) ≡ k = omega arith in
+    let next : k + 1 ≡ length cs - place = omega arith in
+    is ∙ ap (modify f c.number) so_far
+    ∙ ap (λ j. modify f c.number (handed inner outer ended (drop j (changes_from cs)) all)) (sym next)
+    ∙ ap (λ ks. handed inner outer ended ks all) (sym (change_at cs k c (omega arith) found))
+    ∙ ap (λ j. handed inner outer ended (drop j (changes_from cs)) all) (sym first)
+
+pub hand_begins : (inner outer : ℕ) (ended : Bool) (cs : List code_change.Change) (ss : List Slot)
+    → ss ≡ handed inner outer ended (drop (length cs - 0) (changes_from cs)) ss
+hand_begins inner outer ended cs ss =
+    let long = length-map cs change_of in
+    ap (λ ks. handed inner outer ended ks ss) (sym (drop_all (length cs - 0) (changes_from cs) (omega arith)))
+
+pub hand_done : (inner outer : ℕ) (ended : Bool) (cs : List code_change.Change) (place : ℕ) (now all : List Slot)
+    → length cs ≤ place → now ≡ handed inner outer ended (drop (length cs - place) (changes_from cs)) all
+    → now ≡ handed inner outer ended (changes_from cs) all
+hand_done inner outer ended cs place now all least so_far =
+    let none : length cs - place ≡ 0 = omega arith in
+    so_far ∙ ap (λ k. handed inner outer ended (drop k (changes_from cs)) all) none
+
+-- the numbers of the entries in a list come to others
+pub numbers_turn : (cs : List code_change.Change) (i : ℕ) (c : code_change.Change) (before after all : List ℕ)
+    → i < length cs → c ≡ get_or cs i c → after ≡ before ++ c.number ∷ []
+    → before ++ drop i (numbers_of (changes_from cs)) ≡ all
+    → after ++ drop (i + 1) (numbers_of (changes_from cs)) ≡ all
+numbers_turn cs i c before after all less found is so_far =
+    let ns = numbers_of (changes_from cs) in
+    ap (λ ms. ms ++ drop (i + 1) ns) is ∙ append_assoc before (c.number ∷ []) (drop (i + 1) ns)
+    ∙ ap (λ ms. before ++ ms) (sym (number_at cs i c less found)) ∙ so_far
+
+unlike : (a b : ℕ) → (a ≡ b → ⊥) → nat_eq a b ≡ false
+unlike a b apart = grind (arith, nat_tests)
+
+-- changes of which each is foreign to a block
+pub foreign_turn : (count d : ℕ) (cs : List code_change.Change) (i : ℕ) (c : code_change.Change) → i < length cs
+    → c ≡ get_or cs i c → c.number < count → (c.before.mark ≡ d → ⊥)
+    → (AreForeign count d (drop i (changes_from cs)) → AreForeign count d (changes_from cs))
+    → AreForeign count d (drop (i + 1) (changes_from cs)) → AreForeign count d (changes_from cs)
+foreign_turn count d cs i c less found low apart so_far others =
+    so_far (subst (AreForeign count d) (sym (change_at cs i c less found))
+    (low, unlike c.before.mark d apart, others))
+
+pub foreign_done : (count d : ℕ) (cs : List code_change.Change) (i : ℕ) → length cs ≤ i
+    → (AreForeign count d (drop i (changes_from cs)) → AreForeign count d (changes_from cs))
+    → AreForeign count d (changes_from cs)
+foreign_done count d cs i least so_far =
+    let long = length-map cs change_of in
+    so_far (subst (AreForeign count d) (sym (drop_all i (changes_from cs) (omega arith))) tt)
 
 -- what the entries mean after a block
 pub same_changes : (cs : List code_change.Change) (k : ℕ) (x d : code_change.Change) → k < length cs

@@ -1,7 +1,7 @@
 -- What the program makes of its slots and blocks is the move that the definitions make of them.
 use Rattle.std.proofs.Common.{◌≡◌, ℕ, Bool, true, false, cond, List, [], ◌∷◌, ◌++◌, length, map, take, sym, ap}
-use Rattle.std.proofs.Common.{subst, ◌∙◌, refl, Option, Some, None, option_map}
-use Rattle.std.proofs.lemmas.List.{take-map, map-append}
+use Rattle.std.proofs.Common.{subst, ◌∙◌, refl, Option, Some, None, option_map, suc, ◌≤◌, arith}
+use Rattle.std.proofs.lemmas.List.{take-map, map-append, length-map}
 use Rattle.scalar_ranges.specs.declared.changes.Tracked as code_tracked
 use Rattle.scalar_ranges.specs.Entries.{Entry, Meaning}
 use Rattle.scalar_ranges.specs.declared.slots.Slot as code_slot
@@ -11,12 +11,15 @@ use Rattle.scalar_ranges.specs.Changes.{Slot, Branching, Tracked, modify, undone
 use Rattle.scalar_ranges.specs.Changes.{turned_slots, turned_block, next_in, component_slots, component_block}
 use Rattle.scalar_ranges.specs.Changes.{component_in, meaning_after, puts, ended_in, fresh, cut}
 use Rattle.scalar_ranges.specs.Changes.{note, touch, put_by, put_if, known_if, known_in, Follows}
-use Rattle.scalar_ranges.specs.Moves.{Known}
-use Rattle.scalar_ranges.specs.ChangeViews.{slot_of, slots_from, changes_from, branching_of, branchings_from}
+use Rattle.scalar_ranges.specs.Changes.{handed, handed_block, handed_over, HandsOver}
+use Rattle.scalar_ranges.specs.Moves.{Known, end}
+use Rattle.scalar_ranges.specs.ChangeViews.{slot_of, slots_from, change_of, changes_from, branching_of}
+use Rattle.scalar_ranges.specs.ChangeViews.{branchings_from}
 use Rattle.scalar_ranges.specs.ChangeViews.{meaning_of, tracked_from, put_afters, known_afters, AfterBlock}
 use Rattle.scalar_ranges.specs.ChangeViews.{BelongTogether}
 use Rattle.scalar_ranges.specs.TrackedViews.{tracked_of}
 use Rattle.scalar_ranges.proofs.Following.{begun_follows, put_follows}
+use Rattle.scalar_ranges.proofs.HandingOver.{handed_follows, list_fits, began_before}
 use Rattle.scalar_ranges.proofs.Cutting.{declared_tracked}
 use Rattle.scalar_ranges.proofs.SlotLoops.{slots_modified, puts_are}
 use Rattle.scalar_ranges.proofs.Noting.{Innermost, branchings_apart, put_back}
@@ -168,3 +171,62 @@ end_is depth slots back blocks rest b changes lent after inner begins same putti
     (map (meaning_after (inner.deep i) b.ended) (take b.count (slots_from slots)))
     (record { slots = begins.begins i; blocks = bs }))
     ∙ ap (ended_in (slots_from slots)) (sym inner.seen)
+
+-- ---- a block ends, and the block around has its list
+
+-- the two innermost blocks apart
+pub both_apart : (blocks middle rest : List code_branching.Branching) (b o : code_branching.Branching)
+    → blocks ≡ middle ++ b ∷ [] → middle ≡ rest ++ o ∷ []
+    → branchings_from blocks ≡ branching_of b ∷ branching_of o ∷ branchings_from rest
+both_apart blocks middle rest b o is next =
+    branchings_apart blocks middle b is ∙ ap (λ k. branching_of b ∷ k) (branchings_apart middle rest o next)
+
+pub over_is : (inner outer : ℕ) (slots cut lent now whole : List code_slot.Slot)
+    (listed : List code_change.Change) (rest all : List code_branching.Branching)
+    (b o after : code_branching.Branching) → outer ≡ suc (length (branchings_from rest)) → inner ≡ suc outer
+    → cut ≡ take b.count slots → lent ≡ cut → listed ≡ b.changes.items
+    → slots_from now ≡ handed inner outer b.ended (changes_from listed) (slots_from lent) → whole ≡ now
+    → all ≡ rest ++ after ∷ [] → branching_of after ≡ handed_block (changes_from b.changes.items) (branching_of o)
+    → tracked_from whole all
+    ≡ handed_over (slots_from slots) (branching_of b) (branching_of o) (branchings_from rest)
+over_is inner outer slots cut lent now whole listed rest all b o after deep more taken same its handing is pushed has =
+    let changed = ap slots_from is ∙ handing ∙ (λ i. handed ((more ∙ ap suc deep) i) (deep i) b.ended
+    (changes_from (its i)) ((ap slots_from same ∙ slots_cut slots cut b.count taken) i)) in
+    put_back whole rest all after changed pushed has
+
+-- what is known then
+pub over_follows : (slots : List code_slot.Slot) (blocks rest : List code_branching.Branching)
+    (b o : code_branching.Branching)
+    → branchings_from blocks ≡ branching_of b ∷ branching_of o ∷ branchings_from rest → BelongTogether slots blocks
+    → HandsOver (branchings_from blocks)
+    → Follows (handed_over (slots_from slots) (branching_of b) (branching_of o) (branchings_from rest))
+    (end (known_in (tracked_from slots blocks)))
+over_follows slots blocks rest b o seen tracked hands =
+    let ss = slots_from slots in
+    let has = subst HandsOver seen hands in
+    subst (λ bs. Follows (handed_over ss (branching_of b) (branching_of o) (branchings_from rest))
+    (end (known_in (record { slots = ss; blocks = bs })))) (sym seen)
+    (handed_follows ss (branching_of b) (branching_of o) (branchings_from rest) (subst (AreTracked ss) seen tracked)
+    has.0 has.1 has.2)
+
+-- that the block around can have the list
+pub record Fits (b o : code_branching.Branching) : Type 0 where
+  pub count : o.count ≤ b.count
+  pub room : length b.changes.items ≤ o.count
+  pub none : o.recent.items ≡ []
+
+pub over_fits : (slots : List code_slot.Slot) (blocks rest : List code_branching.Branching)
+    (b o : code_branching.Branching)
+    → branchings_from blocks ≡ branching_of b ∷ branching_of o ∷ branchings_from rest → BelongTogether slots blocks
+    → HandsOver (branchings_from blocks) → Fits b o
+over_fits slots blocks rest b o seen tracked hands =
+    let ss = slots_from slots in
+    let here = subst (AreTracked ss) seen tracked in
+    let has = subst HandsOver seen hands in
+    let long = length-map b.changes.items change_of in
+    let fits = list_fits ss (branching_of b) (branching_of o) (branchings_from rest) here has.0 has.1 has.2 in
+    record {
+      count = began_before ss (branching_of b) (branching_of o) (branchings_from rest) here has.0 has.1 has.2;
+      room = omega arith;
+      none = has.1;
+    }

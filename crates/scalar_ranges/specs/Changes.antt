@@ -330,6 +330,46 @@ ended_in ss (b ∷ bs) =
     puts (numbers_of b.changes) (map (meaning_after (suc (length bs)) b.ended) (take b.count ss))
     (record { slots = before b ss; blocks = bs })
 
+-- ---- a block around that has empty lists
+
+-- an entry that a block changed, where the block around has it in its lists
+abbrev pub handed_slot : ℕ → ℕ → Bool → Meaning → Slot → Slot
+handed_slot inner outer ended before s = record {
+  name = s.name;
+  meaning = meaning_after inner ended s;
+  mark = outer;
+  recent = true;
+  start = before;
+  ends = before;
+}
+
+-- all entries in the list of a block, the last one first
+abbrev pub handed : ℕ → ℕ → Bool → List Change → List Slot → List Slot
+handed inner outer ended [] ss = ss
+handed inner outer ended (c ∷ cs) ss =
+    modify (handed_slot inner outer ended c.before.meaning) c.number (handed inner outer ended cs ss)
+
+abbrev pub handed_block : List Change → Branching → Branching
+handed_block cs b = record b { changes = cs; recent = numbers_of cs }
+
+-- A block ends, and the block around has its list.
+abbrev pub handed_over : List Slot → Branching → Branching → List Branching → Tracked
+handed_over ss b o bs = record {
+  slots = handed (suc (suc (length bs))) (suc (length bs)) b.ended b.changes (take b.count ss);
+  blocks = handed_block b.changes o ∷ bs;
+}
+
+-- changes of entries with which a block of this depth began, and which it does not have in its list
+abbrev pub AreForeign : ℕ → ℕ → List Change → Type 0
+AreForeign count d [] = Unit {0}
+AreForeign count d (c ∷ cs) = (c.number < count) × (nat_eq c.before.mark d ≡ false) × AreForeign count d cs
+
+-- The block around the innermost one has empty lists, and can have the innermost one's in their place.
+abbrev pub HandsOver : List Branching → Type 0
+HandsOver [] = ⊥
+HandsOver (b ∷ []) = ⊥
+HandsOver (b ∷ o ∷ bs) = (o.changes ≡ []) × (o.recent ≡ []) × AreForeign o.count (suc (length bs)) b.changes
+
 -- an entry that no block has in its list
 abbrev pub fresh : Entry → Slot
 fresh e = record {

@@ -1,9 +1,11 @@
 //! The blocks of branches around a place, by lists of what changed in them.
 
-ghost use Rattle.std.specs.Prelude.{◌≡◌, ◌≤◌, [], OnOk, OnErr, map, length, option_map};
+ghost use Rattle.std.specs.Prelude.{◌≡◌, ◌≤◌, ◌+◌, ◌++◌, true, [], OnOk, OnErr, map, length, option_map};
+ghost use Rattle.std.specs.Prelude.{vec_capacity};
 ghost use Rattle.scalar_ranges.specs.Environments.{item_at};
 ghost use Rattle.scalar_ranges.specs.Changes.{modify, numbers_of, each, turned_slots, joined_by, component_slots};
-ghost use Rattle.scalar_ranges.specs.Changes.{undone, restored, meaning_after, known_with, IsWithin};
+ghost use Rattle.scalar_ranges.specs.Changes.{undone, restored, meaning_after, known_with, IsWithin, AreForeign};
+ghost use Rattle.scalar_ranges.specs.Changes.{handed, handed_block, HandsOver};
 ghost use Rattle.scalar_ranges.specs.ChangeViews.{meaning_of, entry_of, slot_of, updated, slots_from, changes_from};
 ghost use Rattle.scalar_ranges.specs.ChangeViews.{branching_of, known_afters};
 ghost use Rattle.scalar_ranges.specs.ChangeViews.{AfterBlock, BelongTogether, BelongTogether-prop};
@@ -232,8 +234,54 @@ impl<'a> Tracked<'a> {
         }
     }
 
-    /// A block ends: its changes are taken back, and what is known after it changes what is around it.
+    /// A block ends.
     pub(crate) fn end(&mut self)
+        ensures { known_by self.new ≡ end (known_by self.old) }
+    {
+        if self.hands_over() {
+            self.hand_over();
+        } else {
+            self.put_back();
+        }
+    }
+
+    /// Whether the block around the innermost one has empty lists, and can have the innermost one's in their place.
+    fn hands_over(&self) -> bool
+        ensures { result ≡ true → HandsOver (tracked_of self.now).blocks }
+    {
+        let depth = self.blocks.len();
+        if depth < 2 {
+            return false;
+        }
+        let outer = &self.blocks[depth - 2];
+        outer.changes.is_empty()
+            && outer.recent.is_empty()
+            && are_foreign(&self.blocks[depth - 1].changes, outer.count, depth - 1)
+    }
+
+    /// A block ends, and the block around has its list. It costs a step for each change, and nothing is copied.
+    fn hand_over(&mut self)
+        requires { HandsOver (tracked_of self.old).blocks }
+        ensures { known_by self.new ≡ end (known_by self.old) }
+    {
+        let depth = self.blocks.len();
+        if let Some(block) = self.blocks.pop() {
+            let Branching {
+                count,
+                ended,
+                changes,
+                ..
+            } = block;
+            if let Some(outer) = self.blocks.pop() {
+                self.slots.truncate(count);
+                hand_slots(&mut self.slots, &changes, depth, depth - 1, ended);
+                self.blocks.push_reserved(handed_block(outer, changes));
+            }
+        }
+    }
+
+    /// A block ends: its changes are taken back, and what is known after it changes what is around it.
+    fn put_back(&mut self)
         ensures { known_by self.new ≡ end (known_by self.old) }
     {
         let depth = self.blocks.len();
@@ -317,6 +365,78 @@ fn take_back<'a>(slots: &mut [Slot<'a>], changes: &mut [Change<'a>], depth: usiz
 {
     conclude(changes, slots, depth, ended);
     undo(slots, changes);
+}
+
+/// Whether these are changes of entries with which a block of this depth began, and which it does not have in its list.
+fn are_foreign(changes: &[Change], count: usize, depth: usize) -> bool
+    ensures { result ≡ true → AreForeign count depth (changes_from changes.now) }
+{
+    for change in changes {
+        if change.number >= count || change.before.mark == depth {
+            return false;
+        }
+    }
+    true
+}
+
+/// The outer block with the list of a block in it as its own, which its branch has too. It had none itself.
+fn handed_block<'a>(outer: Branching<'a>, changes: Vec<Change<'a>>) -> Branching<'a>
+    requires room { outer.count ≤ vec_capacity changes }
+    requires count { length changes.items ≤ outer.count }
+    requires none { outer.recent.items ≡ [] }
+    ensures { branching_of result ≡ handed_block (changes_from changes.entry.items) (branching_of outer.entry) }
+{
+    let Branching {
+        count,
+        ended,
+        even,
+        earlier,
+        mut recent,
+        ..
+    } = outer;
+    add_numbers(&mut recent, &changes);
+    Branching {
+        count,
+        ended,
+        even,
+        changes,
+        earlier,
+        recent,
+    }
+}
+
+/// The numbers of the entries in a list come to other numbers.
+fn add_numbers(numbers: &mut Vec<usize>, changes: &[Change])
+    requires { length numbers.old.items + length changes.now ≤ vec_capacity numbers.old }
+    ensures items { numbers.new.items ≡ numbers.old.items ++ numbers_of (changes_from changes.now) }
+    ensures capacity { vec_capacity numbers.new ≡ vec_capacity numbers.old }
+{
+    for change in changes {
+        numbers.push_reserved(change.number);
+    }
+}
+
+/// The entries in the list of a block of the depth `inner` come to the lists of the block around, the last one first.
+fn hand_slots<'a>(
+    slots: &mut [Slot<'a>],
+    changes: &[Change<'a>],
+    inner: usize,
+    outer: usize,
+    ended: bool,
+)
+    ensures { slots_from slots.new ≡ handed inner outer ended (changes_from changes.now) (slots_from slots.old) }
+{
+    for place in 0..changes.len() {
+        let change = &changes[changes.len() - 1 - place];
+        let before = change.before.meaning;
+        let update = Update::HandOver {
+            inner,
+            outer,
+            ended,
+            before,
+        };
+        modify(slots, change.number, update);
+    }
 }
 
 /// The slot with this number is updated, if there is one.

@@ -70,6 +70,14 @@ pub(crate) enum Update {
     },
     /// A branch of the block of this depth ends, which matters if the block has it in its list.
     End(usize, Turn),
+    /// A block of the depth `inner` ends, and the block around it, of the depth `outer`, has it in its lists from now
+    /// on. It meant `before` where the inner block began.
+    HandOver {
+        inner: usize,
+        outer: usize,
+        ended: bool,
+        before: Meaning,
+    },
 }
 
 /// What becomes of an entry that changed in a branch, where the branch ends.
@@ -120,7 +128,7 @@ impl<'a> Branching<'a> {
 }
 
 impl<'a> Slot<'a> {
-    ghost use Rattle.scalar_ranges.specs.Changes.{fresh, meaning_after, is_open_in};
+    ghost use Rattle.scalar_ranges.specs.Changes.{fresh, meaning_after, is_open_in, handed_slot};
     ghost use Rattle.scalar_ranges.specs.ChangeViews.{meaning_of, entry_of, slot_of, updated, turned, turned_to};
 
     /// An entry that no block has in its list.
@@ -155,7 +163,24 @@ impl<'a> Slot<'a> {
                 constant,
             } => self.start = narrowed(self.start, comparison, constant),
             Update::End(depth, turn) => self.turn(depth, turn),
+            Update::HandOver {
+                inner,
+                outer,
+                ended,
+                before,
+            } => self.hand_over(inner, outer, ended, before),
         }
+    }
+
+    /// A block of the depth `inner` ends, and the block around has the entry in its lists, where it began as `before`.
+    fn hand_over(&mut self, inner: usize, outer: usize, ended: bool, before: Meaning)
+        ensures { slot_of self.new ≡ handed_slot inner outer ended (meaning_of before) (slot_of self.old) }
+    {
+        self.meaning = self.meaning_after(inner, ended);
+        self.mark = outer;
+        self.recent = true;
+        self.start = before;
+        self.ends = before;
     }
 
     /// The slot is as it was, with its name.

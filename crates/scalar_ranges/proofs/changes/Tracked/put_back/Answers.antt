@@ -7,8 +7,8 @@ use Rattle.scalar_ranges.specs.TrackedViews.{tracked_of, known_by}
 use Rattle.scalar_ranges.proofs.Ending.{end_follows}
 use Rattle.scalar_ranges.proofs.Noting.{Innermost, innermost}
 use Rattle.scalar_ranges.proofs.Turning.{followed, known_is, TakenBack, taken_back, afters_known, around, end_is}
-use Rattle.scalar_ranges.proofs.changes.Tracked.end.Goals as goal
-use Rattle.scalar_ranges.proofs.changes.Tracked.end.Goals.{After-take_back}
+use Rattle.scalar_ranges.proofs.changes.Tracked.put_back.Goals as goal
+use Rattle.scalar_ranges.proofs.changes.Tracked.put_back.Goals.{After-take_back}
 
 inner : (c : After-take_back)
     → Innermost c.args.self.now.blocks.items c.pop.new.self.items c.in-Some.block c.len-depth.result
