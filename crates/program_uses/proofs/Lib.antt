@@ -1,3 +1,4 @@
+pub mod SameNumbers
 pub mod Same
 pub mod Adding
 pub mod Gathering

@@ -6,11 +6,16 @@ use Rattle.occam_parser.specs.Lines.{Replicator, block_word}
 use Rattle.occam_parser.specs.Blocks.{Process, Declared, Does, Construct, Act, Block, Replicated, Body, One, Part}
 use Rattle.occam_parser.specs.Blocks.{Components, NoComponent, Further, Component, Plain, Chosen, Guarded}
 use Rattle.scalar_ranges.specs.Entries.{Entry}
+use Rattle.scalar_ranges.specs.Moves.{is_one_of}
 use Rattle.program_uses.specs.declared.listing.ChangeLists.{ChangeLists}
 use Rattle.program_uses.specs.Changes.{changed_by_construct}
 use Rattle.program_uses.specs.Declaring.{add, add_outline}
 use Rattle.program_uses.specs.Indices.{is_seq, index_meaning}
 use Rattle.program_uses.specs.Signatures.{Parameter}
+
+-- the same numbers, in whatever order and however often: what a loop or a PAR does with them is the same
+abbrev pub SameNumbers : List ℕ → List ℕ → Type 0
+SameNumbers ms ns = (n : ℕ) → is_one_of ms n ≡ is_one_of ns n
 
 -- what stands for a line: nothing, or a list unless several constructs begin there
 abbrev pub entry_on : ℕ → ChangeLists → Option (Option (List ℕ))
@@ -19,11 +24,11 @@ entry_on line t = option_map (λ o. option_map (λ v. v.items) o) (get nat_cmp t
 abbrev pub list_on : ℕ → ChangeLists → Option (List ℕ)
 list_on line t = option_and_then (λ o. o) (entry_on line t)
 
--- Something stands there, and no list but this one.
+-- Something stands there, and no list but one of these numbers.
 abbrev pub Stands : Option (Option (List ℕ)) → List ℕ → Type 0
 Stands None ns = ⊥
 Stands (Some None) ns = Unit {0}
-Stands (Some (Some ms)) ns = ms ≡ ns
+Stands (Some (Some ms)) ns = SameNumbers ms ns
 
 abbrev pub IsListed : ChangeLists → ℕ → List ℕ → Type 0
 IsListed t line ns = Stands (entry_on line t) ns

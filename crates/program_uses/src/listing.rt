@@ -1,13 +1,24 @@
 //! The variables that constructs change, listed by the lines on which the constructs begin.
 
 ghost use Rattle.std.specs.Prelude.{◌≡◌, option_map, OnOk};
-ghost use Rattle.program_uses.specs.Listing.{list_on, IsListed, Keeps};
+ghost use Rattle.std.specs.List.Sorted.{IsStrictlyIncreasing};
+ghost use Rattle.program_uses.specs.Listing.{list_on, SameNumbers, IsListed, Keeps};
 
 use std::alloc::{AllocError, Global};
 use std::collections::BTreeMap;
 
-/// The numbers of the variables that constructs change, by the line on which each of them begins. A line on which
-/// several constructs begin has no list.
+/// The same numbers in rising order, each once.
+fn distinct(mut numbers: Vec<usize>) -> Vec<usize>
+    ensures same { SameNumbers result.items numbers.items }
+    ensures rising { IsStrictlyIncreasing result.items }
+{
+    numbers.sort_unstable();
+    numbers.dedup();
+    numbers
+}
+
+/// The numbers of the variables that constructs change, by the line on which each of them begins. A number is in a list
+/// once. A line on which several constructs begin has no list.
 #[derive(Drop)]
 pub struct ChangeLists {
     pub(crate) lists: BTreeMap<u32, Option<Vec<usize>>>,
@@ -39,7 +50,7 @@ impl ChangeLists {
         let list = if self.lists.contains_key(&line) {
             None
         } else {
-            Some(numbers)
+            Some(distinct(numbers))
         };
         self.lists.insert(line, list)?;
         Ok(())

@@ -14,6 +14,7 @@ use Rattle.scalar_ranges.specs.Moves.{Known, exclude, next, next_component}
 use Rattle.program_uses.specs.Actions.{Around}
 use Rattle.program_uses.specs.ActionViews.{around_of}
 use Rattle.program_uses.specs.Changes.{changed_by}
+use Rattle.program_uses.specs.Listing.{SameNumbers}
 use Rattle.program_uses.specs.Declaring.{add_declaration}
 use Rattle.program_uses.specs.Entering.{add_declarations}
 use Rattle.program_uses.proofs.Adding.{taken_one}
@@ -32,6 +33,7 @@ use Rattle.program_uses.specs.Telling.{At}
 use Rattle.usage_checks.specs.Telling.{Walks}
 use Rattle.usage_checks.specs.Walking.{WalksProcess, WalksConstruct, WalksComponents, WalksComponent, WalksBlock}
 use Rattle.usage_checks.proofs.FaultsInOrder.{walks_both, walks_then, walks_as}
+use Rattle.usage_checks.proofs.NumbersAlike.{component_alike}
 
 -- ---- declarations, and then a construct
 
@@ -143,14 +145,14 @@ walks_par site inner count cs k {s} {t} {w} {n = n} around position long begins 
 -- a component of a PAR, with the variables that it changes
 pub walks_component : (site : Site) (p : Process) (k : Known) {s t w : Findings} {j l m : Known} (numbers : List ℕ)
     → Walks s t j k (λ f. ⊥)
-    → (t.complete ≡ true → numbers ≡ changed_by (around_of site.around).signatures k.entries p)
+    → (t.complete ≡ true → SameNumbers numbers (changed_by (around_of site.around).signatures k.entries p))
     → WalksProcess t w site p j l → m ≡ next_component numbers l
     → WalksComponent s w site (Mark mark.Par) (Plain p) k m
 walks_component site p k {t = t} {w = w} {l = l} {m = m} numbers changes same walked moved =
     let a = around_of site.around in
     let both = walks_after (inside a p) (λ k. BreaksIn a site.position (length k.entries) p k) changes walked in
     walks_then_if (next_component (changed_by a.signatures k.entries p)) both
-    (λ e. moved ∙ ap (λ ns. next_component ns l) (same (walked.complete e)))
+    (λ e. moved ∙ component_alike numbers (changed_by a.signatures k.entries p) l (same (walked.complete e)))
 
 -- a choice of an IF
 pub walks_choice : (site : Site) (line : ℕ) (e : Expression) (p : Process) (k j : Known) {s t w : Findings}

@@ -21,4 +21,5 @@ pub mod LinesHold
 pub mod PlacesHold
 pub mod NothingShared
 pub mod OutlinesStay
+pub mod NumbersAlike
 pub mod ListsServe

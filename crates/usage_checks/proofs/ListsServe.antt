@@ -18,8 +18,8 @@ use Rattle.program_uses.specs.declared.listing.ChangeLists.{ChangeLists}
 use Rattle.program_uses.specs.Declaring.{add, add_outline}
 use Rattle.program_uses.specs.Entering.{add_declarations}
 use Rattle.program_uses.specs.Indices.{is_sequence, index_meaning, Repeats, repeats_of, index_in, turn_by_turn}
-use Rattle.program_uses.specs.Listing.{list_on, entry_on, Stands, IsListed, AreListed, ListsBody, ListsComponents}
-use Rattle.program_uses.specs.Listing.{ListsComponent, ListsOne}
+use Rattle.program_uses.specs.Listing.{SameNumbers, list_on, entry_on, Stands, IsListed, AreListed, ListsBody}
+use Rattle.program_uses.specs.Listing.{ListsComponents, ListsComponent, ListsOne}
 use Rattle.program_uses.specs.Outlines.{outline}
 use Rattle.program_uses.specs.Signatures.{Parameter}
 use Rattle.program_uses.proofs.ListsAlike.{lists_alike, part_alike, lists_behind, lists_one}
@@ -39,12 +39,13 @@ use Rattle.usage_checks.proofs.TurnsWalked.{WalksTurns, entries_unless}
 -- ---- a list that is there
 
 only_list : (o : Option (Option (List ℕ))) (ns ms : List ℕ) → option_and_then (λ o. o) o ≡ Some ns → Stands o ms
-    → ns ≡ ms
+    → SameNumbers ns ms
 only_list None ns ms is x = absurd x
 only_list (Some None) ns ms is x = absurd cc
-only_list (Some (Some ps)) ns ms is x = (let same : ps ≡ ns = cc in sym same ∙ x)
+only_list (Some (Some ps)) ns ms is x = (let same : ps ≡ ns = cc in subst (λ ks. SameNumbers ks ms) same x)
 
-pub list_is : (t : ChangeLists) (line : ℕ) (ns ms : List ℕ) → list_on line t ≡ Some ns → IsListed t line ms → ns ≡ ms
+pub list_is : (t : ChangeLists) (line : ℕ) (ns ms : List ℕ) → list_on line t ≡ Some ns → IsListed t line ms
+    → SameNumbers ns ms
 list_is t line ns ms is x = only_list (entry_on line t) ns ms is x
 
 -- A process is listed on the line of its construct.
@@ -56,7 +57,7 @@ listed_process t signatures es (d ∷ ds) line c x = listed_process t signatures
 
 pub listed_changes : (t : ChangeLists) (signatures : List (List Parameter)) (es : List Entry) (ds : List Declaration)
     (line : ℕ) (c : Construct) (p : Process) (ns : List ℕ) → with_declarations ds (Does line c) ≡ p
-    → list_on line t ≡ Some ns → AreListed t signatures es p → ns ≡ changed_by signatures es p
+    → list_on line t ≡ Some ns → AreListed t signatures es p → SameNumbers ns (changed_by signatures es p)
 listed_changes t signatures es ds line c p ns is found x =
     list_is t line ns (changed_by signatures es p) found
     (subst (λ p. IsListed t line (changed_by signatures es p)) is

@@ -12,6 +12,7 @@ ghost use Rattle.scalar_ranges.specs.Moves.{begin, begin_par, begin_loop};
 ghost use Rattle.scalar_ranges.specs.Scopes.{entries_of, known_of};
 ghost use Rattle.program_uses.specs.ActionViews.{around_of};
 ghost use Rattle.program_uses.specs.Changes.{changed_by, changed_by_body};
+ghost use Rattle.program_uses.specs.Listing.{SameNumbers};
 ghost use Rattle.usage_checks.specs.AfterProcesses.{unless, begun_turns, repeated};
 ghost use Rattle.usage_checks.specs.ProcessRules.{position_in};
 ghost use Rattle.program_uses.specs.Telling.{At};
@@ -91,8 +92,8 @@ impl Findings {
         process: &Process<'a>,
     ) -> Vec<usize>
         ensures walks { Walks self.old self.new (known_of scope.new) (known_of scope.old) (λ f. ⊥) }
-        ensures numbers { self.new.complete ≡ true → result.items
-            ≡ changed_by (around_of site.entry.around).signatures (entries_of scope.old) (process_of process.now) }
+        ensures numbers { self.new.complete ≡ true → SameNumbers result.items
+            (changed_by (around_of site.entry.around).signatures (entries_of scope.old) (process_of process.now)) }
     {
         match variables_changed(site.alloc, site.around.signatures, scope, process) {
             Ok(numbers) => numbers,
@@ -320,8 +321,8 @@ impl Findings {
         numbers: &[usize],
     )
         requires listed { HasProcess self.old site (process_of process.now) (known_of scope.old) }
-        requires numbers { self.old.complete ≡ true → numbers.now
-            ≡ changed_by (around_of site.around).signatures (entries_of scope.old) (process_of process.now) }
+        requires numbers { self.old.complete ≡ true → SameNumbers numbers.now
+            (changed_by (around_of site.around).signatures (entries_of scope.old) (process_of process.now)) }
         ensures { WalksComponent self.old self.new site.entry (Mark mark.Par) (plain_component process.now)
             (known_of scope.old) (known_of scope.new) }
     {
