@@ -22,3 +22,8 @@ pub mod PlacesHold
 pub mod NothingShared
 pub mod OutlinesStay
 pub mod ListsServe
+pub mod RangesStay
+pub mod ActionsGoWell
+pub mod ChoicesGoWell
+pub mod ProcessesGoWell
+pub mod ProgramsGoWell
