@@ -51,7 +51,7 @@ around ns (e ∷ es) = (
 
 -- ---- each further turn
 
-of_type_in : (type : ValueType) (v : ℤ) → IsOfType type v → InRange (type_range type) v
+pub of_type_in : (type : ValueType) (v : ℤ) → IsOfType type v → InRange (type_range type) v
 of_type_in value_type.Int v h = record { from_lo = omega (arith, ints, h); to_hi = omega (arith, ints, h) }
 of_type_in value_type.Byte v h = h
 

@@ -6,6 +6,7 @@ use Rattle.std.proofs.lemmas.Bool.Decides.{nat_tests}
 use Rattle.std.specs.Int.{int_min, int_max}
 use Rattle.std.specs.Prelude.{bytes_eq, nat_eq, nat_lt, int_le, option_map, unwrap_or}
 use Rattle.word_arithmetic.specs.Range.{Ends, inside as range_inside, outside, in_range, range_between, narrowed, hull}
+use Rattle.word_arithmetic.specs.Range.{full}
 use Rattle.word_arithmetic.specs.Range.{constant, at_least, at_most}
 use Rattle.word_arithmetic.specs.declared.compare.Comparison.{Comparison}
 use Rattle.word_arithmetic.specs.declared.compare.Comparison.TheVariants as comparison
@@ -15,10 +16,13 @@ use Rattle.occam_parser.specs.Expressions.{Expression}
 use Rattle.scalar_ranges.specs.declared.scope.ScalarKind.{ScalarKind}
 use Rattle.scalar_ranges.specs.declared.scope.ScalarKind.TheVariants as kinds
 use Rattle.scalar_ranges.specs.Entries.{Meaning, Constant, Scalar, Array, Channel, Channels, Procedure, Entry}
-use Rattle.scalar_ranges.specs.Entries.{meaning_in, number_in}
-use Rattle.scalar_ranges.specs.Narrowing.{left_of, with_range, narrow, by_test, test_of, changed, as_holds, Tested}
-use Rattle.scalar_ranges.specs.Moves.{is_one_of, outermost, at_number, with_meaning, ranged, assigned, hulls}
-use Rattle.scalar_ranges.specs.Moves.{hull_meaning}
+use Rattle.scalar_ranges.specs.Entries.{meaning_in, number_in, type_range}
+use Rattle.scalar_ranges.specs.Narrowing.{left_of, with_range, narrow, by_test, test_of, changed, as_holds, opposite}
+use Rattle.scalar_ranges.specs.Narrowing.{Tested}
+use Rattle.scalar_ranges.specs.Moves.{is_one_of, outermost, at_number, with_meaning, ranged, assigned, widened, hulls}
+use Rattle.scalar_ranges.specs.Moves.{hull_meaning, widened_if, widen, of_both, taken, not_so, excluded_at, excluded_by}
+use Rattle.scalar_ranges.specs.Moves.{excluded}
+use Rattle.scalar_ranges.specs.MoveLaws.{shape}
 use Rattle.scalar_ranges.proofs.MoveLaws.{hull_cases}
 use Rattle.program_uses.specs.Mentions.{is_variable, is_changeable, variable_in}
 use Rattle.program_meaning.specs.RangesWithin.{RangeWithin, ScalarWithin, MeaningWithin, EntriesWithin}
@@ -233,6 +237,66 @@ at_within n f [] h = tt
 at_within n f (e ∷ es) h =
     at_by (nat_eq (length es) n) n f e es (at_number (with_meaning f) n es) refl h (at_within n f es h)
 
+-- a scalar of which less is known, whether or not its number is one of these
+numbered_by : (t : Bool) (ns : List ℕ) (f : Meaning → Meaning) (e : Entry) (es ds : List Entry)
+    → ((b : Bool) (m : Meaning) → MeaningWithin b (f m) m) → EntriesWithin ns ds es
+    → EntriesWithin ns (cond t (with_meaning f e ∷ es) (e ∷ ds)) (e ∷ es)
+numbered_by true ns f e es ds h g = (refl, h (is_one_of ns (length es)) e.meaning, within_same ns es)
+numbered_by false ns f e es ds h g = (refl, inl refl, g)
+
+numbered_within : (ns : List ℕ) (n : ℕ) (f : Meaning → Meaning) (es : List Entry)
+    → ((b : Bool) (m : Meaning) → MeaningWithin b (f m) m)
+    → EntriesWithin ns (at_number (with_meaning f) n es) es
+numbered_within ns n f [] h = tt
+numbered_within ns n f (e ∷ es) h =
+    numbered_by (nat_eq (length es) n) ns f e es (at_number (with_meaning f) n es) h (numbered_within ns n f es h)
+
+excluded_by_number : (ns : List ℕ) (o : Option ℕ) (t : Tested) (ds : List Entry)
+    → EntriesWithin ns (excluded_at o t ds) ds
+excluded_by_number ns None t ds = within_same ns ds
+excluded_by_number ns (Some n) t ds =
+    numbered_within ns n (not_so t) ds
+    (λ b m. with_range_within b (left_of (opposite t.comparison) t.constant) m
+    (left_within (opposite t.comparison) t.constant))
+
+excluded_by_test : (ns : List ℕ) (o : Option Tested) (es ds : List Entry)
+    → EntriesWithin ns (excluded_by o es ds) ds
+excluded_by_test ns None es ds = within_same ns ds
+excluded_by_test ns (Some t) es ds = excluded_by_number ns (number_in t.name es) t ds
+
+pub excluded_within : (ns : List ℕ) (es ds : List Entry) (e : Expression) → EntriesWithin ns (excluded e es ds) ds
+excluded_within ns es ds e = excluded_by_test ns (test_of es e) es ds
+
+-- ---- many variables
+
+free_name : (t : Bool) (e : Entry) → (widened_if t e).name ≡ e.name
+free_name true e = refl
+free_name false e = refl
+
+free_within : (t : Bool) (e : Entry) → MeaningWithin t (widened_if t e).meaning e.meaning
+free_within true e = ranged_within true type_range e.meaning refl
+free_within false e = inl refl
+
+pub widened_within : (ns : List ℕ) (es : List Entry) → EntriesWithin ns (widen ns es) es
+widened_within ns [] = tt
+widened_within ns (e ∷ es) =
+    (free_name (is_one_of ns (length es)) e, free_within (is_one_of ns (length es)) e, widened_within ns es)
+
+either_within : (t : Bool) (free : Bool) (d e f : Entry) → (d.name ≡ f.name) × MeaningWithin free d.meaning f.meaning
+    → (e.name ≡ f.name) × MeaningWithin free e.meaning f.meaning
+    → ((of_both t d e).name ≡ f.name) × MeaningWithin free (of_both t d e).meaning f.meaning
+either_within true free d e f h g = g
+either_within false free d e f h g = h
+
+pub within_taken : (ns ms : List ℕ) (ds es fs : List Entry) → EntriesWithin ns ds fs → EntriesWithin ns es fs
+    → EntriesWithin ns (taken ms ds es) fs
+within_taken ns ms [] es fs h g = h
+within_taken ns ms (d ∷ ds) [] fs h g = h
+within_taken ns ms (d ∷ ds) (e ∷ es) [] h g = absurd h
+within_taken ns ms (d ∷ ds) (e ∷ es) (f ∷ fs) h g =
+    let first = either_within (is_one_of ms (length ds)) (is_one_of ns (length fs)) d e f (h.0, h.1) (g.0, g.1) in
+    (first.0, first.1, within_taken ns ms ds es fs h.2 g.2)
+
 to_ranged : (free : Bool) (kind : ScalarKind) (type : ValueType) (r : Ends) (o : Meaning)
     → MeaningWithin free (Scalar kind type r) o
     → (q : Ends) × (o ≡ Scalar kind type q) × (RangeWithin r q ⊎ ((free ≡ true) × (kind ≡ kinds.Variable)))
@@ -275,6 +339,27 @@ within_hulls ns (d ∷ ds) (e ∷ es) (f ∷ fs) h g = (
   within_hulls ns ds es fs h.2 g.2,
 )
 
+-- ---- the shape
+
+scalar_flat : (free : Bool) (m n : Meaning) → ScalarWithin free m n
+    → with_range (λ r. full) m ≡ with_range (λ r. full) n
+scalar_flat free (Scalar kind type r) (Scalar k t s) h = λ i. Scalar (h.0 i) (h.1 i) full
+scalar_flat free (Scalar kind type r) n h = absurd h
+scalar_flat free m n h = absurd h
+
+meaning_flat : (free : Bool) (m n : Meaning) → MeaningWithin free m n
+    → with_range (λ r. full) m ≡ with_range (λ r. full) n
+meaning_flat free m n (inl same) = ap (with_range (λ r. full)) same
+meaning_flat free m n (inr h) = scalar_flat free m n h
+
+pub within_shape : (ns : List ℕ) (ds es : List Entry) → EntriesWithin ns ds es → shape ds ≡ shape es
+within_shape ns [] [] h = refl
+within_shape ns [] (e ∷ es) h = absurd h
+within_shape ns (d ∷ ds) [] h = absurd h
+within_shape ns (d ∷ ds) (e ∷ es) h = λ i.
+    record { name = h.0 i; meaning = meaning_flat (is_one_of ns (length es)) d.meaning e.meaning h.1 i }
+    ∷ within_shape ns ds es h.2 i
+
 -- ---- variables
 
 same_variable : (free : Bool) (m n : Meaning) → MeaningWithin free m n → is_variable (Some m) ≡ is_variable (Some n)
@@ -313,7 +398,12 @@ moves_stay_within = record {
   more = within_more;
   narrowing = narrow_within;
   assigning = λ n range es. at_within n (assigned range) es (λ b m is. ranged_within b (λ type. range) m is);
+  excluding = excluded_within;
+  receiving = λ n es. at_within n widened es (λ b m is. ranged_within b type_range m is);
+  widening = widened_within;
+  taking = within_taken;
   joining = within_hulls;
   leaving = within_left;
   variables = variables_within;
+  shapes = within_shape;
 }

@@ -6,7 +6,9 @@ use Rattle.scalar_ranges.specs.declared.scope.ScalarKind.TheVariants as kinds
 use Rattle.scalar_ranges.specs.Entries.{Meaning, Scalar, Entry}
 use Rattle.scalar_ranges.specs.Narrowing.{narrow}
 use Rattle.program_uses.specs.Mentions.{variable_in}
-use Rattle.scalar_ranges.specs.Moves.{is_one_of, outermost, assign, hulls}
+use Rattle.scalar_ranges.specs.Moves.{is_one_of, outermost, at_number, with_meaning, assign, widened, widen, hulls}
+use Rattle.scalar_ranges.specs.Moves.{taken, excluded}
+use Rattle.scalar_ranges.specs.MoveLaws.{shape}
 
 -- Both ends lie between those of the other range. Of an empty range more is said so than by its members.
 abbrev pub RangeWithin : Ends → Ends → Type 0
@@ -39,6 +41,11 @@ pub record MovesStayWithin : Type 0 where
   pub narrowing : (ns : List ℕ) (es : List Entry) (e : Expression) (holds : Bool)
       → EntriesWithin ns (narrow es e holds) es
   pub assigning : (n : ℕ) (range : Ends) (es : List Entry) → EntriesWithin (n ∷ []) (assign n range es) es
+  pub excluding : (ns : List ℕ) (es ds : List Entry) (e : Expression) → EntriesWithin ns (excluded e es ds) ds
+  pub receiving : (n : ℕ) (es : List Entry) → EntriesWithin (n ∷ []) (at_number (with_meaning widened) n es) es
+  pub widening : (ns : List ℕ) (es : List Entry) → EntriesWithin ns (widen ns es) es
+  pub taking : (ns ms : List ℕ) (ds es fs : List Entry) → EntriesWithin ns ds fs → EntriesWithin ns es fs
+      → EntriesWithin ns (taken ms ds es) fs
   pub joining : (ns : List ℕ) (ds es fs : List Entry) → EntriesWithin ns ds fs → EntriesWithin ns es fs
       → EntriesWithin ns (hulls ds es) fs
   pub leaving : (ns : List ℕ) (count : ℕ) (ds es : List Entry) → EntriesWithin ns ds es
@@ -46,3 +53,5 @@ pub record MovesStayWithin : Type 0 where
   -- a name stands for the same variable, if it stands for one
   pub variables : (ns : List ℕ) (ds es : List Entry) (name : List ℕ) → EntriesWithin ns ds es
       → variable_in name ds ≡ variable_in name es
+  -- names and meanings are the same but for ranges
+  pub shapes : (ns : List ℕ) (ds es : List Entry) → EntriesWithin ns ds es → shape ds ≡ shape es

@@ -114,7 +114,7 @@ action_alike signatures es fs same (Instance name actuals) =
     actuals_alike es fs same (parameters_in signatures (meaning_in name es)) actuals
     ∙ ap (λ ps. changed_by_actuals fs ps actuals) (parameters_alike signatures es fs same name)
 
-guard_alike : (es fs : List Entry) → outline es ≡ outline fs → (g : Guard)
+pub guard_alike : (es fs : List Entry) → outline es ≡ outline fs → (g : Guard)
     → changed_by_guard es g ≡ changed_by_guard fs g
 guard_alike es fs same (Receives condition channel target) = ap listed (variable_alike es fs same target.name)
 guard_alike es fs same (Skips condition) = refl

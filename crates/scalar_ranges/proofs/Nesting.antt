@@ -20,7 +20,7 @@ shorter_by : {A : Type 0} (t : Bool) (x : A) (xs ys : List A) → length ys ≤ 
 shorter_by true x xs ys h = omega arith
 shorter_by false x xs ys h = omega arith
 
-outermost_short : {A : Type 0} (count : ℕ) (xs : List A) → length (outermost count xs) ≤ length xs
+pub outermost_short : {A : Type 0} (count : ℕ) (xs : List A) → length (outermost count xs) ≤ length xs
 outermost_short count [] = omega arith
 outermost_short count (x ∷ xs) =
     shorter_by (nat_lt (length xs) count) x xs (outermost count xs) (outermost_short count xs)
@@ -28,7 +28,7 @@ outermost_short count (x ∷ xs) =
 pub beyond : (n count : ℕ) → count ≤ n → nat_lt n count ≡ false
 beyond n count h = grind (arith, nat_tests)
 
-further_out : {A : Type 0} (count : ℕ) (x : A) (xs : List A) → count ≤ length xs
+pub further_out : {A : Type 0} (count : ℕ) (x : A) (xs : List A) → count ≤ length xs
     → outermost count (x ∷ xs) ≡ outermost count xs
 further_out count x xs h = ap (λ t. cond t (x ∷ xs) (outermost count xs)) (beyond (length xs) count h)
 
@@ -38,7 +38,7 @@ twice_by : {A : Type 0} (t : Bool) (low count : ℕ) (x : A) (xs : List A) → l
 twice_by true low count x xs less far h = refl
 twice_by false low count x xs less far h = h ∙ sym (further_out low x xs (far refl))
 
-outermost_twice : {A : Type 0} (low count : ℕ) (xs : List A) → low ≤ count
+pub outermost_twice : {A : Type 0} (low count : ℕ) (xs : List A) → low ≤ count
     → outermost low (outermost count xs) ≡ outermost low xs
 outermost_twice low count [] less = refl
 outermost_twice low count (x ∷ xs) less =

@@ -23,3 +23,8 @@ pub mod NothingShared
 pub mod OutlinesStay
 pub mod NumbersAlike
 pub mod ListsServe
+pub mod RangesStay
+pub mod ActionsGoWell
+pub mod ChoicesGoWell
+pub mod ProcessesGoWell
+pub mod ProgramsGoWell

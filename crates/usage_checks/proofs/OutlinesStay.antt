@@ -61,7 +61,7 @@ outline_shape [] = refl
 outline_shape (e ∷ es) =
     λ i. record { name = e.name; meaning = flat_ranged e.meaning i } ∷ outline_shape es i
 
-shaped : (ds es : List Entry) → shape ds ≡ shape es → outline ds ≡ outline es
+pub shaped : (ds es : List Entry) → shape ds ≡ shape es → outline ds ≡ outline es
 shaped ds es same = sym (outline_shape ds) ∙ ap outline same ∙ outline_shape es
 
 -- ---- what changes entries
@@ -328,7 +328,7 @@ more_long inner o = omega (arith, length-append inner o)
 -- ---- parts
 
 -- a block has the word of its components
-kind_fits : (kind : _) → IsMadeOf (block_word kind) (part_of kind)
+pub kind_fits : (kind : _) → IsMadeOf (block_word kind) (part_of kind)
 kind_fits kind = grind arith
 
 -- the outlines of the blocks around the components of a block: all but a SEQ begin one

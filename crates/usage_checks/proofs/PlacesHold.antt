@@ -94,7 +94,7 @@ formals_whole count outer (f ∷ fs) es h w =
 
 -- ---- the index of a turn
 
-index_word : (base count : ℤ) (n turns : ℕ) → (int_le (pos 0) count && fits_word (Some base) count) ≡ true
+pub index_word : (base count : ℤ) (n turns : ℕ) → (int_le (pos 0) count && fits_word (Some base) count) ≡ true
     → n < turns → (turns ≡ 1) ⊎ ((is_count base count ≡ true) × (turns ≡ unsigned_abs count))
     → is_word (base +ℤ pos n) ≡ true
 index_word base count n turns h less (inl once) =

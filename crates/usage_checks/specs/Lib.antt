@@ -27,3 +27,5 @@ pub mod Holding
 pub mod Reaching
 pub mod Unshared
 pub mod Outlines
+pub mod RangesStay
+pub mod NeverStuck

@@ -3,8 +3,10 @@
 ghost use Rattle.std.specs.Prelude.{◌≡◌, ◌⊎◌, true, Some, map, IfOk, IfErr};
 ghost use Rattle.occam_parser.specs.BlockViews.{item_of};
 ghost use Rattle.occam_parser.specs.Words.{items_have_words};
+ghost use Rattle.program_meaning.specs.Sequential.{IsSequentialProgram};
 ghost use Rattle.program_uses.specs.Signatures.{signatures_of};
 ghost use Rattle.usage_checks.specs.ItemRules.{after_items, BreaksProgram, BreaksNoRule};
+ghost use Rattle.usage_checks.specs.NeverStuck.{NeverStuck};
 ghost use Rattle.program_uses.specs.Telling.{IsFirst};
 ghost use Rattle.usage_checks.specs.Telling.{out_of_memory, verdict};
 
@@ -66,10 +68,17 @@ impl Findings {
 /// number; or memory ran out, which is [`MEMORY`] at line 0. It takes time n log n in the size that is gone over, of
 /// which the bound is 8,388,608: what is larger is a fault, and is gone over once. Memory is linear in the source, and
 /// in the ends that a procedure uses.
+///
+/// If it is `Ok`, the program never gets stuck if it is sequential, which is that its `main` has no `PAR`, no `ALT` and
+/// no instance: whatever comes in on its links and whoever listens to them, each expression that it comes to has a
+/// value, and each subscript lies inside.
+#[tactic(auto, using(crate::proofs::ProgramsGoWell::programs_go_on))]
 pub fn check<'a>(alloc: Global, program: Program<'a>) -> Result<CheckedProgram<'a>, UsageFault>
     ensures ok { IfOk result (λ c. c.program.items.items ≡ program.entry.items.items) }
     ensures signatures { IfOk result (λ c. signatures_of c.signatures.items
         ≡ (after_items (map item_of program.entry.items.items)).signatures) }
+    ensures never_stuck { IfOk result (λ c. IsSequentialProgram (map item_of c.program.items.items)
+        → NeverStuck (map item_of c.program.items.items)) }
     ensures err { IfErr result (λ f. (f ≡ out_of_memory) ⊎ IsFirst (BreaksProgram (map item_of program.entry.items.items))
         (Some f)) }
 {

@@ -2,6 +2,8 @@
 ghost use Rattle.usage_checks.specs.Outlines.{OutlinesStay};
 ghost use Rattle.usage_checks.specs.Reaching.{PlacesHold, ItemsHold, SignaturesStay};
 ghost use Rattle.usage_checks.specs.Unshared.{NothingShared};
+ghost use Rattle.usage_checks.specs.RangesStay.{RangesStay};
+ghost use Rattle.usage_checks.specs.NeverStuck.{ProgramsGoOn};
 
 /// At each place that the walk over such a program comes to, no rule is broken in what stands there. Constants in scope
 /// have their values, arrays their sizes, and procedures their parameters. The names of its first line are found, their
@@ -40,4 +42,18 @@ pub fn nothing_shared()
 #[tactic(auto, using(crate::proofs::OutlinesStay::outlines_stay))]
 pub fn outlines_stay()
     ensures { OutlinesStay }
+{}
+
+/// Where a process or a construct ends, the blocks around it are as before it. Of the names that were in scope there,
+/// each has at its end a range within the one before, but for the variables that it changes.
+#[tactic(auto, using(crate::proofs::RangesStay::ranges_stay))]
+pub fn ranges_stay()
+    ensures { RangesStay }
+{}
+
+/// A sequential program that breaks no rule never comes to an expression without a value or to a subscript outside,
+/// whatever comes in on its links and whoever listens to them.
+#[tactic(auto, using(crate::proofs::ProgramsGoWell::programs_go_on))]
+pub fn programs_go_on()
+    ensures { ProgramsGoOn }
 {}
