@@ -1,3 +1,4 @@
+pub mod AlternationFitting
 pub mod AlternationRules
 pub mod Choice
 pub mod Guards

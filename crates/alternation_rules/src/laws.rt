@@ -1,4 +1,5 @@
 //! Laws of the rules of alternations.
+ghost use Rattle.alternation_rules.specs.AlternationFitting.{AlternationFitsStep, AlternationEndFitsStep};
 ghost use Rattle.alternation_rules.specs.Choice.{ChoiceIsJudged};
 ghost use Rattle.alternation_rules.specs.ModesAsked.{ModesAreAsked};
 ghost use Rattle.alternation_rules.specs.SameGuards.{TestsCompare};
@@ -22,4 +23,14 @@ pub fn tests_tell_guards_apart()
 #[tactic(auto, using(crate::proofs::ChoiceJudged::choice_is_judged))]
 pub fn rules_judge_choice()
     ensures { ChoiceIsJudged }
+{}
+
+/// In a state that holds of a process: where the rule of an operation is not broken, the step is no fault, it changes
+/// only bytes that the process may write, and it asks what the world may grant: a channel of which the process holds
+/// the end, and a guard that is new, or the next one of the list. At the end of an alternation the process goes on at
+/// a label whose state holds, where the machine has selected the exit of one of the guards once all are disabled.
+#[tactic(auto, using(crate::proofs::AlternationFits::alternation_fits_step, crate::proofs::AlternationFits::alternation_end_fits_step))]
+pub fn alternation_rules_fit_steps()
+    ensures operations { AlternationFitsStep }
+    ensures end { AlternationEndFitsStep }
 {}

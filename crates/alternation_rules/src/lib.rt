@@ -10,4 +10,7 @@ mod modes;
 pub use alternations::advance_alternation;
 pub use ends::end_alternation;
 pub use guards::exit_at;
-pub use laws::{operations_ask_their_mode, rules_judge_choice, tests_tell_guards_apart};
+pub use laws::{
+    alternation_rules_fit_steps, operations_ask_their_mode, rules_judge_choice,
+    tests_tell_guards_apart,
+};

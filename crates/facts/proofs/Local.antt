@@ -1,6 +1,6 @@
 -- The rule of an instruction and its step fit each other, by the law of its family: where the rule is not broken, the
 -- step is no fault, and what the rule says of the state behind holds.
-use Rattle.std.proofs.Common.{◌≡◌, ◌≤◌, ℤ, FitsSigned, Option, Some, None}
+use Rattle.std.proofs.Common.{◌≡◌, ◌≤◌, ℤ, FitsSigned, length, Option, Some, None}
 use Rattle.std.specs.Int.{w32}
 use Rattle.prefix_decoder.specs.declared.function.Fun.{Fun}
 use Rattle.machine_state.specs.declared.op.Op.{Op}
@@ -13,7 +13,9 @@ use Rattle.machine_state.specs.Site.{Local}
 use Rattle.states.specs.State.{State}
 use Rattle.facts.specs.Rules as table
 use Rattle.rulings.specs.Meaning.{owed, IsWellFormed}
-use Rattle.rulings.specs.Fitting.{Changes, After, Here, rule_site, step_site, it_breaks}
+use Rattle.states.specs.declared.known.Mode.TheVariants.{Disabling}
+use Rattle.rulings.specs.Guarding.{HasSelected}
+use Rattle.rulings.specs.Fitting.{Changes, After, Here, StandsAt, rule_site, step_site, it_breaks}
 use Rattle.facts.specs.RulesFit.{RulesFitSteps}
 use Rattle.rulings.proofs.Combining.{FitsIf}
 use Rattle.local_rules.specs.LocalRules.{local_rule}
@@ -23,14 +25,15 @@ use Rattle.message_rules.specs.MessageRules.{message_rule}
 use Rattle.message_rules.proofs.MessageFits.{input_fits_step, output_fits_step}
 
 module _ (x : Here) (wf : IsWellFormed x.m) (s : State) (l : Local) (a : After x.m x.h x.mode x.act s l)
-    (same : s.context ≡ x.context) (changes : Changes x l.memory) (n : owed s x.act ≤ x.owed) where
+    (same : s.context ≡ x.context) (changes : Changes x l.memory) (n : owed s x.act ≤ x.owed) (here : StandsAt x s l)
+    (selected : s.mode ≡ Disabling (length s.guards) → HasSelected x.mode s.guards) where
   operation_fits : (op : Op) (e : ℤ) → FitsSigned w32 e → FitsIf x (table.operation_rule (rule_site x) op s)
       (step.operation_step (step_site x) op l)
   unfolding table.operation_rule local_rule message_rule step.instruction_step
   operation_fits operations.Return e fits = return_fits_step x s l wf a same changes n
   operation_fits operations.Input e fits = input_fits_step x s l wf a same changes n
   operation_fits operations.Output e fits = output_fits_step x s l wf a same changes n
-  operation_fits op e fits = local_rules_fit_steps x s l (instructions.Operate op) e wf a same changes n fits
+  operation_fits op e fits = local_rules_fit_steps x s l (instructions.Operate op) e wf a same changes n here fits
 
   instruction_fits : (i : Instruction) (e : ℤ) → FitsSigned w32 e
       → FitsIf x (table.instruction_rule (rule_site x) i e s)
@@ -38,7 +41,7 @@ module _ (x : Here) (wf : IsWellFormed x.m) (s : State) (l : Local) (a : After x
   unfolding table.instruction_rule step.instruction_step
   instruction_fits instructions.Call e fits = call_fits_step x s l e wf a same changes n
   instruction_fits (instructions.Operate op) e fits = operation_fits op e fits
-  instruction_fits i e fits = local_rules_fit_steps x s l i e wf a same changes n fits
+  instruction_fits i e fits = local_rules_fit_steps x s l i e wf a same changes n here fits
 
   option_fits : (i : Option Instruction) (e : ℤ) → FitsSigned w32 e
       → FitsIf x (table.rule_of (rule_site x) i e s) (step.step_of (step_site x) i e l)
@@ -52,4 +55,5 @@ module _ (x : Here) (wf : IsWellFormed x.m) (s : State) (l : Local) (a : After x
   function_fits f e fits = option_fits (instruction_of f e) e fits
 
 pub rules_fit_steps : RulesFitSteps
-rules_fit_steps x s l f e wf a same changes n fits next = function_fits x wf s l a same changes n f e fits next
+rules_fit_steps x s l f e wf a same changes n here selected fits next =
+    function_fits x wf s l a same changes n here selected f e fits next

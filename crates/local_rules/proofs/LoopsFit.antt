@@ -404,7 +404,7 @@ module _ (x : Here) (wf : IsWellFormed x.m) (s : State) (l : Local) (a : Within 
       (λ u next. it_falls is is_jump low
       (whole_after (after_stack x (after_facts b (λ i. taken_after block (settled number) i beside)) unknown_registers))
       same c
-      (omega (arith, less, rest, left)))
+      (omega (arith, less, rest, left)) (λ busy. absurd (busy a.same_mode.step)))
       (λ u. absurd (below_not _ _ low u)) next
 
   -- ---- the loop turns

@@ -41,15 +41,15 @@ use Rattle.rulings.specs.Reach.{may_read_bytes}
 use Rattle.local_rules.specs.LocalRules as table
 use Rattle.rulings.specs.Meaning.{Layout, Means, IsOffset, is_number, is_pointer, is_code_address, from_nowhere, owed}
 use Rattle.rulings.specs.Meaning.{code_address, region_start, IsWellFormed}
-use Rattle.rulings.specs.Fitting.{Changes, Here, rule_site, step_site}
-use Rattle.rulings.proofs.Within.{Within, ArePlain, AreStill}
+use Rattle.rulings.specs.Fitting.{Changes, Here, StandsAt, rule_site, step_site}
+use Rattle.rulings.proofs.Within.{Within, ArePlain, AreStill, whole_after}
 use Rattle.rulings.proofs.Words.{word_test}
 use Rattle.rulings.proofs.Addresses.{address_added, words_added, local_word, stepped, stepped_words, stepped_sum}
 use Rattle.rulings.proofs.Addresses.{pointer_added, keeps_step}
 use Rattle.rulings.proofs.Through.{word_through, byte_through}
 use Rattle.rulings.proofs.Combining.{still_rule_fits, still_step_fits, FitsIf, unknown_means, uses_fits, goes_on_fits}
 use Rattle.rulings.proofs.Combining.{in_plain_rule, beside_plain_rule, in_plain_step, after_stack, on_step_test}
-use Rattle.rulings.proofs.Combining.{reads_fits, settles_fits, reads_bytes_fits}
+use Rattle.rulings.proofs.Combining.{reads_fits, settles_fits, reads_bytes_fits, going_on_fits, stays_by}
 use Rattle.rulings.proofs.Reaching.{place_at, region_at, word_place, even_word}
 use Rattle.rulings.proofs.PointerFacts.{ok_if, constant_is, pointer_is}
 
@@ -300,7 +300,7 @@ module _ (x : Here) where
       })) same changes n))
 
   module _ (s : State) (l : Local) (a : Within AreStill x.m x.h x.mode x.act s l) (same : s.context ≡ x.context)
-      (changes : Changes x l.memory) (n : owed s x.act ≤ x.owed) where
+      (changes : Changes x l.memory) (n : owed s x.act ≤ x.owed) (here : StandsAt x s l) where
     pub ldnlp_fits : (e : ℤ) → FitsSigned w32 e
         → FitsIf x (table.local_rule (rule_site x) instructions.LoadNonLocalPointer e s)
         (step.instruction_step (step_site x) instructions.LoadNonLocalPointer e l)
@@ -310,15 +310,15 @@ module _ (x : Here) where
         (uses_fits x s.stack.a l.registers.stack.a _ _ a.knows.registers.a (λ v means.
         settles_fits x (shifted (pos 4 *ℤ e) s.stack.a.fact) _ _ (λ fact is.
         still_rule_fits x s a.same_mode _ _
-        (goes_on_fits x (rule.with_a (known fact) s) (step.with_a (step.word_of (local_address (step.address v) e)) l)
-        (after_stack x a (record {
+        (going_on_fits x (rule.with_a (known fact) s) (step.with_a (step.word_of (local_address (step.address v) e)) l)
+        (whole_after (after_stack x a (record {
           a = record {
             fact = shifted_means x.m x.act.layout e v s.stack.a.fact fact is fits means.fact;
             source = from_nowhere;
           };
           b = a.knows.registers.b;
           c = a.knows.registers.c;
-        })) same changes n))))
+        }))) same changes n (λ busy. stays_by x here _ _ refl refl refl refl)))))
 
   module _ (s : State) (l : Local) (a : Within ArePlain x.m x.h x.mode x.act s l) (same : s.context ≡ x.context)
       (changes : Changes x l.memory) (n : owed s x.act ≤ x.owed) where

@@ -45,6 +45,7 @@ use Rattle.rulings.specs.Meaning.{Activation, IsOffset, Means, is_number, is_poi
 use Rattle.rulings.specs.Meaning.{from_nowhere, from_word, MeansWord, MeansKnown, frame_lo, frame_hi, owed}
 use Rattle.rulings.specs.Meaning.{IsWellFormed}
 use Rattle.rulings.specs.Fitting.{Changes, After, Here, rule_site, step_site, it_falls, it_breaks, goes_behind}
+use Rattle.rulings.specs.Fitting.{StandsAt}
 use Rattle.rulings.specs.Fitting.{is_landing}
 use Rattle.rulings.proofs.Within.{Within, ArePlain, AreStill, whole_after, within_paid}
 use Rattle.rulings.proofs.Words.{local_place, local_word, moved_workspace, frame_word_is, stored_means, plain_means}
@@ -53,7 +54,7 @@ use Rattle.local_rules.proofs.Results.{numbers_fit, shift_computed, shift_holds,
 use Rattle.local_rules.proofs.Sources.{result_comes, constant_comes}
 use Rattle.local_rules.proofs.NarrowedWords.{narrowed_means, narrowed_dues}
 use Rattle.rulings.proofs.Dues.{changed_dues}
-use Rattle.rulings.proofs.Combining.{stacked, going_on_fits, still_rule_fits, still_step_fits, FitsIf, unknown_means}
+use Rattle.rulings.proofs.Combining.{stays_by, stacked, going_on_fits, still_rule_fits, still_step_fits, FitsIf, unknown_means}
 use Rattle.rulings.proofs.Combining.{paid, below_not, on_rule_test, on_step_test, uses_value, uses_fits}
 use Rattle.rulings.proofs.Combining.{in_bounds_fits, holds_fits, writes_word_fits, reads_word_fits, reads_fits}
 use Rattle.rulings.proofs.Combining.{goes_on_fits, write_step, label_fits, on_label, in_plain_rule, beside_plain_rule}
@@ -121,7 +122,7 @@ loaded_means m counts act k f memory v inside means is = record {
 -- ---- in every mode
 
 module _ (x : Here) (s : State) (l : Local) (a : After x.m x.h x.mode x.act s l) (same : s.context ≡ x.context)
-    (changes : Changes x l.memory) (n : owed s x.act ≤ x.owed) where
+    (changes : Changes x l.memory) (n : owed s x.act ≤ x.owed) (here : StandsAt x s l) where
   pub ldc_fits : (e : ℤ) → FitsSigned w32 e
       → FitsIf x (rule.goes_on (rule_site x) (rule.push (word.constant e) s))
       (step.goes_on (step_site x) (step.push (Some e) l))
@@ -130,7 +131,7 @@ module _ (x : Here) (s : State) (l : Local) (a : After x.m x.h x.mode x.act s l)
         a = record { fact = is_number (omega (arith, ints)) (omega (arith, ints)) fits; source = from_nowhere };
         b = a.knows.registers.a;
         c = a.knows.registers.b;
-      })) same changes n
+      })) same changes n (λ busy. stays_by x here _ _ refl refl refl refl)
 
   pub pointer_fits : (e : ℤ) → FitsSigned w32 e
       → FitsIf x (table.local_rule (rule_site x) instructions.LoadLocalPointer e s)
@@ -149,12 +150,12 @@ module _ (x : Here) (s : State) (l : Local) (a : After x.m x.h x.mode x.act s l)
         };
         b = a.knows.registers.a;
         c = a.knows.registers.b;
-      })) same changes n) (λ t next. it_breaks)
+      })) same changes n (λ busy. stays_by x here _ _ refl refl refl refl)) (λ t next. it_breaks)
 
 -- ---- but among the starts of a PAR
 
 module _ (x : Here) (s : State) (l : Local) (a : Within AreStill x.m x.h x.mode x.act s l) (same : s.context ≡ x.context)
-    (changes : Changes x l.memory) (n : owed s x.act ≤ x.owed) where
+    (changes : Changes x l.memory) (n : owed s x.act ≤ x.owed) (here : StandsAt x s l) where
   pub ldl_fits : (e : ℤ) → FitsSigned w32 e
       → FitsIf x (table.local_rule (rule_site x) instructions.LoadLocal e s)
       (step.instruction_step (step_site x) instructions.LoadLocal e l)
@@ -164,22 +165,23 @@ module _ (x : Here) (s : State) (l : Local) (a : Within AreStill x.m x.h x.mode 
       let w = a.frame.readable (s.depth +ℤ e) t in
       reads_fits x l (local_address l.registers.workspace e) w.place _ _
       (local_place a.frame e fits w.place w.is w.inside) w.readable
-      (goes_on_fits x (rule.push (word.loaded (s.depth +ℤ e) (s.frame (s.depth +ℤ e))) s)
+      (going_on_fits x (rule.push (word.loaded (s.depth +ℤ e) (s.frame (s.depth +ℤ e))) s)
       (step.push (word_at l.memory w.place) l)
-      (after_stack x a (record {
+      (whole_after (after_stack x a (record {
         a = loaded_means x.m (words_in x.m s.context).reads x.act (s.depth +ℤ e) (s.frame (s.depth +ℤ e)) l.memory
             (word_at l.memory w.place) t (a.knows.words (s.depth +ℤ e) t)
             (frame_word_is l.memory x.act.layout.origin (s.depth +ℤ e) w.place w.is);
         b = a.knows.registers.a;
         c = a.knows.registers.b;
-      })) same changes n))))
+      }))) same changes n (λ busy. stays_by x here _ _ refl refl refl refl)))))
 
   pub mint_fits : FitsIf x (table.local_operation_rule (rule_site x) operations.MinimumInteger s)
       (step.operation_step (step_site x) operations.MinimumInteger l)
   unfolding table.local_operation_rule step.operation_step
   mint_fits =
       still_rule_fits x s a.same_mode _ _
-      (still_step_fits x s a.same_mode _ _ (ldc_fits x s l (whole_after a) same changes n least_word (record { sfits = lit< tt })))
+      (still_step_fits x s a.same_mode _ _
+      (ldc_fits x s l (whole_after a) same changes n here least_word (record { sfits = lit< tt })))
 
 -- ---- in plain mode
 
@@ -261,7 +263,7 @@ module _ (x : Here) (s : State) (l : Local) (a : Within ArePlain x.m x.h x.mode 
           let from = a.frame.from_start in
           let to = a.frame.to_end in
           let small = a.frame.small in
-          goes_on_fits x {E = ArePlain} (record s { depth = s.depth +ℤ e })
+          goes_on_fits x (record s { depth = s.depth +ℤ e })
           (step.with_workspace (local_address l.registers.workspace e) l)
           (record {
             frame = record {
@@ -494,7 +496,8 @@ module _ (x : Here) (s : State) (l : Local) (a : Within ArePlain x.m x.h x.mode 
         (λ w. absurd (below_not _ _ (wf.labels to t e) w)))
         (λ u. on_step_test x (ltb (x.at + x.len) (length x.m.code)) _ _ _
         (λ w next. it_falls refl goes_behind (next _ refl) (whole_after (true_after (not_zero_from v u))) same' changes
-        (omega (arith, paid, narrowed_dues s'.stack.a.source true s'.frame x.act.turns)))
+        (omega (arith, paid, narrowed_dues s'.stack.a.source true s'.frame x.act.turns))
+        (λ busy. absurd (busy b.same_mode.step)))
         (λ w next. absurd (below_not _ _ (next _ refl) w))))
       where
         comes : ComesFrom (words_in x.m s'.context).reads l.memory x.act.layout.origin s'.stack.a.source (Some v)

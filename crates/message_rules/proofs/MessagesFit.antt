@@ -161,6 +161,7 @@ module _ (x : Here) (wf : IsWellFormed x.m) (s : State) (l : Local) (a : Within 
       it_asks (asks (record {
         is = refl;
         plain = plain;
+        in_plain_mode = a.same_mode.step;
         low = next _ refl;
         same = here;
         changes = changed;

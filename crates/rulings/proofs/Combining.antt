@@ -16,6 +16,7 @@ use Rattle.module_format.specs.Contents.{Contents, Label, label_at, Par, Branch}
 use Rattle.certificate.specs.Branches.{numbered_branch}
 use Rattle.certificate.specs.Rights as rights
 use Rattle.machine_state.specs.declared.process.Mode as machine
+use Rattle.machine_state.specs.declared.process.Mode.TheVariants as machine_modes
 use Rattle.machine_state.specs.declared.fault.FaultKind.{FaultKind}
 use Rattle.machine_state.specs.declared.fault.FaultKind.TheVariants.{NotOwn}
 use Rattle.machine_state.specs.Memory.{Memory, place_of, local_address, scheduling_word, word_at, with_word}
@@ -42,7 +43,7 @@ use Rattle.rulings.specs.Meaning.{Layout, Activation, Means, says_nothing, IsOwn
 use Rattle.rulings.specs.Meaning.{from_nowhere, MeansKnown, IsWellFormed, SameMode, both_plain, both_enabling}
 use Rattle.rulings.specs.Meaning.{both_disabling, both_starting, dues, owed, label_turns, place_in}
 use Rattle.rulings.specs.Fitting.{Changes, Described, After, Here, rule_site, step_site, Fits, it_falls, it_leads}
-use Rattle.rulings.specs.Fitting.{it_breaks, GoesTo, goes_behind, is_jump, HasNext}
+use Rattle.rulings.specs.Fitting.{it_breaks, GoesTo, goes_behind, is_jump, HasNext, Stays, StandsAt}
 use Rattle.rulings.proofs.Within.{Modes, Within, ArePlain, AreStill, is_starting, whole_after}
 use Rattle.rulings.proofs.Words.{local_place, knows_changed, write_follows}
 use Rattle.rulings.proofs.Entering.{below_tells, label_after}
@@ -332,21 +333,36 @@ module _ (x : Here) where
   -- a process in whatever mode goes on
   pub going_on_fits : (s : State) (l : Local) → After x.m x.h x.mode x.act s l → s.context ≡ x.context
       → Changes x l.memory
-      → owed s x.act ≤ x.owed → FitsIf x (rule.goes_on (rule_site x) s) (step.goes_on (step_site x) l)
+      → owed s x.act ≤ x.owed → ((x.mode ≡ machine_modes.Plain → ⊥) → Stays x s l)
+      → FitsIf x (rule.goes_on (rule_site x) s) (step.goes_on (step_site x) l)
   unfolding rule.goes_on rule.pays step.goes_on
-  going_on_fits s l a same changes n =
+  going_on_fits s l a same changes n stays =
       on_rule_test (ltb s.number x.len) _ _ _
       (λ t next. it_breaks)
       (λ t next. let low = next _ refl in
       on_step_test (ltb (x.at + x.len) (length x.m.code)) (falls (record s { number = s.number - x.len })) _ _
       (λ u next. it_falls refl goes_behind low (paid a) same changes
-      (enough s.number x.len (dues s.frame x.act.turns) x.owed t n))
+      (enough s.number x.len (dues s.frame x.act.turns) x.owed t n)
+      (λ busy. let b = stays busy in
+      record { mode = b.mode; guards = b.guards; depth = b.depth; memory = b.memory }))
       (λ u. absurd (below_not _ _ low u)) next)
 
-  pub goes_on_fits : {E : Modes} (s : State) (l : Local) → Within E x.m x.h x.mode x.act s l → s.context ≡ x.context
+  -- one in plain mode
+  pub goes_on_fits : (s : State) (l : Local) → Within ArePlain x.m x.h x.mode x.act s l → s.context ≡ x.context
       → Changes x l.memory
       → owed s x.act ≤ x.owed → FitsIf x (rule.goes_on (rule_site x) s) (step.goes_on (step_site x) l)
-  goes_on_fits s l a same changes n = going_on_fits s l (whole_after a) same changes n
+  goes_on_fits s l a same changes n =
+      going_on_fits s l (whole_after a) same changes n (λ busy. absurd (busy a.same_mode.step))
+
+  -- a state that differs from that before the instruction in registers and in its number alone
+  pub stays_by : {s : State} {l : Local} → StandsAt x s l → (t : State) (k : Local) → t.mode ≡ s.mode
+      → t.guards ≡ s.guards → t.depth ≡ s.depth → k.memory ≡ l.memory → Stays x t k
+  stays_by at t k mode guards depth memory = record {
+    mode = mode ∙ ap (λ (u : State). u.mode) (sym at.state);
+    guards = guards ∙ ap (λ (u : State). u.guards) (sym at.state);
+    depth = depth ∙ ap (λ (u : State). u.depth) (sym at.state);
+    memory = memory ∙ at.memory;
+  }
 
   -- ---- a write to a word of the frame
 

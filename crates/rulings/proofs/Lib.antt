@@ -9,6 +9,7 @@ pub mod Ends
 pub mod Entering
 pub mod EvenChannels
 pub mod FillingKeeps
+pub mod HeldChannels
 pub mod LabelRows
 pub mod Lending
 pub mod Moving

@@ -1,10 +1,11 @@
 -- What holds after an instruction of a process that starts no branches: it has all that its context has.
-use Rattle.std.proofs.Common.{◌≡◌, Bool, true, false, ℕ, length, sym, subst, refl, ap}
+use Rattle.std.proofs.Common.{◌≡◌, Bool, true, false, ℕ, List, length, sym, subst, refl, ap}
 use Rattle.module_format.specs.Contents.{Contents}
 use Rattle.machine_state.specs.declared.process.Mode as machine
 use Rattle.machine_state.specs.declared.process.Mode.TheVariants as machine_modes
 use Rattle.machine_state.specs.Holding.{Holding}
 use Rattle.machine_state.specs.Site.{Local}
+use Rattle.states.specs.declared.known.Guard.{Guard}
 use Rattle.states.specs.declared.known.Mode as states
 use Rattle.states.specs.declared.known.Mode.TheVariants as states_modes
 use Rattle.states.specs.State.{State}
@@ -58,7 +59,7 @@ within_paid a = record {
   whole = a.whole;
 }
 
-scope_still : (m : Contents) (context : ℕ) (p : states.Mode) (layout : Layout) → is_starting p ≡ false
+pub scope_still : (m : Contents) (context : ℕ) (p : states.Mode) (layout : Layout) → is_starting p ≡ false
     → scope_among m context p layout ≡ scope_of m context layout
 scope_still m context states_modes.Plain layout e = refl
 scope_still m context states_modes.Enabling layout e = refl
@@ -78,6 +79,19 @@ within {E} {m} {h} {mode} {act} {s} {l} still same a =
       modes = b.same_mode;
       whole = whole;
     }
+
+-- what holds of a process that starts no branches holds of it in another mode
+pub in_other_mode : {E : Modes} {m : Contents} {h : Holding} {mode : machine.Mode} {act : Activation} {s : State}
+    {l : Local} (p : states.Mode) (q : machine.Mode) (guards : List Guard) → SameMode p q → is_starting p ≡ false
+    → Within E m h mode act s l → Within AreStill m h q act (record s { mode = p; guards = guards }) l
+in_other_mode {E} {m} {h} {mode} {act} {s} {l} p q guards same still a = record {
+  frame = a.frame;
+  knows = a.knows;
+  named = a.named;
+  same_mode = record { modes = same; still = still };
+  modes = same;
+  whole = scope_still m s.context p act.layout still;
+}
 
 -- a process in plain mode starts none
 pub as_still : {m : Contents} {h : Holding} {mode : machine.Mode} {act : Activation} {s : State} {l : Local}

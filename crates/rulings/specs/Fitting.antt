@@ -1,6 +1,7 @@
 -- When the rule of an instruction and its step fit each other: where the rule is not broken, the step is no fault, it
 -- changes own bytes only, and what the rule says of the state after it holds.
-use Rattle.std.specs.Prelude.{◌≡◌, ℕ, ◌+◌, ◌*◌, ◌≤◌, ◌<◌, ℤ, pos, ◌+ℤ◌, true, false, [], ◌∷◌, length, Some, None}
+use Rattle.std.specs.Prelude.{◌≡◌, ℕ, ◌+◌, ◌*◌, ◌≤◌, ◌<◌, ℤ, pos, ◌+ℤ◌, ◌≤ℤ◌, Bool, true, false, List, [], ◌∷◌, ◌++◌}
+use Rattle.std.specs.Prelude.{length, Option, Some, None, slice_get, slice_set}
 use Rattle.module_format.specs.Contents.{Contents, Label, label_at}
 use Rattle.module_format.specs.Stack.{of_empty}
 use Rattle.module_format.specs.declared.rows.Direction.{Direction}
@@ -14,12 +15,20 @@ use Rattle.machine_state.specs.Memory.{Memory, byte_at, data_start}
 use Rattle.machine_state.specs.Holding.{Holding, may_read, may_write}
 use Rattle.machine_state.specs.Frame.{ChangesOwn}
 use Rattle.machine_state.specs.Site as steps
+use Rattle.machine_state.specs.LocalStep.{with_a_alone}
 use Rattle.machine_state.specs.Site.{Outcome, goes, jumps, lands, stops, receives, sends, Local}
+use Rattle.machine_state.specs.Site.{begins, enables_channel, enables_skip, waits, disables_channel, disables_skip}
+use Rattle.machine_state.specs.Site.{ends_alternation}
 use Rattle.states.specs.declared.rule.Rule.{Rule}
-use Rattle.states.specs.declared.known.Mode.TheVariants.{Plain}
+use Rattle.states.specs.declared.known.Guard.{Guard}
+use Rattle.states.specs.declared.known.GuardKind.{GuardKind}
+use Rattle.states.specs.declared.known.GuardKind.TheVariants.{Channel, Skip}
+use Rattle.states.specs.declared.known.GuardName.{GuardName}
+use Rattle.states.specs.declared.known.Mode.TheVariants.{Plain, Enabling, Disabling}
 use Rattle.states.specs.State.{State, unknown, label_state, procedure_state}
 use Rattle.rulings.specs.Regions.{Scope, scope_of, scope_in, channel_address, HoldsNamed, Keeps}
 use Rattle.rulings.specs.Buffers.{message_place, is_of_message, IsByte, Fills}
+use Rattle.rulings.specs.Guarding.{guard_value, GuardsFit}
 use Rattle.rulings.specs.Lends.{Lends}
 use Rattle.rulings.specs.Rulings as rule
 use Rattle.rulings.specs.Rulings.{Ruling, calls, returns, ends, breaks, falling, leading}
@@ -38,18 +47,31 @@ pub record Described (m : Contents) (h : Holding) (mode : machine.Mode) (act : A
 abbrev pub After : Contents → Holding → machine.Mode → Activation → State → Local → Type 0
 After m h mode act s l = Described m h mode act s l (scope_in m s act.layout)
 
--- where an instruction runs: the module, what the process holds, its context and activation, its mode, memory and what
--- it owed before, and the place of the instruction
+-- where an instruction runs: the module, what the process holds, its context, state and activation, its mode, memory
+-- and what it owed before, and the place of the instruction
 pub record Here : Type 0 where
   pub m : Contents
   pub h : Holding
   pub context : ℕ
+  pub before : State
   pub act : Activation
   pub mode : machine.Mode
   pub memory : Memory
   pub owed : ℕ
   pub at : ℕ
   pub len : ℕ
+
+-- A state and what the machine has are those before the instruction.
+pub record StandsAt (x : Here) (s : State) (l : Local) : Type 0 where
+  pub state : x.before ≡ s
+  pub memory : l.memory ≡ x.memory
+
+-- An instruction that goes on in the middle of something changes registers alone.
+pub record Stays (x : Here) (s : State) (l : Local) : Type 0 where
+  pub mode : s.mode ≡ x.before.mode
+  pub guards : s.guards ≡ x.before.guards
+  pub depth : s.depth ≡ x.before.depth
+  pub memory : l.memory ≡ x.memory
 
 -- What an instruction leaves of memory: it changes own bytes only, and no others than its activation may.
 pub record Changes (x : Here) (new : Memory) : Type 0 where
@@ -139,10 +161,79 @@ pub record Sends (x : Here) (s : State) (l : Local) (e : Exchange) : Type 0 wher
 pub record Exchanges (x : Here) (r : Ruling) (s : State) (l : Local) : Type 0 where
   pub is : falling r ≡ Some s
   pub plain : s.mode ≡ Plain
+  pub in_plain_mode : x.mode ≡ machine_modes.Plain
   pub low : x.at + x.len < length x.m.code
   pub same : s.context ≡ x.context
   pub changes : Changes x l.memory
   pub pay : owed s x.act + x.len ≤ x.owed
+
+-- ---- alternations
+
+-- An instruction of an alternation: the state that falls behind it, what it leaves of memory, and what it pays.
+pub record Alters (x : Here) (r : Ruling) (s : State) (l : Local) : Type 0 where
+  pub is : falling r ≡ Some s
+  pub low : x.at + x.len < length x.m.code
+  pub same : s.context ≡ x.context
+  pub changes : Changes x l.memory
+  pub pay : owed s x.act + x.len ≤ x.owed
+
+-- It begins with no guards.
+pub record Begins (x : Here) (s : State) (l : Local) : Type 0 where
+  pub before : x.before.mode ≡ Plain
+  pub mode : s.mode ≡ Enabling
+  pub none : s.guards ≡ []
+  pub after : After x.m x.h (machine_modes.Enabling false) x.act s l
+
+-- The guards of the state behind the instruction fit as those before it did, of which each has its value still.
+pub record KeepsGuards (x : Here) (s : State) (l : Local) : Type 0 where
+  pub fit : GuardsFit x.m x.before → GuardsFit x.m s
+  pub values : GuardsFit x.m x.before → (i : ℕ) (g : Guard) → slice_get x.before.guards i ≡ Some g
+      → guard_value l.memory x.act g.name ≡ guard_value x.memory x.act g.name
+
+-- The value of a guard's name, and whether that is true.
+pub record HasTruth (x : Here) (name : GuardName) (holds : Bool) : Type 0 where
+  pub value : ℤ
+  pub is : guard_value x.memory x.act name ≡ Some value
+  pub yes : holds ≡ true → value ≡ pos 0 → ⊥
+  pub no : holds ≡ false → value ≡ pos 0
+
+-- One guard more is enabled, if it is true, whatever was ready before.
+pub record Enables (x : Here) (kind : GuardKind) (holds : Bool) (s : State) (l : Local) : Type 0 where
+  pub before : x.before.mode ≡ Enabling
+  pub mode : s.mode ≡ Enabling
+  pub name : GuardName
+  pub list : s.guards ≡ x.before.guards ++ (record { kind = kind; name = name; exit = None }) ∷ []
+  pub truth : HasTruth x name holds
+  pub memory : l.memory ≡ x.memory
+  pub keeps : KeepsGuards x s l
+  pub after : (is_ready : Bool) → After x.m x.h (machine_modes.Enabling is_ready) x.act s l
+
+-- It waits until a guard is ready.
+pub record AwaitsGuards (x : Here) (s : State) (l : Local) : Type 0 where
+  pub before : x.before.mode ≡ Enabling
+  pub mode : s.mode ≡ Disabling 0
+  pub list : s.guards ≡ x.before.guards
+  pub keeps : KeepsGuards x s l
+  pub after : (selection : Option ℤ) → After x.m x.h (machine_modes.Disabling selection) x.act s l
+
+-- The next guard is disabled, whatever was selected before. A tells whether it is selected.
+pub record Disables (x : Here) (kind : GuardKind) (holds : Bool) (distance : ℤ) (s : State) (l : Local) : Type 0 where
+  pub done : ℕ
+  pub before : x.before.mode ≡ Disabling done
+  pub mode : s.mode ≡ Disabling (done + 1)
+  pub guard : Guard
+  pub there : slice_get x.before.guards done ≡ Some guard
+  pub kind_is : guard.kind ≡ kind
+  pub list : s.guards ≡ slice_set x.before.guards done (record guard { exit = Some distance })
+  pub truth : HasTruth x guard.name holds
+  pub keeps : KeepsGuards x s l
+  pub after : (selection : Option ℤ) (a : ℤ) → pos 0 ≤ℤ a → a ≤ℤ pos 1
+      → After x.m x.h (machine_modes.Disabling selection) x.act s (with_a_alone (Some a) l)
+
+-- A channel from which the activation may receive has this address.
+pub record IsAtChannel (x : Here) (kind : EndKind) (address : ℕ) : Type 0 where
+  pub end : (scope_of x.m x.context x.act.layout).ends kind In ≡ true
+  pub address_is : channel_address x.act.layout kind ≡ address
 
 -- What the instruction asks of the world is what the ruling says, and the world may grant it. Each family of
 -- instructions that ask something has its constructors here.
@@ -150,13 +241,31 @@ pub data Asks (x : Here) (r : Ruling) : Outcome → Type 0 where
   -- a message comes, or goes, and after that the process goes on after the instruction
   to_receive : {s : State} {l : Local} {e : Exchange} → Exchanges x r s l → Receives x s l e → Asks x r (receives e l)
   to_send : {s : State} {l : Local} {e : Exchange} → Exchanges x r s l → Sends x s l e → Asks x r (sends e l)
+  -- an alternation begins, a guard is enabled, it waits, a guard is disabled
+  to_begin : {s : State} {l : Local} → Alters x r s l → Begins x s l → Asks x r (begins l)
+  to_enable : {s : State} {l : Local} {holds : Bool} {address : ℕ} (kind : EndKind) → Alters x r s l
+      → IsAtChannel x kind address → Enables x (Channel kind) holds s l
+      → ((i : ℕ) (g : Guard) → slice_get x.before.guards i ≡ Some g → g.kind ≡ Channel kind → ⊥)
+      → Asks x r (enables_channel holds address l)
+  to_enable_skip : {s : State} {l : Local} {holds : Bool} → Alters x r s l → Enables x Skip holds s l
+      → Asks x r (enables_skip holds l)
+  to_wait : {s : State} {l : Local} → Alters x r s l → AwaitsGuards x s l → Asks x r (waits l)
+  to_disable : {s : State} {l : Local} {holds : Bool} {address : ℕ} {distance : ℤ} (kind : EndKind) → Alters x r s l
+      → IsAtChannel x kind address → Disables x (Channel kind) holds distance s l
+      → Asks x r (disables_channel holds address distance l)
+  to_disable_skip : {s : State} {l : Local} {holds : Bool} {distance : ℤ} → Alters x r s l
+      → Disables x Skip holds distance s l → Asks x r (disables_skip holds distance l)
+
+-- one of the offsets
+abbrev pub IsOneOf : ℕ → List ℕ → Type 0
+IsOneOf to offsets = (n : ℕ) × (slice_get offsets n ≡ Some to)
 
 -- A ruling and an outcome fit each other. After the instruction the activation is the same; at a label its loops may
 -- have other turns left. Of what was owed each byte of the instruction is paid.
 pub data Fits (x : Here) : Ruling → Outcome → Type 0 where
   it_falls : {r : Ruling} {o : Outcome} {s : State} {l : Local} → falling r ≡ Some s → GoesTo x o (x.at + x.len) l
       → x.at + x.len < length x.m.code → After x.m x.h x.mode x.act s l → s.context ≡ x.context → Changes x l.memory
-      → owed s x.act + x.len ≤ x.owed → Fits x r o
+      → owed s x.act + x.len ≤ x.owed → ((x.mode ≡ machine_modes.Plain → ⊥) → Stays x s l) → Fits x r o
   it_leads : {r : Ruling} {o : Outcome} {to : ℕ} {l : Local} {t : Label} (turns : ℤ → ℕ) → leading r ≡ to ∷ []
       → GoesTo x o to l → label_at x.m to ≡ Some t → to < length x.m.code
       → After x.m x.h x.mode (with_turns turns x.act) (label_state t) l → t.context ≡ x.context → Changes x l.memory
@@ -172,7 +281,13 @@ pub data Fits (x : Here) : Ruling → Outcome → Type 0 where
       → Changes x l.memory → l.registers.stack ≡ of_empty None
       → pos l.registers.workspace ≡ pos data_start +ℤ place_in x.act.layout.origin (pos 4)
       → x.act.layout.back < length x.m.code → x.len ≤ x.owed → Fits x returns (lands x.act.layout.back l)
-  it_ends : {l : Local} → Changes x l.memory → x.len ≤ x.owed → Fits x ends (stops l)
+  -- an alternation ends, all of whose guards are disabled
+  it_selects : {r : Ruling} {to : ℕ} {l : Local} {t : Label} (turns : ℤ → ℕ) → IsOneOf to (leading r)
+      → label_at x.m to ≡ Some t → to < length x.m.code
+      → After x.m x.h machine_modes.Plain (with_turns turns x.act) (label_state t) l → t.context ≡ x.context
+      → Changes x l.memory → owed (label_state t) (with_turns turns x.act) + x.len ≤ x.owed
+      → x.before.mode ≡ Disabling (length x.before.guards) → Fits x r (ends_alternation to l)
+  it_ends : {l : Local} → x.mode ≡ machine_modes.Plain → Changes x l.memory → x.len ≤ x.owed → Fits x ends (stops l)
   it_asks : {r : Ruling} {o : Outcome} → Asks x r o → x.len ≤ x.owed → Fits x r o
   it_breaks : {broken : Rule} {o : Outcome} → Fits x (breaks broken) o
 

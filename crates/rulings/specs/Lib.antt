@@ -2,6 +2,7 @@ pub mod Buffers
 pub mod Channels
 pub mod Filling
 pub mod Fitting
+pub mod Guarding
 pub mod Lends
 pub mod Meaning
 pub mod Places

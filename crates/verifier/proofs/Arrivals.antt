@@ -23,9 +23,15 @@ use Rattle.verifier.specs.Lives.{awaits, IsExchanging, Lives, it_lives}
 use Rattle.verifier.proofs.Coming.{input_awaits, output_awaits, more_filled, ready_is_quiet, link_is_quiet, byte_changes}
 use Rattle.verifier.proofs.Coming.{byte_lives}
 use Rattle.verifier.proofs.LawfulWorlds.{IsLawful}
-use Rattle.machine_state.proofs.Lines.{set_either}
+use Rattle.machine_state.proofs.Lines.{got_set, got_other, set_either}
 use Rattle.verifier.proofs.Tables.{IsSound, AreBytes, equal_lengths, Puts, Living, living, lives_whatever, holds_put}
-use Rattle.verifier.proofs.Tables.{holds_elsewhere}
+use Rattle.verifier.proofs.Tables.{holds_aside, plain_of}
+use Rattle.verifier.specs.Alternating.{EnablesAt, a_channel, a_link}
+use Rattle.verifier.proofs.Carrying.{alternates_on}
+use Rattle.machine_state.specs.EnabledLaws.{HasReady, a_sender, a_byte}
+use Rattle.machine_state.specs.declared.process.Mode.TheVariants as modes
+use Rattle.machine_state.proofs.Claims.{only_one}
+use Rattle.std.proofs.lemmas.Bool.{cases_eq}
 use Rattle.verifier.proofs.Tables.{dispatch_holds}
 use Rattle.verifier.proofs.Rousing.{rouse_holds}
 
@@ -33,6 +39,12 @@ use Rattle.verifier.proofs.Rousing.{rouse_holds}
 pub wake_is : (w : World) (p : ℕ) (t : Task) → slice_get w.tasks p ≡ Some t
     → enqueue p (record w { tasks = slice_set w.tasks p (record t { condition = Ready }) }) ≡ wake p w
 wake_is w p t here = ap (enqueue p) (sym (on_task_is p (λ task. record task { condition = Ready }) w t here))
+
+-- who waits on a link is in plain mode
+link_waiter_is_plain : (m : Contents) (w : World) → IsSound m w → (p : ℕ) (t : Task) (e : Exchange) (done : ℕ)
+    → slice_get w.tasks p ≡ Some t → t.condition ≡ OnLink e done → t.mode ≡ modes.Plain
+link_waiter_is_plain m w h p t e done here waits =
+    plain_of t (h.quiet.calm p t here) (λ is. let no' = sym waits ∙ is in cc) (λ is. let no' = sym waits ∙ is in cc)
 
 -- ---- an acknowledgement
 
@@ -49,7 +61,7 @@ acknowledged_holds m w lawful h k l p here waiting =
     let u : Task = record v.task { condition = Ready } in
     let ready : World = enqueue p (record free { tasks = slice_set w.tasks p u }) in
     dispatch_holds m 0 (wake p free) (subst (λ x. IsSound m x) (wake_is free p v.task v.here)
-    (holds_put m w h lawful.apart.processes p v.task r.row ready u w.memory r.row.due
+    (holds_put m w h lawful.apart.processes p v.task v.here r.row ready u w.memory r.row.due
     (record {
       tasks = refl;
       memory = refl;
@@ -57,7 +69,7 @@ acknowledged_holds m w lawful h k l p here waiting =
       channels = equal_lengths refl;
       kept = h.holds.kept;
       fault = refl;
-    }) (omega arith) (h.quiet.plain p v.task v.here)
+    }) (omega arith) (link_waiter_is_plain m w h p v.task v.exchange v.done v.here v.waits)
     (record { size = refl; others = λ place e. refl })
     (it_lives (lives_whatever Ready ready_is_quiet
     (λ place. ap (λ c. awaits c place) v.waits ∙ output_awaits v.exchange v.done place channel) (λ place. refl) r.lives))))
@@ -72,14 +84,65 @@ bytes_set inputs k l bytes small j link b here kept = elim (set_either inputs k 
   | inr other ↦ bytes j link b other.1 kept
 ]
 
-pub kept_holds : (m : Contents) (w : World) → IsLawful m w → IsSound m w → (k byte : ℕ) → byte < 256
-    → (l : InputLink) → IsSound m (dispatch 0 (rouse l.enabled (with_input k (record l { kept = Some byte }) w)))
-kept_holds m w lawful h k byte small l =
-    let kept = with_input k (record l { kept = Some byte }) w in
-    dispatch_holds m 0 (rouse l.enabled kept)
-    (rouse_holds m kept (holds_elsewhere m w w.queue kept.links
-    (bytes_set w.links.inputs k (record l { kept = Some byte }) h.holds.kept (λ b is.
-    let same : byte ≡ b = cc in omega (arith, small, same))) h) lawful.apart.processes l.enabled)
+module _ (m : Contents) (w : World) (lawful : IsLawful m w) (h : IsSound m w) (k byte : ℕ) (small : byte < 256)
+    (l : InputLink) (here : slice_get w.links.inputs k ≡ Some l) (empty : l.kept ≡ None) where
+  abbrev with_it : InputLink
+  with_it = record l { kept = Some byte }
+
+  abbrev kept : World
+  kept = with_input k with_it w
+
+  -- it is enabled by whoever has enabled it
+  fewer_enabled : (p address : ℕ) → EnablesAt kept p address → EnablesAt w p address
+  fewer_enabled p address (a_channel word c there is) = a_channel word c there is
+  fewer_enabled p address (a_link j link at there is) = elim (set_either w.links.inputs k with_it j link there) [
+    | inl it ↦ a_link j l at (subst (λ n. slice_get w.links.inputs n ≡ Some l) it.0 here)
+        (ap (λ (x : InputLink). x.enabled) (sym it.1) ∙ is)
+    | inr other ↦ a_link j link at other.1 is
+  ]
+
+  more_enabled : (p address : ℕ) → EnablesAt w p address → EnablesAt kept p address
+  more_enabled p address (a_channel word c there is) = a_channel word c there is
+  more_enabled p address (a_link j link at there is) = elim (cases_eq k j) [
+    | inl same ↦ a_link j with_it at
+        (subst (λ n. slice_get (slice_set w.links.inputs k with_it) n ≡ Some with_it) same
+        (got_set w.links.inputs k l with_it here))
+        (ap (λ (x : InputLink). x.enabled) (only_one (slice_get w.links.inputs j) l link
+        (subst (λ n. slice_get w.links.inputs n ≡ Some l) same here) there) ∙ is)
+    | inr differ ↦ a_link j link at (got_other w.links.inputs k j with_it differ ∙ there) is
+  ]
+
+  -- what was ready was not there
+  ready_still : (p : ℕ) → HasReady w.tasks w.channels w.links.inputs p
+      → HasReady w.tasks w.channels (slice_set w.links.inputs k with_it) p
+  ready_still p (a_sender j c q sender e at is waiting there sends) = a_sender j c q sender e at is waiting there sends
+  ready_still p (a_byte j link b at is there) = elim (cases_eq k j) [
+    | inl same ↦
+        let one = only_one (slice_get w.links.inputs j) l link (subst (λ n. slice_get w.links.inputs n ≡ Some l) same
+        here)
+        at in
+        let no' : None ≡ Some b = sym empty ∙ (ap (λ (x : InputLink). x.kept) one ∙ there) in
+        absurd (cc)
+    | inr differ ↦ a_byte j link b (got_other w.links.inputs k j with_it differ ∙ at) is there
+  ]
+
+  pub kept_holds : IsSound m (dispatch 0 (rouse l.enabled kept))
+  kept_holds = dispatch_holds m 0 (rouse l.enabled kept)
+      (rouse_holds m kept (holds_aside m w kept (record {
+        tasks = refl;
+        memory = refl;
+        roles = refl;
+        channels = refl;
+        kept = bytes_set w.links.inputs k with_it h.holds.kept
+            (λ b is. let same : byte ≡ b = cc in omega (arith, small, same));
+        counters = refl;
+        fault = refl;
+      }) (λ p t s act there guards. alternates_on m w kept p t t s s act guards
+      (record { fewer = fewer_enabled p; more = more_enabled p }) (λ n g at. refl)
+      (record { guards = refl; left = refl }) guards.fit (λ distance is. is)
+      (λ must. elim (guards.ready must) [ inl is ↦ inl (ready_still p is) | inr skip ↦ inr skip ])) h)
+      lawful.apart.processes l.enabled
+      (λ q enabled. a_byte k with_it byte (got_set w.links.inputs k l with_it here) enabled refl))
 
 -- ---- a byte that is taken
 
@@ -120,8 +183,10 @@ module _ (m : Contents) (w : World) (lawful : IsLawful m w) (h : IsSound m w) (k
       → after.counters ≡ w.counters → Lives m (held r.row.role) r.row.start filled (record v.task { condition = c }) r.row.due
       → IsSound m after
   filled_puts c after puts same lives =
-      holds_put m w h lawful.apart.processes p v.task r.row after (record v.task { condition = c }) filled r.row.due puts
-      (rw same (omega arith)) (h.quiet.plain p v.task v.here) changes (it_lives lives)
+      holds_put m w h lawful.apart.processes p v.task v.here r.row after (record v.task { condition = c }) filled
+      r.row.due
+      puts (rw same (omega arith)) (link_waiter_is_plain m w h p v.task v.exchange v.done v.here v.waits) changes
+      (it_lives lives)
 
   abbrev with_filled : World
   with_filled = record w { memory = filled }

@@ -46,7 +46,7 @@ module _ (m : Contents) (d : Decodes m) (wf : IsWellFormed m) (c : IsCertified m
   happened_holds small (is_taken {link = link} {byte = byte} input p here waiting) =
       taken_holds m w lawful h (link_index link) byte small input p here waiting
   happened_holds small (is_kept {link = link} {byte = byte} input here nobody empty) =
-      kept_holds m w lawful h (link_index link) byte small input
+      kept_holds m w lawful h (link_index link) byte small input here empty
   happened_holds is (is_acknowledged {link = link} output p here waiting) =
       acknowledged_holds m w lawful h (link_index link) output p here waiting
 

@@ -18,6 +18,9 @@ use Rattle.machine_state.specs.ChannelLaws.{HaveTheirWaiters, AreRecorded}
 use Rattle.machine_state.proofs.ApartLaws.{Stands, all_stand, format_is_small, holdings_stay_apart}
 use Rattle.machine_state.proofs.ChannelWaiters.{channels_have_their_waiters}
 use Rattle.machine_state.proofs.WhoWaits.{who_waits_is_recorded}
+use Rattle.machine_state.specs.EnabledLaws.{AllAlternate, EnabledIsHeld}
+use Rattle.machine_state.proofs.WhoEnabled.{who_enabled_alternates}
+use Rattle.machine_state.proofs.EnabledIsHeld.{enabled_is_held}
 
 pub record IsLawful (m : Contents) (w : World) : Type 0 where
   pub line : Line w.tasks w.queue
@@ -27,6 +30,8 @@ pub record IsLawful (m : Contents) (w : World) : Type 0 where
   pub cells : HaveTheirWaiters w.tasks w.channels
   pub recorded : AreRecorded w.tasks w.roles w.channels
   pub stands : Stands m w
+  pub alternate : AllAlternate w.tasks w.channels w.links.inputs
+  pub enabled : EnabledIsHeld w.roles w.channels w.links.inputs
 
 -- each law is one of machine_state
 pub lawful : (m : Contents) (es : List Event) → Keeps m → IsLawful m (world_after m es)
@@ -38,6 +43,8 @@ lawful m es keeps = record {
   cells = channels_have_their_waiters m es;
   recorded = who_waits_is_recorded m es keeps;
   stands = all_stand m (format_is_small m keeps) es;
+  alternate = who_enabled_alternates m es;
+  enabled = enabled_is_held m es;
 }
 
 -- who runs is ready

@@ -3,7 +3,9 @@ pub mod Judging
 pub mod Reporting
 pub mod RowsLeft
 pub mod Passing
+pub mod LivesAs
 pub mod Steps
+pub mod Carrying
 pub mod Tables
 pub mod LawfulWorlds
 pub mod Rousing
@@ -11,6 +13,9 @@ pub mod Coming
 pub mod Arrivals
 pub mod Sources
 pub mod Talking
+pub mod Enabled
+pub mod Guards
+pub mod Alternations
 pub mod Messages
 pub mod Instructions
 pub mod EventsKeepInvariant

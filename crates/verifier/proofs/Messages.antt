@@ -7,7 +7,9 @@ use Rattle.module_format.specs.declared.rows.Direction.TheVariants.{In, Out}
 use Rattle.machine_state.specs.declared.link.InputLink.{InputLink}
 use Rattle.machine_state.specs.declared.process.Channel.{Channel}
 use Rattle.machine_state.specs.declared.process.Condition.{Condition}
-use Rattle.machine_state.specs.declared.process.Condition.TheVariants.{Ready, Sending, Receiving, OnLink}
+use Rattle.machine_state.specs.declared.process.Condition.TheVariants.{Ready, Sending, Receiving, OnLink, Alternating}
+use Rattle.machine_state.specs.declared.process.Mode.TheVariants as modes
+use Rattle.machine_state.specs.EnabledLaws.{a_sender}
 use Rattle.machine_state.specs.declared.process.Exchange.{Exchange}
 use Rattle.machine_state.specs.declared.process.Task.{Task}
 use Rattle.machine_state.specs.Frame.{ChangesOwn}
@@ -32,7 +34,9 @@ use Rattle.verifier.specs.Invariant.{Process}
 use Rattle.verifier.specs.Lives.{awaits, Lives, it_lives}
 use Rattle.verifier.proofs.LawfulWorlds.{IsLawful}
 use Rattle.verifier.proofs.Steps.{Talks}
-use Rattle.verifier.proofs.Tables.{AreApart, AreBytes, IsSound, Living, living, Puts, equal_lengths, length_set, holds_put}
+use Rattle.verifier.proofs.Tables.{AreApart, AreBytes, IsSound, Living, living, plain_of, Puts, equal_lengths}
+use Rattle.verifier.proofs.Tables.{length_set}
+use Rattle.verifier.proofs.Tables.{holds_put}
 use Rattle.verifier.proofs.Rousing.{roused_holds}
 use Rattle.verifier.proofs.Arrivals.{bytes_set, wake_is}
 use Rattle.verifier.proofs.Coming.{none_lives, last_lives, last_changes, second_lives, sent_lives, out_lives}
@@ -46,16 +50,17 @@ first_place e = omega arith
 
 -- a process goes on in another condition, and owes what it owed
 turned : (m : Contents) (v : World) (h : IsSound m v) → AreApart v.roles → (q : ℕ) (u : Task)
-    (row : Process m v.memory v.roles h.holds.began h.holds.dues q u) → slice_get v.tasks q ≡ Some u
+    (row : Process m v h.holds.began h.holds.dues q u) → slice_get v.tasks q ≡ Some u → u.mode ≡ modes.Plain
     → (after : World) (next : Task) (new : Memory) → Puts v after q next new → after.counters ≡ v.counters
     → next.mode ≡ u.mode → ChangesOwn (held row.role) v.memory new
     → Lives m (held row.role) row.start new next row.due → IsSound m after
-turned m v h apart q u row here after next new puts same mode changes lives =
-    holds_put m v h apart q u row after next new row.due puts (rw same (omega arith)) (mode ∙ h.quiet.plain q u here)
+turned m v h apart q u row here plain after next new puts same mode changes lives =
+    holds_put m v h apart q u here row after next new row.due puts (rw same (omega arith)) (mode ∙ plain)
     changes (it_lives lives)
 
 module _ (m : Contents) (wf : IsWellFormed m) (w : World) (lawful : IsLawful m w) (h : IsSound m w) (p : ℕ) (t : Task)
-    (ready : t.condition ≡ Ready) (r : Living m w h.holds.began h.holds.dues p t) (pick : ℕ) where
+    (ready : t.condition ≡ Ready) (plain : t.mode ≡ modes.Plain) (r : Living m w h.holds.began h.holds.dues p t)
+    (pick : ℕ) where
   abbrev apart : AreApart w.roles
   apart = lawful.apart.processes
 
@@ -66,13 +71,19 @@ module _ (m : Contents) (wf : IsWellFormed m) (w : World) (lawful : IsLawful m w
   abbrev behind : Condition → Local → Task
   behind c l = record t { registers = between (t.registers.at + 1) l.registers; condition = c }
 
+  -- who waits for a message is in plain mode
+  calmly : (c : Condition) (u : Task) (q : ℕ) → slice_get w.tasks q ≡ Some u → u.condition ≡ c → (c ≡ Ready → ⊥)
+      → (c ≡ Alternating → ⊥) → u.mode ≡ modes.Plain
+  calmly c u q there is unready unroused =
+      plain_of u (h.quiet.calm q u there) (λ e. unready (sym is ∙ e)) (λ e. unroused (sym is ∙ e))
+
   -- in a world in which it has come there, and a byte was counted
   steps_to : (c : Condition) (l : Local) (later : ℕ) (after : World) → Puts w after p (behind c l) l.memory
       → after.counters.executed ≡ w.counters.executed + 1 → later + 1 ≤ r.row.due
       → ChangesOwn (held r.row.role) w.memory l.memory
       → Lives m (held r.row.role) r.row.start l.memory (behind c l) later → IsSound m after
   steps_to c l later after puts one less changes lives =
-      holds_put m w h apart p t r.row after (behind c l) l.memory later puts (omega arith) (h.quiet.plain p t r.here)
+      holds_put m w h apart p t r.here r.row after (behind c l) l.memory later puts (omega arith) plain
       changes (it_lives lives)
 
   -- the same, and nothing else has changed
@@ -128,7 +139,8 @@ module _ (m : Contents) (wf : IsWellFormed m) (w : World) (lawful : IsLawful m w
           → ChangesOwn (held in_mine.row.role) l.memory memory
           → Lives m (held in_mine.row.role) in_mine.row.start memory (behind next l) in_mine.row.due → IsSound m after
       on_link k link new next memory after is_there bytes tasks same roles channels inputs fault counters own lives_on =
-          turned m waiting_in in_sound apart p (behind (Receiving e) l) in_mine.row in_there after (behind next l) memory (record {
+          turned m waiting_in in_sound apart p (behind (Receiving e) l) in_mine.row in_there plain after (behind next
+          l) memory (record {
             tasks = tasks ∙ sym (set_twice w.tasks p (behind (Receiving e) l) (behind next l));
             memory = same;
             roles = roles;
@@ -157,7 +169,8 @@ module _ (m : Contents) (wf : IsWellFormed m) (w : World) (lawful : IsLawful m w
           → IsSound m (counted (met here q sent e c l w))
       meets_sender q sent c at waiting is same =
           subst (λ x. IsSound m (counted x)) (wake_is after_copy q u.0 waits)
-          (turned m (counted after_copy) copied_holds apart q u.0 partner.row waits
+          (turned m (counted after_copy) copied_holds apart q u.0 partner.row waits (calmly (Sending sent) u.0 q u.1
+          u.2 (λ e. cc) (λ e. cc))
           (counted (enqueue q (record after_copy {
             tasks = slice_set after_copy.tasks q (record u.0 { condition = Ready });
           }))) (record u.0 { condition = Ready }) copy (record {
@@ -197,7 +210,8 @@ module _ (m : Contents) (wf : IsWellFormed m) (w : World) (lawful : IsLawful m w
 
           copied_holds : IsSound m (counted after_copy)
           copied_holds =
-              turned m waiting_in in_sound apart p (behind (Receiving e) l) in_mine.row in_there (counted after_copy)
+              turned m waiting_in in_sound apart p (behind (Receiving e) l) in_mine.row in_there plain (counted
+              after_copy)
               (record t { registers = between (t.registers.at + 1) l.registers }) copy (record {
                 tasks = sym (set_twice w.tasks p (behind (Receiving e) l)
                     (record t { registers = between (t.registers.at + 1) l.registers }));
@@ -282,7 +296,8 @@ module _ (m : Contents) (wf : IsWellFormed m) (w : World) (lawful : IsLawful m w
       emitted_holds k found =
           let at = link_found (output_word 0) e.channel k found in
           let few = link_low (output_word 0) e.channel k found in
-          turned m waiting_out out_sound apart p (behind (Sending e) l) out_mine.row out_there _ (behind (OnLink e 0) l) l.memory (record {
+          turned m waiting_out out_sound apart p (behind (Sending e) l) out_mine.row out_there plain _ (behind
+          (OnLink e 0) l) l.memory (record {
             tasks = sym (set_twice w.tasks p (behind (Sending e) l) (behind (OnLink e 0) l));
             memory = refl;
             roles = refl;
@@ -316,7 +331,10 @@ module _ (m : Contents) (wf : IsWellFormed m) (w : World) (lawful : IsLawful m w
             counters = ap (λ (counters : Counters). record counters { executed = counters.executed + 1 }) only.counters;
             fault = only.fault;
             size = only.size;
-          }) refl (rouses c.enabled waits)
+          }) refl (rouses c.enabled waits) (λ q enabled. a_sender (cell_of e.channel) (record c { waiting = Some p }) p
+          (behind (Sending e) l) e
+          (got_set w.channels (cell_of e.channel) (Some c) (Some (record c { waiting = Some p }))
+          (channel_there w e.channel c at)) enabled refl (got_set w.tasks p t (behind (Sending e) l) r.here) refl)
 
       -- it meets one that waits to receive
       meets_receiver : (q : ℕ) (wanted : Exchange) (c : Channel) → channel_at w e.channel ≡ Some c → c.waiting ≡ Some q
@@ -324,7 +342,8 @@ module _ (m : Contents) (wf : IsWellFormed m) (w : World) (lawful : IsLawful m w
           → IsSound m (counted (met here q e wanted c l w))
       meets_receiver q wanted c at waiting is same =
           subst (λ x. IsSound m (counted x)) (wake_is after_copy q u.0 waits)
-          (turned m (counted on) on_holds apart q u.0 partner.row waits
+          (turned m (counted on) on_holds apart q u.0 partner.row waits (calmly (Receiving wanted) u.0 q u.1 u.2 (λ
+          e. cc) (λ e. cc))
           (counted (enqueue q (record after_copy {
             tasks = slice_set after_copy.tasks q (record u.0 { condition = Ready });
           }))) (record u.0 { condition = Ready }) copy (record {
@@ -363,7 +382,7 @@ module _ (m : Contents) (wf : IsWellFormed m) (w : World) (lawful : IsLawful m w
 
           on_holds : IsSound m (counted on)
           on_holds =
-              turned m waiting_out out_sound apart p (behind (Sending e) l) out_mine.row out_there (counted on)
+              turned m waiting_out out_sound apart p (behind (Sending e) l) out_mine.row out_there plain (counted on)
               (record t { registers = between (t.registers.at + 1) l.registers }) l.memory (record {
                 tasks = sym (set_twice w.tasks p (behind (Sending e) l)
                     (record t { registers = between (t.registers.at + 1) l.registers }));

@@ -1,16 +1,48 @@
--- Whoever is roused lives on.
-use Rattle.std.proofs.Common.{◌≡◌, ℕ, inl, inr, List, Option, refl, sym, ap, ◌∙◌, arith}
-use Rattle.std.specs.Prelude.{slice_set}
+-- Whoever is roused lives on, with something ready.
+use Rattle.std.proofs.Common.{◌≡◌, ◌⊎◌, ℕ, ℤ, Bool, inl, inr, List, Option, Some, refl, sym, ap, ◌∙◌, arith}
+use Rattle.std.specs.Prelude.{slice_set, true}
 use Rattle.module_format.specs.Contents.{Contents}
 use Rattle.machine_state.specs.declared.process.Task.{Task}
+use Rattle.machine_state.specs.declared.process.Mode as machine
 use Rattle.machine_state.specs.declared.process.Mode.TheVariants as modes
 use Rattle.machine_state.specs.declared.process.Condition.TheVariants.{Ready, Alternating}
+use Rattle.machine_state.specs.EnabledLaws.{Enables, HasReady}
+use Rattle.machine_state.specs.Memory.{Memory}
 use Rattle.machine_state.specs.World.{World}
 use Rattle.machine_state.specs.Moves.{rouse}
 use Rattle.machine_state.proofs.Moving.{OnlyTasks, rouse_only}
 use Rattle.machine_state.proofs.Changes.{Roused, nobody, who_enables, who_waits, rouses}
+use Rattle.states.specs.declared.known.Mode as states
+use Rattle.rulings.specs.Meaning.{SameMode, both_plain, both_enabling, both_disabling, both_starting}
+use Rattle.rulings.specs.Guarding.{guard_value}
+use Rattle.verifier.proofs.Tables.{AreApart, equal_lengths, IsSound, Puts, living, roused_lives, lives_in_mode}
+use Rattle.verifier.proofs.Tables.{holds_aside, holds_put, holds_put_alternating, lives_whatever, IsCalm}
+use Rattle.verifier.proofs.Carrying.{alternates_on, alternates_still, enabled_as_before, ready_on}
 use Rattle.verifier.specs.Lives.{awaits, it_lives}
-use Rattle.verifier.proofs.Tables.{AreApart, equal_lengths, IsSound, quietly, Puts, living, lives_whatever, holds_put}
+
+-- the state of a process that enables fits whether something is ready or not
+still_enabling : {p : states.Mode} {q : machine.Mode} (is_ready : Bool) → Enables q → SameMode p q
+    → SameMode p (modes.Enabling is_ready)
+still_enabling is_ready enables both_plain = let no' = enables.1 in absurd (cc)
+still_enabling is_ready enables both_enabling = both_enabling
+still_enabling is_ready enables both_disabling = let no' = enables.1 in absurd (cc)
+still_enabling is_ready enables both_starting = let no' = enables.1 in absurd (cc)
+
+-- who enables is ready, as it waits for not_so message
+enabling_is_ready : (t : Task) → IsCalm t → Enables t.mode → t.condition ≡ Ready
+enabling_is_ready t (inl plain) enables =
+    let no' : modes.Plain ≡ modes.Enabling enables.0 = sym plain ∙ enables.1 in absurd (cc)
+enabling_is_ready t (inr (inl e)) enables = e.1
+enabling_is_ready t (inr (inr d)) enables =
+    let no' : modes.Disabling d.0.0 ≡ modes.Enabling enables.0 = sym d.0.1 ∙ enables.1 in absurd (cc)
+
+-- who waits for a guard disables next
+waiting_disables : (t : Task) → IsCalm t → t.condition ≡ Alternating
+    → (t.mode ≡ modes.Plain) ⊎ ((selection : Option ℤ) × (t.mode ≡ modes.Disabling selection))
+waiting_disables t (inl plain) waits = inl plain
+waiting_disables t (inr (inl e)) waits =
+    let no' : Ready ≡ Alternating = sym e.1 ∙ waits in absurd (cc)
+waiting_disables t (inr (inr d)) waits = inr (d.0.0, d.0.1)
 
 module _ (m : Contents) (w : World) (h : IsSound m w) (apart : AreApart w.roles) where
   -- the world once a process was roused
@@ -26,21 +58,60 @@ module _ (m : Contents) (w : World) (h : IsSound m w) (apart : AreApart w.roles)
   }
 
   pub roused_holds : (after : World) (o : Option ℕ) (tasks : List Task) → OnlyTasks w after → after.tasks ≡ tasks
-      → Roused w.tasks o tasks → IsSound m after
-  roused_holds after o tasks only is (nobody quiet) =
-      quietly m after h.holds.dues h.holds.pending_dues h.holds.began
-      (record { roles = rw only.roles h.quiet.roles; plain = rw is h.quiet.plain })
-      (rw (is, only.memory, only.roles) h.holds.table) (rw (only.roles, only.channels) h.holds.lengths)
-      (rw only.links h.holds.kept) (rw only.counters h.holds.owed) (only.fault ∙ h.holds.well)
-  roused_holds after o tasks only is (who_enables q t here enabling calm) =
-      let no' : modes.Plain ≡ modes.Enabling enabling.0 = sym (h.quiet.plain q t here) ∙ enabling.1 in
-      absurd (cc)
-  roused_holds after o tasks only is (who_waits q t here waits) =
+      → Roused w.tasks o tasks
+      → ((q : ℕ) → o ≡ Some q → HasReady w.tasks w.channels w.links.inputs q) → IsSound m after
+  roused_holds after o tasks only is (nobody quiet) found =
+      holds_aside m w after (record {
+        tasks = is;
+        memory = only.memory;
+        roles = only.roles;
+        channels = only.channels;
+        kept = rw only.links h.holds.kept;
+        counters = only.counters;
+        fault = only.fault;
+      }) (λ p t s act here guards. alternates_still guards is only.channels (ap (λ links. links.inputs) only.links)
+      only.memory)
+      h
+  roused_holds after o tasks only is (who_enables q t here enabling calm) found =
+      let ready = enabling_is_ready t (h.quiet.calm q t here) enabling in
+      let r = living m w h.holds q t Ready here ready (λ e. cc) (λ e. cc) in
+      let u : Task = record t { mode = modes.Enabling true } in
+      let old = r.guards (inl (enabling, ready)) in
+      holds_put_alternating m w h apart q t here r.row after u w.memory r.row.due (roused_puts after q u only is)
+      (rw only.counters (omega arith)) (inl ((true, refl), ready)) (record { size = refl; others = λ place e. refl })
+      (lives_in_mode (modes.Enabling true) r.lives (still_enabling true enabling))
+      (alternates_on m w after q t u r.lives.point.state r.lives.point.state r.lives.point.act old
+      (enabled_as_before w after q only.channels (ap (λ links. links.inputs) only.links))
+      (λ n g there. ap (λ (memory : Memory). guard_value memory r.lives.point.act g.name) only.memory)
+      (record { guards = refl; left = refl }) old.fit (λ distance no'. absurd (cc))
+      (λ must. inl (rw (is, only.channels, only.links) (ready_on w.tasks w.channels w.links.inputs q q t u here
+      (λ e sends. let no' = sym ready ∙ sends in cc) (found q refl)))))
+  roused_holds after o tasks only is (who_waits q t here waits) found =
       let r = living m w h.holds q t Alternating here waits (λ e. cc) (λ e. cc) in
       let u : Task = record t { condition = Ready } in
-      holds_put m w h apart q t r.row after u w.memory r.row.due (roused_puts after q u only is)
-      (rw only.counters (omega arith)) (h.quiet.plain q t here) (record { size = refl; others = λ place e. refl })
-      (it_lives (lives_whatever Ready (λ e is. elim is [ inl no' ↦ cc | inr no' ↦ cc ]) (λ place. ap (λ c. awaits c place) waits) (λ place. refl) r.lives))
+      elim (waiting_disables t (h.quiet.calm q t here) waits) [
+        | inl plain ↦
+            holds_put m w h apart q t here r.row after u w.memory r.row.due (roused_puts after q u only is)
+            (rw only.counters (omega arith)) plain (record { size = refl; others = λ place e. refl })
+            (it_lives (lives_whatever Ready (λ e is. elim is [ inl no' ↦ absurd (cc) | inr no' ↦ absurd (cc) ])
+            (λ place. ap (λ c. awaits c place) waits) (λ place. refl) r.lives))
+        | inr disables ↦
+            let old = r.guards (inr (disables, inr waits)) in
+            holds_put_alternating m w h apart q t here r.row after u w.memory r.row.due (roused_puts after q u only is)
+            (rw only.counters (omega arith)) (inr (disables, inl refl)) (record {
+              size = refl;
+              others = λ place e.
+                  refl;
+            })
+            (roused_lives waits r.lives)
+            (alternates_on m w after q t u r.lives.point.state r.lives.point.state r.lives.point.act old
+            (enabled_as_before w after q only.channels (ap (λ links. links.inputs) only.links))
+            (λ n g there. ap (λ (memory : Memory). guard_value memory r.lives.point.act g.name) only.memory)
+            (record { guards = refl; left = refl }) old.fit (λ distance same. same)
+            (λ must. inl (rw (is, only.channels, only.links) (ready_on w.tasks w.channels w.links.inputs q q t u here
+            (λ e sends. let no' = sym waits ∙ sends in cc) (found q refl)))))
+      ]
 
-  pub rouse_holds : (o : Option ℕ) → IsSound m (rouse o w)
-  rouse_holds o = roused_holds (rouse o w) o (rouse o w).tasks (rouse_only o w) refl (rouses o w)
+  pub rouse_holds : (o : Option ℕ) → ((q : ℕ) → o ≡ Some q → HasReady w.tasks w.channels w.links.inputs q)
+      → IsSound m (rouse o w)
+  rouse_holds o found = roused_holds (rouse o w) o (rouse o w).tasks (rouse_only o w) refl (rouses o w) found

@@ -1,7 +1,7 @@
 -- The invariant holds of the loaded world.
 use Rattle.std.proofs.Common.{◌≡◌, ℕ, zero, suc, ◌+◌, ◌*◌, ◌≤◌, ◌<◌, ◌≤ℤ◌, ◌<ℤ◌, ◌+ℤ◌, ◌-ℤ◌, neg_ℤ, Bool, true, false}
 use Rattle.std.proofs.Common.{if◌then◌else◌, ltb, ◌&&◌, ◌||◌, ℤ, pos, negsuc, List, [], ◌∷◌, length, replicate, Some}
-use Rattle.std.proofs.Common.{Option, None, refl, sym, ap, ◌∙◌, subst, arith}
+use Rattle.std.proofs.Common.{Option, None, inl, refl, sym, ap, ◌∙◌, subst, arith}
 use Rattle.std.proofs.lemmas.List.{length-append, length-map, length-replicate}
 use Rattle.std.proofs.lemmas.Bool.{le-leb}
 use Rattle.std.proofs.lemmas.Int.{ints}
@@ -23,7 +23,8 @@ use Rattle.rulings.specs.Meaning.{owed, Activation, means_unknown, nothing_known
 use Rattle.rulings.specs.Meaning.{HasFrame, frame_lo, frame_hi, from_nowhere, MeansKnown, both_plain, IsWellFormed}
 use Rattle.verifier.specs.Point.{Began, Behind, nobody_waits, owed_behind, Decodes}
 use Rattle.verifier.specs.Lives.{Meets, it_lives}
-use Rattle.verifier.proofs.Tables.{IsSound, AreBytes, quietly}
+use Rattle.rulings.proofs.Within.{is_starting}
+use Rattle.verifier.proofs.Tables.{IsSound, AreBytes, no_alternation, quietly}
 use Rattle.rulings.specs.Regions.{kind_used, parameter_used}
 use Rattle.machine_state.specs.declared.holding.End.{End}
 use Rattle.machine_state.specs.declared.process.Task.{Task}
@@ -220,10 +221,11 @@ module _ (m : Contents) (d : Decodes m) (wf : IsWellFormed m) (c : IsCertified m
 
   pub loaded_holds : IsSound m (loaded m)
   loaded_holds =
-      let en = enter m d wf c (root_holding m) machine_modes.Plain root_activation 0 (root_state m) begins wf.some_code
-      refl in
+      let en = enter m d wf c (root_holding m) machine_modes.Plain root_activation 0 (root_state m) begins
+      wf.some_code in
       let lives = lives_at m d wf c (root_holding m) root_began machine_modes.Plain en.act 0
-      (Some (root_state m)) en.state root_local [] begins wf.some_code en.stands en.plain (en.after root_local root_after)
+      (Some (root_state m)) en.state root_local [] begins wf.some_code en.stands (ap is_starting en.mode_is)
+      (en.after root_local root_after)
       (entered_behind m d wf c en nobody_behind) in
       let due : ℕ = owed en.state en.act + owed_behind [] in
       quietly m (loaded m) (due ∷ []) [] (root_began ∷ [])
@@ -231,7 +233,8 @@ module _ (m : Contents) (d : Decodes m) (wf : IsWellFormed m) (c : IsCertified m
         roles = λ p role h.
             let x = only (root_role m) role p h in
             (ap (λ (r : Role). r.opened) (sym x.1), ap (λ (r : Role). r.opener) (sym x.1));
-        plain = λ p t h. let x = only (root_task m) t p h in ap (λ (u : Task). u.mode) (sym x.1);
+        calm = λ p t h. inl (root_plain p t h);
+        only = λ p q t u h g. (only (root_task m) t p h).0 ∙ sym (only (root_task m) u q g).0;
       })
       (record {
         each = λ p t h.
@@ -244,11 +247,16 @@ module _ (m : Contents) (d : Decodes m) (wf : IsWellFormed m) (c : IsCertified m
               due = owed en.state en.act + owed_behind [];
               has_due = ap (λ n. slice_get (due ∷ []) n) x.0;
               root = λ none. refl;
-              meets = subst (λ u. Meets m (root_holding m) root_began (loaded_memory m) u (due)) x.1 (it_lives lives);
+              meets = subst (λ u. Meets m (root_holding m) root_began (loaded_memory m) u (due)) x.1
+                  (it_lives lives.lives);
+              alternating = λ alternates. absurd (no_alternation t (root_plain p t h) alternates);
             };
       }) root_agrees quiet_links_keep_nothing
       (let none = nothing_due root_activation.turns in omega (arith, en.paid, none)) refl
     where
+      root_plain : (p : ℕ) (t : Task) → slice_get (root_task m ∷ []) p ≡ Some t → t.mode ≡ machine_modes.Plain
+      root_plain p t h = let x = only (root_task m) t p h in ap (λ (u : Task). u.mode) (sym x.1)
+
       -- no byte is kept on a link
       quiet_links_keep_nothing : AreBytes quiet_links.inputs
       quiet_links_keep_nothing k link b here kept =

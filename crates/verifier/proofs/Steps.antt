@@ -1,7 +1,7 @@
 -- One byte of one process.
 use Rattle.std.proofs.Common.{◌≡◌, ℕ, zero, suc, ◌+◌, ◌*◌, ◌≤◌, ◌<◌, true, false, cond, is_some, inl, inr, ℤ, List, []}
 use Rattle.std.proofs.Common.{◌∷◌, length, drop, Option, Some, None, Result, Ok, Err, refl, sym, ap, ◌∙◌, subst, arith}
-use Rattle.std.proofs.Common.{add-one, pos, ◌+ℤ◌}
+use Rattle.std.proofs.Common.{add-one, pos, ◌+ℤ◌, ◌≤ℤ◌, ◌⊎◌, Bool}
 use Rattle.std.proofs.lemmas.Bool.{cases_lt}
 use Rattle.std.specs.Prelude.{slice_get}
 use Rattle.prefix_decoder.specs.declared.function.Fun.{Fun}
@@ -17,11 +17,14 @@ use Rattle.machine_state.specs.declared.process.Registers.{Registers}
 use Rattle.machine_state.specs.declared.process.Task.{Task}
 use Rattle.machine_state.specs.declared.process.Exchange.{Exchange}
 use Rattle.machine_state.specs.declared.process.Condition.{Condition}
-use Rattle.machine_state.specs.declared.process.Condition.TheVariants.{Ready, Sending, Receiving}
+use Rattle.machine_state.specs.declared.process.Condition.TheVariants.{Ready, Sending, Receiving, Alternating}
 use Rattle.machine_state.specs.declared.process.Mode as machine
 use Rattle.machine_state.specs.Memory.{Memory, byte_at, data_start}
 use Rattle.machine_state.specs.Holding.{Holding, may_read, may_write, has_end}
-use Rattle.machine_state.specs.Site.{Site, Local, Outcome, goes, jumps, lands, stops, receives, sends}
+use Rattle.machine_state.specs.Site.{Site, Local, Outcome, goes, jumps, lands, stops, receives, sends, begins}
+use Rattle.machine_state.specs.Site.{enables_channel, enables_skip, waits, disables_channel, disables_skip}
+use Rattle.machine_state.specs.Site.{ends_alternation}
+use Rattle.machine_state.specs.LocalStep.{with_a_alone}
 use Rattle.machine_state.specs.LocalStep.{local_step}
 use Rattle.machine_state.specs.Happens.{between}
 use Rattle.states.specs.declared.rule.Rule.{Rule}
@@ -39,6 +42,14 @@ use Rattle.machine_state.specs.Frame.{ChangesOwn}
 use Rattle.verifier.specs.Point.{IsReading, Began, Behind, nobody_waits, one_waits, owed_behind, Point, BehindIn}
 use Rattle.verifier.specs.Point.{owed_at, MeetsPoint, Decodes}
 use Rattle.verifier.specs.Lives.{awaits, IsExchanging, Lives}
+use Rattle.verifier.proofs.LivesAs.{LivesAs}
+use Rattle.rulings.specs.Guarding.{HasSelected}
+use Rattle.states.specs.Below.{is_plain}
+use Rattle.states.specs.declared.known.Guard.{Guard}
+use Rattle.states.specs.declared.known.GuardKind.TheVariants.{Channel, Skip}
+use Rattle.module_format.specs.declared.rows.EndKind.{EndKind}
+use Rattle.rulings.specs.Regions.{channel_address}
+use Rattle.rulings.proofs.Within.{is_starting, scope_still}
 use Rattle.rulings.specs.Buffers.{message_place, IsByte, Fills}
 use Rattle.rulings.specs.Channels.{message_length}
 use Rattle.module_format.specs.declared.rows.Direction.{Direction}
@@ -46,7 +57,9 @@ use Rattle.module_format.specs.declared.rows.Direction.TheVariants.{In, Out}
 use Rattle.rulings.proofs.Agreeing.{agree_keeps, after_agrees}
 use Rattle.rulings.specs.Fitting.{Described, After, Here, step_site, GoesTo, goes_behind, is_jump, is_landing, Fits}
 use Rattle.rulings.specs.Fitting.{it_falls, it_leads, it_calls, it_returns, it_ends, it_asks, it_breaks, Caller}
-use Rattle.rulings.specs.Fitting.{GoesOver, Receives, Sends, Exchanges, to_receive, to_send}
+use Rattle.rulings.specs.Fitting.{GoesOver, Receives, Sends, Exchanges, to_receive, to_send, Changes, Stays, it_selects}
+use Rattle.rulings.specs.Fitting.{Alters, Begins, Enables, AwaitsGuards, Disables, IsAtChannel, to_begin, to_enable}
+use Rattle.rulings.specs.Fitting.{to_enable_skip, to_wait, to_disable, to_disable_skip}
 use Rattle.rulings.proofs.Combining.{elsewhere, unknown_means}
 use Rattle.facts.proofs.Local.{function_fits}
 use Rattle.rulings.proofs.Entering.{below_tells, label_after}
@@ -100,6 +113,52 @@ behind_lifts {m} {h} {context = context} {layout = layout} {old = old} {new = ne
     keeps)
 
 -- ---- modes
+
+-- a process that starts no branches is at a point at which none is started
+pub still_state : {p : states.Mode} {q : machine.Mode} → SameMode p q → (q ≡ machine_modes.Starting → ⊥)
+    → is_starting p ≡ false
+still_state both_plain calm = refl
+still_state both_enabling calm = refl
+still_state both_disabling calm = refl
+still_state both_starting calm = absurd (calm refl)
+
+-- and one that is at a point in plain mode is in that mode
+pub plain_process : {p : states.Mode} {q : machine.Mode} → SameMode p q → p ≡ states_modes.Plain
+    → q ≡ machine_modes.Plain
+plain_process both_plain e = refl
+plain_process both_enabling e = absurd (cc)
+plain_process both_disabling e = absurd (cc)
+plain_process both_starting e = absurd (cc)
+
+-- those that wait for a return, where no branch is started
+behind_as : {m : Contents} {h : Holding} {began : Began} (q : states.Mode) {context : ℕ} {layout : Layout}
+    {memory : Memory} {callers : List Caller} → is_starting q ≡ false → Behind m h began context layout memory callers
+    → BehindIn m h began q context layout memory callers
+behind_as states_modes.Plain still behind = behind
+behind_as states_modes.Enabling still behind = behind
+behind_as (states_modes.Disabling done) still behind = behind
+behind_as (states_modes.Starting row started) still behind = absurd (cc)
+
+behind_of : {m : Contents} {h : Holding} {began : Began} (q : states.Mode) {context : ℕ} {layout : Layout}
+    {memory : Memory} {callers : List Caller} → is_starting q ≡ false
+    → BehindIn m h began q context layout memory callers → Behind m h began context layout memory callers
+behind_of states_modes.Plain still behind = behind
+behind_of states_modes.Enabling still behind = behind
+behind_of (states_modes.Disabling done) still behind = behind
+behind_of (states_modes.Starting row started) still behind = absurd (cc)
+
+owed_still : (q : states.Mode) (s : State) (act : Activation) (callers : List Caller) → is_starting q ≡ false
+    → owed_at q s act callers ≡ owed s act + owed_behind callers
+owed_still states_modes.Plain s act callers still = refl
+owed_still states_modes.Enabling s act callers still = refl
+owed_still (states_modes.Disabling done) s act callers still = refl
+owed_still (states_modes.Starting row started) s act callers still = absurd (cc)
+
+settled_mode : (q : states.Mode) → is_plain q ≡ true → q ≡ states_modes.Plain
+settled_mode states_modes.Plain e = refl
+settled_mode states_modes.Enabling e = absurd (cc)
+settled_mode (states_modes.Disabling done) e = absurd (cc)
+settled_mode (states_modes.Starting row started) e = absurd (cc)
 
 -- a process in plain mode is at a point in plain mode
 pub plain_state : {p : states.Mode} {q : machine.Mode} → SameMode p q → q ≡ machine_modes.Plain
@@ -184,11 +243,12 @@ after_some (Some f) g e n rest i some h =
     (sym fg ∙ ap (λ (j : Instr). j.fun) is, ap (λ (j : Instr). j.operand) is, ap (λ (j : Instr). j.len) is)
 
 fits_pays : (x : Here) {r : Ruling} {o : Outcome} → Fits x r o → ((v : Rule) → r ≡ breaks v → ⊥) → x.len ≤ x.owed
-fits_pays x (it_falls fallen gone low after same changes pay) whole = omega arith
+fits_pays x (it_falls fallen gone low after same changes pay stays) whole = omega arith
 fits_pays x (it_leads turns led gone label low after same changes pay) whole = omega arith
-fits_pays x (it_calls act workspace found low after back waits same changes pay one few) whole = omega arith
+fits_pays x (it_calls act workspace found low after back called same changes pay one few) whole = omega arith
 fits_pays x (it_returns some few plain changes registers workspace back pay) whole = pay
-fits_pays x (it_ends changes pay) whole = pay
+fits_pays x (it_selects turns among label low after same changes pay all) whole = omega arith
+fits_pays x (it_ends plain changes pay) whole = pay
 fits_pays x (it_asks asks pay) whole = pay
 fits_pays x (it_breaks {broken = v}) whole = absurd (whole v refl)
 
@@ -214,39 +274,91 @@ module _ (m : Contents) where
     pub some : 1 ≤ e.length
     pub low : t.registers.at + 1 < length m.code
 
+  -- the task behind an instruction, in a mode and a condition
+  abbrev pub behind_in : Task → machine.Mode → Condition → Local → Task
+  behind_in t mode condition l =
+      record { registers = between (t.registers.at + 1) l.registers; mode = mode; condition = condition }
+
+  -- the task at an offset
+  abbrev pub task_at : Task → machine.Mode → ℕ → Local → Task
+  task_at t mode to l = record { registers = between to l.registers; mode = mode; condition = Ready }
+
+  -- Where the process goes on, in the middle of something only registers have changed.
+  pub record GoesOnAs (x : Here) (began : Began) (t u : Task) (l : Local) (later : ℕ) : Type 0 where
+    pub state : State
+    pub act : Activation
+    pub lives : LivesAs x.m x.h began l.memory u later state act
+    pub stays : (t.mode ≡ machine_modes.Plain → ⊥) → Stays x state l × (state.context ≡ x.context) × (act ≡ x.act)
+
+  -- an instruction of an alternation: the state behind it is that in which the process goes on
+  pub record AltersTo (x : Here) (t : Task) (due later : ℕ) (l : Local) : Type 0 where
+    pub own : ChangesOwn x.h x.memory l.memory
+    pub less : later + 1 ≤ due
+    pub low : t.registers.at + 1 < length x.m.code
+
+  -- the process holds the end of the channel of a guard
+  pub record HoldsChannel (x : Here) (kind : EndKind) (address : ℕ) : Type 0 where
+    pub end : (scope_of x.m x.context x.act.layout).ends kind In ≡ true
+    pub held : has_end x.h (record { address = address; direction = In }) ≡ true
+    pub address_is : channel_address x.act.layout kind ≡ address
+
   -- what the last byte of an instruction comes to
-  pub data Comes (h : Holding) (began : Began) (memory : Memory) (t : Task) (due : ℕ) : Outcome → Type 0 where
+  pub data Comes (x : Here) (began : Began) (t : Task) (due : ℕ) : Outcome → Type 0 where
     -- it goes on behind it
-    comes_on : {l : Local} (later : ℕ) → ChangesOwn h memory l.memory
-        → Lives m h began l.memory (record {
-          registers = between (t.registers.at + 1) l.registers;
-          mode = t.mode;
-          condition =
-              Ready;
-        }) later → later + 1 ≤ due → Comes h began memory t due (goes l)
+    comes_on : {l : Local} (later : ℕ) → ChangesOwn x.h x.memory l.memory
+        → GoesOnAs x began t (task_at t t.mode (t.registers.at + 1) l) l later → later + 1 ≤ due
+        → Comes x began t due (goes l)
     -- or at another offset, where it may be sent to the back of the ready list
-    comes_to : {to : ℕ} {l : Local} (later : ℕ) → ChangesOwn h memory l.memory
-        → Lives m h began l.memory (record { registers = between to l.registers; mode = t.mode; condition = Ready }) later
-        → later + 1 ≤ due → Comes h began memory t due (jumps to l)
+    comes_to : {to : ℕ} {l : Local} (later : ℕ) → ChangesOwn x.h x.memory l.memory
+        → GoesOnAs x began t (task_at t t.mode to l) l later → later + 1 ≤ due → Comes x began t due (jumps to l)
     -- or at one with no such break
-    comes_straight : {to : ℕ} {l : Local} (later : ℕ) → ChangesOwn h memory l.memory
-        → Lives m h began l.memory (record { registers = between to l.registers; mode = t.mode; condition = Ready }) later
-        → later + 1 ≤ due → Comes h began memory t due (lands to l)
+    comes_straight : {to : ℕ} {l : Local} (later : ℕ) → ChangesOwn x.h x.memory l.memory
+        → GoesOnAs x began t (task_at t t.mode to l) l later → later + 1 ≤ due → Comes x began t due (lands to l)
     -- or it stops
-    comes_down : {l : Local} → ChangesOwn h memory l.memory → 1 ≤ due → Comes h began memory t due (stops l)
+    comes_down : {l : Local} → t.mode ≡ machine_modes.Plain → ChangesOwn x.h x.memory l.memory → 1 ≤ due
+        → Comes x began t due (stops l)
     -- or it wants a message, and goes on behind it once that has come, or gone
-    comes_in : {e : Exchange} {l : Local} (later : ℕ) → Talks h began t In e → ChangesOwn h memory l.memory
-        → Lives m h began l.memory (record {
-          registers = between (t.registers.at + 1) l.registers;
-          mode = t.mode;
-          condition = Receiving e;
-        }) later → later + 1 ≤ due → Comes h began memory t due (receives e l)
-    comes_out : {e : Exchange} {l : Local} (later : ℕ) → Talks h began t Out e → ChangesOwn h memory l.memory
-        → Lives m h began l.memory (record {
-          registers = between (t.registers.at + 1) l.registers;
-          mode = t.mode;
-          condition = Sending e;
-        }) later → later + 1 ≤ due → Comes h began memory t due (sends e l)
+    comes_in : {e : Exchange} {l : Local} (later : ℕ) → t.mode ≡ machine_modes.Plain → Talks x.h began t In e
+        → ChangesOwn x.h x.memory l.memory
+        → Lives x.m x.h began l.memory (behind_in t t.mode (Receiving e) l) later → later + 1 ≤ due
+        → Comes x began t due (receives e l)
+    comes_out : {e : Exchange} {l : Local} (later : ℕ) → t.mode ≡ machine_modes.Plain → Talks x.h began t Out e
+        → ChangesOwn x.h x.memory l.memory
+        → Lives x.m x.h began l.memory (behind_in t t.mode (Sending e) l) later → later + 1 ≤ due
+        → Comes x began t due (sends e l)
+    -- or an alternation begins, enables, waits, disables, or ends
+    comes_to_begin : {l : Local} {s : State} (later : ℕ) → AltersTo x t due later l → Begins x s l
+        → LivesAs x.m x.h began l.memory (behind_in t (machine_modes.Enabling false) Ready l) later s x.act
+        → Comes x began t due (begins l)
+    comes_to_enable : {l : Local} {s : State} {holds : Bool} {address : ℕ} (later : ℕ) (kind : EndKind)
+        → AltersTo x t due later l → HoldsChannel x kind address → Enables x (Channel kind) holds s l
+        → ((i : ℕ) (g : Guard) → slice_get x.before.guards i ≡ Some g → g.kind ≡ Channel kind → ⊥)
+        → ((b : Bool) → LivesAs x.m x.h began l.memory (behind_in t (machine_modes.Enabling b) Ready l) later s x.act)
+        → Comes x began t due (enables_channel holds address l)
+    comes_to_enable_skip : {l : Local} {s : State} {holds : Bool} (later : ℕ)
+        → AltersTo x t due later l → Enables x Skip holds s l
+        → ((b : Bool) → LivesAs x.m x.h began l.memory (behind_in t (machine_modes.Enabling b) Ready l) later s x.act)
+        → Comes x began t due (enables_skip holds l)
+    comes_to_wait : {l : Local} {s : State} (later : ℕ) → AltersTo x t due later l → AwaitsGuards x s l
+        → ((condition : Condition) → (condition ≡ Ready) ⊎ (condition ≡ Alternating)
+        → LivesAs x.m x.h began l.memory (behind_in t (machine_modes.Disabling None) condition l) later s x.act)
+        → Comes x began t due (waits l)
+    comes_to_disable : {l : Local} {s : State} {holds : Bool} {address : ℕ} {distance : ℤ} (later : ℕ) (kind : EndKind)
+        → AltersTo x t due later l → HoldsChannel x kind address → Disables x (Channel kind) holds distance s l
+        → ((selection : Option ℤ) (a : ℤ) → pos 0 ≤ℤ a → a ≤ℤ pos 1
+        → LivesAs x.m x.h began l.memory (behind_in t (machine_modes.Disabling selection) Ready
+        (with_a_alone (Some a) l)) later s x.act)
+        → Comes x began t due (disables_channel holds address distance l)
+    comes_to_disable_skip : {l : Local} {s : State} {holds : Bool} {distance : ℤ} (later : ℕ)
+        → AltersTo x t due later l → Disables x Skip holds distance s l
+        → ((selection : Option ℤ) (a : ℤ) → pos 0 ≤ℤ a → a ≤ℤ pos 1
+        → LivesAs x.m x.h began l.memory (behind_in t (machine_modes.Disabling selection) Ready
+        (with_a_alone (Some a) l)) later s x.act)
+        → Comes x began t due (disables_skip holds distance l)
+    comes_to_end : {to : ℕ} {l : Local} {s : State} {act : Activation} (later : ℕ)
+        → x.before.mode ≡ states_modes.Disabling (length x.before.guards) → ChangesOwn x.h x.memory l.memory
+        → LivesAs x.m x.h began l.memory (task_at t machine_modes.Plain to l) later s act → later + 1 ≤ due
+        → to < length x.m.code → Comes x began t due (ends_alternation to l)
 
 -- ---- a process at its point
 
@@ -275,29 +387,31 @@ module _ (m : Contents) (d : Decodes m) (wf : IsWellFormed m) (c : IsCertified m
     pub act : Activation
     pub after : (l : Local) → After m h mode from fallen l → After m h mode act state l
     pub paid : owed state act ≤ owed fallen from
-    pub plain : state.mode ≡ states_modes.Plain
+    pub mode_is : state.mode ≡ fallen.mode
+    pub stays : (fallen.mode ≡ states_modes.Plain → ⊥) → (state ≡ fallen) × (act ≡ from)
     pub context : state.context ≡ fallen.context
     pub layout : act.layout ≡ from.layout
 
   -- at a label, or where the tables give no state
   enter_on : (h : Holding) (mode : machine.Mode) (act : Activation) (at : ℕ) (s : State) (cost : ℕ)
       (label : Option Label) (begun : Option Begun) → label_at m at ≡ label
-      → procedure_at m at ≡ begun → s.mode ≡ states_modes.Plain
+      → procedure_at m at ≡ begun
       → elim label as (λ o. Result ℕ Rule)
       [ None ↦ cond (is_some begun) (Err rules.Flow) (Ok 0) | Some t ↦ below s t ] ≡ Ok cost
       → Entered h mode at s act
-  enter_on h mode act at s cost None None no_label no_procedure plain ok = record {
+  enter_on h mode act at s cost None None no_label no_procedure ok = record {
     state = s;
     stands = nothing_given m at (Some s) (given_none m at no_label no_procedure);
     act = act;
     after = λ l a. a;
     paid = omega arith;
-    plain = plain;
+    mode_is = refl;
+    stays = λ busy. (refl, refl);
     context = refl;
     layout = refl;
   }
-  enter_on h mode act at s cost None (Some e) no_label begins plain ok = absurd (cc)
-  enter_on h mode act at s cost (Some t) begun e f plain ok =
+  enter_on h mode act at s cost None (Some e) no_label starts ok = absurd (cc)
+  enter_on h mode act at s cost (Some t) begun e f ok =
       let b = below_tells s t cost ok in
       record {
         state = label_state t;
@@ -305,16 +419,17 @@ module _ (m : Contents) (d : Decodes m) (wf : IsWellFormed m) (c : IsCertified m
         act = at_label s t act;
         after = λ l a. label_after m h mode act s t l wf at e b.1 a;
         paid = label_owed s t cost act (wf.pairs at t e) ok;
-        plain = refl;
+        mode_is = sym (settled_mode s.mode b.1.plain);
+        stays = λ busy. absurd (busy (settled_mode s.mode b.1.plain));
         context = sym b.1.context;
         layout = refl;
       }
 
   pub enter : (h : Holding) (mode : machine.Mode) (act : Activation) (at : ℕ) (s : State) → Reaches m at (Some s)
-      → at < length m.code → s.mode ≡ states_modes.Plain → Entered h mode at s act
-  enter h mode act at s r low plain =
+      → at < length m.code → Entered h mode at s act
+  enter h mode act at s r low =
       let holds = c.holds.each at (Some s) low r in
-      enter_on h mode act at s holds.cost (label_at m at) (procedure_at m at) refl refl plain holds.enters
+      enter_on h mode act at s holds.cost (label_at m at) (procedure_at m at) refl refl holds.enters
 
   -- those that wait behind wait on
   pub entered_behind : {h : Holding} {began : Began} {mode : machine.Mode} {at : ℕ} {s : State} {act : Activation}
@@ -347,82 +462,108 @@ module _ (m : Contents) (d : Decodes m) (wf : IsWellFormed m) (c : IsCertified m
     pub named : HoldsNamed m h (scope_of m s.context act.layout) l.memory
     pub known_length : (e : Exchange) → IsExchanging condition e → e.length ≡ began.layout.lengths e.channel
 
-  -- in plain mode an activation has all that its context has
-  whole_scope : (s : State) (layout : Layout) → s.mode ≡ states_modes.Plain
+  -- where no branches are started an activation has all that its context has
+  whole_scope : (s : State) (layout : Layout) → is_starting s.mode ≡ false
       → scope_in m s layout ≡ scope_of m s.context layout
-  whole_scope s layout plain = ap (λ (q : states.Mode). scope_among m s.context q layout) plain
+  whole_scope s layout still = scope_still m s.context s.mode layout still
 
   -- between two instructions, in whatever condition
   lives_while : (h : Holding) (began : Began) (mode : machine.Mode) (act : Activation) (at : ℕ) (before : Option State)
       (s : State) (l : Local) (callers : List Caller) (condition : Condition) → Reaches m at before
-      → at < length m.code → state_at m at before ≡ Some s → s.mode ≡ states_modes.Plain
+      → at < length m.code → state_at m at before ≡ Some s → is_starting s.mode ≡ false
       → Meanwhile h began mode act s l condition → Behind m h began s.context act.layout l.memory callers
-      → Lives m h began l.memory (record {
+      → LivesAs m h began l.memory (record {
         registers = between at l.registers;
         mode = mode;
         condition = condition;
-      }) (owed s act + owed_behind callers)
-  lives_while h began mode act at before s l callers condition r low st plain meanwhile behind =
+      }) (owed s act + owed_behind callers) s act
+  lives_while h began mode act at before s l callers condition r low st still meanwhile behind =
       let holds = c.holds.each at before low r in
       record {
-        point = record {
-          before = before;
-          state = s;
-          reached = r;
-          stands = st;
-          instr = holds.instr;
-          taken = 0;
-          reading =
-              record {
-                fuel = 8;
-                whole = refl;
-                at_is = omega arith;
-                spelled = holds.spelled;
-                rest = d.reads at holds.instr holds.spelled;
-              };
-          act = act;
-          callers = callers;
+        state_is = refl;
+        act_is = refl;
+        lives = record {
+          point = record {
+            before = before;
+            state = s;
+            reached = r;
+            stands = st;
+            instr = holds.instr;
+            taken = 0;
+            reading =
+                record {
+                  fuel = 8;
+                  whole = refl;
+                  at_is = omega arith;
+                  spelled = holds.spelled;
+                  rest = d.reads at holds.instr holds.spelled;
+                };
+            act = act;
+            callers = callers;
+          };
+          claim = λ later size agree bytes. record {
+            here = elsewhere at at (pos 0) (meanwhile.after later size agree bytes);
+            behind = behind_as {m = m} {h = h} {began = began} s.mode {context = s.context} {layout = act.layout}
+                {memory = later}
+                {callers = callers} still
+                (behind_keeps (meanwhile.fills l.memory later (record {
+                  size = size;
+                  others = agree;
+                  come = λ place e awaited. inr (bytes place awaited);
+                })) behind);
+          };
+          room = meanwhile.room;
+          sends = meanwhile.sends;
+          fills = λ old new fills. subst (λ (scope : Scope). Keeps m h scope old new)
+              (sym (whole_scope s act.layout still)) (meanwhile.fills old new fills);
+          named = subst (λ (scope : Scope). HoldsNamed m h scope l.memory) (sym (whole_scope s act.layout still))
+              meanwhile.named;
+          known_length = meanwhile.known_length;
+          paid = let same = owed_still s.mode s act callers still in omega (arith, same);
         };
-        claim = λ later size agree bytes. record {
-          here = elsewhere at at (pos 0) (meanwhile.after later size agree bytes);
-          behind = subst (λ (q : states.Mode). BehindIn m h began q s.context act.layout later callers) (sym plain)
-              (behind_keeps (meanwhile.fills l.memory later (record {
-                size = size;
-                others = agree;
-                come = λ place e awaited. inr (bytes place awaited);
-              })) behind);
-        };
-        room = meanwhile.room;
-        sends = meanwhile.sends;
-        fills = λ old new fills. subst (λ (scope : Scope). Keeps m h scope old new)
-            (sym (whole_scope s act.layout plain)) (meanwhile.fills old new fills);
-        named = subst (λ (scope : Scope). HoldsNamed m h scope l.memory) (sym (whole_scope s act.layout plain))
-            meanwhile.named;
-        known_length = meanwhile.known_length;
-        paid = subst (λ (q : states.Mode). owed s act + owed_behind callers + 0 ≡ owed_at q s act callers) (sym plain)
-            (omega arith);
       }
 
-  -- between two instructions, where it goes on at once
+  -- between two instructions, in a condition in which it waits for no message
+  lives_quietly : (h : Holding) (began : Began) (mode : machine.Mode) (act : Activation) (at : ℕ) (before : Option
+      State)
+      (s : State) (l : Local) (callers : List Caller) (condition : Condition)
+      → (condition ≡ Ready) ⊎ (condition ≡ Alternating) → Reaches m at before → at < length m.code
+      → state_at m at before ≡ Some s → is_starting s.mode ≡ false
+      → After m h mode act s l → Behind m h began s.context act.layout l.memory callers
+      → LivesAs m h began l.memory (record {
+        registers = between at l.registers;
+        mode = mode;
+        condition = condition;
+      }) (owed s act + owed_behind callers) s act
+  lives_quietly h began mode act at before s l callers condition quiet r low st still a behind =
+      lives_while h began mode act at before s l callers condition r low st still (record {
+        after = λ later size agree bytes. after_agrees later size (λ place e. agree place e (none place)) a;
+        room = λ place e. let no' = sym (none place) ∙ e in absurd (cc);
+        sends = λ e is. absurd (elim quiet [ inl r ↦ let no' = sym r ∙ is in cc | inr r ↦ let no' = sym r ∙ is in cc ]);
+        fills = λ old new fills. agree_keeps h old new fills.size (λ place e. fills.others place e (none place)) m
+            (scope_of m s.context act.layout);
+        named = subst (λ (scope : Scope). HoldsNamed m h scope l.memory) (whole_scope s act.layout still) a.named;
+        known_length = λ e is. absurd (elim is [
+          | inl out ↦ elim quiet [ inl r ↦ let no' = sym r ∙ out in cc | inr r ↦ let no' = sym r ∙ out in cc ]
+          | inr takes ↦ elim quiet [ inl r ↦ let no' = sym r ∙ takes in cc | inr r ↦ let no' = sym r ∙ takes in cc ]
+        ]);
+      }) behind
+    where
+      none : (place : ℕ) → awaits condition place ≡ false
+      none place = elim quiet [ inl r ↦ ap (λ c. awaits c place) r | inr r ↦ ap (λ c. awaits c place) r ]
+
+  -- where it goes on at once
   pub lives_at : (h : Holding) (began : Began) (mode : machine.Mode) (act : Activation) (at : ℕ) (before : Option State)
       (s : State) (l : Local) (callers : List Caller) → Reaches m at before → at < length m.code
-      → state_at m at before ≡ Some s → s.mode ≡ states_modes.Plain
+      → state_at m at before ≡ Some s → is_starting s.mode ≡ false
       → After m h mode act s l → Behind m h began s.context act.layout l.memory callers
-      → Lives m h began l.memory (record {
+      → LivesAs m h began l.memory (record {
         registers = between at l.registers;
         mode = mode;
         condition = Ready;
-      }) (owed s act + owed_behind callers)
-  lives_at h began mode act at before s l callers r low st plain a behind =
-      lives_while h began mode act at before s l callers Ready r low st plain (record {
-        after = λ later size agree bytes. after_agrees later size (λ place e. agree place e refl) a;
-        room = λ place e. absurd (cc);
-        sends = λ e no'. absurd (cc);
-        fills = λ old new fills. agree_keeps h old new fills.size (λ place e. fills.others place e refl) m
-            (scope_of m s.context act.layout);
-        named = subst (λ (scope : Scope). HoldsNamed m h scope l.memory) (whole_scope s act.layout plain) a.named;
-        known_length = λ e no'. elim no' [ inl is ↦ absurd (cc) | inr is ↦ absurd (cc) ];
-      }) behind
+      }) (owed s act + owed_behind callers) s act
+  lives_at h began mode act at before s l callers r low st still a behind =
+      lives_quietly h began mode act at before s l callers Ready (inl refl) r low st still a behind
 
   -- how the rule at the process's point and the step fit, with the whole instruction read
   abbrev pub here_of : Holding → Activation → Memory → Task → State → Instr → Here
@@ -431,6 +572,7 @@ module _ (m : Contents) (d : Decodes m) (wf : IsWellFormed m) (c : IsCertified m
         m = m;
         h = h;
         context = s.context;
+        before = s;
         act = act;
         mode = t.mode;
         memory = memory;
@@ -439,29 +581,31 @@ module _ (m : Contents) (d : Decodes m) (wf : IsWellFormed m) (c : IsCertified m
         len = i.len;
       }
 
-  -- a process at a point, in plain mode
+  -- a process at a point, which starts no branches; at the end of an alternation the machine has selected an exit
   module _ (h : Holding) (began : Began) (memory : Memory) (t : Task) (due : ℕ) (p : Point m t)
       (meets : MeetsPoint m t h began p memory) (paid : due + p.taken ≡ owed_at p.state.mode p.state p.act p.callers)
-      (plain : t.mode ≡ machine_modes.Plain) where
+      (calm : t.mode ≡ machine_modes.Starting → ⊥)
+      (selected : p.state.mode ≡ states_modes.Disabling (length p.state.guards)
+      → HasSelected t.mode p.state.guards) where
     abbrev x : Here
     x = here_of h p.act memory t p.state p.instr
 
-    state_plain : p.state.mode ≡ states_modes.Plain
-    state_plain = plain_state meets.here.same_mode plain
+    still : is_starting p.state.mode ≡ false
+    still = still_state meets.here.same_mode calm
 
     behind : Behind m h began p.state.context p.act.layout memory p.callers
-    behind = subst (λ (q : states.Mode). BehindIn m h began q p.state.context p.act.layout memory p.callers) state_plain
-        meets.behind
+    behind = behind_of {m = m} {h = h} {began = began} p.state.mode {context = p.state.context} {layout = p.act.layout}
+        {memory = memory} {callers = p.callers} still meets.behind
 
     owes_all : due + p.taken ≡ owed p.state p.act + owed_behind p.callers
-    owes_all = subst (λ (q : states.Mode). due + p.taken ≡ owed_at q p.state p.act p.callers) state_plain paid
+    owes_all = paid ∙ owed_still p.state.mode p.state p.act p.callers still
 
     point_fits : Fits x (rule_at m t.registers.began p.instr p.state) (local_step (step_site x) p.instr.fun p.instr.operand
         (record { registers = t.registers; memory = memory }))
     point_fits =
         function_fits x wf p.state (record { registers = t.registers; memory = memory })
         meets.here refl (record { own = record { size = refl; others = λ place e. refl }; keeps = keeps_all })
-        (omega arith)
+        (omega arith) (record { state = refl; memory = refl }) selected
         p.instr.fun p.instr.operand (d.fits t.registers.began p.instr p.reading.spelled)
         (has_next t.registers.began p.before p.state p.instr p.reached p.stands p.reading.spelled)
 
@@ -492,17 +636,18 @@ module _ (m : Contents) (d : Decodes m) (wf : IsWellFormed m) (c : IsCertified m
 
     -- it goes on at an offset, by whatever outcome
     comes_by : {o : Outcome} {to : ℕ} {l : Local} (later : ℕ) → GoesTo x o to l → x.at + x.len ≡ t.registers.at + 1
-        → ChangesOwn h memory l.memory
-        → Lives m h began l.memory (record { registers = between to l.registers; mode = t.mode; condition = Ready }) later
-        → later + 1 ≤ due → Comes m h began memory t due o
+        → ChangesOwn h memory l.memory → GoesOnAs m x began t (task_at m t t.mode to l) l later
+        → later + 1 ≤ due → Comes m x began t due o
     comes_by later (goes_behind {l = l}) at own lives less =
-        comes_on later own (subst (λ n. Lives m h began l.memory (record {
-          registers = between n l.registers;
-          mode = t.mode;
-          condition = Ready;
-        }) later) at lives) less
+        comes_on later own (subst (λ n. GoesOnAs m x began t (task_at m t t.mode n l) l later) at lives) less
     comes_by later is_jump at own lives less = comes_to later own lives less
     comes_by later is_landing at own lives less = comes_straight later own lives less
+
+    -- where it goes on in plain mode
+    goes_plainly : {s : State} {act : Activation} {u : Task} {l : Local} {later : ℕ} → t.mode ≡ machine_modes.Plain
+        → LivesAs m h began l.memory u later s act → GoesOnAs m x began t u l later
+    goes_plainly {s} {act} plain lives =
+        record { state = s; act = act; lives = lives; stays = λ busy. absurd (busy plain) }
 
     -- the caller that has waited goes on
     resumed : (l : Local) (callers : List Caller) → Behind m h began p.state.context p.act.layout l.memory callers
@@ -510,11 +655,11 @@ module _ (m : Contents) (d : Decodes m) (wf : IsWellFormed m) (c : IsCertified m
         → l.registers.stack ≡ of_empty None
         → pos l.registers.workspace ≡ pos data_start +ℤ place_in p.act.layout.origin (pos 4)
         → p.act.layout.back < length m.code → owed_behind callers + 1 ≤ due → p.callers ≡ callers
-        → Comes m h began memory t due (lands p.act.layout.back l)
-    resumed l [] (nobody_waits same there procedure) own some few registers workspace back pay e =
+        → t.mode ≡ machine_modes.Plain → Comes m x began t due (lands p.act.layout.back l)
+    resumed l [] (nobody_waits same there procedure) own some few registers workspace back pay e plain =
         absurd (let high = procedure some in omega arith)
     resumed l (caller ∷ callers) (one_waits one inside reached going lengths base lends resumes rest) own some few
-        registers workspace back pay e =
+        registers workspace back pay e plain =
         let again = resumes l.memory keeps_all in
         let said : MeansStack caller.state.stack l.registers.stack caller.state.context caller.act l.memory =
         subst (λ (said : Stack Known). MeansStack said l.registers.stack caller.state.context caller.act l.memory)
@@ -533,10 +678,12 @@ module _ (m : Contents) (d : Decodes m) (wf : IsWellFormed m) (c : IsCertified m
           same_mode = subst (λ (q : states.Mode). SameMode q t.mode) (sym going.plain)
               (subst (λ (q : machine.Mode). SameMode states_modes.Plain q) (sym plain) both_plain);
         }) in
-        let en = enter h t.mode caller.act p.act.layout.back caller.state reached back going.plain in
+        let en = enter h t.mode caller.act p.act.layout.back caller.state reached back in
         comes_straight (owed en.state en.act + owed_behind callers) own
-        (lives_at h began t.mode en.act p.act.layout.back (Some caller.state) en.state l callers reached back en.stands
-        en.plain (en.after l here) (entered_behind en (rest l.memory keeps_all))) (let less = en.paid in omega arith)
+        (goes_plainly plain (lives_at h began t.mode en.act p.act.layout.back (Some caller.state) en.state l callers
+        reached
+        back en.stands (ap is_starting (en.mode_is ∙ going.plain)) (en.after l here)
+        (entered_behind en (rest l.memory keeps_all)))) (let less = en.paid in omega arith)
       where
         MeansStack : Stack Known → Stack (Option ℤ) → ℕ → Activation → Memory → Type 0
         MeansStack said stack context act memory =
@@ -553,7 +700,7 @@ module _ (m : Contents) (d : Decodes m) (wf : IsWellFormed m) (c : IsCertified m
     module _ {r : Ruling} {s' : State} {l : Local} (asks : Exchanges x r s' l) where
       named_after : HoldsNamed m h (scope_of m p.state.context p.act.layout) l.memory
       named_after = asks.changes.keeps.named (subst (λ (scope : Scope). HoldsNamed m h scope memory)
-          (whole_scope p.state p.act.layout state_plain) meets.here.named)
+          (whole_scope p.state p.act.layout still) meets.here.named)
 
       exchange_enters : r ≡ rule_at m t.registers.began p.instr p.state
           → Reaches m (t.registers.began + p.instr.len) (Some s')
@@ -582,7 +729,7 @@ module _ (m : Contents) (d : Decodes m) (wf : IsWellFormed m) (c : IsCertified m
         room = wants.room;
         sends = λ other no'. absurd (cc);
         fills = λ old new fills. subst (λ (scope : Scope). Keeps m h scope old new)
-            (whole_scope s' p.act.layout asks.plain) (wants.fills old new fills);
+            (whole_scope s' p.act.layout (ap is_starting asks.plain)) (wants.fills old new fills);
         named = subst (λ (n : ℕ). HoldsNamed m h (scope_of m n p.act.layout) l.memory) (sym asks.same) named_after;
         known_length = λ other is. elim is [
           | inl no' ↦ absurd (cc)
@@ -611,7 +758,7 @@ module _ (m : Contents) (d : Decodes m) (wf : IsWellFormed m) (c : IsCertified m
       -- what it owes once it goes on
       abbrev exchange_enter : r ≡ rule_at m t.registers.began p.instr p.state
           → Entered h t.mode (t.registers.began + p.instr.len) s' p.act
-      exchange_enter e = enter h t.mode p.act (t.registers.began + p.instr.len) s' (exchange_enters e) asks.low asks.plain
+      exchange_enter e = enter h t.mode p.act (t.registers.began + p.instr.len) s' (exchange_enters e) asks.low
 
       abbrev exchange_due : r ≡ rule_at m t.registers.began p.instr p.state → ℕ
       exchange_due e = let en = exchange_enter e in owed en.state en.act + owed_behind p.callers
@@ -638,7 +785,7 @@ module _ (m : Contents) (d : Decodes m) (wf : IsWellFormed m) (c : IsCertified m
             condition = condition;
           }) (exchange_due e)) at
           (lives_while h began t.mode en.act (t.registers.began + p.instr.len) (Some s') en.state l p.callers condition
-          (exchange_enters e) asks.low en.stands en.plain (record {
+          (exchange_enters e) asks.low en.stands (ap is_starting (en.mode_is ∙ asks.plain)) (record {
             after = λ later size agree bytes. en.after (record l { memory = later })
                 (meanwhile.after later size agree bytes);
             room = meanwhile.room;
@@ -647,20 +794,80 @@ module _ (m : Contents) (d : Decodes m) (wf : IsWellFormed m) (c : IsCertified m
                 (meanwhile.fills old new fills);
             named = subst (λ (scope : Scope). HoldsNamed m h scope l.memory) (sym (entered_scope en)) meanwhile.named;
             known_length = meanwhile.known_length;
-          }) (entered_behind en (still_behind s'.context l.memory asks.same asks.changes.keeps)))
+          }) (entered_behind en (still_behind s'.context l.memory asks.same asks.changes.keeps))).lives
+
+    -- ---- alternations
+
+    -- what the activation has here
+    named_here : HoldsNamed m h (scope_of m p.state.context p.act.layout) memory
+    named_here = subst (λ (scope : Scope). HoldsNamed m h scope memory) (whole_scope p.state p.act.layout still)
+        meets.here.named
+
+    holds_channel : (kind : EndKind) (address : ℕ) → IsAtChannel x kind address → HoldsChannel m x kind address
+    holds_channel kind address at = record {
+      end = at.end;
+      held = subst (λ a. has_end h (record { address = a; direction = In }) ≡ true) at.address_is
+          (named_here.ends kind In at.end);
+      address_is = at.address_is;
+    }
+
+    module _ {r : Ruling} {s' : State} {l : Local} (alters : Alters x r s' l)
+        (e : r ≡ rule_at m t.registers.began p.instr p.state) (last : p.taken + 1 ≡ p.instr.len) where
+      abbrev alters_due : ℕ
+      alters_due = owed s' p.act + owed_behind p.callers
+
+      alters_reaches : Reaches m (t.registers.began + p.instr.len) (Some s')
+      alters_reaches = follows p.reached p.stands p.reading.spelled refl (sym alters.is ∙ ap falling e)
+
+      alters_to : AltersTo m x t due alters_due l
+      alters_to = record {
+        own = alters.changes.own;
+        less = let pay = alters.pay in omega (arith, pay, owes_all, last);
+        low = let low = alters.low in omega (arith, low, p.reading.at_is, last);
+      }
+
+      -- in the state that falls, since no label stands in an alternation
+      alters_lives : (mode : machine.Mode) (condition : Condition) → (condition ≡ Ready) ⊎ (condition ≡ Alternating)
+          → (k : Local) → Changes x k.memory → is_starting s'.mode ≡ false → (s'.mode ≡ states_modes.Plain → ⊥)
+          → After m h mode p.act s' k
+          → LivesAs m h began k.memory (behind_in m t mode condition k) alters_due s' p.act
+      alters_lives mode condition quiet k changes unstarted busy after =
+          let en = enter h mode p.act (t.registers.began + p.instr.len) s' alters_reaches alters.low in
+          let to = en.stays busy in
+          let st = subst (λ (state : State). state_at m (t.registers.began + p.instr.len) (Some s') ≡ Some state) to.0
+          en.stands in
+          let at : t.registers.began + p.instr.len ≡ t.registers.at + 1 = omega (arith, p.reading.at_is, last) in
+          subst (λ n. LivesAs m h began k.memory (record {
+            registers = between n k.registers;
+            mode = mode;
+            condition = condition;
+          }) alters_due s' p.act) at
+          (lives_quietly h began mode p.act (t.registers.began + p.instr.len) (Some s') s' k p.callers condition quiet
+          alters_reaches alters.low st unstarted after (still_behind s'.context k.memory alters.same changes.keeps))
 
     comes : (r : Ruling) (o : Outcome)
         → r ≡ rule_at m t.registers.began p.instr p.state → p.taken + 1 ≡ p.instr.len
-        → Fits x r o → Comes m h began memory t due o
-    comes r o e last (it_falls {s = s'} {l = l} is gone low after same changes pay) =
+        → Fits x r o → Comes m x began t due o
+    comes r o e last (it_falls {s = s'} {l = l} is gone low after same changes pay stays) =
         let next : Reaches m (t.registers.began + p.instr.len) (Some s') =
         follows p.reached p.stands p.reading.spelled refl (sym is ∙ ap falling e) in
-        let en = enter h t.mode p.act (t.registers.began + p.instr.len) s' next low
-        (plain_state after.same_mode plain) in
+        let en = enter h t.mode p.act (t.registers.began + p.instr.len) s' next low in
         comes_by (owed en.state en.act + owed_behind p.callers)
         gone (omega (arith, p.reading.at_is)) changes.own
-        (lives_at h began t.mode en.act (t.registers.began + p.instr.len) (Some s') en.state l p.callers next low en.stands
-        en.plain (en.after l after) (entered_behind en (still_behind s'.context l.memory same changes.keeps)))
+        (record {
+          state = en.state;
+          act = en.act;
+          lives = lives_at h began t.mode en.act (t.registers.began + p.instr.len) (Some s') en.state l p.callers
+              next low
+              en.stands (ap is_starting en.mode_is ∙ still_state after.same_mode calm) (en.after l after)
+              (entered_behind en (still_behind s'.context l.memory same changes.keeps));
+          stays = λ busy.
+              let to = en.stays (λ plain. busy (plain_process after.same_mode plain)) in (
+                subst (λ (u : State). Stays x u l) (sym to.0) (stays busy),
+                ap (λ (u : State). u.context) to.0 ∙ same,
+                to.1,
+              );
+        })
         (omega (arith, owes_all, en.paid, pay))
     comes r o e last (it_leads {to = to} {l = l} {t = label} turns led gone is low after same changes
         pay) =
@@ -669,11 +876,12 @@ module _ (m : Contents) (d : Decodes m) (wf : IsWellFormed m) (c : IsCertified m
         is_given m to r.0 (label_state label) (given_label m to label is) in
         comes_by (owed (label_state label) (with_turns turns p.act) + owed_behind p.callers) gone
         (omega (arith, p.reading.at_is)) changes.own
+        (goes_plainly (plain_process after.same_mode refl)
         (lives_at h began t.mode (with_turns turns p.act) to r.0 (label_state label) l p.callers r.1 low st refl after
-        (still_behind label.context l.memory same changes.keeps))
+        (still_behind label.context l.memory same changes.keeps)))
         (omega (arith, owes_all, pay))
     comes r o e last
-        (it_calls {to = to} {s = s'} {l = l} {e = f} act workspace found low after back waits
+        (it_calls {to = to} {s = s'} {l = l} {e = f} act workspace found low after back lent
         same changes pay some few) =
         let next : Reaches m (t.registers.began + p.instr.len) (Some s') =
         follows p.reached p.stands p.reading.spelled refl (ap falling e) in
@@ -684,30 +892,69 @@ module _ (m : Contents) (d : Decodes m) (wf : IsWellFormed m) (c : IsCertified m
         let caller : Caller = record { act = p.act; state = s'; workspace = workspace } in
         let waiting = still_behind s'.context l.memory same changes.keeps in
         let called : Behind m h began f.context act.layout l.memory (caller ∷ p.callers) =
-        one_waits some few (subst (λ (n : ℕ). Reaches m n (Some s')) (sym back) next) waits.goes_on waits.lengths
-        waits.base waits.lends waits.resumes
+        one_waits some few (subst (λ (n : ℕ). Reaches m n (Some s')) (sym back) next) lent.goes_on lent.lengths
+        lent.base lent.lends lent.resumes
         (λ later keeps. behind_keeps (lift m h (scope_of m s'.context p.act.layout) (scope_of m f.context act.layout)
-        waits.base waits.lends l.memory later after.named keeps) waiting) in
+        lent.base lent.lends l.memory later after.named keeps) waiting) in
         comes_straight (owed (procedure_state f.context f.procedure) act + owed_behind (caller ∷ p.callers)) changes.own
+        (goes_plainly (plain_process after.same_mode refl)
         (lives_at h began t.mode act to r.0 (procedure_state f.context f.procedure) l
-        (caller ∷ p.callers) r.1 low st refl after called)
+        (caller ∷ p.callers) r.1 low st refl after called))
         (omega (arith, owes_all, pay))
     comes r o e last (it_returns {l = l} some few plain_mode changes registers workspace back pay) =
         resumed l p.callers (behind_keeps changes.keeps behind) changes.own some few registers
-        workspace back (let paid = owes_all in omega arith) refl
-    comes r o e last (it_ends changes pay) = comes_down changes.own (omega (arith, owes_all, pay))
+        workspace back (let paid = owes_all in omega arith) refl plain_mode
+    comes r o e last (it_selects {to = to} {l = l} {t = label} turns among is low after same changes pay all) =
+        let r = c.holds.starts to low (label_is_start m to label is) in
+        let st : state_at m to r.0 ≡ Some (label_state label) =
+        is_given m to r.0 (label_state label) (given_label m to label is) in
+        comes_to_end (owed (label_state label) (with_turns turns p.act) + owed_behind p.callers) all changes.own
+        (lives_at h began machine_modes.Plain (with_turns turns p.act) to r.0 (label_state label) l p.callers r.1 low
+        st refl
+        after (still_behind label.context l.memory same changes.keeps))
+        (omega (arith, owes_all, pay)) low
+    comes r o e last (it_ends plain changes pay) = comes_down plain changes.own (omega (arith, owes_all, pay))
     comes r o e last (it_asks (to_receive asks wants) pay) =
-        comes_in (exchange_due asks e) (talks asks last wants.over) asks.changes.own
+        comes_in (exchange_due asks e) asks.in_plain_mode (talks asks last wants.over) asks.changes.own
         (exchange_lives asks e last (receiving asks last wants)) (exchange_pays asks e last)
     comes r o e last (it_asks (to_send asks wants) pay) =
-        comes_out (exchange_due asks e) (talks asks last wants.over) asks.changes.own
+        comes_out (exchange_due asks e) asks.in_plain_mode (talks asks last wants.over) asks.changes.own
         (exchange_lives asks e last (sending asks last wants)) (exchange_pays asks e last)
+    comes r o e last (it_asks (to_begin {l = l} alters begun) pay) =
+        comes_to_begin (alters_due alters e last) (alters_to alters e last) begun
+        (alters_lives alters e last (machine_modes.Enabling false) Ready (inl refl) l alters.changes
+        (ap is_starting begun.mode) (λ plain. let no' = sym begun.mode ∙ plain in cc) begun.after)
+    comes r o e last (it_asks (to_enable {l = l} {address = address} kind alters at more fresh) pay) =
+        comes_to_enable (alters_due alters e last) kind (alters_to alters e last) (holds_channel kind address at)
+        more fresh
+        (λ b. alters_lives alters e last (machine_modes.Enabling b) Ready (inl refl) l alters.changes
+        (ap is_starting more.mode) (λ plain. let no' = sym more.mode ∙ plain in cc) (more.after b))
+    comes r o e last (it_asks (to_enable_skip {l = l} alters more) pay) =
+        comes_to_enable_skip (alters_due alters e last) (alters_to alters e last) more
+        (λ b. alters_lives alters e last (machine_modes.Enabling b) Ready (inl refl) l alters.changes
+        (ap is_starting more.mode) (λ plain. let no' = sym more.mode ∙ plain in cc) (more.after b))
+    comes r o e last (it_asks (to_wait {l = l} alters awaits) pay) =
+        comes_to_wait (alters_due alters e last) (alters_to alters e last) awaits
+        (λ condition quiet. alters_lives alters e last (machine_modes.Disabling None) condition quiet l alters.changes
+        (ap is_starting awaits.mode) (λ plain. let no' = sym awaits.mode ∙ plain in cc) (awaits.after None))
+    comes r o e last (it_asks (to_disable {l = l} {address = address} kind alters at less) pay) =
+        comes_to_disable (alters_due alters e last) kind (alters_to alters e last) (holds_channel kind address at) less
+        (λ selection a low high. alters_lives alters e last (machine_modes.Disabling selection) Ready (inl refl)
+        (with_a_alone (Some a) l) alters.changes (ap is_starting less.mode) (λ plain. let no' = sym less.mode
+        ∙ plain in cc)
+        (less.after selection a low high))
+    comes r o e last (it_asks (to_disable_skip {l = l} alters less) pay) =
+        comes_to_disable_skip (alters_due alters e last) (alters_to alters e last) less
+        (λ selection a low high. alters_lives alters e last (machine_modes.Disabling selection) Ready (inl refl)
+        (with_a_alone (Some a) l) alters.changes (ap is_starting less.mode) (λ plain. let no' = sym less.mode
+        ∙ plain in cc)
+        (less.after selection a low high))
     comes r o e last (it_breaks {broken = v}) = absurd (unbroken v (sym e))
 
     -- the last byte of an instruction
     pub comes_last : (byte : ℕ) (f : Fun)
         → slice_get m.code t.registers.at ≡ Some byte → fun_of (function_code byte) ≡ Some f
-        → Comes m h began memory t due (local_step (site_in m (t.registers.at + 1) t.mode h) f
+        → Comes m x began t due (local_step (site_in m (t.registers.at + 1) t.mode h) f
         (with_nibble t.registers.operand (nibble byte))
         (record { registers = t.registers; memory = memory }))
     comes_last byte f here some =
@@ -719,13 +966,13 @@ module _ (m : Contents) (d : Decodes m) (wf : IsWellFormed m) (c : IsCertified m
         ≡ Ok p.instr) same b.rest in
         let is = after_some (fun_of (function_code byte)) f _ _ _ p.instr some rest in
         let at : t.registers.began + p.instr.len ≡ t.registers.at + 1 = omega (arith, p.reading.at_is, is.2) in
-        subst (λ n. Comes m h began memory t due
+        subst (λ n. Comes m x began t due
         (local_step (site_in m n t.mode h) f (with_nibble t.registers.operand (nibble byte))
         (record { registers = t.registers; memory = memory }))) at
-        (subst (λ g. Comes m h began memory t due (local_step (step_site x) g
+        (subst (λ g. Comes m x began t due (local_step (step_site x) g
         (with_nibble t.registers.operand (nibble byte)) (record { registers = t.registers; memory = memory })))
         (sym is.0)
-        (subst (λ e. Comes m h began memory t due (local_step (step_site x) p.instr.fun e
+        (subst (λ e. Comes m x began t due (local_step (step_site x) p.instr.fun e
         (record { registers = t.registers; memory = memory }))) (sym is.1)
         (comes (rule_at m t.registers.began p.instr p.state) _ refl is.2 point_fits)))
 

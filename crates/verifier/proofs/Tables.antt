@@ -10,10 +10,10 @@ use Rattle.machine_state.specs.declared.process.Exchange.{Exchange}
 use Rattle.machine_state.specs.declared.process.Mode.TheVariants as modes
 use Rattle.machine_state.specs.declared.link.InputLink.{InputLink}
 use Rattle.machine_state.specs.EnabledLaws.{Alternates}
-use Rattle.machine_state.specs.declared.process.Condition.TheVariants.{Stopped, Ended}
+use Rattle.machine_state.specs.declared.process.Condition.TheVariants.{Ready, Alternating, Stopped, Ended}
 use Rattle.machine_state.specs.Memory.{Memory, byte_at}
 use Rattle.machine_state.specs.Holding.{Holding, may_write, may_read, IsApart}
-use Rattle.machine_state.specs.World.{World, Role, Queue, Links, held}
+use Rattle.machine_state.specs.World.{World, Role, held}
 use Rattle.machine_state.specs.Frame.{ChangesOwn}
 use Rattle.machine_state.specs.declared.process.Channel.{Channel}
 use Rattle.machine_state.specs.Moves.{picked, dispatch, cell_of}
@@ -22,24 +22,47 @@ use Rattle.machine_state.proofs.Lines.{got_set, got_other, set_either}
 use Rattle.rulings.proofs.Words.{bool_cases}
 use Rattle.rulings.proofs.Combining.{readable_byte}
 use Rattle.rulings.specs.Regions.{scope_in}
+use Rattle.states.specs.State.{State}
+use Rattle.rulings.specs.Meaning.{Activation}
+use Rattle.verifier.specs.Alternating.{AlternatesHere}
+use Rattle.rulings.specs.Meaning.{SameMode}
+use Rattle.rulings.specs.Fitting.{After}
+use Rattle.machine_state.specs.Site.{Local}
+use Rattle.machine_state.specs.declared.process.Mode as machine
+use Rattle.verifier.proofs.Carrying.{alternates_still}
+use Rattle.verifier.proofs.LivesAs.{LivesAs}
 use Rattle.verifier.specs.Point.{Began, Point}
 use Rattle.rulings.specs.Buffers.{message_place, IsByte}
 use Rattle.verifier.specs.Lives.{awaits, IsExchanging, Lives, Meets, it_lives, it_stopped, it_ended}
-use Rattle.verifier.specs.Invariant.{Process, Table, LengthAgrees, at_link, at_channel, LengthsAgree, total, Holds}
+use Rattle.verifier.specs.Invariant.{AlternatesIn, Process, Table, LengthAgrees, at_link, at_channel, LengthsAgree}
+use Rattle.verifier.specs.Invariant.{total, Holds}
 use Rattle.rulings.proofs.Agreeing.{agree_keeps}
 
--- ---- one process in plain mode
+-- ---- one process
 
--- No rule starts a branch or enables anything yet: no process has an opener or a join open, and all are in plain mode.
+-- a process is in the middle of nothing, or in an alternation
+abbrev pub IsCalm : Task → Type 0
+IsCalm t = (t.mode ≡ modes.Plain) ⊎ Alternates t.mode t.condition
+
+-- No rule starts a branch yet: no process has an opener or a join open, and there is one.
 pub record IsQuiet (w : World) : Type 0 where
   pub roles : (p : ℕ) (role : Role) → slice_get w.roles p ≡ Some role → (role.opened ≡ None) × (role.opener ≡ None)
-  pub plain : (p : ℕ) (t : Task) → slice_get w.tasks p ≡ Some t → t.mode ≡ modes.Plain
+  pub calm : (p : ℕ) (t : Task) → slice_get w.tasks p ≡ Some t → IsCalm t
+  pub only : (p q : ℕ) (t u : Task) → slice_get w.tasks p ≡ Some t → slice_get w.tasks q ≡ Some u → p ≡ q
 
 -- who is in plain mode is in no alternation
 pub no_alternation : (t : Task) → t.mode ≡ modes.Plain → Alternates t.mode t.condition → ⊥
 no_alternation t plain (inl enables) = let no' : modes.Plain ≡ modes.Enabling enables.0.0 = sym plain ∙ enables.0.1 in cc
 no_alternation t plain (inr disables) =
     let no' : modes.Plain ≡ modes.Disabling disables.0.0 = sym plain ∙ disables.0.1 in cc
+
+-- who waits for a message is in plain mode
+pub plain_of : (t : Task) → IsCalm t → (t.condition ≡ Ready → ⊥) → (t.condition ≡ Alternating → ⊥)
+    → t.mode ≡ modes.Plain
+plain_of t (inl plain) unready unroused = plain
+plain_of t (inr (inl enables)) unready unroused = absurd (unready enables.1)
+plain_of t (inr (inr disables)) unready unroused =
+    absurd (elim disables.1 [ inl ready ↦ unready ready | inr waits ↦ unroused waits ])
 
 pub record IsSound (m : Contents) (w : World) : Type 0 where
   pub holds : Holds m w
@@ -63,7 +86,8 @@ point_whatever c p = record {
 
 -- A process lives on in another condition, in which it does not wait on an internal channel: what it awaits now it
 -- awaited before, what else it awaited has come, and no other byte that it may read has changed.
-pub lives_on : {m : Contents} {h : Holding} {began : Began} {memory : Memory} {t : Task} {due : ℕ} (new : Memory)
+unfoldable pub lives_on : {m : Contents} {h : Holding} {began : Began} {memory : Memory} {t : Task} {due : ℕ} (new :
+    Memory)
     (c : Condition) → ((e : Exchange) → IsExchanging c e → ⊥)
     → length new ≡ length memory
     → ((place : ℕ) → may_read h place ≡ true → awaits t.condition place ≡ false
@@ -112,7 +136,7 @@ lives_on {m} {h} {began} {memory} {t} {due} new c quiet size same fewer either c
     ]
 
 -- one that awaits nothing
-pub lives_whatever : {m : Contents} {h : Holding} {began : Began} {memory : Memory} {t : Task} {due : ℕ}
+unfoldable pub lives_whatever : {m : Contents} {h : Holding} {began : Began} {memory : Memory} {t : Task} {due : ℕ}
     (c : Condition) → ((e : Exchange) → IsExchanging c e → ⊥)
     → ((place : ℕ) → awaits t.condition place ≡ false) → ((place : ℕ) → awaits c place ≡ false)
     → Lives m h began memory t due → Lives m h began memory (record t { condition = c }) due
@@ -120,6 +144,56 @@ lives_whatever {memory = memory} c quiet before after = lives_on memory c quiet 
     (λ place still. let no' : true ≡ false = sym still ∙ after place in absurd (cc))
     (λ place still. inl refl)
     (λ place awaited over. let no' : true ≡ false = sym awaited ∙ before place in absurd (cc))
+
+-- who was roused lives on where it was
+pub roused_lives : {m : Contents} {h : Holding} {began : Began} {memory : Memory} {t : Task} {due : ℕ}
+    → t.condition ≡ Alternating → (l : Lives m h began memory t due)
+    → LivesAs m h began memory (record t { condition = Ready }) due l.point.state l.point.act
+unfolding lives_whatever lives_on
+roused_lives waits l = record {
+  lives = lives_whatever Ready (λ e is. elim is [ inl no' ↦ absurd (cc) | inr no' ↦ absurd (cc) ])
+      (λ place. ap (λ c. awaits c place) waits) (λ place. refl) l;
+  state_is = refl;
+  act_is = refl;
+}
+
+-- what holds in a mode holds in another one that fits the state
+in_mode_as : {m : Contents} {h : Holding} {mode next : machine.Mode} {act : Activation} {s : State} {l : Local}
+    → (SameMode s.mode mode → SameMode s.mode next) → After m h mode act s l → After m h next act s l
+in_mode_as same a =
+    record { frame = a.frame; knows = a.knows; named = a.named; same_mode = same a.same_mode }
+
+-- it lives on in another mode that fits its state
+pub lives_in_mode : {m : Contents} {h : Holding} {began : Began} {memory : Memory} {t : Task} {due : ℕ}
+    (next : machine.Mode) (l : Lives m h began memory t due)
+    → (SameMode l.point.state.mode t.mode → SameMode l.point.state.mode next)
+    → LivesAs m h began memory (record t { mode = next }) due l.point.state l.point.act
+lives_in_mode {t = t} next l same = record {
+  lives = record {
+    point = record {
+      before = l.point.before;
+      state = l.point.state;
+      reached = l.point.reached;
+      stands = l.point.stands;
+      instr = l.point.instr;
+      taken = l.point.taken;
+      reading = l.point.reading;
+      act = l.point.act;
+      callers = l.point.callers;
+    };
+    claim = λ later size agree bytes.
+        let old = l.claim later size agree bytes in
+        record { here = in_mode_as same old.here; behind = old.behind };
+    room = l.room;
+    sends = l.sends;
+    fills = l.fills;
+    named = l.named;
+    known_length = l.known_length;
+    paid = l.paid;
+  };
+  state_is = refl;
+  act_is = refl;
+}
 
 -- what another process does with bytes of its own leaves a process alone
 meets_elsewhere : {m : Contents} {g h : Holding} {began : Began} {memory new : Memory} {t : Task} {due : ℕ}
@@ -145,11 +219,18 @@ meets_elsewhere {m} {g} {h} {began} {memory} {new} apart changes (it_lives l) = 
 
 -- ---- a process of a world in which the invariant holds
 
+-- it is alive, with what is known of its guards
+record Alive (m : Contents) (w : World) (p : ℕ) {g : Holding} {began : Began} {t : Task} {due : ℕ}
+    (meets : Meets m g began w.memory t due) : Type 0 where
+  lives : Lives m g began w.memory t due
+  guards : AlternatesIn w p meets → AlternatesHere m w p t lives.point.state lives.point.act
+
 -- with its place in the table, and all that is known of it
 pub record Living (m : Contents) (w : World) (began : List Began) (dues : List ℕ) (p : ℕ) (t : Task) : Type 0 where
   pub here : slice_get w.tasks p ≡ Some t
-  pub row : Process m w.memory w.roles began dues p t
+  pub row : Process m w began dues p t
   pub lives : Lives m (held row.role) row.start w.memory t row.due
+  pub guards : Alternates t.mode t.condition → AlternatesHere m w p t lives.point.state lives.point.act
 
 -- who is not over is alive
 pub living : (m : Contents) (w : World) (h : Holds m w) (p : ℕ) (t : Task) (c : Condition)
@@ -157,10 +238,16 @@ pub living : (m : Contents) (w : World) (h : Holds m w) (p : ℕ) (t : Task) (c 
     → Living m w h.began h.dues p t
 living m w h p t c here is going unended =
     let row = h.table.each p t here in
-    record { here = here; row = row; lives = alive row.meets }
+    let l = alive row.meets in
+    record {
+      here = here;
+      row = row;
+      lives = l.lives;
+      guards = λ alternates. l.guards (row.alternating alternates);
+    }
   where
-    alive : {g : Holding} {began : Began} {due : ℕ} → Meets m g began w.memory t due → Lives m g began w.memory t due
-    alive (it_lives l) = l
+    alive : {g : Holding} {began : Began} {due : ℕ} (meets : Meets m g began w.memory t due) → Alive m w p meets
+    alive (it_lives l) = record { lives = l; guards = λ guards. guards }
     alive (it_stopped s) = absurd (going (sym is ∙ s))
     alive (it_ended e) = absurd (unended (sym is ∙ e))
 
@@ -222,9 +309,9 @@ total_set [] p d e h = absurd (cc)
 total_set (x ∷ xs) zero d e h = let same : x ≡ d = cc in omega arith
 total_set (x ∷ xs) (suc p) d e h = let rest = total_set xs p d e h in omega arith
 
--- where nobody has a join open, is a branch, or is in an alternation, the table, lengths and links are all
+-- where nobody has a join open or is a branch, the table, lengths and links are all
 pub quietly : (m : Contents) (w : World) (dues pending_dues : List ℕ) (began : List Began) → IsQuiet w
-    → Table m w.memory w.tasks w.roles began dues → LengthsAgree m w.roles w.channels began → AreBytes w.links.inputs
+    → Table m w began dues → LengthsAgree m w.roles w.channels began → AreBytes w.links.inputs
     → total dues + total pending_dues + w.counters.executed ≤ m.budget → w.fault ≡ None → IsSound m w
 quietly m w dues pending_dues began quiet table lengths kept owed well = record {
   holds = record {
@@ -234,7 +321,6 @@ quietly m w dues pending_dues began quiet table lengths kept owed well = record 
     table = table;
     pending = λ p role j here is. let no' : None ≡ Some j = sym (quiet.roles p role here).0 ∙ is in absurd (cc);
     lengths = lengths;
-    alternating = λ p t here alternates. absurd (no_alternation t (quiet.plain p t here) alternates);
     kept = kept;
     owed = owed;
     well = well;
@@ -243,74 +329,177 @@ quietly m w dues pending_dues began quiet table lengths kept owed well = record 
 }
 
 module _ (m : Contents) (w : World) (h : IsSound m w) (apart : AreApart w.roles) (p : ℕ) (t : Task)
-    (row : Process m w.memory w.roles h.holds.began h.holds.dues p t) where
-  table_put : (u : Task) (new : Memory) (later : ℕ) → ChangesOwn (held row.role) w.memory new
-      → Meets m (held row.role) row.start new u later
-      → Table m new (slice_set w.tasks p u) w.roles h.holds.began (slice_set h.holds.dues p later)
-  table_put u new later changes meets = record { each = each }
-    where
-      each : (q : ℕ) (v : Task) → slice_get (slice_set w.tasks p u) q ≡ Some v
-          → Process m new w.roles h.holds.began (slice_set h.holds.dues p later) q v
-      each q v there = elim (set_either w.tasks p u q v there) [
-        | inl itself ↦ record {
-          role = row.role;
-          has_role = subst (λ n. slice_get w.roles n ≡ Some row.role) itself.0 row.has_role;
-          start = row.start;
-          has_start = subst (λ n. slice_get h.holds.began n ≡ Some row.start) itself.0 row.has_start;
-          due = later;
-          has_due = subst (λ n. slice_get (slice_set h.holds.dues p later) n ≡ Some later) itself.0
-              (got_set h.holds.dues p row.due later row.has_due);
-          root = row.root;
-          meets = subst (λ x. Meets m (held row.role) row.start new x later) (sym itself.1) meets;
-        }
-        | inr other ↦
-            let old = h.holds.table.each q v other.1 in
-            record {
-              role = old.role;
-              has_role = old.has_role;
-              start = old.start;
-              has_start = old.has_start;
-              due = old.due;
-              has_due = got_other h.holds.dues p q later other.0 ∙ old.has_due;
-              root = old.root;
-              meets = meets_elsewhere (apart p q row.role old.role other.0 row.has_role old.has_role) changes
-                  old.meets;
-            }
-      ]
+    (here : slice_get w.tasks p ≡ Some t) (row : Process m w h.holds.began h.holds.dues p t) (after : World) (u : Task)
+    (new : Memory) (later : ℕ) (puts : Puts w after p u new) where
+  -- what stands in the list of tasks afterwards
+  stands_after : (q : ℕ) (v : Task) → slice_get after.tasks q ≡ Some v
+      → ((p ≡ q) × (v ≡ u)) ⊎ ((p ≢ q) × (slice_get w.tasks q ≡ Some v))
+  stands_after q v there =
+      set_either w.tasks p u q v (subst (λ (tasks : List Task). slice_get tasks q ≡ Some v) puts.tasks there)
 
-  quiet_put : (u : Task) → u.mode ≡ modes.Plain → (q : ℕ) (v : Task) → slice_get (slice_set w.tasks p u) q ≡ Some v
-      → v.mode ≡ modes.Plain
-  quiet_put u plain q v there = elim (set_either w.tasks p u q v there) [
-    | inl itself ↦ ap (λ (x : Task). x.mode) itself.1 ∙ plain
-    | inr other ↦ h.quiet.plain q v other.1
+  abbrev dues_after : List ℕ
+  dues_after = slice_set h.holds.dues p later
+
+  -- each process is as it was, but for the one that has changed
+  each_after : ChangesOwn (held row.role) w.memory new → Process m after h.holds.began dues_after p u
+      → (q : ℕ) (v : Task)
+      → slice_get after.tasks q ≡ Some v → Process m after h.holds.began dues_after q v
+  each_after changes mine q v there = elim (stands_after q v there) [
+    | inl itself ↦ subst (λ (n : ℕ). Process m after h.holds.began dues_after n v) itself.0
+        (subst (λ (x : Task). Process m after h.holds.began dues_after p x) (sym itself.1) mine)
+    | inr other ↦
+        let old = h.holds.table.each q v other.1 in
+        record {
+          role = old.role;
+          has_role = subst (λ (roles : List Role). slice_get roles q ≡ Some old.role) (sym puts.roles) old.has_role;
+          start = old.start;
+          has_start = old.has_start;
+          due = old.due;
+          has_due = got_other h.holds.dues p q later other.0 ∙ old.has_due;
+          root = old.root;
+          meets = subst (λ (memory : Memory). Meets m (held old.role) old.start memory v old.due) (sym puts.memory)
+              (meets_elsewhere (apart p q row.role old.role other.0 row.has_role old.has_role) changes old.meets);
+          alternating = λ alternates. absurd (other.0 (h.quiet.only p q t v here other.1));
+        }
   ]
 
-  -- The invariant holds where one process changes bytes of its own, goes on as another task, and owes less by what is
-  -- counted.
-  pub holds_put : (after : World) (u : Task) (new : Memory) (later : ℕ) → Puts w after p u new
-      → later + after.counters.executed ≤ row.due + w.counters.executed → u.mode ≡ modes.Plain
-      → ChangesOwn (held row.role) w.memory new
-      → Meets m (held row.role) row.start new u later → IsSound m after
-  holds_put after u new later puts paid plain changes meets =
-      quietly m after (slice_set h.holds.dues p later) h.holds.pending_dues h.holds.began
-      (record {
-        roles = rw puts.roles h.quiet.roles;
-        plain = rw puts.tasks (quiet_put u plain);
-      })
-      (rw (puts.tasks, puts.memory, puts.roles) (table_put u new later changes meets))
+  quiet_after : IsCalm u → IsQuiet after
+  quiet_after calm = record {
+    roles = rw puts.roles h.quiet.roles;
+    calm = λ q v there. elim (stands_after q v there) [
+      | inl itself ↦ subst IsCalm (sym itself.1) calm
+      | inr other ↦ h.quiet.calm q v other.1
+    ];
+    only = λ q r v x there also. sym (at_once q v there) ∙ at_once r x also;
+  }
+    where
+      at_once : (q : ℕ) (v : Task) → slice_get after.tasks q ≡ Some v → p ≡ q
+      at_once q v there =
+          elim (stands_after q v there) [ inl itself ↦ itself.0 | inr other ↦ h.quiet.only p q t v here other.1 ]
+
+  -- the process that has changed
+  mine_after : (meets : Meets m (held row.role) row.start after.memory u later)
+      → (Alternates u.mode u.condition → AlternatesIn after p meets) → Process m after h.holds.began dues_after p u
+  mine_after meets alternating = record {
+    role = row.role;
+    has_role = subst (λ (roles : List Role). slice_get roles p ≡ Some row.role) (sym puts.roles) row.has_role;
+    start = row.start;
+    has_start = row.has_start;
+    due = later;
+    has_due = got_set h.holds.dues p row.due later row.has_due;
+    root = row.root;
+    meets = meets;
+    alternating = alternating;
+  }
+
+  sound_after : later + after.counters.executed ≤ row.due + w.counters.executed → IsCalm u
+      → ChangesOwn (held row.role) w.memory new → Process m after h.holds.began dues_after p u → IsSound m after
+  sound_after paid calm changes mine =
+      quietly m after dues_after h.holds.pending_dues h.holds.began (quiet_after calm)
+      (record { each = each_after changes mine })
       (lengths_kept m after.roles h.holds.began puts.channels (rw puts.roles h.holds.lengths)) puts.kept
       (let t = total_set h.holds.dues p row.due later row.has_due in let o = h.holds.owed in omega arith)
       (puts.fault ∙ h.holds.well)
 
+  -- The invariant holds where one process changes bytes of its own, goes on in plain mode as another task, and owes
+  -- less
+  -- by what is counted.
+  pub holds_put : later + after.counters.executed ≤ row.due + w.counters.executed → u.mode ≡ modes.Plain
+      → ChangesOwn (held row.role) w.memory new
+      → Meets m (held row.role) row.start new u later → IsSound m after
+  holds_put paid plain changes meets = sound_after paid (inl plain) changes
+      (mine_after (subst (λ (memory : Memory). Meets m (held row.role) row.start memory u later) (sym puts.memory)
+      meets)
+      (λ alternates. absurd (no_alternation u plain alternates)))
+
+  -- The same where it goes on in an alternation, as its guards say.
+  pub holds_put_alternating : later + after.counters.executed ≤ row.due + w.counters.executed
+      → Alternates u.mode u.condition → ChangesOwn (held row.role) w.memory new → {s : State} {act : Activation}
+      → LivesAs m (held row.role) row.start new u later s act → AlternatesHere m after p u s act → IsSound m after
+  holds_put_alternating paid alternates changes {s} {act} lives guards =
+      let l = subst (λ (memory : Memory). LivesAs m (held row.role) row.start memory u later s act) (sym puts.memory)
+      lives in
+      sound_after paid (inr alternates) changes (mine_after (it_lives l.lives) (λ again.
+      subst (λ (act : Activation). AlternatesHere m after p u l.lives.point.state act) (sym l.act_is)
+      (subst (λ (s : State). AlternatesHere m after p u s act) (sym l.state_is) guards)))
+
 -- ---- what the invariant does not read
 
-pub holds_elsewhere : (m : Contents) (w : World) (queue : Queue) (links : Links) → AreBytes links.inputs → IsSound m w
-    → IsSound m (record w { queue = queue; links = links })
-holds_elsewhere m w queue links kept h =
-    quietly m (record w { queue = queue; links = links }) h.holds.dues h.holds.pending_dues h.holds.began
-    (record { roles = h.quiet.roles; plain = h.quiet.plain }) h.holds.table h.holds.lengths kept h.holds.owed h.holds.well
+-- of what the invariant reads of the world, but for what is kept on links, nothing has changed
+pub record Rests (w after : World) : Type 0 where
+  pub tasks : after.tasks ≡ w.tasks
+  pub memory : after.memory ≡ w.memory
+  pub roles : after.roles ≡ w.roles
+  pub channels : after.channels ≡ w.channels
+  pub kept : AreBytes after.links.inputs
+  pub counters : after.counters ≡ w.counters
+  pub fault : after.fault ≡ w.fault
+
+-- with what a process lives by, in the memory that is there now
+record Again (m : Contents) (w after : World) (p : ℕ) {g : Holding} {start : Began} {t : Task} {due : ℕ}
+    (old : Meets m g start w.memory t due) : Type 0 where
+  meets : Meets m g start after.memory t due
+  guards : AlternatesIn w p old → AlternatesIn after p meets
+
+-- Who alternates does so still.
+pub holds_aside : (m : Contents) (w after : World) → Rests w after
+    → ((p : ℕ) (t : Task) (s : State) (act : Activation) → slice_get w.tasks p ≡ Some t → AlternatesHere m w p t s act
+    → AlternatesHere m after p t s act) → IsSound m w → IsSound m after
+holds_aside m w after rests still h =
+    quietly m after h.holds.dues h.holds.pending_dues h.holds.began
+    (record {
+      roles = rw rests.roles h.quiet.roles;
+      calm = rw rests.tasks h.quiet.calm;
+      only = rw rests.tasks h.quiet.only;
+    })
+    (record {
+      each = λ p t there. each p t (subst (λ (tasks : List Task). slice_get tasks p ≡ Some t) rests.tasks
+          there);
+    })
+    (rw (rests.roles, rests.channels) h.holds.lengths) rests.kept (rw rests.counters h.holds.owed)
+    (rests.fault ∙ h.holds.well)
+  where
+    again : {g : Holding} {start : Began} {due : ℕ} (p : ℕ) (t : Task) (meets : Meets m g start w.memory t due)
+        → slice_get w.tasks p ≡ Some t → Again m w after p meets
+    again {g} {start} {due} p t (it_lives l) here =
+        let now = subst (λ (memory : Memory). LivesAs m g start memory t due l.point.state l.point.act) (sym
+        rests.memory)
+        (record { lives = l; state_is = refl; act_is = refl }) in
+        record {
+          meets = it_lives now.lives;
+          guards = λ guards.
+              subst (λ (act : Activation). AlternatesHere m after p t now.lives.point.state act) (sym now.act_is)
+              (subst (λ (s : State). AlternatesHere m after p t s l.point.act) (sym now.state_is)
+              (still p t l.point.state l.point.act here guards));
+        }
+    again p t (it_stopped e) here = record { meets = it_stopped e; guards = λ guards. guards }
+    again p t (it_ended e) here = record { meets = it_ended e; guards = λ guards. guards }
+
+    each : (p : ℕ) (t : Task) → slice_get w.tasks p ≡ Some t → Process m after h.holds.began h.holds.dues p t
+    each p t here =
+        let old = h.holds.table.each p t here in
+        let now = again p t old.meets here in
+        record {
+          role = old.role;
+          has_role = subst (λ (roles : List Role). slice_get roles p ≡ Some old.role) (sym rests.roles) old.has_role;
+          start = old.start;
+          has_start = old.has_start;
+          due = old.due;
+          has_due = old.has_due;
+          root = old.root;
+          meets = now.meets;
+          alternating = λ alternates. now.guards (old.alternating alternates);
+        }
 
 -- whoever is picked to run
 pub dispatch_holds : (m : Contents) (pick : ℕ) (w : World) → IsSound m w → IsSound m (dispatch pick w)
 unfolding dispatch
-dispatch_holds m pick w h = holds_elsewhere m w (picked pick w.queue) w.links h.holds.kept h
+dispatch_holds m pick w h = holds_aside m w (record w { queue = picked pick w.queue }) (record {
+  tasks = refl;
+  memory = refl;
+  roles = refl;
+  channels = refl;
+  kept = h.holds.kept;
+  counters = refl;
+  fault = refl;
+}) (λ p t s act here guards. alternates_still guards refl refl refl refl) h

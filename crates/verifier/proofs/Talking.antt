@@ -35,7 +35,7 @@ use Rattle.verifier.proofs.Sources.{AtEnd, an_input, an_output, a_channel, Partn
 use Rattle.verifier.proofs.Sources.{holding_is, same_address, input_found, output_found}
 
 -- a channel that is found is there, and one that is there is found
-at_found : (w : World) (address : ℕ) (c : Channel) → slice_get w.channels (cell_of address) ≡ Some (Some c)
+pub at_found : (w : World) (address : ℕ) (c : Channel) → slice_get w.channels (cell_of address) ≡ Some (Some c)
     → channel_at w address ≡ Some c
 at_found w address c there =
     ap (λ (o : Option (Option Channel)). elim o as (λ o. Option Channel) [ None ↦ None | Some cell ↦ cell ]) there

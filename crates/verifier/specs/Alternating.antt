@@ -1,10 +1,7 @@
 -- What holds of a process in an alternation, by the guards of its state.
-use Rattle.std.specs.Prelude.{◌≡◌, ◌⊎◌, ℕ, ℤ, pos, ◌-ℤ◌, ◌≤ℤ◌, ◌<ℤ◌, true, List, drop, Option, Some, None, slice_get}
+use Rattle.std.specs.Prelude.{◌≡◌, ◌⊎◌, ℕ, ◌≤◌, ◌<◌, ℤ, pos, true, Some, None, slice_get}
 use Rattle.module_format.specs.Contents.{Contents}
-use Rattle.module_format.specs.declared.fact.Fact.TheVariants.{Unknown}
-use Rattle.module_format.specs.declared.rows.Direction.TheVariants.{In}
 use Rattle.module_format.specs.declared.rows.EndKind.{EndKind}
-use Rattle.certificate.specs.Rights as rights
 use Rattle.machine_state.specs.declared.process.Mode.TheVariants as machine_modes
 use Rattle.machine_state.specs.declared.process.Task.{Task}
 use Rattle.machine_state.specs.declared.process.Condition.TheVariants.{Ready}
@@ -17,51 +14,16 @@ use Rattle.machine_state.specs.EnabledLaws.{HasReady}
 use Rattle.machine_state.specs.Ownership.{IsWord}
 use Rattle.states.specs.declared.known.Guard.{Guard}
 use Rattle.states.specs.declared.known.GuardKind.TheVariants.{Channel as AtChannel, Skip}
-use Rattle.states.specs.declared.known.GuardName.{GuardName}
-use Rattle.states.specs.declared.known.GuardName.TheVariants.{Constant, Word}
-use Rattle.states.specs.declared.known.Mode as states
-use Rattle.states.specs.declared.known.Mode.TheVariants as states_modes
-use Rattle.states.specs.declared.known.WordFact.TheVariants.{Alone}
 use Rattle.states.specs.State.{State}
-use Rattle.rulings.specs.Meaning.{Activation, frame_word, words_in}
+use Rattle.rulings.specs.Meaning.{Activation}
 use Rattle.rulings.specs.Regions.{channel_address}
+use Rattle.rulings.specs.Guarding.{guard_value, first_left, GuardsFit}
 
--- the value of a guard's name
-abbrev pub guard_value : Memory → Activation → GuardName → Option ℤ
-guard_value memory act (Constant value) = Some value
-guard_value memory act (Word word) = frame_word memory act.layout.origin word
-
--- the guards that are not disabled
-abbrev pub guards_left : states.Mode → List Guard → List Guard
-guards_left (states_modes.Disabling done) guards = drop done guards
-guards_left mode guards = guards
-
--- one of the three words that scheduling takes
-abbrev pub IsBelow : ℤ → ℤ → Type 0
-IsBelow depth k = ((depth -ℤ pos 3) ≤ℤ k) × (k <ℤ depth)
-
--- the words that an alternation changes: these three, and once it disables the one for what is selected
-abbrev pub IsTaken : states.Mode → ℤ → ℤ → Type 0
-IsTaken (states_modes.Disabling done) depth k = IsBelow depth k ⊎ (k ≡ depth)
-IsTaken mode depth k = IsBelow depth k
-
--- What a state in an alternation says of its guards: they are at different channels, of which the context has the ends to
--- receive by; and they are named by words that the context may read and that the alternation does not change.
-pub record GuardsFit (m : Contents) (s : State) : Type 0 where
-  pub apart : (i j : ℕ) (g h : Guard) (kind : EndKind) → slice_get s.guards i ≡ Some g → slice_get s.guards j ≡ Some h
-      → g.kind ≡ AtChannel kind → h.kind ≡ AtChannel kind → i ≡ j
-  pub held : (i : ℕ) (g : Guard) (kind : EndKind) → slice_get s.guards i ≡ Some g → g.kind ≡ AtChannel kind
-      → rights.has_end m s.context (record { kind = kind; direction = In }) ≡ true
-  pub read : (i : ℕ) (g : Guard) (word : ℤ) → slice_get s.guards i ≡ Some g → g.name ≡ Word word
-      → (words_in m s.context).reads word ≡ true
-  pub stays : (i : ℕ) (g : Guard) (word : ℤ) → slice_get s.guards i ≡ Some g → g.name ≡ Word word
-      → IsTaken s.mode s.depth word → ⊥
-  pub silent : (k : ℤ) → IsBelow s.depth k → s.frame k ≡ Alone Unknown
-
--- one of the guards is true
-pub record IsTrueGuard (memory : Memory) (act : Activation) (guards : List Guard) (g : Guard) : Type 0 where
+-- a guard that is not disabled is true
+pub record IsTrueGuard (memory : Memory) (act : Activation) (s : State) (g : Guard) : Type 0 where
   pub number : ℕ
-  pub here : slice_get guards number ≡ Some g
+  pub left : first_left s.mode ≤ number
+  pub here : slice_get s.guards number ≡ Some g
   pub value : ℤ
   pub is : guard_value memory act g.name ≡ Some value
   pub holds : value ≡ pos 0 → ⊥
@@ -73,19 +35,36 @@ pub data EnablesAt (w : World) (p address : ℕ) : Type 0 where
   a_link : (k : ℕ) (link : InputLink) → address ≡ input_word k → slice_get w.links.inputs k ≡ Some link
       → link.enabled ≡ Some p → EnablesAt w p address
 
+-- a true guard that is not disabled is at a channel, or needs none
+pub record IsTrueChannel (memory : Memory) (act : Activation) (s : State) (address : ℕ) : Type 0 where
+  pub guard : Guard
+  pub holds : IsTrueGuard memory act s guard
+  pub kind : EndKind
+  pub is : guard.kind ≡ AtChannel kind
+  pub there : channel_address act.layout kind ≡ address
+
+pub record IsTrueSkip (memory : Memory) (act : Activation) (s : State) : Type 0 where
+  pub guard : Guard
+  pub holds : IsTrueGuard memory act s guard
+  pub is : guard.kind ≡ Skip
+
+-- what is selected is the exit of a guard that is disabled
+pub record IsExit (s : State) (distance : ℤ) : Type 0 where
+  pub number : ℕ
+  pub disabled : number < first_left s.mode
+  pub guard : Guard
+  pub here : slice_get s.guards number ≡ Some guard
+  pub exit : guard.exit ≡ Some distance
+
 -- What a process has enabled are the channels of its true guards that are not disabled. Once it is ready, one of them is
 -- ready and true; and what it has selected is the exit of a guard that is disabled.
 pub record AlternatesHere (m : Contents) (w : World) (p : ℕ) (t : Task) (s : State) (act : Activation) : Type 0 where
   pub fit : GuardsFit m s
   pub values : (n : ℕ) (g : Guard) → slice_get s.guards n ≡ Some g
       → (v : ℤ) × (guard_value w.memory act g.name ≡ Some v)
-  pub only : (address : ℕ) → EnablesAt w p address
-      → (g : Guard) × (kind : EndKind) × IsTrueGuard w.memory act (guards_left s.mode s.guards) g
-      × (g.kind ≡ AtChannel kind) × (channel_address act.layout kind ≡ address)
-  pub back : (g : Guard) (kind : EndKind) → IsTrueGuard w.memory act (guards_left s.mode s.guards) g
-      → g.kind ≡ AtChannel kind → EnablesAt w p (channel_address act.layout kind)
-  pub exits : (distance : ℤ) → t.mode ≡ machine_modes.Disabling (Some distance)
-      → (n : ℕ) × (g : Guard) × (slice_get s.guards n ≡ Some g) × (g.exit ≡ Some distance)
+  pub only : (address : ℕ) → EnablesAt w p address → IsTrueChannel w.memory act s address
+  pub back : (g : Guard) (kind : EndKind) → IsTrueGuard w.memory act s g → g.kind ≡ AtChannel kind
+      → EnablesAt w p (channel_address act.layout kind)
+  pub exits : (distance : ℤ) → t.mode ≡ machine_modes.Disabling (Some distance) → IsExit s distance
   pub ready : (t.mode ≡ machine_modes.Enabling true) ⊎ ((t.mode ≡ machine_modes.Disabling None) × (t.condition ≡ Ready))
-      → HasReady w.tasks w.channels w.links.inputs p
-      ⊎ ((g : Guard) × IsTrueGuard w.memory act (guards_left s.mode s.guards) g × (g.kind ≡ Skip))
+      → HasReady w.tasks w.channels w.links.inputs p ⊎ IsTrueSkip w.memory act s

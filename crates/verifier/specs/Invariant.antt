@@ -24,21 +24,29 @@ use Rattle.verifier.specs.Alternating.{AlternatesHere}
 
 -- ---- processes
 
--- A process with its role, what it began with, and what it owes. Who is no branch began as the root.
-pub record Process (m : Contents) (memory : Memory) (roles : List Role) (began : List Began) (dues : List ℕ) (p : ℕ)
-    (t : Task) : Type 0 where
+-- who has stopped or ended is in no alternation
+abbrev pub AlternatesIn : {m : Contents} {h : Holding} {start : Began} {memory : Memory} {t : Task} {due : ℕ}
+    → World → ℕ
+    → Meets m h start memory t due → Type 0
+AlternatesIn {m = m} {t = t} w p (it_lives l) = AlternatesHere m w p t l.point.state l.point.act
+AlternatesIn w p (it_stopped e) = ⊤
+AlternatesIn w p (it_ended e) = ⊤
+
+-- A process with its role, what it began with, and what it owes. Who is no branch began as the root. Of one in an
+-- alternation the guards of its state are what it has enabled.
+pub record Process (m : Contents) (w : World) (began : List Began) (dues : List ℕ) (p : ℕ) (t : Task) : Type 0 where
   pub role : Role
-  pub has_role : slice_get roles p ≡ Some role
+  pub has_role : slice_get w.roles p ≡ Some role
   pub start : Began
   pub has_start : slice_get began p ≡ Some start
   pub due : ℕ
   pub has_due : slice_get dues p ≡ Some due
   pub root : role.opener ≡ None → start.context ≡ 0
-  pub meets : Meets m (held role) start memory t due
+  pub meets : Meets m (held role) start w.memory t due
+  pub alternating : Alternates t.mode t.condition → AlternatesIn w p meets
 
-pub record Table (m : Contents) (memory : Memory) (tasks : List Task) (roles : List Role) (began : List Began)
-    (dues : List ℕ) : Type 0 where
-  pub each : (p : ℕ) (t : Task) → slice_get tasks p ≡ Some t → Process m memory roles began dues p t
+pub record Table (m : Contents) (w : World) (began : List Began) (dues : List ℕ) : Type 0 where
+  pub each : (p : ℕ) (t : Task) → slice_get w.tasks p ≡ Some t → Process m w began dues p t
 
 -- ---- lengths of messages
 
@@ -58,31 +66,21 @@ LengthsAgree m roles channels began =
 
 -- A process that has a join open: what it goes on with; its branches that are not over; and its channels, which are as
 -- its row says.
-pub record Opener (m : Contents) (memory : Memory) (tasks : List Task) (roles : List Role)
-    (cells : List (Option Channel)) (began : List Began) (dues pending_dues : List ℕ)
-    (table : Table m memory tasks roles began dues) (p : ℕ) (role : Role) (j : Join) : Type 0 where
+pub record Opener (m : Contents) (w : World) (began : List Began) (dues pending_dues : List ℕ)
+    (table : Table m w began dues) (p : ℕ) (role : Role) (j : Join) : Type 0 where
   pub start : Began
   pub has_start : slice_get began p ≡ Some start
   pub due : ℕ
   pub has_due : slice_get pending_dues p ≡ Some due
-  pub pending : Pending m role.own start began memory j due
-  pub starter : (task : Task) (here : slice_get tasks p ≡ Some task)
+  pub pending : Pending m role.own start began w.memory j due
+  pub starter : (task : Task) (here : slice_get w.tasks p ≡ Some task)
       → StartsHere (table.each p task here).meets pending.par j pending.act
-  pub members : (q : ℕ) (branch : Role) (first : Began) → slice_get roles q ≡ Some branch → branch.opener ≡ Some p
-      → (IsGone tasks branch q → ⊥) → slice_get began q ≡ Some first
-      → IsMember m role.own start began memory j due pending first
+  pub members : (q : ℕ) (branch : Role) (first : Began) → slice_get w.roles q ≡ Some branch → branch.opener ≡ Some p
+      → (IsGone w.tasks branch q → ⊥) → slice_get began q ≡ Some first
+      → IsMember m role.own start began w.memory j due pending first
   pub channels : (n : ℕ) (row : ChannelRow) → slice_get pending.par.channels n ≡ Some row
-      → (c : Channel) × (slice_get cells (cell_of (channel_address pending.act.layout (FrameWord row.word)))
+      → (c : Channel) × (slice_get w.channels (cell_of (channel_address pending.act.layout (FrameWord row.word)))
       ≡ Some (Some c)) × (c.length ≡ row.length)
-
--- ---- alternations
-
--- who has stopped or ended is in none
-abbrev pub AlternatesIn : {m : Contents} {h : Holding} {start : Began} {memory : Memory} {t : Task} {due : ℕ} → World → ℕ
-    → Meets m h start memory t due → Type 0
-AlternatesIn {m = m} {t = t} w p (it_lives l) = AlternatesHere m w p t l.point.state l.point.act
-AlternatesIn w p (it_stopped e) = ⊤
-AlternatesIn w p (it_ended e) = ⊤
 
 -- ---- all of it
 
@@ -94,12 +92,10 @@ pub record Holds (m : Contents) (w : World) : Type 0 where
   pub dues : List ℕ
   pub pending_dues : List ℕ
   pub began : List Began
-  pub table : Table m w.memory w.tasks w.roles began dues
+  pub table : Table m w began dues
   pub pending : (p : ℕ) (role : Role) (j : Join) → slice_get w.roles p ≡ Some role → role.opened ≡ Some j
-      → Opener m w.memory w.tasks w.roles w.channels began dues pending_dues table p role j
+      → Opener m w began dues pending_dues table p role j
   pub lengths : LengthsAgree m w.roles w.channels began
-  pub alternating : (p : ℕ) (t : Task) (here : slice_get w.tasks p ≡ Some t) → Alternates t.mode t.condition
-      → AlternatesIn w p (table.each p t here).meets
   pub kept : (k : ℕ) (link : InputLink) (b : ℕ) → slice_get w.links.inputs k ≡ Some link → link.kept ≡ Some b → b < 256
   pub owed : total dues + total pending_dues + w.counters.executed ≤ m.budget
   pub well : w.fault ≡ None
