@@ -290,8 +290,44 @@ def pars_changing():
     return with_change(in_nest(heads, 5 * len(heads), [PASSING], 60, declared=[f"INT {SCALARS}:"]))
 
 
+def pars_alone_changing():
+    """In PARs of one component."""
+    heads = ["PAR"] * 60
+    return with_change(in_nest(heads, len(heads), [PASSING], 60, declared=[f"INT {SCALARS}:"]))
+
+
 def ifs_changing():
     return with_change(in_nest(["IF", "TRUE"] * 30, 3 * 30, [PASSING], 60, declared=[f"INT {SCALARS}:"]))
+
+
+def in_branches(count, size, nest):
+    """A nest around an instance that passes so many variables, in turns of an IF: where each of these begins, the
+    variables have the values that they had before it."""
+    scalars = names(count)
+    turns = as_many(size + sum(map(len, scalars)) + 30, 10 * count)
+    heads = [f"IF turn = 0 FOR {turns}", "turn < 0"]
+    formals = ", ".join(f"INT {name}" for name in scalars)
+    passing = [f"change({','.join(scalars)})"]
+    body = main(f"INT {','.join(scalars)}:", "INT other:", *under(heads, nest(passing)))
+    return program(procedure(f"change({formals})", ["SKIP"]), body)
+
+
+def branches_changing():
+    """1,000 variables in PARs of one component."""
+    levels = 59
+    return in_branches(1_000, levels, lambda body: under(["PAR"] * levels, body))
+
+
+def branches_of_levels():
+    """The same where another variable is assigned to at each level, before the block in it."""
+    levels = 29
+
+    def nest(body):
+        for _ in range(levels):
+            body = ["SEQ", "  other := 1", "  PAR", *deeper(body, 2)]
+        return body
+
+    return in_branches(1_000, 10 * levels, nest)
 
 
 def loops_declaring(count, levels):
@@ -363,13 +399,16 @@ SLOW = {
     "loops-blocks": (lambda: loops_declaring(52, 60), 1, "blocks that declare 52 names in 60 SEQs, in turns"),
     "loops-declaring": (lambda: loops_declaring(900, 61), 1, "a line that declares 900 names in 61 SEQs, in turns"),
     "loops-lines": (loops_of_lines, 1, "7,000 short lines in 60 SEQs, in turns"),
-    "late-blocks": (late_blocks, 1, "blocks that declare two names, made to collide with 80,000 others, in 60 SEQs"),
-}
-
-# Nests that take longer: each end of a block, and each beginning of a loop, goes over what changes inside.
-NESTS = {
     "loops-passing": (loops_passing, 2, "100 instances that pass 52 variables in 60 SEQs, in turns"),
     "loops-assigning": (loops_assigning, 1, "52 variables that are assigned to in 60 SEQs, in turns"),
     "pars-changing": (pars_changing, 2, "instances that pass 52 variables in 60 PARs of one turn, in turns"),
     "ifs-changing": (ifs_changing, 2, "instances that pass 52 variables in 30 IFs, in turns"),
+    "late-blocks": (late_blocks, 1, "blocks that declare two names, made to collide with 80,000 others, in 60 SEQs"),
+}
+
+# Nests that take longer: where many variables change at each level, each end of a block goes over them.
+NESTS = {
+    "pars-alone-changing": (pars_alone_changing, 2, "instances that pass 52 variables in 60 PARs of one component"),
+    "branches-changing": (branches_changing, 2, "instances that pass 1,000 variables in 59 PARs, in turns of an IF"),
+    "branches-of-levels": (branches_of_levels, 2, "the same in 29 PARs, with an assignment before each"),
 }
