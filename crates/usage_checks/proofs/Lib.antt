@@ -27,3 +27,6 @@ pub mod ActionsGoWell
 pub mod ChoicesGoWell
 pub mod ProcessesGoWell
 pub mod ProgramsGoWell
+pub mod BoundsTyped
+pub mod TypedMoves
+pub mod RangesTyped
