@@ -99,7 +99,8 @@ ranged_then free (Scalar kind type r) (Scalar k t s) o h g = absurd g
 ranged_then free (Scalar kind type r) n o h g = absurd h
 ranged_then free m n o h g = absurd h
 
-within_then_one : (free : Bool) (m n o : Meaning) → MeaningWithin free m n → MeaningWithin free n o → MeaningWithin free m o
+within_then_one : (free : Bool) (m n o : Meaning) → MeaningWithin free m n → MeaningWithin free n o
+    → MeaningWithin free m o
 within_then_one free m n o (inl same) g = subst (λ x. MeaningWithin free x o) (sym same) g
 within_then_one free m n o (inr h) (inl same) = inr (subst (ScalarWithin free m) same h)
 within_then_one free m n o (inr h) (inr g) = inr (ranged_then free m n o h g)
@@ -133,7 +134,8 @@ within_long ns [] (e ∷ es) h = absurd h
 within_long ns (d ∷ ds) [] h = absurd h
 within_long ns (d ∷ ds) (e ∷ es) h = ap suc (within_long ns ds es h.2)
 
-pub within_then : (ns : List ℕ) (ds es fs : List Entry) → EntriesWithin ns ds es → EntriesWithin ns es fs → EntriesWithin ns ds fs
+pub within_then : (ns : List ℕ) (ds es fs : List Entry) → EntriesWithin ns ds es → EntriesWithin ns es fs
+    → EntriesWithin ns ds fs
 within_then ns [] [] [] h g = tt
 within_then ns [] [] (f ∷ fs) h g = absurd g
 within_then ns [] (e ∷ es) fs h g = absurd h
@@ -157,7 +159,8 @@ within_more ns ms (d ∷ ds) (e ∷ es) more h = (
   within_more ns ms ds es more h.2,
 )
 
-left_alike : (t : Bool) (ns : List ℕ) (d e : Entry) (ds es : List Entry) (count : ℕ) → EntriesWithin ns (d ∷ ds) (e ∷ es)
+left_alike : (t : Bool) (ns : List ℕ) (d e : Entry) (ds es : List Entry) (count : ℕ)
+    → EntriesWithin ns (d ∷ ds) (e ∷ es)
     → EntriesWithin ns (outermost count ds) (outermost count es)
     → EntriesWithin ns (cond t (d ∷ ds) (outermost count ds)) (cond t (e ∷ es) (outermost count es))
 left_alike true ns d e ds es count h g = h
@@ -197,16 +200,19 @@ changed_within ns f name [] h = tt
 changed_within ns f name (e ∷ es) h =
     changed_by_name (bytes_eq e.name name) ns f e es (changed f name es) h (changed_within ns f name es h)
 
-tested_within : (ns : List ℕ) (es : List Entry) (holds : Bool) (o : Option Tested) → EntriesWithin ns (by_test es holds o) es
+tested_within : (ns : List ℕ) (es : List Entry) (holds : Bool) (o : Option Tested)
+    → EntriesWithin ns (by_test es holds o) es
 tested_within ns es holds None = within_same ns es
 tested_within ns es holds (Some t) =
     changed_within ns (left_of (as_holds holds t.comparison) t.constant) t.name es
     (left_within (as_holds holds t.comparison) t.constant)
 
-pub narrow_within : (ns : List ℕ) (es : List Entry) (e : Expression) (holds : Bool) → EntriesWithin ns (narrow es e holds) es
+pub narrow_within : (ns : List ℕ) (es : List Entry) (e : Expression) (holds : Bool)
+    → EntriesWithin ns (narrow es e holds) es
 narrow_within ns es e holds = tested_within ns es holds (test_of es e)
 
-pub ranged_within : (free : Bool) (range : ValueType → Ends) (m : Meaning) → free ≡ true → MeaningWithin free (ranged range m) m
+pub ranged_within : (free : Bool) (range : ValueType → Ends) (m : Meaning) → free ≡ true
+    → MeaningWithin free (ranged range m) m
 ranged_within free range (Scalar kinds.Variable type r) is = inr (refl, refl, inr (is, refl))
 ranged_within free range (Scalar kinds.Value type r) is = inl refl
 ranged_within free range (Scalar kinds.Reference type r) is = inl refl
@@ -319,7 +325,8 @@ both_ranged free kind k type t r s q p same (inr a) b = inr a
 both_ranged free kind k type t r s q p same (inl a) (inr b) =
     let one : kind ≡ k = cc in inr (b.0, one ∙ b.1)
 
-hull_one : (free : Bool) (m n o : Meaning) → MeaningWithin free m o → MeaningWithin free n o → MeaningWithin free (hull_meaning m n) o
+hull_one : (free : Bool) (m n o : Meaning) → MeaningWithin free m o → MeaningWithin free n o
+    → MeaningWithin free (hull_meaning m n) o
 hull_one free m n o =
     hull_cases (λ (a b c : Meaning). MeaningWithin free a o → MeaningWithin free b o → MeaningWithin free c o)
     (λ kind k type t r s h g.

@@ -70,7 +70,7 @@ if_passed P false v h = tt
 less_shifted : (n k : ℕ) → n < 2 ^ 32 → n / 2 ^ k < 2 ^ 32
 less_shifted n k h = let less = shr_le n k in omega (arith, less, h)
 
-arithmetic_word : (op : ArithmeticPair) (x y : ℤ) → FitsSigned w32 x → FitsSigned w32 y
+pub arithmetic_word : (op : ArithmeticPair) (x y : ℤ) → FitsSigned w32 x → FitsSigned w32 y
     → IfSome (pair_value op x y) (FitsSigned w32)
 arithmetic_word arithmetic.Subtract x y f g = binary_gives_words binary.Subtract x y f g
 arithmetic_word arithmetic.Divide x y f g = binary_gives_words binary.Divide x y f g

@@ -1,5 +1,6 @@
 -- Actions of a program that breaks no rule are not stuck, and leave what is known true.
-use Rattle.std.proofs.Common.{◌≡◌, ℕ, ◌<◌, ℤ, Bool, true, false, cond, List, [], ◌∷◌, length, Option, Some, None, Ok, Err}
+use Rattle.std.proofs.Common.{◌≡◌, ℕ, ◌<◌, ℤ, Bool, true, false, cond, List, [], ◌∷◌, length, Option, Some, None, Ok}
+use Rattle.std.proofs.Common.{Err}
 use Rattle.std.proofs.Common.{Result, refl, sym, ap, subst, ◌∙◌, arith, IsSomeAnd}
 use Rattle.std.proofs.lemmas.Bool.Decides.{nat_tests}
 use Rattle.std.specs.Prelude.{option_and_then, is_some, bytes_eq, nat_eq, nat_le, take, unwrap_or, IsSome, IfSome}
@@ -259,7 +260,8 @@ element_true es env name e type size r n v means number fit inside holds is =
     both_true (stored env p v) es es refl
     (elements_stored es env name e array.Variable type size (type_range type) r n v holds.meets means number inside
     (fit_has (wanted.Value types.Int) es env e types.Int r holds.meets fit) (of_type_in type v is))
-    (types_stay.storing es env p (Array array.Variable type (Some size) (type_range type)) v holds.meets holds.typed means
+    (types_stay.storing es env p (Array array.Variable type (Some size) (type_range type)) v holds.meets holds.typed
+    means
     is)
 
 both_some_and : (P Q : ℤ → Type 0) (o : Option ℤ) → IsSomeAnd o P → IfSome o Q → IsSomeAnd o (λ v. P v × Q v)
@@ -285,7 +287,8 @@ assigned_to es env name None t value range (scalar_target type old n means numbe
     (λ v is. subst (λ fs. IsSomeAnd (stored env p v) (IsTrueIn fs)) known
     (scalar_true es env name type old n v (assigned range) means number holds (number_typed type t v same is.1)
     (shapes_stay.assigning es n range)
-    (changing_holds es env n (assigned range) m (One v) holds.meets (sym (meaning_found name n es number) ∙ means) is.0)))
+    (changing_holds es env n (assigned range) m (One v) holds.meets (sym (meaning_found name n es number) ∙ means)
+    is.0)))
 assigned_to es env name (Some e) t value range (element_target f type size r n means number same sub inside) holds fit
     words =
     then_holds (λ v. InRange range v × IsNumberOf t v) (IsTrueIn es)
@@ -312,7 +315,8 @@ received_into : (es : List Entry) (env : Environment) (name : List ℕ) (o : Opt
 received_into es env name None t v carries (scalar_target type old n means number same) holds alike is =
     let m : Meaning = Scalar scalar.Variable type old in
     let typed = one_type type carries v (same ∙ sym alike) is in
-    subst (λ number. IsSomeAnd (stored env (record { name = name; subscript = None }) v) (IsTrueIn (receive_if number es)))
+    subst (λ number. IsSomeAnd (stored env (record { name = name; subscript = None }) v)
+    (IsTrueIn (receive_if number es)))
     (sym (variable_is es name type old n means number))
     (scalar_true es env name type old n v widened means number holds typed (ranged_shape type_range n es)
     (changing_holds es env n widened m (One v) holds.meets (sym (meaning_found name n es number) ∙ means)

@@ -43,7 +43,8 @@ abbrev pub IsEnd : Outcome → Option (List Entry) → Type 0
 IsEnd o None = ⊥
 IsEnd o (Some es) = IsWell o es
 
--- No condition held so far, and what is known where the next choice begins is true; or one held, and what is known after
+-- No condition held so far, and what is known where the next choice begins is true; or one held, and what is known
+-- after
 -- the choices so far is true.
 abbrev pub IsFound : Option Outcome → Environment → List Entry → Option (List Entry) → Type 0
 IsFound None env start ends = IsTrueIn start env
@@ -151,22 +152,27 @@ ends_fit all (Some d) es outer within same ds is =
     let one : d ≡ ds = cc in
     subst (λ x. shape x ≡ shape es) one (within_shape all d outer within ∙ sym same)
 
+-- what a process leaves of the names around it has their shape
+pub place_shape : (n : ℕ) (ns : List ℕ) (start : List Entry) (x y final : Known) → shape y.entries ≡ shape x.entries
+    → outermost n x.entries ≡ start → n ≤ length x.entries → Stays ns y final
+    → shape (outermost n final.entries) ≡ shape start
+place_shape n ns start x y final alike same low stays =
+    let long = long_alike y.entries x.entries alike in
+    let inner = within_shape ns (outermost (length y.entries) final.entries) y.entries stays.within in
+    ap shape (sym (outermost_twice n (length y.entries) final.entries (omega (arith, low, long))))
+    ∙ shapes_stay.leaving (outermost (length y.entries) final.entries) y.entries n inner
+    ∙ shapes_stay.leaving y.entries x.entries n alike ∙ ap shape same
+
 -- the end of a choice has the shape of what is known around the block
-end_shape : (all ns : List ℕ) (e : Expression) (start : List Entry) (k x final : Known)
+pub end_shape : (all ns : List ℕ) (e : Expression) (start : List Entry) (k x final : Known)
     → EntriesWithin all start k.entries → outermost (length start) x.entries ≡ start
     → length start ≤ length x.entries → Stays ns (chosen e x) final
     → shape (outermost (length (excluded e x.entries start)) final.entries) ≡ shape k.entries
 end_shape all ns e start k x final starts same low stays =
-    let y = chosen e x in
-    let n = length start in
-    let narrowed = shapes_stay.narrowing x.entries e true in
-    let long = long_alike y.entries x.entries narrowed in
     let rest = long_alike (excluded e x.entries start) start (shapes_stay.excluding x.entries start e) in
-    let inner = within_shape ns (outermost (length y.entries) final.entries) y.entries stays.within in
     ap (λ n. shape (outermost n final.entries)) rest
-    ∙ ap shape (sym (outermost_twice n (length y.entries) final.entries (omega (arith, low, long))))
-    ∙ shapes_stay.leaving (outermost (length y.entries) final.entries) y.entries n inner
-    ∙ shapes_stay.leaving y.entries x.entries n narrowed ∙ ap shape same ∙ within_shape all start k.entries starts
+    ∙ place_shape (length start) ns start x (chosen e x) final (shapes_stay.narrowing x.entries e true) same low stays
+    ∙ within_shape all start k.entries starts
 
 -- a choice more, in a block that began in the first place
 pub choice_step : (all ns : List ℕ) (e : Expression) (start : List Entry) (ends : Option (List Entry))

@@ -28,3 +28,6 @@ pub mod ActionsGoWell
 pub mod ChoicesGoWell
 pub mod ProcessesGoWell
 pub mod ProgramsGoWell
+pub mod BoundsTyped
+pub mod TypedMoves
+pub mod RangesTyped

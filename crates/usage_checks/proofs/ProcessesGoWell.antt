@@ -1,6 +1,8 @@
--- A process of a sequential program that breaks no rule is not stuck, and where it goes on, what the walk knows there is
+-- A process of a sequential program that breaks no rule is not stuck, and where it goes on, what the walk knows there
+-- is
 -- true.
-use Rattle.std.proofs.Common.{◌≡◌, ℕ, zero, suc, ◌<◌, ◌≤◌, ℤ, pos, negsuc, ◌+ℤ◌, ◌-ℤ◌, Bool, true, false, cond, ◌&&◌, List, []}
+use Rattle.std.proofs.Common.{◌≡◌, ℕ, zero, suc, ◌<◌, ◌≤◌, ℤ, pos, negsuc, ◌+ℤ◌, ◌-ℤ◌, Bool, true, false, cond, ◌&&◌}
+use Rattle.std.proofs.Common.{List, []}
 use Rattle.std.proofs.Common.{◌∷◌, length, Option, Some, None, inl, inr, refl, sym, ap, subst, arith, ◌∙◌, IsSomeAnd}
 use Rattle.std.proofs.lemmas.Int.{ints}
 use Rattle.std.specs.Prelude.{option_map, nat_eq, int_le, unsigned_abs, FitsSigned, IfSome}
@@ -340,7 +342,8 @@ module _ (items : List ProgramItem) (s : Surroundings) where
       let narrow_long = long_alike y.entries h.start (shapes_stay.narrowing h.start e true) in
       let found = first_true s cs env l in
       let before = subst (FoundIn found env) h.is
-      (choices_well none t cs k env l (λ piece z among. reach piece z (inr among)) each.0 is sequential.0 all.0 stands) in
+      (choices_well none t cs k env l (λ piece z among. reach piece z (inr among)) each.0 is sequential.0 all.0 stands)
+      in
       let here = subst (Reaches items t (AComponent c)) h.is (reach (AComponent c) m (inl (refl, refl))) in
       let stays = ranges_stay.processes a p y (omega (arith, excluded_long, narrow_long)) in
       subst (λ z. FoundIn (or_else found (choice s c env l)) env (next (inside a p (chosen e z)))) (sym h.is)
@@ -423,7 +426,8 @@ module _ (items : List ProgramItem) (s : Surroundings) where
   turns_well none t line e p name base count zero repeats ns k env l sequential first within reach goes seq words word
       stands =
       stands.holds
-  turns_well none t line e p name base count (suc n) repeats ns k env l sequential first within reach goes seq words word
+  turns_well none t line e p name base count (suc n) repeats ns k env l sequential first within reach goes seq words
+      word
       stands =
       let a = t.around in
       let c = Chosen line e p in
@@ -438,14 +442,16 @@ module _ (items : List ProgramItem) (s : Surroundings) where
       λ n found. or_else found (option_map (left (length env)) (choice s c (with_index name base n env) l)) in
       let found = turn_by_turn more n None in
       let before = subst (FoundIn found env) h.is
-      (turns_well none t line e p name base count n repeats ns k env l sequential first (omega (arith, within)) reach goes
+      (turns_well none t line e p name base count n repeats ns k env l sequential first (omega (arith, within)) reach
+      goes
       seq words word stands) in
       let v = base +ℤ pos n in
       let index = index_in repeats n in
       let known : index ≡ Constant value_type.Int (Some v) =
       (λ i. index_of (sequential i) repeats.indices (index_at (first i) n))
       ∙ ap (λ t. Constant value_type.Int (cond t (Some v) None)) (word n (omega (arith, within))) in
-      let around : Known = record { entries = h.start; blocks = record { start = h.start; ends = h.ends } ∷ k.blocks } in
+      let around : Known = record { entries = h.start; blocks = record { start = h.start; ends = h.ends } ∷ k.blocks }
+      in
       let x = with_entries (add name index) around in
       let inner = with_index name base n env in
       let alike = within_shape all h.start k.entries h.starts in
@@ -462,9 +468,11 @@ module _ (items : List ProgramItem) (s : Surroundings) where
       let cut = all_but_one size (record { name = name; meaning = index }) h.start refl in
       let left_again = all_but_one size (record { name = name; held = held.One v }) env (env_long ∙ sym start_long) in
       subst (λ z. FoundIn (more n found) env (step n z)) (sym h.is)
-      (choice_step all (changed_by a.signatures y.entries p) e h.start h.ends k x final env inner (left (length env)) found
+      (choice_step all (changed_by a.signatures y.entries p) e h.start h.ends k x final env inner (left (length env))
+      found
       (choice s c inner l) refl h.starts h.ended cut (omega arith) stays
-      (λ o well. left_well (length env) size (length x.entries) o final.entries (env_long ∙ sym start_long) (omega arith)
+      (λ o well. left_well (length env) size (length x.entries) o final.entries (env_long ∙ sym start_long)
+      (omega arith)
       well)
       (λ holds. choice_chooses none t line e p x inner l here goes seq words (omega (arith, rest_long)) (record {
         counted = stands.counted;
@@ -511,7 +519,8 @@ module _ (items : List ProgramItem) (s : Surroundings) where
       → IsWell (body_runs (Mark mark.If) (Chosen line e p) name base count env l) (outermost (length k.entries)
       (repeated counts (turn_by_turn (λ n l. after_component t.around (Mark mark.If) (Chosen line e p)
       (with_entries (add name (index_in repeats n)) l)) times (begun_body (Mark mark.If) ns counts k))).entries)
-  choices_repeated none t line e p name base count repeats ns counts times k env l sequential first happen all reach goes
+  choices_repeated none t line e p name base count repeats ns counts times k env l sequential first happen all reach
+      goes
       seq words word stands =
       let a = t.around in
       let c = Chosen line e p in
@@ -536,7 +545,8 @@ module _ (items : List ProgramItem) (s : Surroundings) where
       subst (λ z. IsWell (or_waits found l) (outermost (length k.entries) (end z).entries)) (sym h.is)
       (first_well changed k found env l h.start h.ends h.ended
       (subst (FoundIn found env) h.is
-      (turns_well none t line e p name base count count repeats ns k env l sequential first (omega arith) reached goes seq
+      (turns_well none t line e p name base count count repeats ns k env l sequential first (omega arith) reached goes
+      seq
       words word stands)))))
       reach
 
@@ -588,7 +598,8 @@ module _ (items : List ProgramItem) (s : Surroundings) where
       let times : value_as k.entries types.Int r.count ≡ Some (pos (suc n)) = h.count_is ∙ ap Some count in
       choices_repeated none t line e p r.name h.base (suc n) repeats
       (changed_by_component t.around.signatures (add r.name (index_meaning false None) k.entries) (Chosen line e p))
-      repeats.happens repeats.turns.count k env l refl (λ i. (turns_from counted (h.base_is i) (value_as k.entries types.Int r.count)).first)
+      repeats.happens repeats.turns.count k env l refl
+      (λ i. (turns_from counted (h.base_is i) (value_as k.entries types.Int r.count)).first)
       (sym ((λ i. happens (is_counted i) (h.base_is i) (times i)) ∙ more))
       (sym ((λ i. (turns_from (is_counted i) (h.base_is i) (times i)).count)
       ∙ ap (λ b. cond b (unsigned_abs (pos (suc n))) 1) more)) reach goes seq

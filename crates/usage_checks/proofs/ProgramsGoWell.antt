@@ -47,7 +47,8 @@ use Rattle.program_meaning.specs.GoingWell.{IsTrueIn, IsWell}
 use Rattle.program_meaning.proofs.MovesWithin.{within_shape}
 use Rattle.usage_checks.specs.AfterProcesses.{inside, left_to}
 use Rattle.usage_checks.specs.BrokenInTurn.{BreaksInTurn}
-use Rattle.usage_checks.specs.ItemRules.{in_body, after_procedure, Outside, outermost, around_in, after_weighing, weighed}
+use Rattle.usage_checks.specs.ItemRules.{in_body, after_procedure, Outside, outermost, around_in, after_weighing}
+use Rattle.usage_checks.specs.ItemRules.{weighed}
 use Rattle.usage_checks.specs.ItemRules.{Ends as EndsAt, EndsCounting, after_walk, after_item, BreaksItem, BreaksNoRule}
 use Rattle.usage_checks.specs.MainRules.{is_link_as, are_links, is_main_name, is_main, IsNoMain}
 use Rattle.usage_checks.specs.Reaching.{Comes, in_procedure, to_body}
@@ -174,11 +175,12 @@ weighing_before None ms o env is unbroken before = record {
 weighed_before : (item : ProgramItem) (o : Outside) (env : Environment) → Unbroken (EndsCounting item o)
     → Before o env → Before (weighed item o) env
 weighed_before item o env unbroken before =
-    weighing_before o.uncounted (measures_of_item o.signatures o.known.entries item) o env before.counted unbroken before
+    weighing_before o.uncounted (measures_of_item o.signatures o.known.entries item) o env before.counted unbroken
+    before
 
 -- ---- formals
 
-formals_inner : (outer : List Entry) (fs : List Formal) (es : List Entry)
+pub formals_inner : (outer : List Entry) (fs : List Formal) (es : List Entry)
     → (inner : List Entry) × (add_formals outer fs es ≡ inner ++ es)
 formals_inner outer [] es = ([], refl)
 formals_inner outer (f ∷ fs) es =
@@ -359,7 +361,8 @@ formals_linked outer (f ∷ fs) es ps links linked =
     let means = link_means outer f.kind f.size f.value_type f.name both.0 in
     let m = formal_meaning outer f in
     let flat : with_range (λ r. full) m ≡ Channel f.value_type = ap (with_range (λ r. full)) means in
-    subst (λ qs. Linked qs (shape (add_formals outer (f ∷ fs) es))) (append_assoc ps (port_for f ∷ []) (map port_for fs))
+    subst (λ qs. Linked qs (shape (add_formals outer (f ∷ fs) es)))
+    (append_assoc ps (port_for f ∷ []) (map port_for fs))
     (formals_linked outer fs (add f.name m es) (ps ++ port_for f ∷ []) both.1
     (linked_more ps (port_for f) (record { name = f.name; meaning = with_range (λ r. full) m }) (shape es) linked
     (subst IsOwn (sym flat) tt)

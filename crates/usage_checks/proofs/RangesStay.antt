@@ -38,11 +38,13 @@ use Rattle.program_uses.specs.Instances.{place_in, whole_name, variable_at}
 use Rattle.program_uses.specs.Mentions.{variable_in}
 use Rattle.program_uses.specs.Outlines.{flat, outline}
 use Rattle.program_uses.specs.Signatures.{Parameter, passing_of, parameters_in}
-use Rattle.program_uses.proofs.ChangesAlike.{added_alike, changes_follow_outlines, declaring_keeps_outlines, guard_alike}
+use Rattle.program_uses.proofs.ChangesAlike.{added_alike, changes_follow_outlines, declaring_keeps_outlines}
+use Rattle.program_uses.proofs.ChangesAlike.{guard_alike}
 use Rattle.program_uses.proofs.ScopesExtended.{inner_cut}
 use Rattle.program_meaning.specs.RangesWithin.{EntriesWithin}
 use Rattle.program_meaning.proofs.MovesWithin.{moves_stay_within, within_same, within_long, within_then, within_more}
-use Rattle.program_meaning.proofs.MovesWithin.{within_left, narrow_within, excluded_within, widened_within, within_taken}
+use Rattle.program_meaning.proofs.MovesWithin.{within_left, narrow_within, excluded_within, widened_within}
+use Rattle.program_meaning.proofs.MovesWithin.{within_taken}
 use Rattle.program_meaning.proofs.MovesWithin.{within_hulls, within_shape, variables_within}
 use Rattle.usage_checks.specs.AfterProcesses.{left_to, begun, ended, unless, begun_turns, begun_body, repeated, chosen}
 use Rattle.usage_checks.specs.AfterProcesses.{inside, after_construct, after_components, after_component}
@@ -186,7 +188,7 @@ holds_within : (all : List ℕ) (o : Option Expression) (es : List Entry) → En
 holds_within all None es = within_same all es
 holds_within all (Some e) es = narrow_within all es e true
 
-guard_within : (all : List ℕ) (g : Guard) (es : List Entry) → Covers all (changed_by_guard es g)
+pub guard_within : (all : List ℕ) (g : Guard) (es : List Entry) → Covers all (changed_by_guard es g)
     → EntriesWithin all (after_guard g es) es
 guard_within all (Receives condition channel target) es c =
     let ds = where_holds condition es in
@@ -333,7 +335,8 @@ named_branch all name m k x h =
       long = omega (arith, h.long);
       starts = h.starts;
       ended = h.ended;
-      here = subst (λ es. EntriesWithin all es k.entries) (sym (further_out (length h.start) e x.entries h.long)) h.here;
+      here = subst (λ es. EntriesWithin all es k.entries) (sym (further_out (length h.start) e x.entries h.long))
+          h.here;
     }
 
 moved_branch : (all : List ℕ) (es : List Entry) (k x : Known) → EntriesWithin all es x.entries → InBranch all k x
@@ -568,7 +571,8 @@ part_more : {part : Part} (a : Around) (all : List ℕ) (word : Terminal) (c : C
 part_more a all (Mark mark.Seq) c k m stays covered low h =
     remains_then all k m (after_component a (Mark mark.Seq) c m) h
     (stays k.entries covered m (remains_low all k m h low) (within_outline all m.entries k.entries h.within))
-part_more a all word c k m stays covered low h = stays k.entries covered k m (turned_branch all k m h) (turned_alike all k m h)
+part_more a all word c k m stays covered low h = stays k.entries covered k m (turned_branch all k m h)
+    (turned_alike all k m h)
 
 -- the body of a replicator
 body_remains : {part : Part} (a : Around) (all : List ℕ) (word : Terminal) (c : Component part) (r : Replicator)

@@ -29,3 +29,4 @@ pub mod Unshared
 pub mod Outlines
 pub mod RangesStay
 pub mod NeverStuck
+pub mod TypedRanges

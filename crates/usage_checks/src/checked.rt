@@ -69,9 +69,9 @@ impl Findings {
 /// which the bound is 8,388,608: what is larger is a fault, and is gone over once. Memory is linear in the source, and
 /// in the ends that a procedure uses.
 ///
-/// If it is `Ok`, the program never gets stuck if it is sequential, which is that its `main` has no `PAR`, no `ALT` and
-/// no instance: whatever comes in on its links and whoever listens to them, each expression that it comes to has a
-/// value, and each subscript lies inside.
+/// If it is `Ok` and the program is sequential, so that its `main` has no `PAR`, no `ALT` and no instance, then it
+/// never gets stuck: whatever comes in on its links and whoever listens to them, each expression that it comes to has
+/// a value, and each subscript lies inside.
 #[tactic(auto, using(crate::proofs::ProgramsGoWell::programs_go_on))]
 pub fn check<'a>(alloc: Global, program: Program<'a>) -> Result<CheckedProgram<'a>, UsageFault>
     ensures ok { IfOk result (λ c. c.program.items.items ≡ program.entry.items.items) }

@@ -3,6 +3,7 @@ ghost use Rattle.usage_checks.specs.Outlines.{OutlinesStay};
 ghost use Rattle.usage_checks.specs.Reaching.{PlacesHold, ItemsHold, SignaturesStay};
 ghost use Rattle.usage_checks.specs.Unshared.{NothingShared};
 ghost use Rattle.usage_checks.specs.RangesStay.{RangesStay};
+ghost use Rattle.usage_checks.specs.TypedRanges.{RangesAreTyped};
 ghost use Rattle.usage_checks.specs.NeverStuck.{ProgramsGoOn};
 
 /// At each place that the walk over such a program comes to, no rule is broken in what stands there. Constants in scope
@@ -49,6 +50,13 @@ pub fn outlines_stay()
 #[tactic(auto, using(crate::proofs::RangesStay::ranges_stay))]
 pub fn ranges_stay()
     ensures { RangesStay }
+{}
+
+/// At each place that the walk over a program comes to which breaks no rule, each range lies within its type, and the
+/// value of each constant is one of its type, if the literals of the program are words and bytes.
+#[tactic(auto, using(crate::proofs::RangesTyped::ranges_are_typed))]
+pub fn ranges_are_typed()
+    ensures { RangesAreTyped }
 {}
 
 /// A sequential program that breaks no rule never comes to an expression without a value or to a subscript outside,

@@ -31,8 +31,8 @@ pub use checked::{CheckedProgram, check};
 pub use extending::add_formals;
 pub use following::{after_action, after_input};
 pub use laws::{
-    items_hold, nothing_shared, outlines_stay, places_hold, programs_go_on, ranges_stay,
-    signatures_stay,
+    items_hold, nothing_shared, outlines_stay, places_hold, programs_go_on, ranges_are_typed,
+    ranges_stay, signatures_stay,
 };
 pub use program_uses::{
     Around, CHANNEL_USE, CONSTANT_WANTED, DECLARED_TWICE, Direction, End, MEMORY, NO_MAIN,
