@@ -1,6 +1,7 @@
 //! Runs of accepted modules with readers and writers on their links, first in, first out.
 #![tactic(auto)]
 
+mod boxes;
 mod device;
 mod driving;
 mod providing;

@@ -41,6 +41,13 @@ impl<W: Write> Writing<W> {
             failed: false,
         }
     }
+
+    /// The writer.
+    pub fn into_inner(self) -> W
+        ensures { result ≡ self.writer }
+    {
+        self.writer
+    }
 }
 
 impl<W: Write> LinkWriter for Writing<W> {

@@ -1,44 +1,91 @@
 -- What was performed, as what the program did.
-use Rattle.std.proofs.Common.{◌≡◌, ℕ, List, Option, Some, Result, Ok, Err, refl}
+use Rattle.std.proofs.Common.{◌≡◌, ℕ, Bool, List, Option, Some, Result, Ok, Err, ◌⊎◌, inl, inr, refl}
+use Rattle.std.specs.Borrow.{Bor}
+use Rattle.clap.specs.Walk.{Text}
 use Rattle.tpm.specs.declared.files.FileFault.{FileFault}
+use Rattle.tpm.specs.declared.files.FileFault.TheVariants as file_faults
 use Rattle.tpm.specs.declared.report.Failure.{Failure}
 use Rattle.tpm.specs.declared.report.Failure.TheVariants as failures
-use Rattle.std.proofs.Common.{◌⊎◌, inl, inr}
-use Rattle.tpm.specs.declared.files.FileFault.TheVariants as file_faults
 use Rattle.tpm.specs.CommandLine.{Asked, path_of, line_of}
 use Rattle.tpm.specs.Texts.{status_of}
-use Rattle.tpm.specs.Acting.{Acts, Performs, Reads, IsJudged, IsRefusedBy, malformed, uncertified, told, refused}
-use Rattle.tpm.specs.Acting.{unread}
-use Rattle.tpm.specs.Acting.{unwritten, starved_by_file, starved_by_module}
+use Rattle.tpm.specs.Acting.{Acts, Performs, Reads, Hinders, IsStopped, IsJudged, IsDone, malformed}
+use Rattle.tpm.specs.Acting.{uncertified, told, refused, unread, stopped, unwritten, starved_by_file, starved_by_text}
 
-module _ {F : Type 0} (reads : F → List ℕ → Result (List ℕ) FileFault → F → Type 0) (words : List (List ℕ))
-    (asked : Asked)
-    (before after : F) (out_before out_after : Option (List ℕ)) where
+module _ {F R W : Type 0} (opens : F → Text → Result R FileFault → F → Type 0)
+    (creates : F → Text → Result W FileFault → F → Type 0) (closes : F → W → Bool → F → Type 0)
+    (left : R → Option (List ℕ)) (read_failed : R → Bool) (written : W → Option (List ℕ))
+    (write_failed : W → Bool) (reads : F → List ℕ → Result (List ℕ) FileFault → F → Type 0) (words : List Text)
+    (asked : Asked) (before after : F) (out_before out_after : Option (List ℕ)) where
   pub acts_told : line_of words ≡ Some asked → (u : Unit {0})
-      → Performs reads asked before after out_before out_after (Ok u)
-      → Acts reads words before after out_before out_after 0
+      → Performs opens creates closes left read_failed written write_failed reads asked before after out_before out_after
+      (Ok u)
+      → Acts opens creates closes left read_failed written write_failed reads words before after out_before out_after 0
   acts_told line u performed = told asked performed.0 line performed.1 performed.2 refl
 
-  was_refused : {P : List ℕ → Type 0} → ((bytes : List ℕ) → P bytes → IsRefusedBy bytes asked)
-      → Reads reads asked before after P → Reads reads asked before after (λ bytes. IsRefusedBy bytes asked)
-  was_refused refuses file =
-      record { bytes = file.bytes; read = file.read; holds = refuses file.bytes file.holds }
+  -- a file of which this holds is one of which that holds
+  read_so : {P Q : List ℕ → F → Type 0} → ((bytes : List ℕ) (next : F) → P bytes next → Q bytes next)
+      → Reads opens creates closes left read_failed written write_failed reads asked before P
+      → Reads opens creates closes left read_failed written write_failed reads asked before Q
+  read_so implies file = record {
+    bytes = file.bytes;
+    next = file.next;
+    read = file.read;
+    holds = implies file.bytes file.next file.holds;
+  }
 
+  -- memory ran out once the file was read
   starved : (status : ℕ) → status ≡ 4 → line_of words ≡ Some asked → out_after ≡ out_before
+      → Hinders opens creates closes left read_failed written write_failed reads asked before after failures.Memory
+      → Acts opens creates closes left read_failed written write_failed reads words before after out_before out_after
+      status
+  starved status is line same file = go file.holds
+    where
+      go : IsStopped opens creates closes left read_failed written write_failed file.bytes asked file.next after
+          failures.Memory
+          ⊎ IsJudged file.bytes asked
+          (λ m. IsDone opens creates closes left read_failed written write_failed m asked file.next after)
+          → Acts opens creates closes left read_failed written write_failed reads words before after out_before out_after
+          status
+      go (inl stops) = stopped asked failures.Memory line
+          (record { bytes = file.bytes; next = file.next; read = file.read; holds = stops }) same is
+      go (inr done) = starved_by_text asked line
+          (record { bytes = file.bytes; next = file.next; read = file.read; holds = done }) same is
+
+  starved_at : (status : ℕ) → status ≡ 4 → line_of words ≡ Some asked → out_after ≡ out_before
       → reads before (path_of asked) (Err file_faults.Memory) after
-      ⊎ Reads reads asked before after (λ bytes. IsJudged bytes asked)
-      → Acts reads words before after out_before out_after status
-  starved status is line same (inl file) = starved_by_file asked line file same is
-  starved status is line same (inr judged) = starved_by_module asked line judged same is
+      ⊎ Hinders opens creates closes left read_failed written write_failed reads asked before after failures.Memory
+      → Acts opens creates closes left read_failed written write_failed reads words before after out_before out_after
+      status
+  starved_at status is line same (inl file) = starved_by_file asked line file same is
+  starved_at status is line same (inr file) = starved status is line same file
+
+  -- the module file, or that of a link, was not read
+  unread_at : (path : Bor Text) (status : ℕ) → status ≡ 3 → line_of words ≡ Some asked → out_after ≡ out_before
+      → ((path.now ≡ path_of asked) × reads before (path_of asked) (Err file_faults.Failed) after)
+      ⊎ Hinders opens creates closes left read_failed written write_failed reads asked before after
+      (failures.Unread path)
+      → Acts opens creates closes left read_failed written write_failed reads words before after out_before out_after
+      status
+  unread_at path status is line same (inl file) = unread asked line file.1 same is
+  unread_at path status is line same (inr file) = stopped asked (failures.Unread path) line file same is
 
   pub acts_failed : (failure : Failure) (status : ℕ) → status ≡ status_of failure → line_of words ≡ Some asked
-      → Performs reads asked before after out_before out_after (Err failure)
-      → Acts reads words before after out_before out_after status
+      → Performs opens creates closes left read_failed written write_failed reads asked before after out_before out_after
+      (Err failure)
+      → Acts opens creates closes left read_failed written write_failed reads words before after out_before out_after
+      status
   acts_failed (failures.Malformed fault) status is line performed =
-      refused asked line (was_refused (λ bytes. malformed fault) performed.0) performed.1 is
+      refused asked line (read_so (λ bytes next why. (malformed fault why.0, why.1)) performed.0) performed.1 is
   acts_failed (failures.Uncertified refusal) status is line performed =
-      refused asked line (was_refused (λ bytes. uncertified refusal) performed.0) performed.1 is
-  acts_failed (failures.Unread path) status is line performed = unread asked line (performed.0).1 performed.1 is
+      refused asked line (read_so (λ bytes next why. (uncertified refusal why.0, why.1)) performed.0) performed.1 is
+  acts_failed (failures.Unread path) status is line performed =
+      unread_at path status is line performed.1 performed.0
+  acts_failed (failures.Uncreated path) status is line performed =
+      stopped asked (failures.Uncreated path) line performed.0 performed.1 is
+  acts_failed (failures.ReadFailed link) status is line performed =
+      stopped asked (failures.ReadFailed link) line performed.0 performed.1 is
+  acts_failed (failures.WriteFailed link) status is line performed =
+      stopped asked (failures.WriteFailed link) line performed.0 performed.1 is
   acts_failed failures.Unwritten status is line performed =
       unwritten asked performed.0 line performed.1 performed.2 is
-  acts_failed failures.Memory status is line performed = starved status is line performed.1 performed.0
+  acts_failed failures.Memory status is line performed = starved_at status is line performed.1 performed.0

@@ -1,6 +1,8 @@
 pub mod Matched
-pub mod Steps
 pub mod Acts
+pub mod Judged
+pub mod FilesClosed
+pub mod FilesRun
 pub mod Given
 pub mod Listed
 pub mod Beginnings

@@ -39,9 +39,10 @@ pub asks_by : (matches given : ArgMatches) (name : Text) (path : Option Text)
     → Some name ≡ option_map (λ b. (out-SubCommand (box_value b)).name.now) (out-ArgMatches matches).subcommand
     → Some (rows_of (found_of given)) ≡ option_map (λ p. p.1) (subcommand_rows_of matches)
     → path ≡ first_value (found_of given) (codes "MOD")
-    → option_and_then (named name) path ≡ option_and_then entered_by (subcommand_rows_of matches)
+    → option_and_then (named name (rows_of (found_of given))) path
+    ≡ option_and_then entered_by (subcommand_rows_of matches)
 asks_by matches given name path called rows read =
-    ap (option_and_then (named name)) (read ∙ first_value-rows (found_of given) (codes "MOD"))
+    ap (option_and_then (named name (rows_of (found_of given)))) (read ∙ first_value-rows (found_of given) (codes "MOD"))
     ∙ sym (ap (option_and_then entered_by)
     (entered_is (out-ArgMatches matches).subcommand name (rows_of (found_of given)) called rows))
 

@@ -1,5 +1,5 @@
 -- What the program answers, and when: our own choice.
-use Rattle.std.specs.Prelude.{◌≡◌, ◌≢◌, ◌⊎◌, ⊤, ℕ, true, List, take, Option, Some, None, Result, Ok, Err}
+use Rattle.std.specs.Prelude.{◌≡◌, ◌≢◌, ◌⊎◌, ⊤, ℕ, Bool, true, List, take, Option, Some, None, Result, Ok, Err}
 use Rattle.std.specs.Io.KnownBytes.{Appends}
 use Rattle.clap.specs.Walk.{Text}
 use Rattle.module_format.specs.declared.fault.FormatFault.{FormatFault}
@@ -7,18 +7,19 @@ use Rattle.module_format.specs.Contents.{Contents}
 use Rattle.module_format.specs.Keeping.{Format}
 use Rattle.module_format.specs.Reading.{out_of_memory}
 use Rattle.module_format.specs.ReadingFile.{read_contents}
+use Rattle.link_runs.specs.ByLink.{ByLink}
+use Rattle.link_runner.specs.declared.report.Report.{Report as RunReport}
 use Rattle.verifier.specs.declared.Refusal.{Refusal}
 use Rattle.verifier.specs.Certified.{IsCertified, Reports}
 use Rattle.tpm.specs.declared.files.FileFault.{FileFault}
 use Rattle.tpm.specs.declared.files.FileFault.TheVariants as file_faults
-use Rattle.tpm.specs.declared.report.Report.{Report}
 use Rattle.tpm.specs.declared.report.Report.TheVariants.{Accepted}
 use Rattle.tpm.specs.declared.report.Failure.{Failure}
 use Rattle.tpm.specs.declared.report.Failure.TheVariants as failures
 use Rattle.tpm.specs.declared.report.TheConstants.{DONE, REFUSED, MISUSED, FAILED, STARVED}
 use Rattle.tpm.specs.CommandLine.{Asked, verifies, runs, lists, path_of, wants_verdict, line_of}
-use Rattle.tpm.specs.Running.{EndsIn}
-use Rattle.tpm.specs.Texts.{report_line}
+use Rattle.tpm.specs.FilesOnLinks.{RunsTo}
+use Rattle.tpm.specs.Texts.{report_line, run_text, status_of}
 use Rattle.tpm.specs.Listing.{listing}
 
 -- ---- the bytes of a module file
@@ -28,38 +29,23 @@ pub record IsAccepted (m : Contents) (text : Text) : Type 0 where
   pub certified : IsCertified m
   pub told : text ≡ report_line (Accepted m.budget)
 
--- The module is certified, and this tells how its run ends.
-pub record HasRun (m : Contents) (text : Text) : Type 0 where
-  pub certified : IsCertified m
-  pub report : Report
-  pub ends : EndsIn m report
-  pub told : text ≡ report_line report
+-- why nothing is told of the verdict on a module
+abbrev pub WithholdsVerdict : Contents → Failure → Type 0
+WithholdsVerdict m (failures.Malformed fault) = ⊥
+WithholdsVerdict m (failures.Uncertified refusal) = Reports m refusal
+WithholdsVerdict m (failures.Unread path) = ⊥
+WithholdsVerdict m (failures.Uncreated path) = ⊥
+WithholdsVerdict m (failures.ReadFailed link) = ⊥
+WithholdsVerdict m (failures.WriteFailed link) = ⊥
+WithholdsVerdict m failures.Unwritten = ⊥
+WithholdsVerdict m failures.Memory = IsCertified m
 
--- what is told of a module
-abbrev pub TellsOf : Contents → Asked → Text → Type 0
-TellsOf m (verifies path) text = IsAccepted m text
-TellsOf m (runs path) text = HasRun m text
-TellsOf m (lists path) text = text ≡ listing m
-
--- why nothing is told of a module whose verdict is wanted
-abbrev pub Withholds : Contents → Failure → Type 0
-Withholds m (failures.Malformed fault) = ⊥
-Withholds m (failures.Uncertified refusal) = Reports m refusal
-Withholds m (failures.Unread path) = ⊥
-Withholds m failures.Unwritten = ⊥
-Withholds m failures.Memory = IsCertified m
-
--- The bytes are the file of a module, which is certified if its verdict is wanted.
-pub record IsJudged (bytes : List ℕ) (asked : Asked) : Type 0 where
+-- The bytes are the file of a module of which this holds. It is certified if its verdict is wanted.
+pub record IsJudged (bytes : List ℕ) (asked : Asked) (holds_of : Contents → Type 0) : Type 0 where
   pub contents : Contents
   pub format : Format bytes contents
   pub certified : wants_verdict asked ≡ true → IsCertified contents
-
--- The bytes are the file of a module of which this is told.
-pub record IsTold (bytes : List ℕ) (asked : Asked) (text : Text) : Type 0 where
-  pub contents : Contents
-  pub format : Format bytes contents
-  pub told : TellsOf contents asked text
+  pub holds : holds_of contents
 
 -- Unless memory ran out, the bytes are no module file, and this is their first fault.
 pub record IsMalformed (bytes : List ℕ) (fault : FormatFault) : Type 0 where
@@ -73,14 +59,6 @@ pub record IsUncertified (bytes : List ℕ) (asked : Asked) (refusal : Refusal) 
   pub contents : Contents
   pub format : Format bytes contents
   pub reported : Reports contents refusal
-
--- why nothing is told of the module in the bytes
-abbrev pub IsHindered : List ℕ → Asked → Failure → Type 0
-IsHindered bytes asked (failures.Malformed fault) = IsMalformed bytes fault
-IsHindered bytes asked (failures.Uncertified refusal) = IsUncertified bytes asked refusal
-IsHindered bytes asked (failures.Unread path) = ⊥
-IsHindered bytes asked failures.Unwritten = ⊥
-IsHindered bytes asked failures.Memory = IsJudged bytes asked
 
 -- The reader or the verifier refuses the bytes.
 pub data IsRefusedBy (bytes : List ℕ) (asked : Asked) : Type 0 where
@@ -101,72 +79,139 @@ Tells before after text (Err failure) = ⊥
 
 -- ---- files
 
--- a read of the file at the path gave bytes of which this holds
-pub record WasRead {F : Type 0} (reads : F → List ℕ → Result (List ℕ) FileFault → F → Type 0) (before : F)
-    (path : List ℕ) (after : F) (P : List ℕ → Type 0) : Type 0 where
-  pub bytes : List ℕ
-  pub read : reads before path (Ok bytes) after
-  pub holds : P bytes
+module _ {F R W : Type 0} (opens : F → Text → Result R FileFault → F → Type 0)
+    (creates : F → Text → Result W FileFault → F → Type 0) (closes : F → W → Bool → F → Type 0)
+    (left : R → Option (List ℕ)) (read_failed : R → Bool) (written : W → Option (List ℕ))
+    (write_failed : W → Bool) where
+  -- what becomes of a run of the module with files on its links
+  abbrev pub RunOf : Contents → ByLink (Option Text) → ByLink (Option Text) → F → F → Result RunReport Failure → Type 0
+  RunOf m inputs outputs before after result =
+      RunsTo opens creates closes left read_failed written write_failed m inputs outputs before after result
 
-module _ {F : Type 0} (reads : F → List ℕ → Result (List ℕ) FileFault → F → Type 0) where
-  -- the bytes of the file that is asked for, of which this holds
-  abbrev pub Reads : Asked → F → F → (List ℕ → Type 0) → Type 0
-  Reads asked before after P = WasRead reads before (path_of asked) after P
+  -- The module is certified, its run came to an end, and this tells it.
+  pub record HasRun (m : Contents) (inputs outputs : ByLink (Option Text)) (before after : F) (text : Text) :
+      Type 0 where
+    pub certified : IsCertified m
+    pub report : RunReport
+    pub runs : RunOf m inputs outputs before after (Ok report)
+    pub told : text ≡ run_text inputs outputs report
 
-  -- what is told of the file that is asked for, or why nothing is
-  abbrev pub Answers : Asked → F → F → Result Text Failure → Type 0
-  Answers asked before after (Ok text) = Reads asked before after (λ bytes. IsTold bytes asked text)
-  Answers asked before after (Err (failures.Malformed fault)) =
-      Reads asked before after (λ bytes. IsMalformed bytes fault)
-  Answers asked before after (Err (failures.Uncertified refusal)) =
-      Reads asked before after (λ bytes. IsUncertified bytes asked refusal)
-  Answers asked before after (Err (failures.Unread path)) =
-      (path.now ≡ path_of asked) × reads before (path_of asked) (Err file_faults.Failed) after
-  Answers asked before after (Err failures.Unwritten) = ⊥
-  Answers asked before after (Err failures.Memory) =
-      reads before (path_of asked) (Err file_faults.Memory) after
-      ⊎ Reads asked before after (λ bytes. IsJudged bytes asked)
+  -- what is told of a module, and what was done with the files
+  abbrev pub TellsOf : Contents → Asked → F → F → Text → Type 0
+  TellsOf m (verifies path) before after text = IsAccepted m text × (after ≡ before)
+  TellsOf m (runs path inputs outputs) before after text = HasRun m inputs outputs before after text
+  TellsOf m (lists path) before after text = (text ≡ listing m) × (after ≡ before)
 
-  -- What the program did by what was asked: it told what is told, or it wrote nothing and answered why, or standard
-  -- output failed.
-  abbrev pub Performs : Asked → F → F → Option (List ℕ) → Option (List ℕ) → Result ⊤ Failure → Type 0
-  Performs asked before after out_before out_after (Ok _) =
-      (text : Text) × Answers asked before after (Ok text) × Appends out_before out_after text
-  Performs asked before after out_before out_after (Err failures.Unwritten) =
-      (text : Text) × Answers asked before after (Ok text) × HoldsBeginning out_before out_after text
-  Performs asked before after out_before out_after (Err failure) =
-      Answers asked before after (Err failure) × (out_after ≡ out_before)
+  -- a file of a link or a link failed, or memory ran out for them
+  abbrev pub StopsIn : Contents → Asked → F → F → Failure → Type 0
+  StopsIn m (verifies path) before after failure = ⊥
+  StopsIn m (runs path inputs outputs) before after failure = RunOf m inputs outputs before after (Err failure)
+  StopsIn m (lists path) before after failure = ⊥
 
-  -- What the program did by the words: with the files, with what is known of standard output, and its exit status.
-  pub data Acts (words : List Text) (before after : F) (out_before out_after : Option (List ℕ))
-      (status : ℕ) : Type 0 where
-    -- what is asked for is told, and nothing else
-    told : (asked : Asked) (text : Text) → line_of words ≡ Some asked
-        → Reads asked before after (λ bytes. IsTold bytes asked text)
-        → Appends out_before out_after text → status ≡ DONE → Acts words before after out_before out_after status
-    -- the reader or the verifier refuses the bytes
-    refused : (asked : Asked) → line_of words ≡ Some asked → Reads asked before after (λ bytes. IsRefusedBy bytes asked)
-        → out_after ≡ out_before → status ≡ REFUSED → Acts words before after out_before out_after status
-    -- the words ask for nothing, and no file is touched
-    misused : line_of words ≡ None → after ≡ before → out_after ≡ out_before → status ≡ MISUSED
-        → Acts words before after out_before out_after status
-    -- the file is not read
-    unread : (asked : Asked) → line_of words ≡ Some asked → reads before (path_of asked) (Err file_faults.Failed) after
-        → out_after ≡ out_before → status ≡ FAILED → Acts words before after out_before out_after status
-    -- standard output failed, and holds a beginning of what is told
-    unwritten : (asked : Asked) (text : Text) → line_of words ≡ Some asked
-        → Reads asked before after (λ bytes. IsTold bytes asked text)
-        → HoldsBeginning out_before out_after text → status ≡ FAILED
-        → Acts words before after out_before out_after status
-    -- memory ran out at the words, and no file is touched
-    starved_by_words : after ≡ before → out_after ≡ out_before → status ≡ STARVED
-        → Acts words before after out_before out_after status
-    -- memory ran out at the file
-    starved_by_file : (asked : Asked) → line_of words ≡ Some asked
-        → reads before (path_of asked) (Err file_faults.Memory) after
-        → out_after ≡ out_before → status ≡ STARVED → Acts words before after out_before out_after status
-    -- memory ran out in the run of the module or for the text that is told, once the reader, and the verifier if its
-    -- verdict is wanted, had accepted it
-    starved_by_module : (asked : Asked) → line_of words ≡ Some asked
-        → Reads asked before after (λ bytes. IsJudged bytes asked)
-        → out_after ≡ out_before → status ≡ STARVED → Acts words before after out_before out_after status
+  -- what is asked for was done, but is not told
+  abbrev pub IsDone : Contents → Asked → F → F → Type 0
+  IsDone m (verifies path) before after = after ≡ before
+  IsDone m (runs path inputs outputs) before after =
+      (report : RunReport) × RunOf m inputs outputs before after (Ok report)
+  IsDone m (lists path) before after = after ≡ before
+
+  -- why nothing is told of a run
+  abbrev pub WithholdsRun : Contents → Asked → F → F → Failure → Type 0
+  WithholdsRun m asked before after (failures.Malformed fault) = ⊥
+  WithholdsRun m asked before after (failures.Uncertified refusal) = Reports m refusal × (after ≡ before)
+  WithholdsRun m asked before after failures.Unwritten = ⊥
+  WithholdsRun m asked before after failures.Memory =
+      IsCertified m × (StopsIn m asked before after failures.Memory ⊎ IsDone m asked before after)
+  WithholdsRun m asked before after failure = IsCertified m × StopsIn m asked before after failure
+
+  -- The bytes are the file of a module of which this is told.
+  pub record IsTold (bytes : List ℕ) (asked : Asked) (before after : F) (text : Text) : Type 0 where
+    pub contents : Contents
+    pub format : Format bytes contents
+    pub told : TellsOf contents asked before after text
+
+  -- the bytes are the file of a module, and what is asked for stopped by this failure
+  abbrev pub IsStopped : List ℕ → Asked → F → F → Failure → Type 0
+  IsStopped bytes asked before after failure = IsJudged bytes asked (λ m. StopsIn m asked before after failure)
+
+  -- why nothing is told of the module in the bytes
+  abbrev pub IsHindered : List ℕ → Asked → F → F → Failure → Type 0
+  IsHindered bytes asked before after (failures.Malformed fault) = IsMalformed bytes fault × (after ≡ before)
+  IsHindered bytes asked before after (failures.Uncertified refusal) =
+      IsUncertified bytes asked refusal × (after ≡ before)
+  IsHindered bytes asked before after failures.Unwritten = ⊥
+  IsHindered bytes asked before after failures.Memory =
+      IsStopped bytes asked before after failures.Memory ⊎ IsJudged bytes asked (λ m. IsDone m asked before after)
+  IsHindered bytes asked before after failure = IsStopped bytes asked before after failure
+
+  module _ (reads : F → List ℕ → Result (List ℕ) FileFault → F → Type 0) where
+    -- The file that is asked for was read. It gave bytes, and left files, of which this holds.
+    pub record Reads (asked : Asked) (before : F) (holds_of : List ℕ → F → Type 0) : Type 0 where
+      pub bytes : List ℕ
+      pub next : F
+      pub read : reads before (path_of asked) (Ok bytes) next
+      pub holds : holds_of bytes next
+
+    -- why nothing is told, where the file that is asked for was read
+    abbrev pub Hinders : Asked → F → F → Failure → Type 0
+    Hinders asked before after failure = Reads asked before (λ bytes next. IsHindered bytes asked next after failure)
+
+    -- what is told of the file that is asked for, or why nothing is
+    abbrev pub Answers : Asked → F → F → Result Text Failure → Type 0
+    Answers asked before after (Ok text) = Reads asked before (λ bytes next. IsTold bytes asked next after text)
+    Answers asked before after (Err (failures.Unread path)) =
+        ((path.now ≡ path_of asked) × reads before (path_of asked) (Err file_faults.Failed) after)
+        ⊎ Hinders asked before after (failures.Unread path)
+    Answers asked before after (Err failures.Unwritten) = ⊥
+    Answers asked before after (Err failures.Memory) =
+        reads before (path_of asked) (Err file_faults.Memory) after ⊎ Hinders asked before after failures.Memory
+    Answers asked before after (Err failure) = Hinders asked before after failure
+
+    -- What the program did by what was asked: it told what is told, or it wrote nothing and answered why, or standard
+    -- output failed.
+    abbrev pub Performs : Asked → F → F → Option (List ℕ) → Option (List ℕ) → Result ⊤ Failure → Type 0
+    Performs asked before after out_before out_after (Ok _) =
+        (text : Text) × Answers asked before after (Ok text) × Appends out_before out_after text
+    Performs asked before after out_before out_after (Err failures.Unwritten) =
+        (text : Text) × Answers asked before after (Ok text) × HoldsBeginning out_before out_after text
+    Performs asked before after out_before out_after (Err failure) =
+        Answers asked before after (Err failure) × (out_after ≡ out_before)
+
+    -- What the program did by the words: with the files, with what is known of standard output, and its exit status.
+    pub data Acts (words : List Text) (before after : F) (out_before out_after : Option (List ℕ))
+        (status : ℕ) : Type 0 where
+      -- what is asked for is told, and nothing else
+      told : (asked : Asked) (text : Text) → line_of words ≡ Some asked
+          → Reads asked before (λ bytes next. IsTold bytes asked next after text)
+          → Appends out_before out_after text → status ≡ DONE → Acts words before after out_before out_after status
+      -- the reader or the verifier refuses the bytes
+      refused : (asked : Asked) → line_of words ≡ Some asked
+          → Reads asked before (λ bytes next. IsRefusedBy bytes asked × (after ≡ next))
+          → out_after ≡ out_before → status ≡ REFUSED → Acts words before after out_before out_after status
+      -- the words ask for nothing, and no file is touched
+      misused : line_of words ≡ None → after ≡ before → out_after ≡ out_before → status ≡ MISUSED
+          → Acts words before after out_before out_after status
+      -- the file is not read
+      unread : (asked : Asked) → line_of words ≡ Some asked
+          → reads before (path_of asked) (Err file_faults.Failed) after
+          → out_after ≡ out_before → status ≡ FAILED → Acts words before after out_before out_after status
+      -- a file of a link was not opened, created or closed, or a link failed, or memory ran out for them
+      stopped : (asked : Asked) (failure : Failure) → line_of words ≡ Some asked
+          → Reads asked before (λ bytes next. IsStopped bytes asked next after failure)
+          → out_after ≡ out_before → status ≡ status_of failure → Acts words before after out_before out_after status
+      -- standard output failed, and holds a beginning of what is told
+      unwritten : (asked : Asked) (text : Text) → line_of words ≡ Some asked
+          → Reads asked before (λ bytes next. IsTold bytes asked next after text)
+          → HoldsBeginning out_before out_after text → status ≡ FAILED
+          → Acts words before after out_before out_after status
+      -- memory ran out at the words, and no file is touched
+      starved_by_words : after ≡ before → out_after ≡ out_before → status ≡ STARVED
+          → Acts words before after out_before out_after status
+      -- memory ran out at the file
+      starved_by_file : (asked : Asked) → line_of words ≡ Some asked
+          → reads before (path_of asked) (Err file_faults.Memory) after
+          → out_after ≡ out_before → status ≡ STARVED → Acts words before after out_before out_after status
+      -- what was asked for was done, and then memory ran out for the text that is told
+      starved_by_text : (asked : Asked) → line_of words ≡ Some asked
+          → Reads asked before (λ bytes next. IsJudged bytes asked (λ m. IsDone m asked next after))
+          → out_after ≡ out_before → status ≡ STARVED → Acts words before after out_before out_after status

@@ -1,7 +1,9 @@
+pub mod Links
 pub mod CommandLine
 pub mod LineFaults
-pub mod Running
 pub mod Texts
 pub mod Names
 pub mod Listing
+pub mod FilesInOrder
+pub mod FilesOnLinks
 pub mod Acting

@@ -1,19 +1,23 @@
 //! The whole program over files and streams that it is handed.
 
-ghost use Rattle.std.specs.Prelude.{◌≡◌, MatchResult, string_bytes};
+ghost use Rattle.std.specs.Prelude.{◌≡◌, ℕ, List, MatchResult, string_bytes};
 ghost use Rattle.clap.specs.Walk.{texts};
-ghost use Rattle.module_format.specs.Keeping.{Keeps};
-ghost use Rattle.tpm.specs.CommandLine.{asked_of};
+ghost use Rattle.tpm.specs.Links.{paths_of};
+ghost use Rattle.tpm.specs.FilesInOrder.{inside};
+ghost use Rattle.tpm.specs.CommandLine.{asked_of, runs};
 ghost use Rattle.tpm.specs.LineFaults.{misuse_status};
 ghost use Rattle.tpm.specs.Texts.{status_of};
-ghost use Rattle.tpm.specs.Acting.{Acts, Answers, HasRun, IsAccepted, IsTold, IsHindered, Performs, Withholds};
+ghost use Rattle.tpm.specs.Acting.{Acts, Answers, HasRun, IsAccepted, IsTold, IsHindered, Performs, WithholdsRun};
+ghost use Rattle.tpm.specs.Acting.{WithholdsVerdict};
 
 use crate::command_line::line;
 use crate::files::{FileFault, Files};
 use crate::line::{Line, LineFault};
+use crate::links::LinkPaths;
 use crate::listing::listing;
 use crate::report::{DONE, Failure, MISUSED, Report, STARVED};
-use crate::running::run_out;
+use crate::run_report::run_report;
+use crate::running::run_with_files;
 use crate::telling::tell;
 use certificate::Module;
 use std::alloc::Global;
@@ -22,7 +26,7 @@ use verifier::verify;
 
 /// What is told of the verdict on a module.
 fn verdict<'a>(alloc: Global, module: &Module<'_>) -> Result<String, Failure<'a>>
-    ensures { MatchResult result (λ text. IsAccepted «module».now (string_bytes text)) (Withholds «module».now) }
+    ensures { MatchResult result (λ text. IsAccepted «module».now (string_bytes text)) (WithholdsVerdict «module».now) }
 {
     verify(alloc, module)?;
     let report = Report::Accepted {
@@ -31,37 +35,64 @@ fn verdict<'a>(alloc: Global, module: &Module<'_>) -> Result<String, Failure<'a>
     Ok(format!(in alloc; "{report}\n")?)
 }
 
-/// What is told of the run of a module.
-fn outcome<'a>(alloc: Global, module: &Module<'_>) -> Result<String, Failure<'a>>
-    requires { Keeps «module».now }
-    ensures { MatchResult result (λ text. HasRun «module».now (string_bytes text)) (Withholds «module».now) }
+/// What is told of the run of a module with files on its links.
+fn outcome<'a, F: Files>(
+    alloc: Global,
+    module: &Module<'_>,
+    inputs: LinkPaths<'a>,
+    outputs: LinkPaths<'a>,
+    files: &mut F,
+) -> Result<String, Failure<'a>>
+    ensures { let ins = paths_of inputs.entry in let outs = paths_of outputs.entry in
+        MatchResult result
+        (λ text. HasRun F.opens F.creates F.closes (inside F.Reader.left) (inside F.Reader.failed)
+        (inside F.Writer.written) (inside F.Writer.failed)
+        «module».now ins outs files.old files.new (string_bytes text))
+        (λ failure. (path : List ℕ) → WithholdsRun F.opens F.creates F.closes (inside F.Reader.left) (inside F.Reader.failed)
+        (inside F.Writer.written) (inside F.Writer.failed) «module».now (runs path ins outs) files.old files.new failure) }
 {
     let verified = verify(alloc, module)?;
-    let report = run_out(alloc, verified.module())?;
-    Ok(format!(in alloc; "{report}\n")?)
+    let report = run_with_files(alloc, &verified, inputs, outputs, files)?;
+    Ok(run_report(alloc, &report, inputs, outputs)?)
 }
 
 /// What is told of the module in these bytes, as text.
-fn judge<'a>(alloc: Global, bytes: &[u8], line: Line<'a>) -> Result<String, Failure<'a>>
+fn judge<'a, F: Files>(
+    alloc: Global,
+    bytes: &[u8],
+    line: Line<'a>,
+    files: &mut F,
+) -> Result<String, Failure<'a>>
     ensures { let asked = asked_of line.entry in
-        MatchResult result (λ text. IsTold bytes.now asked (string_bytes text)) (IsHindered bytes.now asked) }
+        MatchResult result
+        (λ text. IsTold F.opens F.creates F.closes (inside F.Reader.left) (inside F.Reader.failed)
+        (inside F.Writer.written) (inside F.Writer.failed)
+        bytes.now asked files.old files.new (string_bytes text))
+        (IsHindered F.opens F.creates F.closes (inside F.Reader.left) (inside F.Reader.failed)
+        (inside F.Writer.written) (inside F.Writer.failed)
+        bytes.now asked files.old files.new) }
 {
     let module = Module::read(alloc, bytes)?;
     match line {
         Line::Verify { .. } => verdict(alloc, &module),
-        Line::Run { .. } => outcome(alloc, &module),
+        Line::Run {
+            inputs,
+            outputs,
+            ..
+        } => outcome(alloc, &module, inputs, outputs, files),
         Line::List { .. } => Ok(listing(alloc, &module)?),
     }
 }
 
 /// What is told of the module in the file.
 fn answer<'a, F: Files>(alloc: Global, line: Line<'a>, files: &mut F) -> Result<String, Failure<'a>>
-    ensures { let answers = Answers F.reads (asked_of line.entry) files.old files.new in
+    ensures { let answers = Answers F.opens F.creates F.closes (inside F.Reader.left) (inside F.Reader.failed)
+        (inside F.Writer.written) (inside F.Writer.failed) F.reads (asked_of line.entry) files.old files.new in
         MatchResult result (λ text. answers (Ok (string_bytes text))) (λ failure. answers (Err failure)) }
 {
-    let (Line::Verify { path } | Line::Run { path } | Line::List { path }) = line;
+    let (Line::Verify { path } | Line::Run { path, .. } | Line::List { path }) = line;
     match files.read(path) {
-        Ok(bytes) => judge(alloc, bytes.as_slice(), line),
+        Ok(bytes) => judge(alloc, bytes.as_slice(), line, files),
         Err(FileFault::Failed) => Err(Failure::Unread(path)),
         Err(FileFault::Memory) => Err(Failure::Memory),
     }
@@ -74,8 +105,9 @@ fn perform<'a, F: Files, O: Write>(
     files: &mut F,
     out: &mut O,
 ) -> Result<(), Failure<'a>>
-    ensures { Performs F.reads (asked_of line.entry) files.old files.new
-        (O.contents out.old) (O.contents out.new) result }
+    ensures { Performs F.opens F.creates F.closes (inside F.Reader.left) (inside F.Reader.failed)
+        (inside F.Writer.written) (inside F.Writer.failed)
+        F.reads (asked_of line.entry) files.old files.new (O.contents out.old) (O.contents out.new) result }
 {
     let text = answer(alloc, line, files)?;
     tell(text.as_bytes(), out)
@@ -109,8 +141,9 @@ pub fn act<'a, F: Files, O: Write, E: Write>(
     out: &mut O,
     err: &mut E,
 ) -> u8
-    ensures { Acts F.reads (texts words.entry.now) files.old files.new
-        (O.contents out.old) (O.contents out.new) result }
+    ensures { Acts F.opens F.creates F.closes (inside F.Reader.left) (inside F.Reader.failed)
+        (inside F.Writer.written) (inside F.Writer.failed)
+        F.reads (texts words.entry.now) files.old files.new (O.contents out.old) (O.contents out.new) result }
 {
     match line(alloc, words) {
         Ok(line) => match perform(alloc, line, files, out) {

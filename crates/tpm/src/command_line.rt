@@ -1,14 +1,20 @@
 //! The reading of a command line. It stands apart from what acts, since its check takes long.
 
 ghost use Rattle.std.specs.Prelude.{◌≡◌, IfOk, IfErr, Some, false, option_map, option_and_then};
+ghost use Rattle.clap.specs.Matches.{found_of};
 ghost use Rattle.clap.specs.Simple.{app_of, shape_of, subcommand_rows_of, with_subcommand};
 ghost use Rattle.clap.specs.declared.builder.command.Command.TheViews.{out-Command as fields_of};
-ghost use Rattle.clap.specs.Walk.{texts};
-ghost use Rattle.tpm.specs.CommandLine.{asked_of, entered_by, line_of, named, subcommand_shape, tpm};
+ghost use Rattle.clap.specs.Walk.{first_of, rows_of, texts};
+ghost use Rattle.tpm.specs.Links.{paths_of};
+ghost use Rattle.tpm.specs.CommandLine.{asked_of, entered_by, line_of, named, paths_given, run_shape, subcommand_shape};
+ghost use Rattle.tpm.specs.CommandLine.{tpm, with_links, with_option};
 ghost use Rattle.tpm.specs.LineFaults.{IsFaultAt};
 
 use crate::line::{Line, LineFault};
+use crate::links::{LinkPaths, link_name};
+use certificate::Direction;
 use clap::{Arg, ArgMatches, Command};
+use machine_state::Link;
 use std::alloc::{AllocError, Global};
 
 /// A subcommand with the path of a module file.
@@ -22,7 +28,59 @@ fn subcommand<'a>(alloc: Global, name: &'a str, about: &'a str) -> Result<Comman
     Command::new(alloc, name).about(about).arg(module)
 }
 
-/// A command with one more such subcommand.
+/// A command with one more option, which takes the path of a file.
+fn with_option<'a>(
+    alloc: Global,
+    command: Command<'a>,
+    name: &'a str,
+    help: &'a str,
+) -> Result<Command<'a>, AllocError>
+    ensures shape { IfOk result (λ c. shape_of c ≡ with_option name.entry.now (shape_of command.entry)) }
+    ensures local { (fields_of command.entry).has_globals ≡ false
+        → IfOk result (λ c. (fields_of c).has_globals ≡ false) }
+{
+    let option = Arg::new(alloc, name).long(name).value_name("F").help(help);
+    command.arg(option)
+}
+
+/// A command with an option more for each link of a direction.
+fn with_links<'a>(
+    alloc: Global,
+    command: Command<'a>,
+    direction: Direction,
+    help: &'a str,
+) -> Result<Command<'a>, AllocError>
+    ensures shape { IfOk result (λ c. shape_of c ≡ with_links direction (shape_of command.entry)) }
+    ensures local { (fields_of command.entry).has_globals ≡ false
+        → IfOk result (λ c. (fields_of c).has_globals ≡ false) }
+{
+    let command = with_option(alloc, command, link_name(direction, Link::Zero), help)?;
+    let command = with_option(alloc, command, link_name(direction, Link::One), help)?;
+    let command = with_option(alloc, command, link_name(direction, Link::Two), help)?;
+    with_option(alloc, command, link_name(direction, Link::Three), help)
+}
+
+/// The subcommand that runs a module.
+fn run_subcommand<'a>(alloc: Global) -> Result<Command<'a>, AllocError>
+    ensures shape { IfOk result (λ c. shape_of c ≡ run_shape) }
+    ensures local { IfOk result (λ c. (fields_of c).has_globals ≡ false) }
+{
+    let run = subcommand(alloc, "run", "Runs a module that is certified")?;
+    let run = with_links(
+        alloc,
+        run,
+        Direction::In,
+        "The path of a file that this link reads",
+    )?;
+    with_links(
+        alloc,
+        run,
+        Direction::Out,
+        "The path of a file that this link writes",
+    )
+}
+
+/// A command with one more subcommand, which has only the path of a module file.
 fn with_subcommand<'a>(
     alloc: Global,
     command: Command<'a>,
@@ -35,6 +93,14 @@ fn with_subcommand<'a>(
     command.subcommand(subcommand)
 }
 
+/// A command with one more subcommand, which runs a module.
+fn with_run<'a>(alloc: Global, command: Command<'a>) -> Result<Command<'a>, AllocError>
+    ensures { IfOk result (λ c. app_of c ≡ with_subcommand (app_of command.entry) run_shape) }
+{
+    let run = run_subcommand(alloc)?;
+    command.subcommand(run)
+}
+
 /// The program's command.
 fn command<'a>(alloc: Global) -> Result<Command<'a>, AllocError>
     ensures { IfOk result (λ c. app_of c ≡ tpm) }
@@ -44,17 +110,40 @@ fn command<'a>(alloc: Global) -> Result<Command<'a>, AllocError>
         .subcommand_required(true)
         .disable_help_subcommand(true);
     let tpm = with_subcommand(alloc, tpm, "verify", "Tells whether a module is certified")?;
-    let tpm = with_subcommand(alloc, tpm, "run", "Runs a module that is certified")?;
+    let tpm = with_run(alloc, tpm)?;
     with_subcommand(alloc, tpm, "list", "Lists the instructions of a module")
 }
 
-/// What the subcommand of this name asks for with this path.
-fn line_named<'a>(name: &str, path: &'a str) -> Option<Line<'a>>
-    ensures { option_map asked_of result ≡ named name.now path.now }
+/// The path that is given for an option.
+fn path_given<'a>(given: &ArgMatches<'a>, name: &str) -> Option<&'a str>
+    ensures { option_map (λ path. path.now) result ≡ first_of name.now (rows_of (found_of given.now)) }
+{
+    given.get_str(name)
+}
+
+/// The paths that are given for the links of a direction.
+fn paths_given<'a>(given: &ArgMatches<'a>, direction: Direction) -> LinkPaths<'a>
+    ensures { paths_of result ≡ paths_given direction (rows_of (found_of given.now)) }
+{
+    LinkPaths {
+        first: path_given(given, link_name(direction, Link::Zero)),
+        second: path_given(given, link_name(direction, Link::One)),
+        third: path_given(given, link_name(direction, Link::Two)),
+        fourth: path_given(given, link_name(direction, Link::Three)),
+    }
+}
+
+/// What the subcommand of this name asks for with this path and what else is given to it.
+fn line_named<'a>(name: &str, given: &ArgMatches<'a>, path: &'a str) -> Option<Line<'a>>
+    ensures { option_map asked_of result ≡ named name.now (rows_of (found_of given.now)) path.now }
 {
     match name {
         "verify" => Some(Line::Verify { path }),
-        "run" => Some(Line::Run { path }),
+        "run" => Some(Line::Run {
+            path,
+            inputs: paths_given(given, Direction::In),
+            outputs: paths_given(given, Direction::Out),
+        }),
         "list" => Some(Line::List { path }),
         _ => None,
     }
@@ -67,11 +156,11 @@ fn asked<'a>(matches: &ArgMatches<'a>) -> Option<Line<'a>>
 {
     let (name, given) = matches.subcommand()?;
     let path = given.get_str("MOD")?;
-    line_named(name, path)
+    line_named(name, given, path)
 }
 
-/// What the words of a command line ask for, of which the first is the program's name: `verify MOD`,
-/// `run MOD` or `list MOD`.
+/// What the words of a command line ask for, of which the first is the program's name: `verify MOD`, `list MOD`, or
+/// `run MOD` with the options `--in0 F` to `--in3 F` and `--out0 F` to `--out3 F`.
 pub fn line<'a>(alloc: Global, words: &'a [&'a str]) -> Result<Line<'a>, LineFault>
     ensures asked { IfOk result (λ l. line_of (texts words.entry.now) ≡ Some (asked_of l)) }
     // A body that always reports that memory ran out meets this too, since no clause can say that memory

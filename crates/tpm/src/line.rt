@@ -3,6 +3,7 @@
 ghost use Rattle.std.specs.Prelude.{◌≡◌};
 ghost use Rattle.tpm.specs.LineFaults.{FaultOf};
 
+use crate::links::LinkPaths;
 use clap::error::ErrorKind;
 use std::alloc::AllocError;
 use thiserror::Error;
@@ -11,11 +12,19 @@ use thiserror::Error;
 #[derive(Clone, Copy)]
 pub enum Line<'a> {
     /// Whether the module in the file of this path is certified.
-    Verify { path: &'a str },
-    /// A run of the module in the file of this path.
-    Run { path: &'a str },
+    Verify {
+        path: &'a str,
+    },
+    /// A run of the module in the file of this path, with the files of these paths on its links.
+    Run {
+        path: &'a str,
+        inputs: LinkPaths<'a>,
+        outputs: LinkPaths<'a>,
+    },
     /// The listing of the code of the module in the file of this path.
-    List { path: &'a str },
+    List {
+        path: &'a str,
+    },
 }
 
 /// Why a command line asks for nothing.

@@ -4,6 +4,7 @@ ghost use Rattle.std.specs.Prelude.{◌≡◌, Some};
 ghost use Rattle.tpm.specs.Texts.{report_text, status_of};
 
 use certificate::FormatFault;
+use machine_state::Link;
 use std::alloc::AllocError;
 use std::fmt;
 use thiserror::Error;
@@ -15,7 +16,7 @@ pub const DONE: u8 = 0;
 pub const REFUSED: u8 = 1;
 /// The words are no command, or they ask for help.
 pub const MISUSED: u8 = 2;
-/// A file or standard output failed.
+/// A file, a link or standard output failed.
 pub const FAILED: u8 = 3;
 /// Memory ran out, other than in the reading or the verdict of a module.
 pub const STARVED: u8 = 4;
@@ -52,9 +53,18 @@ pub enum Failure<'a> {
     /// The module is not certified.
     #[error("refused V{} at {}", .0.number, .0.offset)]
     Uncertified(Refusal),
-    /// The file of this path was not read.
+    /// The file of this path was not read or opened.
     #[error("cannot read {0}")]
     Unread(&'a str),
+    /// The file of this path was not created.
+    #[error("cannot write {0}")]
+    Uncreated(&'a str),
+    /// A read of this input link failed.
+    #[error("link in{} read failed", .0.index())]
+    ReadFailed(Link),
+    /// A write on this output link failed.
+    #[error("link out{} write failed", .0.index())]
+    WriteFailed(Link),
     /// The report was not written.
     #[error("cannot write standard output")]
     Unwritten,
@@ -100,7 +110,11 @@ impl Failure<'_> {
     {
         match self {
             Failure::Malformed(_) | Failure::Uncertified(_) => REFUSED,
-            Failure::Unread(_) | Failure::Unwritten => FAILED,
+            Failure::Unread(_)
+            | Failure::Uncreated(_)
+            | Failure::ReadFailed(_)
+            | Failure::WriteFailed(_)
+            | Failure::Unwritten => FAILED,
             Failure::Memory => STARVED,
         }
     }
