@@ -230,7 +230,8 @@ variable_is es name type old n means number = λ i. cond (is_variable (means i))
 
 -- ---- what is stored
 
-both_true : (o : Option Environment) (es fs : List Entry) → shape es ≡ shape fs
+-- what meets a scope and is of its types makes it true
+pub both_true : (o : Option Environment) (es fs : List Entry) → shape es ≡ shape fs
     → IsSomeAnd o (λ after. Meets after fs) → IfSome o (λ after. AreTyped after es) → IsSomeAnd o (IsTrueIn fs)
 both_true None es fs same meets typed = absurd meets
 both_true (Some after) es fs same meets typed =

@@ -5,7 +5,7 @@ use Rattle.std.proofs.Common.{◌≡◌, ℕ, zero, suc, ◌<◌, ◌≤◌, ℤ
 use Rattle.std.proofs.Common.{List, []}
 use Rattle.std.proofs.Common.{◌∷◌, length, Option, Some, None, inl, inr, refl, sym, ap, subst, arith, ◌∙◌, IsSomeAnd}
 use Rattle.std.proofs.lemmas.Int.{ints}
-use Rattle.std.specs.Prelude.{option_map, nat_eq, int_le, unsigned_abs, FitsSigned, IfSome}
+use Rattle.std.specs.Prelude.{option_map, nat_eq, int_le, unsigned_abs, FitsSigned}
 use Rattle.std.specs.Int.{w32}
 use Rattle.word_arithmetic.specs.Word.{greatest_word, is_word}
 use Rattle.word_arithmetic.specs.Range.{Ends, InRange, constant, full}
@@ -53,7 +53,7 @@ use Rattle.program_meaning.specs.Running.{turns, or_else, or_waits, by_word, wit
 use Rattle.program_meaning.specs.Running.{run_components, run_component, first_true, choice}
 use Rattle.program_meaning.specs.Sequential.{IsSequential, IsSequentialConstruct, AreSequential, IsSequentialComponent}
 use Rattle.program_meaning.specs.Sequential.{IsSequentialWord}
-use Rattle.program_meaning.specs.TypedValues.{HasType, AreTyped}
+use Rattle.program_meaning.specs.TypedValues.{HasType}
 use Rattle.program_meaning.specs.RangesWithin.{EntriesWithin}
 use Rattle.program_meaning.specs.Declarations.{IsKnown, IsKnownDeclaration}
 use Rattle.program_meaning.specs.GoingWell.{IsTrueIn, IsWell}
@@ -77,7 +77,7 @@ use Rattle.usage_checks.specs.Whole.{is_whole}
 use Rattle.usage_checks.proofs.LinesHold.{declared_whole}
 use Rattle.usage_checks.proofs.OutlinesStay.{shaped, kind_fits}
 use Rattle.usage_checks.proofs.PlacesHold.{places_hold, index_word}
-use Rattle.usage_checks.proofs.ActionsGoWell.{fit_has, IsOwn, IsOfMain, of_main_alike, of_main_more, action_well}
+use Rattle.usage_checks.proofs.ActionsGoWell.{both_true, fit_has, IsOwn, IsOfMain, of_main_alike, of_main_more, action_well}
 use Rattle.usage_checks.proofs.ChoicesGoWell.{well_at, left_well, FoundIn, Chooses, picked, passed, by_truth}
 use Rattle.usage_checks.proofs.ChoicesGoWell.{same_option, choice_step, first_well}
 use Rattle.usage_checks.proofs.RangesStay.{Covers, covers_itself, declared_long, Low, remains_low}
@@ -104,18 +104,14 @@ known_declaration es (Variables n) h =
     known_by 0 (variable_meaning es n.value_type n.size) (declared_whole 0 es (Variables n) h)
 known_declaration es (Channels n) h = tt
 
-both_true : (o : Option Environment) (es : List Entry) → IsSomeAnd o (λ inner. Meets inner es)
-    → IfSome o (λ inner. AreTyped inner es) → IsSomeAnd o (IsTrueIn es)
-both_true None es meets typed = absurd meets
-both_true (Some inner) es meets typed = record { meets = meets; typed = typed }
-
 -- what it declares is bound, and true
 pub declared_true : (es : List Entry) (env : Environment) (d : Declaration) → DeclarationHolds es d
     → declaration_has_words d ≡ true → IsTrueIn es env
     → IsSomeAnd (declare d env) (IsTrueIn (add_declaration d es))
 declared_true es env d h words holds =
     let known = known_declaration es d h in
-    both_true (declare d env) (add_declaration d es) (declarations_hold es env d holds.meets known)
+    both_true (declare d env) (add_declaration d es) (add_declaration d es) refl
+    (declarations_hold es env d holds.meets known)
     (declarations_typed es env d holds.meets holds.typed known words)
 
 table_own : (type : ValueType) (size : Option ℕ) (count : ℕ) (range : Option Ends)
@@ -208,12 +204,6 @@ or_stuck_well : {A : Type 0} (o : Option A) (f : A → Outcome) (P : A → Type 
     → ((x : A) → P x → IsWell (f x) es) → IsWell (or_stuck o f) es
 or_stuck_well None f P es h k = absurd h
 or_stuck_well (Some x) f P es h k = k x h
-
--- for each word of a block of a sequential program
-in_word : (w : Terminal) → IsSequentialWord w → (P : Terminal → Type 0) → P (Mark mark.Seq) → P (Mark mark.If) → P w
-in_word (Mark mark.Seq) ok P all first = all
-in_word (Mark mark.If) ok P all first = first
-in_word w ok P all first = absurd ok
 
 module _ (items : List ProgramItem) (s : Surroundings) where
   -- from each place that is reached, the process goes well

@@ -157,12 +157,6 @@ ranged_typed range (Procedure number) within h = h
 whole_range : (type : ValueType) → RangeWithin (type_range type) (type_range type)
 whole_range type = (omega (arith, ints), omega (arith, ints))
 
-at_by : (t : Bool) (f : Meaning → Meaning) (n : ℕ) (e : Entry) (es ds : List Entry) → nat_eq (length es) n ≡ t
-    → (nat_eq (length es) n ≡ true → IsInType (f e.meaning)) → AreInTypes (e ∷ es) → AreInTypes ds
-    → AreInTypes (cond t (with_meaning f e ∷ es) (e ∷ ds))
-at_by true f n e es ds is h typed further = (h is, typed.1)
-at_by false f n e es ds is h typed further = (typed.0, further)
-
 found_by : (t : Bool) (n : ℕ) (m : Meaning) (rest : Option Meaning) → t ≡ true → cond t (Some m) rest ≡ Some m
 found_by true n m rest is = refl
 found_by false n m rest is = absurd (cc is)
