@@ -17,7 +17,8 @@ module _ {F R W : Type 0} (opens : F → Text → Result R FileFault → F → T
     (write_failed : W → Bool) (reads : F → List ℕ → Result (List ℕ) FileFault → F → Type 0) (words : List Text)
     (asked : Asked) (before after : F) (out_before out_after : Option (List ℕ)) where
   pub acts_told : line_of words ≡ Some asked → (u : Unit {0})
-      → Performs opens creates closes left read_failed written write_failed reads asked before after out_before out_after
+      → Performs opens creates closes left read_failed written write_failed reads asked before after out_before
+      out_after
       (Ok u)
       → Acts opens creates closes left read_failed written write_failed reads words before after out_before out_after 0
   acts_told line u performed = told asked performed.0 line performed.1 performed.2 refl
@@ -44,8 +45,8 @@ module _ {F R W : Type 0} (opens : F → Text → Result R FileFault → F → T
           failures.Memory
           ⊎ IsJudged file.bytes asked
           (λ m. IsDone opens creates closes left read_failed written write_failed m asked file.next after)
-          → Acts opens creates closes left read_failed written write_failed reads words before after out_before out_after
-          status
+          → Acts opens creates closes left read_failed written write_failed reads words before after out_before
+          out_after status
       go (inl stops) = stopped asked failures.Memory line
           (record { bytes = file.bytes; next = file.next; read = file.read; holds = stops }) same is
       go (inr done) = starved_by_text asked line
@@ -70,7 +71,8 @@ module _ {F R W : Type 0} (opens : F → Text → Result R FileFault → F → T
   unread_at path status is line same (inr file) = stopped asked (failures.Unread path) line file same is
 
   pub acts_failed : (failure : Failure) (status : ℕ) → status ≡ status_of failure → line_of words ≡ Some asked
-      → Performs opens creates closes left read_failed written write_failed reads asked before after out_before out_after
+      → Performs opens creates closes left read_failed written write_failed reads asked before after out_before
+      out_after
       (Err failure)
       → Acts opens creates closes left read_failed written write_failed reads words before after out_before out_after
       status

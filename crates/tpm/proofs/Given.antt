@@ -205,8 +205,8 @@ module _ (rules : List Rule) (ours : AllOurs rules) where
   unfolding bundle_met flags_fault
   valued-bundle again zero flags skip so_far h fault all = all
   valued-bundle again (suc k) flags skip so_far h fault all =
-      valued-letter (slice_get (chars flags) 0) again flags skip so_far h (bundle_met rules k) (flags_fault rules again k)
-      (valued-bundle again k) fault all
+      valued-letter (slice_get (chars flags) 0) again flags skip so_far h (bundle_met rules k)
+      (flags_fault rules again k) (valued-bundle again k) fault all
 
   -- a word that is no flag
   valued-plain : (waiting : Waiting) (word : Text) (h : Held) → AllValued h.rows
@@ -231,7 +231,8 @@ module _ (rules : List Rule) (ours : AllOurs rules) where
       → AllValued h.rows → AllValued ((long_or_other rules waiting word o h).0).rows
   valued-other again (Some p) waiting word h fault all =
       let met = long_met rules (arg_by_long rules p.0) p.1 h in
-      valued-after_flag waiting word met.0 met.1 (valued-long (arg_by_long rules p.0) again p.1 h (by_long p.0) fault all)
+      valued-after_flag waiting word met.0 met.1
+      (valued-long (arg_by_long rules p.0) again p.1 h (by_long p.0) fault all)
   valued-other again None waiting word h fault all = go (short_of word) fault
     where
       go : (s : Option Text) → option_map_or (λ flags. bundle_fault rules again flags h) s [] ≡ []
@@ -286,7 +287,8 @@ module _ (s : Shape) (ours : AllOurs s.rules) where
   valued-step word w h (subcommand found) fault all = all
   valued-step word w h value fault all = go (arg_by_index s.rules w.position) fault
     where
-      go : (o : Option Rule) → option_map_or (λ a. positional_fault s.rules s.args_override_self a h) o (stray_fault s) ≡ []
+      go : (o : Option Rule)
+          → option_map_or (λ a. positional_fault s.rules s.args_override_self a h) o (stray_fault s) ≡ []
           → AllValued (to_positional s.rules o word w h).held.rows
       go None f = all
       go (Some a) f = valued-positional s.rules ours s.args_override_self a word h f all

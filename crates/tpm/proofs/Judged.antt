@@ -19,13 +19,13 @@ module _ {F R W : Type 0} (opens : F → Text → Result R FileFault → F → T
     -- what a run came to
     run_told : (path : Text) (inputs outputs : ByLink (Option Text)) (before after : F) (text : Text)
         → HasRun opens creates closes left read_failed written write_failed m inputs outputs before after text
-        → IsTold opens creates closes left read_failed written write_failed bytes (runs path inputs outputs) before after
-        text
+        → IsTold opens creates closes left read_failed written write_failed bytes (runs path inputs outputs) before
+        after text
     run_told path inputs outputs before after text has = record { contents = m; format = format; told = has }
 
     run_withheld : (path : Text) (inputs outputs : ByLink (Option Text)) (before after : F) (failure : Failure)
-        → WithholdsRun opens creates closes left read_failed written write_failed m (runs path inputs outputs) before after
-        failure
+        → WithholdsRun opens creates closes left read_failed written write_failed m (runs path inputs outputs) before
+        after failure
         → IsHindered opens creates closes left read_failed written write_failed bytes (runs path inputs outputs) before
         after failure
     run_withheld path inputs outputs before after (failures.Malformed fault) why = absurd why
@@ -42,9 +42,10 @@ module _ {F R W : Type 0} (opens : F → Text → Result R FileFault → F → T
     run_withheld path inputs outputs before after failures.Unwritten why = absurd why
     run_withheld path inputs outputs before after failures.Memory why = go why.1
       where
-        go : StopsIn opens creates closes left read_failed written write_failed m (runs path inputs outputs) before after
-            failures.Memory
-            ⊎ IsDone opens creates closes left read_failed written write_failed m (runs path inputs outputs) before after
+        go : StopsIn opens creates closes left read_failed written write_failed m (runs path inputs outputs) before
+            after failures.Memory
+            ⊎ IsDone opens creates closes left read_failed written write_failed m (runs path inputs outputs) before
+            after
             → IsHindered opens creates closes left read_failed written write_failed bytes (runs path inputs outputs)
             before after failures.Memory
         go (inl stopped) =
@@ -60,8 +61,8 @@ module _ {F R W : Type 0} (opens : F → Text → Result R FileFault → F → T
         (λ failure. (p : Text) → WithholdsRun opens creates closes left read_failed written write_failed m
         (runs p inputs outputs) before after failure)
         → MatchResult result
-        (λ text. IsTold opens creates closes left read_failed written write_failed bytes (runs path inputs outputs) before
-        after (text_of text))
+        (λ text. IsTold opens creates closes left read_failed written write_failed bytes (runs path inputs outputs)
+        before after (text_of text))
         (IsHindered opens creates closes left read_failed written write_failed bytes (runs path inputs outputs) before
         after)
     run_judged text_of path inputs outputs before after (Ok text) has =

@@ -42,7 +42,8 @@ pub asks_by : (matches given : ArgMatches) (name : Text) (path : Option Text)
     → option_and_then (named name (rows_of (found_of given))) path
     ≡ option_and_then entered_by (subcommand_rows_of matches)
 asks_by matches given name path called rows read =
-    ap (option_and_then (named name (rows_of (found_of given)))) (read ∙ first_value-rows (found_of given) (codes "MOD"))
+    ap (option_and_then (named name (rows_of (found_of given))))
+    (read ∙ first_value-rows (found_of given) (codes "MOD"))
     ∙ sym (ap (option_and_then entered_by)
     (entered_is (out-ArgMatches matches).subcommand name (rows_of (found_of given)) called rows))
 

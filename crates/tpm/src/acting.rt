@@ -48,8 +48,9 @@ fn outcome<'a, F: Files>(
         (λ text. HasRun F.opens F.creates F.closes (inside F.Reader.left) (inside F.Reader.failed)
         (inside F.Writer.written) (inside F.Writer.failed)
         «module».now ins outs files.old files.new (string_bytes text))
-        (λ failure. (path : List ℕ) → WithholdsRun F.opens F.creates F.closes (inside F.Reader.left) (inside F.Reader.failed)
-        (inside F.Writer.written) (inside F.Writer.failed) «module».now (runs path ins outs) files.old files.new failure) }
+        (λ failure. (path : List ℕ) → WithholdsRun F.opens F.creates F.closes (inside F.Reader.left)
+        (inside F.Reader.failed) (inside F.Writer.written) (inside F.Writer.failed) «module».now
+        (runs path ins outs) files.old files.new failure) }
 {
     let verified = verify(alloc, module)?;
     let report = run_with_files(alloc, &verified, inputs, outputs, files)?;

@@ -100,6 +100,7 @@ impl<R: rt::Files + AllocGlobal> Files for SystemFiles<'_, R> {
         Box::new(self.0.alloc(), writer).map_err(|_| FileFault::Memory)
     }
 
+    // Nothing is known of these files, so there is nothing to ensure.
     fn close(&mut self, writer: Box<Self::Writer>) -> Result<(), Failed>
         ensures { ⊤ }
     {

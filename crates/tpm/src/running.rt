@@ -4,7 +4,8 @@ ghost use Rattle.std.specs.Prelude.{◌≡◌, ◌∷◌, [], Bool, false, None,
 ghost use Rattle.link_runs.specs.ByLink.{ByLink};
 ghost use Rattle.link_runner.specs.Readers.{at_link, flag_at, NoneFailed, SameElsewhere};
 ghost use Rattle.tpm.specs.Links.{paths_of};
-ghost use Rattle.tpm.specs.FilesInOrder.{inside, in_order, MayGive, GivesAll, FailsForPath, FailsAtPath, MayClose, ClosesAll};
+ghost use Rattle.tpm.specs.FilesInOrder.{inside, in_order, MayGive, GivesAll, FailsForPath, FailsAtPath};
+ghost use Rattle.tpm.specs.FilesInOrder.{MayClose, ClosesAll};
 ghost use Rattle.tpm.specs.FilesOnLinks.{first_unclosed, CreatesAndRuns, RunsOpened, RunsTo};
 
 use crate::files::{FileFault, Files};

@@ -15,9 +15,12 @@ returns-in_err-writers-2-clause-gives g c =
 pub returns-in_err-writers-3-clause-gives : goal.returns-in_err-writers-3-clause-gives
 returns-in_err-writers-3-clause-gives g c =
     let p = err_from_is_err_and c.from_residual-in_err-writers-3.result c.from_residual-in_err-writers-3.ensures.1 in
-    rw (p.1, p.2, c.requires) (later c.in_ok-writers.ensures.gives (later c.in_ok-writers-2.ensures.gives (here c.in_err-writers-3.ensures.gives)))
+    rw (p.1, p.2, c.requires) (later c.in_ok-writers.ensures.gives (later c.in_ok-writers-2.ensures.gives
+    (here c.in_err-writers-3.ensures.gives)))
 
 pub returns-in_err-writers-4-clause-gives : goal.returns-in_err-writers-4-clause-gives
 returns-in_err-writers-4-clause-gives g c =
     let p = err_from_is_err_and c.from_residual-in_err-writers-4.result c.from_residual-in_err-writers-4.ensures.1 in
-    rw (p.1, p.2, c.requires) (later c.in_ok-writers.ensures.gives (later c.in_ok-writers-2.ensures.gives (later c.in_ok-writers-3.ensures.gives (here c.in_err-writers-4.ensures.gives))))
+    rw (p.1, p.2, c.requires) (later c.in_ok-writers.ensures.gives (later c.in_ok-writers-2.ensures.gives
+    (later c.in_ok-writers-3.ensures.gives
+    (here c.in_err-writers-4.ensures.gives))))
