@@ -91,3 +91,16 @@ instruction_has_rule m _ = true
 unfoldable pub has_rule : Contents → Instr → Bool
 has_rule m i =
     elim (instruction_of i.fun i.operand) [ None ↦ false | Some instruction ↦ instruction_has_rule m instruction ]
+
+-- the place of the instruction at an offset
+abbrev pub site_at : Contents → ℕ → Instr → Site
+site_at m at i = record { contents = m; at = at; length = i.len }
+
+-- the instruction is the end of an alternation
+abbrev pub is_end : Instruction → Bool
+is_end (Operate AlternationEnd) = true
+is_end _ = false
+
+unfoldable pub is_alternation_end : Instr → Bool
+is_alternation_end i =
+    elim (instruction_of i.fun i.operand) [ None ↦ false | Some instruction ↦ is_end instruction ]
