@@ -23,6 +23,7 @@ use Rattle.local_rules.proofs.LocalFits.{local_rules_fit_steps}
 use Rattle.call_rules.proofs.CallFits.{call_fits_step, return_fits_step}
 use Rattle.message_rules.specs.MessageRules.{message_rule}
 use Rattle.message_rules.proofs.MessageFits.{input_fits_step, output_fits_step}
+use Rattle.alternation_rules.proofs.AlternationFits.{alternation_fits_step, alternation_end_fits_step}
 
 module _ (x : Here) (wf : IsWellFormed x.m) (s : State) (l : Local) (a : After x.m x.h x.mode x.act s l)
     (same : s.context ≡ x.context) (changes : Changes x l.memory) (n : owed s x.act ≤ x.owed) (here : StandsAt x s l)
@@ -33,6 +34,19 @@ module _ (x : Here) (wf : IsWellFormed x.m) (s : State) (l : Local) (a : After x
   operation_fits operations.Return e fits = return_fits_step x s l wf a same changes n
   operation_fits operations.Input e fits = input_fits_step x s l wf a same changes n
   operation_fits operations.Output e fits = output_fits_step x s l wf a same changes n
+  operation_fits operations.Alternate e fits =
+      alternation_fits_step x s l operations.Alternate wf a same changes n here
+  operation_fits operations.EnableChannel e fits =
+      alternation_fits_step x s l operations.EnableChannel wf a same changes n here
+  operation_fits operations.EnableSkip e fits =
+      alternation_fits_step x s l operations.EnableSkip wf a same changes n here
+  operation_fits operations.AlternationWait e fits =
+      alternation_fits_step x s l operations.AlternationWait wf a same changes n here
+  operation_fits operations.DisableChannel e fits =
+      alternation_fits_step x s l operations.DisableChannel wf a same changes n here
+  operation_fits operations.DisableSkip e fits =
+      alternation_fits_step x s l operations.DisableSkip wf a same changes n here
+  operation_fits operations.AlternationEnd e fits = alternation_end_fits_step x s l wf a same changes n here selected
   operation_fits op e fits = local_rules_fit_steps x s l (instructions.Operate op) e wf a same changes n here fits
 
   instruction_fits : (i : Instruction) (e : ℤ) → FitsSigned w32 e

@@ -40,6 +40,13 @@ operation-without site ops.Return s h = absurd (cc)
 operation-without site ops.LoopEnd s h = absurd (cc)
 operation-without site ops.Input s h = absurd (cc)
 operation-without site ops.Output s h = absurd (cc)
+operation-without site ops.Alternate s h = absurd (cc)
+operation-without site ops.EnableChannel s h = absurd (cc)
+operation-without site ops.EnableSkip s h = absurd (cc)
+operation-without site ops.AlternationWait s h = absurd (cc)
+operation-without site ops.DisableChannel s h = absurd (cc)
+operation-without site ops.DisableSkip s h = absurd (cc)
+operation-without site ops.AlternationEnd s h = absurd (cc)
 operation-without site _ s h = refl
 
 instruction-without : (site : Site) (i : Instruction) (e : ℤ) (s : State)

@@ -9,6 +9,8 @@ use Rattle.machine_state.specs.declared.op.Op.TheVariants.{Reverse, StopProcess,
 use Rattle.machine_state.specs.declared.op.Op.TheVariants.{Long, CheckSubscript, CheckCount, ByteSubscript}
 use Rattle.machine_state.specs.declared.op.Op.TheVariants.{WordSubscript, LoadPointerToInstruction, LoadByte}
 use Rattle.machine_state.specs.declared.op.Op.TheVariants.{StoreByte, Move, LoopEnd, Return, Input, Output}
+use Rattle.machine_state.specs.declared.op.Op.TheVariants.{Alternate, EnableChannel, EnableSkip, AlternationWait}
+use Rattle.machine_state.specs.declared.op.Op.TheVariants.{DisableChannel, DisableSkip, AlternationEnd}
 use Rattle.machine_state.specs.declared.instruction.Instruction.{Instruction}
 use Rattle.machine_state.specs.declared.instruction.Instruction.TheVariants.{Operate, Call}
 use Rattle.machine_state.specs.Instructions.{instruction_of}
@@ -18,12 +20,20 @@ use Rattle.rulings.specs.Rulings.{Ruling, breaks, Site}
 use Rattle.call_rules.specs.CallRules.{call_rule, return_rule}
 use Rattle.local_rules.specs.LocalRules.{local_operation_rule, local_rule}
 use Rattle.message_rules.specs.MessageRules.{message_rule}
+use Rattle.alternation_rules.specs.AlternationRules.{alternation_rule, altend_rule}
 
 -- the rule of an operation, by the family that has it
 unfoldable pub operation_rule : Site → Op → State → Ruling
 operation_rule site Return s = return_rule site s
 operation_rule site Input s = message_rule site Input s
 operation_rule site Output s = message_rule site Output s
+operation_rule site Alternate s = alternation_rule site Alternate s
+operation_rule site EnableChannel s = alternation_rule site EnableChannel s
+operation_rule site EnableSkip s = alternation_rule site EnableSkip s
+operation_rule site AlternationWait s = alternation_rule site AlternationWait s
+operation_rule site DisableChannel s = alternation_rule site DisableChannel s
+operation_rule site DisableSkip s = alternation_rule site DisableSkip s
+operation_rule site AlternationEnd s = altend_rule site s
 operation_rule site op s = local_operation_rule site op s
 
 -- the rule of an instruction
@@ -65,6 +75,13 @@ op_has_rule m Return = true
 op_has_rule m LoopEnd = true
 op_has_rule m Input = true
 op_has_rule m Output = true
+op_has_rule m Alternate = true
+op_has_rule m EnableChannel = true
+op_has_rule m EnableSkip = true
+op_has_rule m AlternationWait = true
+op_has_rule m DisableChannel = true
+op_has_rule m DisableSkip = true
+op_has_rule m AlternationEnd = true
 op_has_rule m _ = false
 
 abbrev pub instruction_has_rule : Contents → Instruction → Bool
@@ -74,3 +91,16 @@ instruction_has_rule m _ = true
 unfoldable pub has_rule : Contents → Instr → Bool
 has_rule m i =
     elim (instruction_of i.fun i.operand) [ None ↦ false | Some instruction ↦ instruction_has_rule m instruction ]
+
+-- the place of the instruction at an offset
+abbrev pub site_at : Contents → ℕ → Instr → Site
+site_at m at i = record { contents = m; at = at; length = i.len }
+
+-- the instruction is the end of an alternation
+abbrev pub is_end : Instruction → Bool
+is_end (Operate AlternationEnd) = true
+is_end _ = false
+
+unfoldable pub is_alternation_end : Instr → Bool
+is_alternation_end i =
+    elim (instruction_of i.fun i.operand) [ None ↦ false | Some instruction ↦ is_end instruction ]

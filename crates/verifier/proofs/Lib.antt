@@ -26,3 +26,4 @@ pub mod Kept
 pub mod CertifiedRuns
 pub mod Examples
 pub mod EchoIsCertified
+pub mod ChoiceIsCertified

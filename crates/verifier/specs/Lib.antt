@@ -7,3 +7,4 @@ pub mod Pending
 pub mod Alternating
 pub mod Invariant
 pub mod Headline
+pub mod SmallAlternation

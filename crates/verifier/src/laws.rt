@@ -9,6 +9,7 @@ ghost use Rattle.verifier.specs.Certified.{IsCertified, IsRefused};
 ghost use Rattle.verifier.specs.Judge.{verdict, refused};
 ghost use Rattle.verifier.specs.Invariant.{Holds};
 ghost use Rattle.verifier.specs.Headline.{AreEvents, RunsWell};
+ghost use Rattle.verifier.specs.SmallAlternation.{AlternationIsJudged};
 
 /// No module is both certified and refused.
 pub fn not_both()
@@ -33,4 +34,11 @@ pub fn certified_runs_hold_the_invariant()
 /// budget of instruction bytes is executed.
 pub fn certified_modules_run_well()
     ensures { (m : Contents) → Keeps m → IsCertified m → RunsWell m }
+{}
+
+/// A small module that alternates between two links is accepted, and its variations are refused, each by the rule that
+/// it breaks.
+#[tactic(auto, using(crate::proofs::ChoiceIsCertified::alternation_is_judged))]
+pub fn a_small_alternation_is_judged()
+    ensures { AlternationIsJudged }
 {}
