@@ -1,2 +1,3 @@
+pub mod GuardLabels
 pub mod Local
 pub mod Unruled

@@ -1,11 +1,12 @@
 //! The rule of an instruction, on a state in place.
 
-ghost use Rattle.std.specs.Prelude.{◌≡◌, true, false};
+ghost use Rattle.std.specs.Prelude.{◌≡◌, true, false, OnOk};
 ghost use Rattle.states.specs.Views.{state_of, BelongsTo};
 ghost use Rattle.states.specs.Room.{HasRoomForGuards};
 ghost use Rattle.facts.specs.Rules.{op_has_rule, instruction_has_rule, has_rule, rule_at, site_at};
 ghost use Rattle.facts.specs.Rules.{is_alternation_end};
 ghost use Rattle.rulings.specs.Telling.{Advances};
+ghost use Rattle.module_format.specs.Contents.{Contents};
 ghost use Rattle.module_format.specs.Keeping.{Keeps};
 ghost use Rattle.alternation_rules.specs.Guards.{exits};
 ghost use Rattle.alternation_rules.specs.Telling.{Selects};
@@ -18,7 +19,8 @@ use machine_state::{Instruction, Op};
 use message_rules::advance_message;
 use prefix_decoder::Instr;
 use rulings::{Continuation, Place};
-use states::{Rule, State};
+use states::{MAX_GUARDS, Rule, State};
+use std::alloc::AllocError;
 
 fn op_has_rule(module: &Module, op: Op) -> bool
     ensures { result ≡ op_has_rule «module».now op }
@@ -85,6 +87,17 @@ pub fn is_alternation_end(instr: Instr) -> bool
     )
 }
 
+/// Sees that a state has room for as many guards as an alternation may have. Each state is made with that room, so that
+/// nothing is allocated, and what is known stays. The only error is that memory ran out.
+pub fn reserve_guards(state: &mut State) -> Result<(), AllocError>
+    ensures same { state_of state.new ≡ state_of state.old }
+    ensures room { OnOk result (HasRoomForGuards state.new) }
+    ensures belongs { (m : Contents) → BelongsTo m state.old → BelongsTo m state.new }
+{
+    let missing = MAX_GUARDS.saturating_sub(state.guards.len());
+    state.guards.reserve(missing)
+}
+
 /// Takes a state over the instruction at a code offset, by the rule of that instruction, and reports how a
 /// process goes on there: a jump leads to the label at its code offset. Where the rule is broken, the state is
 /// left part of the way. The end of an alternation has `leave`.
@@ -112,9 +125,7 @@ pub fn advance(
         Instruction::Operate(Op::Return) => return_to_caller(&place, state),
         Instruction::Operate(Op::Input) => advance_message(&place, state, Op::Input),
         Instruction::Operate(Op::Output) => advance_message(&place, state, Op::Output),
-        Instruction::Operate(Op::Alternate) => {
-            advance_alternation(&place, state, Op::Alternate)
-        }
+        Instruction::Operate(Op::Alternate) => { advance_alternation(&place, state, Op::Alternate) }
         Instruction::Operate(Op::EnableChannel) => {
             advance_alternation(&place, state, Op::EnableChannel)
         }

@@ -1,17 +1,20 @@
 //! The states that follow an instruction.
 
-ghost use Rattle.std.specs.Prelude.{◌≡◌, ◌+◌, [], ◌∷◌, map, IfOk, IfErr};
+ghost use Rattle.std.specs.Prelude.{◌≡◌, ◌++◌, ◌+◌, [], ◌∷◌, map, true, IfOk, IfErr};
 ghost use Rattle.std.specs.List.{AllByRecursion};
+ghost use Rattle.alternation_rules.specs.Guards.{exits};
+ghost use Rattle.rulings.specs.Places.{site_of};
 ghost use Rattle.states.specs.Views.{state_of, BelongsTo};
-ghost use Rattle.facts.specs.Rules.{rule_at};
+ghost use Rattle.facts.specs.Rules.{rule_at, is_alternation_end};
 ghost use Rattle.states.specs.Numbers.{out_of_memory};
 ghost use Rattle.facts.specs.Successions.{placed_at, states_at_labels, offset_behind, Succeeds, Follow};
 
-use crate::advancing::advance;
+use crate::advancing::{advance, is_alternation_end, leave};
+use alternation_rules::exit_at;
 use certificate::Module;
 use prefix_decoder::Instr;
-use rulings::Continuation;
-use states::{RuleFault, State, label_rows_are_sound};
+use rulings::{Continuation, Place};
+use states::{Guard, RuleFault, State, label_rows_are_sound};
 use std::alloc::Global;
 
 /// A state that follows an instruction, and the code offset where it holds.
@@ -37,10 +40,32 @@ fn offset_behind(at: usize, len: usize) -> u32
     ((at as u128 + len as u128) % (1 << 32)) as u32
 }
 
+/// Adds the state of the label at a code offset, made in place of another one, if there is a label.
+fn push_label<'a>(
+    labels: &mut Vec<Successor<'a>>,
+    mut state: State<'a>,
+    module: &'a Module<'a>,
+    to: u32,
+) -> Result<(), RuleFault>
+    requires { BelongsTo «module».now state }
+    ensures states { IfOk result (λ _. map placed_at labels.new.items
+        ≡ map placed_at labels.old.items ++ states_at_labels «module».now (to ∷ [])) }
+    ensures belong { AllByRecursion (λ s. BelongsTo «module».now s.state) labels.old.items
+        → IfOk result (λ _. AllByRecursion (λ s. BelongsTo «module».now s.state) labels.new.items) }
+    ensures memory { IfErr result (λ fault. fault ≡ out_of_memory) }
+{
+    label_rows_are_sound();
+    if let Some(row) = module.label_at(to) {
+        state.become_label(module, row);
+        labels.push(Successor { at: to, state })?;
+    }
+    Ok(())
+}
+
 /// The state of the label at a code offset, made in place of another one, if there is a label.
 fn label_at<'a>(
     alloc: Global,
-    mut state: State<'a>,
+    state: State<'a>,
     module: &'a Module<'a>,
     to: u32,
 ) -> Result<Vec<Successor<'a>>, RuleFault>
@@ -49,13 +74,60 @@ fn label_at<'a>(
     ensures belong { IfOk result (λ labels. AllByRecursion (λ s. BelongsTo «module».now s.state) labels.items) }
     ensures memory { IfErr result (λ fault. fault ≡ out_of_memory) }
 {
-    label_rows_are_sound();
     let mut labels = Vec::new(alloc);
-    if let Some(row) = module.label_at(to) {
-        state.become_label(module, row);
-        labels.push(Successor { at: to, state })?;
+    push_label(&mut labels, state, module, to)?;
+    Ok(labels)
+}
+
+/// The states of the labels to which guards lead from the end of an alternation, in the order of the guards, each made
+/// of a copy of another state.
+#[tactic(auto, using(crate::proofs::GuardLabels::begins, crate::proofs::GuardLabels::skips, crate::proofs::GuardLabels::goes_on, crate::proofs::GuardLabels::all, module_format::proofs::Loop::item_at))]
+fn labels_of_guards<'a>(
+    alloc: Global,
+    state: &State<'a>,
+    guards: &[Guard],
+    place: &Place<'a, 'a>,
+) -> Result<Vec<Successor<'a>>, RuleFault>
+    requires { BelongsTo place.now.module.now state.now }
+    ensures states { IfOk result (λ labels. map placed_at labels.items
+        ≡ states_at_labels place.now.module.now (exits (site_of place.now) guards.now)) }
+    ensures belong { IfOk result (λ labels. AllByRecursion (λ s. BelongsTo place.now.module.now s.state) labels.items) }
+    ensures memory { IfErr result (λ fault. fault ≡ out_of_memory) }
+{
+    let mut labels = Vec::new(alloc);
+    for guard in guards.iter() {
+        if let Some(to) = exit_at(place, *guard) {
+            push_label(&mut labels, state.copy(alloc)?, place.module, to)?;
+        }
     }
     Ok(labels)
+}
+
+/// The states that follow the end of an alternation: those of the labels to which the guards lead.
+fn leave_alternation<'a>(
+    alloc: Global,
+    module: &'a Module<'a>,
+    state: &State<'a>,
+    at: usize,
+    instr: Instr,
+) -> Result<Successors<'a>, RuleFault>
+    requires belongs { BelongsTo «module».now state.now }
+    requires ends { is_alternation_end instr ≡ true }
+    ensures ruling { let ruling = rule_at «module».now at instr (state_of state.now) in
+        Succeeds «module».now (offset_behind at instr.len) result ruling }
+    ensures belongs { IfOk result (Follow «module».now) }
+{
+    let mut after = state.copy(alloc)?;
+    leave(&mut after, module, at, instr)?;
+    let place = Place {
+        module,
+        at,
+        len: instr.len,
+    };
+    Ok(Successors {
+        behind: None,
+        labels: labels_of_guards(alloc, state, &state.guards, &place)?,
+    })
 }
 
 /// The states that follow the instruction at a code offset, by the rule of that instruction, each with its
@@ -74,6 +146,9 @@ pub fn transfer<'a>(
         Succeeds «module».now (offset_behind at instr.len) result ruling }
     ensures belongs { IfOk result (Follow «module».now) }
 {
+    if is_alternation_end(instr) {
+        return leave_alternation(alloc, module, state, at, instr);
+    }
     let mut state = state.copy(alloc)?;
     let continuation = advance(&mut state, module, at, instr)?;
     let next = offset_behind(at, instr.len);

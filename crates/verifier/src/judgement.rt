@@ -1,22 +1,25 @@
 //! The judgement on one instruction.
 
-ghost use Rattle.std.specs.Prelude.{◌≡◌, ℕ, if◌then◌else◌};
+ghost use Rattle.std.specs.Prelude.{◌≡◌, ℕ, if◌then◌else◌, List, IfOk};
 ghost use Rattle.states.specs.declared.rule.Rule.TheVariants as rules;
 ghost use Rattle.module_format.specs.Contents.{Contents};
+ghost use Rattle.module_format.specs.Keeping.{Keeps};
 ghost use Rattle.states.specs.State.{State as Known};
 ghost use Rattle.states.specs.Views.{state_of, BelongsTo};
 ghost use Rattle.rulings.specs.Rulings.{Ruling};
 ghost use Rattle.facts.specs.Rules.{has_rule};
 ghost use Rattle.rulings.specs.Telling.{Advances};
+ghost use Rattle.alternation_rules.specs.Telling.{Selects};
 ghost use Rattle.verifier.specs.Certified.{entering};
 ghost use Rattle.verifier.specs.Judge.{lower, both, judged_at};
 ghost use Rattle.verifier.specs.Judging.{falling_state, Judges, IsComparable, IsGiven};
 
 use crate::rows::Given;
 use certificate::Module;
-use facts::{Continuation, advance, has_rule};
+use facts::{Continuation, advance, has_rule, is_alternation_end, leave, reserve_guards};
 use prefix_decoder::Instr;
 use states::{Rule, State, cost_below};
+use std::alloc::AllocError;
 
 /// What it costs to fall into an offset where this is given. Nothing may fall into a procedure.
 fn entering(state: &State, falls: bool, given: Given) -> Result<u64, Rule>
@@ -62,6 +65,19 @@ fn both(entered: Result<u64, Rule>, flow: Result<Continuation, Rule>) -> Result<
     }
 }
 
+/// Whether a state falls through the end of an alternation, which none does, or the lower of two rules that are broken.
+fn both_at_end(entered: Result<u64, Rule>, left: Result<(), Rule>) -> Result<bool, Rule>
+    ensures { (ruling : Ruling) (after : Known) (exits : List ℕ) → Selects left exits ruling
+        → Judges result after (both entered ruling) }
+{
+    match (entered, left) {
+        (Ok(_), Ok(())) => Ok(false),
+        (Ok(_), Err(rule)) => Err(rule),
+        (Err(rule), Ok(())) => Err(rule),
+        (Err(first), Err(second)) => Err(lower(first, second)),
+    }
+}
+
 /// The rule that an instruction breaks to which nothing leads: `Rule::Spelling` where it has none, else
 /// `Rule::Flow`.
 fn unreached(module: &Module, instr: Instr) -> Rule
@@ -74,7 +90,7 @@ fn unreached(module: &Module, instr: Instr) -> Rule
 }
 
 /// One instruction: whether a state falls into the next offset, or the rule that is broken. `falls`: the
-/// state falls into this offset. `given`: what the tables give there.
+/// state falls into this offset. `given`: what the tables give there. The outer error is that memory ran out.
 #[tactic(auto, unfolding(crate::specs::Judge::judged_at))]
 pub(crate) fn judge<'a>(
     module: &'a Module<'a>,
@@ -83,11 +99,12 @@ pub(crate) fn judge<'a>(
     given: Given<'a>,
     at: usize,
     instr: Instr,
-) -> Result<bool, Rule>
+) -> Result<Result<bool, Rule>, AllocError>
     requires belongs { BelongsTo «module».now state.old }
     requires here { IsGiven «module».now at given }
+    requires keeps { Keeps «module».now }
     ensures judged { let before = falling_state falls (state_of state.old) in
-        Judges result (state_of state.new) (judged_at «module».now at before instr) }
+        IfOk result (λ judged. Judges judged (state_of state.new) (judged_at «module».now at before instr)) }
     ensures belongs { BelongsTo «module».now state.new }
 {
     let entered = entering(state, falls, given);
@@ -95,7 +112,11 @@ pub(crate) fn judge<'a>(
         Given::Label(row) => state.become_label(module, row),
         Given::Procedure { context, row } => state.become_procedure(module, row, context),
         Given::Nothing if falls => {}
-        Given::Nothing => return Err(unreached(module, instr)),
+        Given::Nothing => return Ok(Err(unreached(module, instr))),
     }
-    both(entered, advance(state, module, at, instr))
+    reserve_guards(state)?;
+    if is_alternation_end(instr) {
+        return Ok(both_at_end(entered, leave(state, module, at, instr)));
+    }
+    Ok(both(entered, advance(state, module, at, instr)))
 }

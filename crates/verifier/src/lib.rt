@@ -9,7 +9,8 @@ mod stop;
 mod verified;
 
 pub use laws::{
-    a_small_alternation_is_judged, certified_modules_run_well, certified_runs_hold_the_invariant, not_both, verdict_is_right,
+    a_small_alternation_is_judged, certified_modules_run_well, certified_runs_hold_the_invariant,
+    not_both, verdict_is_right,
 };
 pub use verified::{Verified, verify};
 

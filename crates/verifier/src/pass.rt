@@ -58,8 +58,9 @@ pub(crate) fn pass<'a>(alloc: Global, module: &'a Module<'a>) -> Result<(), Stop
         };
         let given = rows.take(at);
         falls = match judge(module, &mut state, falls, given, at, instr) {
-            Ok(falls) => falls,
-            Err(rule) => return Err(broken(rule, at)),
+            Ok(Ok(falls)) => falls,
+            Ok(Err(rule)) => return Err(broken(rule, at)),
+            Err(_) => return Err(Stop::Memory),
         };
         let end = at + instr.len;
         if let Some(inside) = start_within(module, at + 1, end) {
