@@ -1,17 +1,19 @@
-use Rattle.std.proofs.Common.{arith, ◌≡◌, ◌∙◌, sym, ap, subst, ℕ, ◌+◌, ◌-◌, ◌<◌, ◌≤◌, List, length, Some, None, Ok}
+use Rattle.std.proofs.Common.{arith, ◌≡◌, ◌∙◌, sym, ap, subst, ℕ, ◌+◌, ◌-◌, ◌<◌, ◌≤◌, Bool, List, length}
+use Rattle.std.proofs.Common.{Option, Some, None, Result, Ok, Err}
 use Rattle.prefix_decoder.specs.Fetching.{fetched}
 use Rattle.module_format.specs.Contents.{Contents}
+use Rattle.states.specs.declared.rule.Rule.{Rule}
 use Rattle.states.specs.declared.rule.Rule.TheVariants as rules
 use Rattle.states.specs.State.{State}
 use Rattle.states.specs.Views.{state_of}
 use Rattle.verifier.specs.Judge.{first_start}
-use Rattle.verifier.specs.Judging.{AreLeft}
+use Rattle.verifier.specs.Judging.{AreLeft, Judges}
 use Rattle.verifier.proofs.Kept.{spans as kept_spans}
 use Rattle.verifier.proofs.RowsLeft.{left-further}
 use Rattle.verifier.proofs.Passing.{OnTheWay, start, misspelled-is, broken-is, hidden-is, goes-on, told, fallen-off}
 use Rattle.verifier.proofs.Passing.{all-judged}
 use Rattle.verifier.proofs.pass.pass.Goals as goal
-use Rattle.verifier.proofs.pass.pass.Goals.{After-tables-tables, After-fetch, In-Ok-fetch, In-Ok-judge}
+use Rattle.verifier.proofs.pass.pass.Goals.{After-tables-tables, After-fetch, In-Ok-fetch, In-Ok-Ok}
 
 -- the code of the tables is the module's
 code_is : (c : After-tables-tables) → c.tables-tables.result.now.code.now ≡ c.args.module.now.code
@@ -42,15 +44,21 @@ returns-in_default-fetch-clause-refuses c =
     (ap (λ (code : List ℕ). fetched code c.loop-at.at)
     (sym (ap (λ (m : Contents). m.code) c.tables-tables.ensures.contents)) ∙ sym c.in_default-fetch.ensures.exact))
 
-pub returns-in-Err-clause-refuses : goal.returns-in-Err-clause-refuses
-returns-in-Err-clause-refuses c =
-    told c.args.module.now c.broken-in-Err.result c.in-Err.rule c.loop-at.at c.broken-in-Err.ensures
-    (broken-is c.args.module.now c.loop-at.at c.in-Err.rule _ c.in-Ok-fetch.instr
-    (low (goal.at.returns-in-Err-clause-refuses c).After-fetch) c.loop-at.invariant.on_the_way
-    (spelled (goal.at.returns-in-Err-clause-refuses c).In-Ok-fetch) c.in-Err.ensures.judged)
+-- what was judged, in the form in which it was matched
+judged_as : (j k : Result Bool Rule) (after : State) (judged : Result (Option State) Rule) → j ≡ k
+    → Judges j after judged → Judges k after judged
+judged_as j k after judged same h = subst (λ (r : Result Bool Rule). Judges r after judged) same h
+
+pub returns-in-Ok-Err-clause-refuses : goal.returns-in-Ok-Err-clause-refuses
+returns-in-Ok-Err-clause-refuses c =
+    told c.args.module.now c.broken-in-Ok-Err.result c.in-Ok-Err.rule c.loop-at.at c.broken-in-Ok-Err.ensures
+    (broken-is c.args.module.now c.loop-at.at c.in-Ok-Err.rule _ c.in-Ok-fetch.instr
+    (low (goal.at.returns-in-Ok-Err-clause-refuses c).After-fetch) c.loop-at.invariant.on_the_way
+    (spelled (goal.at.returns-in-Ok-Err-clause-refuses c).In-Ok-fetch)
+    (judged_as _ (Err c.in-Ok-Err.rule) _ _ c.in-Ok-Err.field-0-is c.in-Ok-Err.ensures.judged))
 
 -- how many bytes of the instruction are behind its first
-behind_first : (c : In-Ok-judge) → c.loop-at.at + c.in-Ok-fetch.instr.len - (c.loop-at.at + 1)
+behind_first : (c : In-Ok-Ok) → c.loop-at.at + c.in-Ok-fetch.instr.len - (c.loop-at.at + 1)
     ≡ c.in-Ok-fetch.instr.len - 1
 behind_first c = let some = c.in-Ok-fetch.ensures.length.0 in omega arith
 
@@ -59,9 +67,10 @@ returns-in-Some-clause-refuses c =
     told c.args.module.now c.broken-in-Some.result rules.InstructionStart c.in-Some.inside c.broken-in-Some.ensures
     (hidden-is c.args.module.now c.loop-at.at c.in-Some.inside _ _ c.in-Ok-fetch.instr
     (low (goal.at.returns-in-Some-clause-refuses c).After-fetch) c.loop-at.invariant.on_the_way
-    (spelled (goal.at.returns-in-Some-clause-refuses c).In-Ok-fetch) c.in-Ok-judge.ensures.judged
+    (spelled (goal.at.returns-in-Some-clause-refuses c).In-Ok-fetch)
+    (judged_as _ (Ok c.in-Ok-Ok.falls) _ _ c.in-Ok-Ok.field-0-is c.in-Ok-Ok.ensures.judged)
     (ap (first_start c.args.module.now (c.loop-at.at + 1))
-    (sym (behind_first (goal.at.returns-in-Some-clause-refuses c).In-Ok-judge)) ∙ sym c.in-Some.ensures))
+    (sym (behind_first (goal.at.returns-in-Some-clause-refuses c).In-Ok-Ok)) ∙ sym c.in-Some.ensures))
 
 pub loop-at-preserved : goal.loop-at-preserved
 loop-at-preserved c =
@@ -70,7 +79,7 @@ loop-at-preserved c =
     let some = c.in-Ok-fetch.ensures.length.0 in
     let end : c.loop-at.at + 1 + (c.in-Ok-fetch.instr.len - 1) ≡ c.loop-at.at + c.in-Ok-fetch.instr.len = omega arith in
     let none : first_start c.args.module.now (c.loop-at.at + 1) (c.in-Ok-fetch.instr.len - 1) ≡ None =
-    ap (first_start c.args.module.now (c.loop-at.at + 1)) (sym (behind_first (goal.at.loop-at-preserved c).In-Ok-judge))
+    ap (first_start c.args.module.now (c.loop-at.at + 1)) (sym (behind_first (goal.at.loop-at-preserved c).In-Ok-Ok))
     ∙ sym c.start_within.ensures ∙ c.in_default-start_within.is in
     record {
       inside = spans.inside c.loop-at.at c.in-Ok-fetch.instr sp;
@@ -82,7 +91,7 @@ loop-at-preserved c =
       on_the_way =
           goes-on c.args.module.now c.loop-at.at _ _ c.in-Ok-fetch.instr spans
           (low (goal.at.loop-at-preserved c).After-fetch) c.loop-at.invariant.on_the_way sp
-          c.in-Ok-judge.ensures.judged none;
+          (judged_as _ (Ok c.in-Ok-Ok.falls) _ _ c.in-Ok-Ok.field-0-is c.in-Ok-Ok.ensures.judged) none;
     }
 
 pub returns-then-falls-clause-refuses : goal.returns-then-falls-clause-refuses
