@@ -4,7 +4,9 @@ pub mod Passing
 pub mod GoingOn
 pub mod Dispatching
 pub mod Leaving
-pub mod TurnsAgree
 pub mod Loading
 pub mod Arriving
 pub mod QueueWords
+pub mod Standing
+pub mod GivingWay
+pub mod TurnsAgree

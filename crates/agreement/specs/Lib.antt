@@ -3,7 +3,8 @@ pub mod StepsAgree
 pub mod Agrees
 pub mod GoingOn
 pub mod Leaving
-pub mod TurnsAgree
 pub mod Loading
 pub mod Arriving
 pub mod QueueWords
+pub mod TurnsAgree
+pub mod Standing
