@@ -1,0 +1,2 @@
+pub mod Dispatching
+pub mod Stepping

@@ -1,0 +1,6 @@
+//! The plain machine runs a module, and agrees with the worlds that the machine's definitions say.
+#![tactic(auto)]
+
+mod machine;
+
+pub use machine::{Machine, StepResult};
