@@ -10,3 +10,4 @@ pub mod QueueWords
 pub mod Standing
 pub mod GivingWay
 pub mod TurnsAgree
+pub mod Links

@@ -6,5 +6,6 @@ pub mod Leaving
 pub mod Loading
 pub mod Arriving
 pub mod QueueWords
-pub mod TurnsAgree
 pub mod Standing
+pub mod TurnsAgree
+pub mod Links

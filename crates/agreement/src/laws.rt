@@ -2,8 +2,10 @@
 
 ghost use Rattle.agreement.specs.Arriving.{ArrivalsAgree, AcknowledgementsAgree, IdleStepsAgree};
 ghost use Rattle.agreement.specs.GoingOn.{GoingOnAgrees, PrefixesAgree, InstructionsAgree};
+ghost use Rattle.agreement.specs.Links.{InputsAreShown, OutputsAreShown};
 ghost use Rattle.agreement.specs.Loading.{LoadedAgrees};
 ghost use Rattle.agreement.specs.QueueWords.{QueueWordsMayChange};
+ghost use Rattle.agreement.specs.Standing.{WhoIsReadyMayRun};
 ghost use Rattle.agreement.specs.StepsAgree.{StepsAgree};
 ghost use Rattle.agreement.specs.TurnsAgree.{TurnsAgree};
 
@@ -48,4 +50,18 @@ pub fn quiet_events_agree()
 /// keeps links: those of processes that wait for no message inside, where the world has them undefined.
 pub fn queue_words_may_change()
     ensures { QueueWordsMayChange }
+{}
+
+/// Whatever a module that keeps the format does, any process that is ready may run on the plain machine that agrees: the
+/// words in which it is parked lie in memory, apart from the links of all, which the queue may use.
+pub fn ready_processes_may_run()
+    ensures { WhoIsReadyMayRun }
+{}
+
+/// On each link the plain machine that agrees has the byte that the world has, and somebody waits there, or has enabled
+/// it, where somebody does in the world.
+#[tactic(auto, using(crate::proofs::Links::inputs_are_shown, crate::proofs::Links::outputs_are_shown))]
+pub fn links_are_shown()
+    ensures inputs { InputsAreShown }
+    ensures outputs { OutputsAreShown }
 {}

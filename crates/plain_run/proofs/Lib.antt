@@ -1,2 +1,3 @@
 pub mod Dispatching
 pub mod Stepping
+pub mod Arriving

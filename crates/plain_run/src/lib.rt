@@ -3,4 +3,4 @@
 
 mod machine;
 
-pub use machine::{Machine, StepResult};
+pub use machine::Machine;
