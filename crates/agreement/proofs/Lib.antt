@@ -1,5 +1,6 @@
 pub mod Matching
 pub mod StepsAgree
+pub mod Elsewhere
 pub mod Passing
 pub mod GoingOn
 pub mod Dispatching
@@ -11,3 +12,7 @@ pub mod Standing
 pub mod GivingWay
 pub mod TurnsAgree
 pub mod Links
+pub mod Waking
+pub mod WaitingOnLinks
+pub mod Acknowledging
+pub mod Taking

@@ -9,3 +9,4 @@ pub mod QueueWords
 pub mod Standing
 pub mod TurnsAgree
 pub mod Links
+pub mod Waking

@@ -8,6 +8,7 @@ ghost use Rattle.agreement.specs.QueueWords.{QueueWordsMayChange};
 ghost use Rattle.agreement.specs.Standing.{WhoIsReadyMayRun};
 ghost use Rattle.agreement.specs.StepsAgree.{StepsAgree};
 ghost use Rattle.agreement.specs.TurnsAgree.{TurnsAgree};
+ghost use Rattle.agreement.specs.Waking.{AcknowledgedGoOn, BytesAreTaken};
 
 /// The loaded plain machine agrees with the loaded world.
 pub fn loaded_agrees()
@@ -64,4 +65,16 @@ pub fn ready_processes_may_run()
 pub fn links_are_shown()
     ensures inputs { InputsAreShown }
     ensures outputs { OutputsAreShown }
+{}
+
+/// Whatever a module that keeps the format does, the plain machine that agrees goes on to agree by an acknowledgement
+/// that a process waits for: the process is ready, after all that are.
+pub fn acknowledged_processes_go_on()
+    ensures { AcknowledgedGoOn }
+{}
+
+/// Whatever a module that keeps the format does, the plain machine that agrees goes on to agree by a byte that a process
+/// waits for: it goes into the buffer of its message, and with the last one the process is ready, after all that are.
+pub fn bytes_are_taken()
+    ensures { BytesAreTaken }
 {}

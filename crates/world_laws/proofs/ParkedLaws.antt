@@ -253,7 +253,7 @@ module _ (m : Contents) (format : Keeps m) where
 
 -- ---- who is parked
 
-among_absent : (p : ℕ) (ps : List ℕ) → IsAmong p ps → IsAbsent p ps → ⊥
+pub among_absent : (p : ℕ) (ps : List ℕ) → IsAmong p ps → IsAbsent p ps → ⊥
 among_absent p [] among absent = among
 among_absent p (q ∷ qs) (inl here) absent = absent.0 (sym here)
 among_absent p (q ∷ qs) (inr there) absent = among_absent p qs there absent.1
