@@ -1,10 +1,10 @@
 //! Memory as plain bytes.
 
 ghost use Rattle.std.specs.Prelude.{◌≡◌, ◌+◌, ◌<◌, ◌≤◌, ◌^◌, ◌&&◌, ◌||◌, ◌==◌, nat_lt, nat_le, length, replicate, IfOk};
-ghost use Rattle.std.specs.Prelude.{slice_index};
+ghost use Rattle.std.specs.Prelude.{slice_index, Some};
 ghost use Rattle.prefix_decoder.specs.Operand.{IsRegister};
 ghost use Rattle.machine_state.specs.LocalStep.{address};
-ghost use Rattle.machine_state.specs.Memory.{scheduling_word};
+ghost use Rattle.machine_state.specs.Memory.{place_of, scheduling_word, with_byte};
 ghost use Rattle.plain_machine.specs.Plain.{defined};
 ghost use Rattle.plain_machine.specs.PlainByte.{byte_step, operand_after, IsByteSafe};
 ghost use Rattle.plain_machine.specs.PlainStep.{state_of, plain_word, plain_code_offset, Does, HasWord};
@@ -95,6 +95,15 @@ impl PlainStore {
             registers.new ≡ record registers.old { workspace = workspace; at = offset } }
     {
         parking::resume(&self.bytes, registers, code_start, workspace);
+    }
+
+    /// Writes the byte at an address in memory.
+    #[inline(always)]
+    pub(crate) fn set_byte(&mut self, address: u32, byte: u8)
+        requires { place_of address < length self.old }
+        ensures { defined self.new ≡ with_byte (defined self.old) (place_of address) (Some byte) }
+    {
+        bytes::set_byte(&mut self.bytes, place_of(address) as usize, byte);
     }
 
     /// Whether the place lies in memory.

@@ -1,9 +1,9 @@
 //! Memory, and the ready processes that are kept in it.
 
-ghost use Rattle.std.specs.Prelude.{◌≡◌, ◌<◌, ◌^◌, [], ◌∷◌, ◌++◌, ◌==◌, length, slice_index};
+ghost use Rattle.std.specs.Prelude.{◌≡◌, ◌<◌, ◌^◌, [], ◌∷◌, ◌++◌, ◌==◌, length, slice_index, Some};
 ghost use Rattle.std.specs.List.{remove};
 ghost use Rattle.prefix_decoder.specs.Operand.{IsRegister};
-ghost use Rattle.machine_state.specs.Memory.{scheduling_word};
+ghost use Rattle.machine_state.specs.Memory.{place_of, scheduling_word, with_byte};
 ghost use Rattle.process_queue.specs.Keeping.{AgreesOnKept, ChangesKept};
 ghost use Rattle.process_queue.specs.Picking.{place_of_pick};
 ghost use Rattle.plain_machine.specs.Linked.{keeps_link};
@@ -97,6 +97,17 @@ impl Workspaces {
         ensures ready { self.new.ready ≡ self.old.ready }
     {
         self.store.park(registers, code_start);
+    }
+
+    /// The byte goes to this address, which lies in memory. No link of a ready process is there.
+    pub fn set_byte(&mut self, address: u32, byte: u8)
+        requires inside { place_of address < length self.old.memory }
+        requires links { let after = with_byte self.old.memory (place_of address) (Some byte) in
+            AgreesOnKept keeps_link self.old.ready self.old.memory after }
+        ensures memory { self.new.memory ≡ with_byte self.old.memory (place_of address) (Some byte) }
+        ensures ready { self.new.ready ≡ self.old.ready }
+    {
+        self.store.set_byte(address, byte);
     }
 
     /// The process with this workspace is ready, after all that are. Of memory only links change.
