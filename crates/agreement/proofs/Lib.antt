@@ -10,9 +10,10 @@ pub mod Arriving
 pub mod QueueWords
 pub mod Standing
 pub mod GivingWay
-pub mod TurnsAgree
 pub mod Links
 pub mod Waking
 pub mod WaitingOnLinks
 pub mod Acknowledging
 pub mod Taking
+pub mod WaitingForBytes
+pub mod TurnsAgree
