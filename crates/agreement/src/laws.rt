@@ -53,8 +53,8 @@ pub fn queue_words_may_change()
     ensures { QueueWordsMayChange }
 {}
 
-/// Whatever a module that keeps the format does, any process that is ready may run on the plain machine that agrees: the
-/// words in which it is parked lie in memory, apart from the links of all, which the queue may use.
+/// Whatever a module that keeps the format does, any process that is ready may run on the plain machine that agrees:
+/// the words in which it is parked lie in memory, apart from the links of all, which the queue may use.
 pub fn ready_processes_may_run()
     ensures { WhoIsReadyMayRun }
 {}
@@ -73,8 +73,9 @@ pub fn acknowledged_processes_go_on()
     ensures { AcknowledgedGoOn }
 {}
 
-/// Whatever a module that keeps the format does, the plain machine that agrees goes on to agree by a byte that a process
-/// waits for: it goes into the buffer of its message, and with the last one the process is ready, after all that are.
+/// Whatever a module that keeps the format does, the plain machine that agrees goes on to agree by a byte that a
+/// process waits for: it goes into the buffer of its message, and with the last one the process is ready, after all
+/// that are.
 pub fn bytes_are_taken()
     ensures { BytesAreTaken }
 {}

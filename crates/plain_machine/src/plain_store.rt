@@ -53,7 +53,8 @@ impl PlainStore {
     }
 
     /// Executes the next byte of the process that runs, of code that begins at this address: a prefix goes to the
-    /// operand, and any other byte completes an instruction. `operand` is 0 between two instructions. Nothing is tested.
+    /// operand, and any other byte completes an instruction. `operand` is 0 between two instructions. Nothing is
+    /// tested.
     #[inline(always)]
     pub(crate) fn execute_byte(
         &mut self,

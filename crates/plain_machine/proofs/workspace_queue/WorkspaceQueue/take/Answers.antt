@@ -55,21 +55,24 @@ pub returns-then-place-self-clause-waiting : goal.returns-then-place-self-clause
 returns-then-place-self-clause-waiting g c =
     (taken _ _ _ _ c.args.self.now.front c.args.self.now.back c.args.self.now.length c.args.pick
     c.follow-before.result c.unlink_next-taken.result _ c.requires.intact c.if-place-eq0.false (search rules)
-    c.follow-before.ensures c.unlink_next-taken.ensures.process c.unlink_next-taken.ensures.memory c.unlink_next-taken.ensures.fits
+    c.follow-before.ensures c.unlink_next-taken.ensures.process c.unlink_next-taken.ensures.memory
+    c.unlink_next-taken.ensures.fits
     c.unlink_next-taken.ensures.holding (inl (c.if-place-self.true, refl))).list
 
 pub returns-then-place-self-clause-intact : goal.returns-then-place-self-clause-intact
 returns-then-place-self-clause-intact g c =
     (taken _ _ _ _ c.args.self.now.front c.args.self.now.back c.args.self.now.length c.args.pick
     c.follow-before.result c.unlink_next-taken.result _ c.requires.intact c.if-place-eq0.false (search rules)
-    c.follow-before.ensures c.unlink_next-taken.ensures.process c.unlink_next-taken.ensures.memory c.unlink_next-taken.ensures.fits
+    c.follow-before.ensures c.unlink_next-taken.ensures.process c.unlink_next-taken.ensures.memory
+    c.unlink_next-taken.ensures.fits
     c.unlink_next-taken.ensures.holding (inl (c.if-place-self.true, refl))).intact
 
 pub returns-then-place-self-clause-memory : goal.returns-then-place-self-clause-memory
 returns-then-place-self-clause-memory g c =
     (taken _ _ _ _ c.args.self.now.front c.args.self.now.back c.args.self.now.length c.args.pick
     c.follow-before.result c.unlink_next-taken.result _ c.requires.intact c.if-place-eq0.false (search rules)
-    c.follow-before.ensures c.unlink_next-taken.ensures.process c.unlink_next-taken.ensures.memory c.unlink_next-taken.ensures.fits
+    c.follow-before.ensures c.unlink_next-taken.ensures.process c.unlink_next-taken.ensures.memory
+    c.unlink_next-taken.ensures.fits
     c.unlink_next-taken.ensures.holding (inl (c.if-place-self.true, refl))).changes
 
 pub returns-else-place-self-clause-process : goal.returns-else-place-self-clause-process
@@ -82,19 +85,22 @@ pub returns-else-place-self-clause-waiting : goal.returns-else-place-self-clause
 returns-else-place-self-clause-waiting g c =
     (taken _ _ _ _ c.args.self.now.front c.args.self.now.back c.args.self.now.length c.args.pick
     c.follow-before.result c.unlink_next-taken.result _ c.requires.intact c.if-place-eq0.false (search rules)
-    c.follow-before.ensures c.unlink_next-taken.ensures.process c.unlink_next-taken.ensures.memory c.unlink_next-taken.ensures.fits
+    c.follow-before.ensures c.unlink_next-taken.ensures.process c.unlink_next-taken.ensures.memory
+    c.unlink_next-taken.ensures.fits
     c.unlink_next-taken.ensures.holding (inr (c.if-place-self.false, refl))).list
 
 pub returns-else-place-self-clause-intact : goal.returns-else-place-self-clause-intact
 returns-else-place-self-clause-intact g c =
     (taken _ _ _ _ c.args.self.now.front c.args.self.now.back c.args.self.now.length c.args.pick
     c.follow-before.result c.unlink_next-taken.result _ c.requires.intact c.if-place-eq0.false (search rules)
-    c.follow-before.ensures c.unlink_next-taken.ensures.process c.unlink_next-taken.ensures.memory c.unlink_next-taken.ensures.fits
+    c.follow-before.ensures c.unlink_next-taken.ensures.process c.unlink_next-taken.ensures.memory
+    c.unlink_next-taken.ensures.fits
     c.unlink_next-taken.ensures.holding (inr (c.if-place-self.false, refl))).intact
 
 pub returns-else-place-self-clause-memory : goal.returns-else-place-self-clause-memory
 returns-else-place-self-clause-memory g c =
     (taken _ _ _ _ c.args.self.now.front c.args.self.now.back c.args.self.now.length c.args.pick
     c.follow-before.result c.unlink_next-taken.result _ c.requires.intact c.if-place-eq0.false (search rules)
-    c.follow-before.ensures c.unlink_next-taken.ensures.process c.unlink_next-taken.ensures.memory c.unlink_next-taken.ensures.fits
+    c.follow-before.ensures c.unlink_next-taken.ensures.process c.unlink_next-taken.ensures.memory
+    c.unlink_next-taken.ensures.fits
     c.unlink_next-taken.ensures.holding (inr (c.if-place-self.false, refl))).changes
