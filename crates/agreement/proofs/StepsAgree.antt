@@ -402,11 +402,13 @@ module _ (site : Site) (original : Local) (state : PlainState) (start : agree.Fi
   small = omega arith
 
   exchanges : {t : Stepped} → (direction : Direction) (k : Exchange → Local → Outcome)
-      → A ⊤ t (k message (step.without_registers (scheduled before))) → A ⊤ t (step.exchanges s direction before k)
+      → (HasWords s.holding (scheduled before).memory state.registers.workspace
+      → A ⊤ t (k message (step.without_registers (scheduled before)))) → A ⊤ t (step.exchanges s direction before k)
   unfolding step.exchanges message
   exchanges direction k h =
       three _ (counts 1 MAX_MESSAGE found.a _ small (λ most.
-      channel found.b direction _ (schedules before _ (λ taken. h))))
+      channel found.b direction _ (schedules before _ (λ taken.
+      h (words_taken s.holding before.memory state.registers.workspace taken)))))
 
   asks_none : (f : PlainFlow) → IsAsked state f (step.without_registers (scheduled before)) (plain.leaves f state)
   asks_none f = asked f _ (of_empty None) forgotten (none found)
@@ -477,10 +479,13 @@ module _ (site : Site) (original : Local) (state : PlainState) (start : agree.Fi
       used _ _ _ (match.word_read before.memory state.memory _ memory) (land p _ _ (word_inside _ own)
       (left_at flow.Next _ _ _ _ (of_empty None) found found_memory (none found)))))
   operation ops.LoopEnd = alone _ loop_end
-  operation ops.Input = alone _ (λ p. exchanges In _ (test _ NotOwn _ (λ own.
-      asks _ (asks_none flow.Receive, is_message))))
-  operation ops.Output = alone _ (λ p. exchanges Out _ (test _ NotOwn _ (λ own. test _ Undefined _ (λ defined.
-      asks _ (asks_none flow.Send, is_message)))))
+  operation ops.Input = alone _ (λ p. exchanges In _ (λ words. test _ NotOwn _ (λ own. asks _ (
+    asks_none flow.Receive,
+    is_message,
+    record { plain = p; stack = refl; words = words },
+  ))))
+  operation ops.Output = alone _ (λ p. exchanges Out _ (λ words. test _ NotOwn _ (λ own.
+      test _ Undefined _ (λ defined. asks _ (asks_none flow.Send, is_message)))))
   operation ops.StartProcess = outside _ (two _ (aligned found.a _
       (asks _ (asked flow.Start _ (of_empty None) memory (none found), refl, refl))))
   operation ops.EndProcess = outside _ (one _ (aligned found.a _

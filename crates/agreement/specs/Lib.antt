@@ -3,7 +3,10 @@ pub mod StepsAgree
 pub mod Agrees
 pub mod GoingOn
 pub mod Leaving
-pub mod TurnsAgree
 pub mod Loading
 pub mod Arriving
 pub mod QueueWords
+pub mod Standing
+pub mod TurnsAgree
+pub mod Links
+pub mod Waking

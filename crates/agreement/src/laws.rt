@@ -2,10 +2,13 @@
 
 ghost use Rattle.agreement.specs.Arriving.{ArrivalsAgree, AcknowledgementsAgree, IdleStepsAgree};
 ghost use Rattle.agreement.specs.GoingOn.{GoingOnAgrees, PrefixesAgree, InstructionsAgree};
+ghost use Rattle.agreement.specs.Links.{InputsAreShown, OutputsAreShown};
 ghost use Rattle.agreement.specs.Loading.{LoadedAgrees};
 ghost use Rattle.agreement.specs.QueueWords.{QueueWordsMayChange};
+ghost use Rattle.agreement.specs.Standing.{WhoIsReadyMayRun};
 ghost use Rattle.agreement.specs.StepsAgree.{StepsAgree};
 ghost use Rattle.agreement.specs.TurnsAgree.{TurnsAgree};
+ghost use Rattle.agreement.specs.Waking.{AcknowledgedGoOn, BytesAreTaken};
 
 /// The loaded plain machine agrees with the loaded world.
 pub fn loaded_agrees()
@@ -27,8 +30,10 @@ pub fn going_on_agrees()
 {}
 
 /// Whatever a module that keeps the format does, a Step that reports no fault finds a byte on the plain machine that
-/// agrees: a prefix, or the last one of an instruction that is safe. If the process that runs goes on, goes to the back
-/// of the ready list or stops, and the next ready process runs, the machine agrees with the world after the Step.
+/// agrees: a prefix, or the last one of an instruction that is safe. It changes no link of a ready process. If the
+/// process that runs goes on, goes to the back of the ready list or stops, and the next ready process runs, the machine
+/// agrees with the world after the Step. The words in which processes are parked and linked for that lie in memory, no
+/// two of them meet, and the queue may use the links.
 pub fn turns_agree()
     ensures { TurnsAgree }
 {}
@@ -46,4 +51,31 @@ pub fn quiet_events_agree()
 /// keeps links: those of processes that wait for no message inside, where the world has them undefined.
 pub fn queue_words_may_change()
     ensures { QueueWordsMayChange }
+{}
+
+/// Whatever a module that keeps the format does, any process that is ready may run on the plain machine that agrees:
+/// the words in which it is parked lie in memory, apart from the links of all, which the queue may use.
+pub fn ready_processes_may_run()
+    ensures { WhoIsReadyMayRun }
+{}
+
+/// On each link the plain machine that agrees has the byte that the world has, and somebody waits there, or has enabled
+/// it, where somebody does in the world.
+#[tactic(auto, using(crate::proofs::Links::inputs_are_shown, crate::proofs::Links::outputs_are_shown))]
+pub fn links_are_shown()
+    ensures inputs { InputsAreShown }
+    ensures outputs { OutputsAreShown }
+{}
+
+/// Whatever a module that keeps the format does, the plain machine that agrees goes on to agree by an acknowledgement
+/// that a process waits for: the process is ready, after all that are.
+pub fn acknowledged_processes_go_on()
+    ensures { AcknowledgedGoOn }
+{}
+
+/// Whatever a module that keeps the format does, the plain machine that agrees goes on to agree by a byte that a
+/// process waits for: it goes into the buffer of its message, and with the last one the process is ready, after all
+/// that are.
+pub fn bytes_are_taken()
+    ensures { BytesAreTaken }
 {}

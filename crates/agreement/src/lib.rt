@@ -4,6 +4,6 @@
 mod laws;
 
 pub use laws::{
-    going_on_agrees, loaded_agrees, queue_words_may_change, quiet_events_agree, steps_agree,
-    turns_agree,
+    acknowledged_processes_go_on, bytes_are_taken, going_on_agrees, links_are_shown, loaded_agrees,
+    queue_words_may_change, quiet_events_agree, ready_processes_may_run, steps_agree, turns_agree,
 };

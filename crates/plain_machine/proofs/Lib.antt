@@ -3,3 +3,4 @@ pub mod Counting
 pub mod Queueing
 pub mod PlainBytes
 pub mod PlainCopies
+pub mod Waiting

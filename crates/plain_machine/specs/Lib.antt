@@ -3,3 +3,4 @@ pub mod Plain
 pub mod PlainStep
 pub mod PlainByte
 pub mod Staying
+pub mod Waiting

@@ -5,6 +5,7 @@
 mod bytes;
 mod bytewise;
 mod flow;
+mod input;
 mod instructing;
 mod landings;
 mod locals;
@@ -16,11 +17,14 @@ mod pointers;
 mod registers;
 mod words;
 mod workspace_queue;
+mod workspaces;
 
 pub use bytewise::execute_byte;
 pub use flow::PlainFlow;
+pub use input::{PlainArrival, PlainInput};
 pub use instructing::instruct;
 pub use parking::{park, resume};
 pub use plain_store::PlainStore;
 pub use registers::PlainRegisters;
 pub use workspace_queue::WorkspaceQueue;
+pub use workspaces::Workspaces;

@@ -1,8 +1,18 @@
 //! Memory as plain bytes.
 
-ghost use Rattle.std.specs.Prelude.{◌≡◌, ◌+◌, ◌<◌, ◌≤◌, ◌&&◌, ◌||◌, ◌==◌, nat_lt, nat_le, length, replicate, IfOk};
+ghost use Rattle.std.specs.Prelude.{◌≡◌, ◌+◌, ◌<◌, ◌≤◌, ◌^◌, ◌&&◌, ◌||◌, ◌==◌, nat_lt, nat_le, length, replicate, IfOk};
+ghost use Rattle.std.specs.Prelude.{slice_index, Some};
+ghost use Rattle.prefix_decoder.specs.Operand.{IsRegister};
+ghost use Rattle.machine_state.specs.LocalStep.{address};
+ghost use Rattle.machine_state.specs.Memory.{place_of, scheduling_word, with_byte};
+ghost use Rattle.plain_machine.specs.Plain.{defined};
+ghost use Rattle.plain_machine.specs.PlainByte.{byte_step, operand_after, IsByteSafe};
+ghost use Rattle.plain_machine.specs.PlainStep.{state_of, plain_word, plain_code_offset, Does, HasWord};
+ghost use Rattle.plain_machine.specs.Waiting.{parked};
 
-use crate::bytes;
+use crate::flow::PlainFlow;
+use crate::registers::PlainRegisters;
+use crate::{bytes, bytewise, parking};
 use machine_state::{End, LoadStore, Word, place_of};
 use std::alloc::{AllocError, Global};
 use std::marker::Model;
@@ -40,6 +50,61 @@ impl PlainStore {
         Ok(PlainStore {
             bytes: vec![in alloc; 0; size as usize]?,
         })
+    }
+
+    /// Executes the next byte of the process that runs, of code that begins at this address: a prefix goes to the
+    /// operand, and any other byte completes an instruction. `operand` is 0 between two instructions. Nothing is
+    /// tested.
+    #[inline(always)]
+    pub(crate) fn execute_byte(
+        &mut self,
+        registers: &mut PlainRegisters,
+        operand: &mut i32,
+        code: &[u8],
+        code_start: u32,
+    ) -> PlainFlow
+        requires code { length code.now < 2 ^ 32 }
+        requires inside { registers.old.at < length code.now }
+        requires register { IsRegister operand.old }
+        requires safe { let byte = slice_index code.now registers.old.at in
+            IsByteSafe byte operand.old (state_of registers.old self.old) }
+        ensures step { let byte = slice_index code.now registers.old.at in
+            let step = byte_step code_start byte operand.old (state_of registers.old self.old) in
+            Does step result registers.new self.new }
+        ensures operand { operand.new ≡ operand_after (slice_index code.now registers.old.at) operand.old }
+        ensures register { IsRegister operand.new }
+    {
+        bytewise::execute_byte(&mut self.bytes, registers, operand, code, code_start)
+    }
+
+    /// The process that runs leaves: its word W-1 takes the address where it goes on, of code that begins at this
+    /// address.
+    #[inline(always)]
+    pub(crate) fn park(&mut self, registers: &PlainRegisters, code_start: u32)
+        requires { HasWord (defined self.old) (scheduling_word registers.now.workspace 0) }
+        ensures { defined self.new ≡ parked code_start registers.now (defined self.old) }
+    {
+        parking::park(&mut self.bytes, registers, code_start);
+    }
+
+    /// The process with this workspace runs, where its word W-1 says. A, B and C are not its own, and stay.
+    #[inline(always)]
+    pub(crate) fn resume(&self, registers: &mut PlainRegisters, code_start: u32, workspace: u32)
+        requires { HasWord (defined self.now) (scheduling_word workspace 0) }
+        ensures { let back = address (plain_word (defined self.now) (scheduling_word workspace 0)) in
+            let offset = plain_code_offset code_start back in
+            registers.new ≡ record registers.old { workspace = workspace; at = offset } }
+    {
+        parking::resume(&self.bytes, registers, code_start, workspace);
+    }
+
+    /// Writes the byte at an address in memory.
+    #[inline(always)]
+    pub(crate) fn set_byte(&mut self, address: u32, byte: u8)
+        requires { place_of address < length self.old }
+        ensures { defined self.new ≡ with_byte (defined self.old) (place_of address) (Some byte) }
+    {
+        bytes::set_byte(&mut self.bytes, place_of(address) as usize, byte);
     }
 
     /// Whether the place lies in memory.

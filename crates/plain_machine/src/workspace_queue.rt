@@ -1,9 +1,12 @@
 //! A queue of ready processes that is kept in their workspaces.
 
-ghost use Rattle.std.specs.Prelude.{◌≡◌, ℕ, ◌+◌, ◌-◌, ◌<◌, ◌≤◌, ◌^◌, IsTrue};
+ghost use Rattle.std.specs.Prelude.{◌≡◌, ℕ, ◌+◌, ◌-◌, ◌<◌, ◌≤◌, ◌^◌, IsTrue, Some, length, slice_get};
+ghost use Rattle.std.specs.List.{remove};
 ghost use Rattle.machine_state.specs.Memory.{Memory, place_of};
 ghost use Rattle.machine_state.specs.Holding.{Holding, may_write_word};
-ghost use Rattle.plain_machine.specs.Linked.{link_place, next_of, with_next, linked, follow, IsIntact};
+ghost use Rattle.process_queue.specs.Keeping.{ChangesKept};
+ghost use Rattle.process_queue.specs.Picking.{place_of_pick};
+ghost use Rattle.plain_machine.specs.Linked.{link_place, next_of, with_next, linked, follow, keeps_link, IsIntact};
 
 use machine_state::{LoadStore, local_address};
 use process_queue::ReadyQueue;
@@ -105,6 +108,36 @@ impl WorkspaceQueue {
         self.length -= 1;
         taken
     }
+
+    /// The process number `pick`, counted round the list, leaves the queue.
+    pub(crate) fn take<S: LoadStore>(&mut self, store: &mut S, pick: usize) -> u32
+        requires filled { 0 < length (linked (S.cells store.old) self.old.front self.old.length) }
+        requires intact { let memory = S.cells store.old in
+            IsIntact memory (S.holding store.old) self.old.front self.old.back self.old.length }
+        ensures process { let processes = linked (S.cells store.old) self.old.front self.old.length in
+            slice_get processes (place_of_pick pick processes) ≡ Some result }
+        ensures waiting { let processes = linked (S.cells store.old) self.old.front self.old.length in
+            linked (S.cells store.new) self.new.front self.new.length
+            ≡ remove processes (place_of_pick pick processes) }
+        ensures intact { let memory = S.cells store.new in
+            IsIntact memory (S.holding store.new) self.new.front self.new.back self.new.length }
+        ensures memory { let processes = linked (S.cells store.old) self.old.front self.old.length in
+            ChangesKept keeps_link processes (S.cells store.old) (S.cells store.new) }
+        ensures holding { S.holding store.new ≡ S.holding store.old }
+        ensures roles { S.roles store.new ≡ S.roles store.old }
+    {
+        let place = pick % self.length;
+        if place == 0 {
+            return self.take_front(store);
+        }
+        let before = follow(store, self.front, place - 1);
+        let taken = unlink_next(store, before);
+        self.length -= 1;
+        if place == self.length {
+            self.back = before;
+        }
+        taken
+    }
 }
 
 impl<S: LoadStore> ReadyQueue<S> for WorkspaceQueue {
@@ -140,17 +173,7 @@ impl<S: LoadStore> ReadyQueue<S> for WorkspaceQueue {
     }
 
     fn take_at(&mut self, store: &mut S, pick: usize) -> u64 {
-        let place = pick % self.length;
-        if place == 0 {
-            return u64::from(self.take_front(store));
-        }
-        let before = follow(store, self.front, place - 1);
-        let taken = u64::from(unlink_next(store, before));
-        self.length -= 1;
-        if place == self.length {
-            self.back = before;
-        }
-        taken
+        u64::from(self.take(store, pick))
     }
 
     fn len(&self) -> usize {

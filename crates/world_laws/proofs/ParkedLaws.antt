@@ -253,12 +253,12 @@ module _ (m : Contents) (format : Keeps m) where
 
 -- ---- who is parked
 
-among_absent : (p : ℕ) (ps : List ℕ) → IsAmong p ps → IsAbsent p ps → ⊥
+pub among_absent : (p : ℕ) (ps : List ℕ) → IsAmong p ps → IsAbsent p ps → ⊥
 among_absent p [] among absent = among
 among_absent p (q ∷ qs) (inl here) absent = absent.0 (sym here)
 among_absent p (q ∷ qs) (inr there) absent = among_absent p qs there absent.1
 
-among_ready : (tasks : List Task) (p : ℕ) (ps : List ℕ) → IsAmong p ps → AllReady tasks ps → IsReadyAt tasks p
+pub among_ready : (tasks : List Task) (p : ℕ) (ps : List ℕ) → IsAmong p ps → AllReady tasks ps → IsReadyAt tasks p
 among_ready tasks p [] among all = absurd among
 among_ready tasks p (q ∷ qs) (inl here) all = subst (IsReadyAt tasks) here all.0
 among_ready tasks p (q ∷ qs) (inr there) all = among_ready tasks p qs there all.1

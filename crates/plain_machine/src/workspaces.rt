@@ -1,0 +1,142 @@
+//! Memory, and the ready processes that are kept in it.
+
+ghost use Rattle.std.specs.Prelude.{◌≡◌, ◌<◌, ◌^◌, [], ◌∷◌, ◌++◌, ◌==◌, length, slice_index, Some};
+ghost use Rattle.std.specs.List.{remove};
+ghost use Rattle.prefix_decoder.specs.Operand.{IsRegister};
+ghost use Rattle.machine_state.specs.Memory.{place_of, scheduling_word, with_byte};
+ghost use Rattle.process_queue.specs.Keeping.{AgreesOnKept, ChangesKept};
+ghost use Rattle.process_queue.specs.Picking.{place_of_pick};
+ghost use Rattle.plain_machine.specs.Linked.{keeps_link};
+ghost use Rattle.plain_machine.specs.Plain.{defined};
+ghost use Rattle.plain_machine.specs.PlainByte.{byte_step, operand_after, IsByteSafe};
+ghost use Rattle.plain_machine.specs.PlainStep.{PlainState, leaves, HasWord};
+ghost use Rattle.plain_machine.specs.Waiting.{ReadyMemory, parked, picked, resumed_at};
+ghost use Rattle.plain_machine.specs.Waiting.{CanPushBehind, AllCanResume};
+
+use crate::flow::PlainFlow;
+use crate::plain_store::PlainStore;
+use crate::registers::PlainRegisters;
+use crate::workspace_queue::WorkspaceQueue;
+use process_queue::ReadyQueue;
+use std::marker::Model;
+
+/// Memory as plain bytes, and the ready processes, each of which is kept in its workspace: word W-1 has the address
+/// where it goes on, and word W-2 the workspace of the next one. Nothing is allocated.
+#[derive(Drop)]
+pub struct Workspaces {
+    store: PlainStore,
+    queue: WorkspaceQueue,
+}
+
+impl Model for Workspaces {
+    ghost use Rattle.std.specs.Prelude.{length};
+    ghost use Rattle.plain_machine.specs.Linked.{linked, IsIntact};
+    ghost use Rattle.plain_machine.specs.Plain.{defined, all_memory};
+    ghost use Rattle.plain_machine.specs.Waiting.{ReadyMemory};
+
+    ghost Value = { ReadyMemory };
+
+    ghost view = { λ w. record {
+      memory = defined w.store;
+      ready = linked (defined w.store) w.queue.front w.queue.length;
+    } };
+
+    ghost invariant = { λ w.
+        IsIntact (defined w.store) (all_memory (length w.store)) w.queue.front w.queue.back w.queue.length };
+}
+
+impl Workspaces {
+    /// This memory, with no ready process.
+    pub fn new(store: PlainStore) -> Self
+        ensures { result ≡ record { memory = defined store; ready = [] } }
+    {
+        Workspaces {
+            store,
+            queue: WorkspaceQueue::new(),
+        }
+    }
+
+    /// Executes the next byte of the process that runs, of code that begins at this address: a prefix goes to the
+    /// operand, and any other byte completes an instruction. `operand` is 0 between two instructions. Nothing is
+    /// tested: the byte is safe, and changes no link of a ready process.
+    pub fn execute_byte(
+        &mut self,
+        registers: &mut PlainRegisters,
+        operand: &mut i32,
+        code: &[u8],
+        code_start: u32,
+    ) -> PlainFlow
+        requires code { length code.now < 2 ^ 32 }
+        requires inside { registers.old.at < length code.now }
+        requires register { IsRegister operand.old }
+        requires safe { let byte = slice_index code.now registers.old.at in
+            IsByteSafe byte operand.old (record { registers = registers.old; memory = self.old.memory }) }
+        requires links { let byte = slice_index code.now registers.old.at in
+            let from : PlainState = record { registers = registers.old; memory = self.old.memory } in
+            let after = (byte_step code_start byte operand.old from).state.memory in
+            AgreesOnKept keeps_link self.old.ready self.old.memory after }
+        ensures step { let byte = slice_index code.now registers.old.at in
+            let from : PlainState = record { registers = registers.old; memory = self.old.memory } in
+            let step = byte_step code_start byte operand.old from in
+            leaves result (record { registers = registers.new; memory = self.new.memory }) ≡ step }
+        ensures ready { self.new.ready ≡ self.old.ready }
+        ensures operand { operand.new ≡ operand_after (slice_index code.now registers.old.at) operand.old }
+        ensures register { IsRegister operand.new }
+    {
+        self.store
+            .execute_byte(registers, operand, code, code_start)
+    }
+
+    /// The process with these registers leaves: its word W-1 takes the address where it goes on, of code that begins at
+    /// this address. No link of a ready process is there.
+    pub fn park(&mut self, registers: &PlainRegisters, code_start: u32)
+        requires word { HasWord self.old.memory (scheduling_word registers.now.workspace 0) }
+        requires links { let after = parked code_start registers.now self.old.memory in
+            AgreesOnKept keeps_link self.old.ready self.old.memory after }
+        ensures memory { self.new.memory ≡ parked code_start registers.now self.old.memory }
+        ensures ready { self.new.ready ≡ self.old.ready }
+    {
+        self.store.park(registers, code_start);
+    }
+
+    /// The byte goes to this address, which lies in memory. No link of a ready process is there.
+    pub fn set_byte(&mut self, address: u32, byte: u8)
+        requires inside { place_of address < length self.old.memory }
+        requires links { let after = with_byte self.old.memory (place_of address) (Some byte) in
+            AgreesOnKept keeps_link self.old.ready self.old.memory after }
+        ensures memory { self.new.memory ≡ with_byte self.old.memory (place_of address) (Some byte) }
+        ensures ready { self.new.ready ≡ self.old.ready }
+    {
+        self.store.set_byte(address, byte);
+    }
+
+    /// The process with this workspace is ready, after all that are. Of memory only links change.
+    pub fn push(&mut self, workspace: u32)
+        requires { CanPushBehind (length self.old.memory) self.old.ready workspace }
+        ensures ready { self.new.ready ≡ self.old.ready ++ workspace ∷ [] }
+        ensures memory { ChangesKept keeps_link self.new.ready self.old.memory self.new.memory }
+    {
+        self.queue.push_back(&mut self.store, u64::from(workspace));
+    }
+
+    /// Whether no process is ready.
+    pub fn is_empty(&self) -> bool
+        ensures { result ≡ (length self.now.ready == 0) }
+    {
+        ReadyQueue::<PlainStore>::is_empty(&self.queue)
+    }
+
+    /// The ready process number `pick`, counted round the list, is taken out, and runs where its word W-1 says, in code
+    /// that begins at this address. A, B and C are not its own, and stay. Of memory only links change.
+    pub fn resume_next(&mut self, registers: &mut PlainRegisters, code_start: u32, pick: u64)
+        requires filled { 0 < length self.old.ready }
+        requires words { AllCanResume (length self.old.memory) self.old.ready }
+        ensures registers { let next = picked pick self.old.ready in
+            registers.new ≡ resumed_at code_start self.old.memory next registers.old }
+        ensures ready { let ready = self.old.ready in self.new.ready ≡ remove ready (place_of_pick pick ready) }
+        ensures memory { ChangesKept keeps_link self.old.ready self.old.memory self.new.memory }
+    {
+        let workspace = self.queue.take(&mut self.store, pick as usize);
+        self.store.resume(registers, code_start, workspace);
+    }
+}

@@ -1,0 +1,4 @@
+pub mod Dispatching
+pub mod Stepping
+pub mod Arriving
+pub mod Waking
