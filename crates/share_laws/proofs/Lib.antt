@@ -1,0 +1,13 @@
+pub mod Stretches
+pub mod Rows
+pub mod ShareBytes
+pub mod LeftParameters
+pub mod LeftBytes
+pub mod RowEnds
+pub mod BranchHolds
+pub mod StarterHolds
+pub mod BranchLent
+pub mod Climbing
+pub mod HiddenWords
+pub mod OpenerHolds
+pub mod TakenWords

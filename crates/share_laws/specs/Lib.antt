@@ -1,0 +1,5 @@
+pub mod Shares
+pub mod Starts
+pub mod Climbing
+pub mod Opening
+pub mod Taking

@@ -1,0 +1,47 @@
+-- A start takes the words that scheduling wants below the new workspace, and a first start those of the block and the
+-- channels: they are undefined from then on. What else is known of the starter's words stands.
+use Rattle.std.specs.Prelude.{◌≡◌, ℕ, ◌+◌, ℤ, true, List, ◌++◌, length, Option}
+use Rattle.module_format.specs.Contents.{Contents, Par}
+use Rattle.machine_state.specs.BranchShares.{frame_address}
+use Rattle.machine_state.specs.Holding.{Holding}
+use Rattle.machine_state.specs.JoinLookups.{Found}
+use Rattle.machine_state.specs.Joins.{without_words}
+use Rattle.machine_state.specs.Memory.{Memory}
+use Rattle.machine_state.specs.StartPlans.{scheduling_addresses, block_addresses, channel_addresses}
+use Rattle.rulings.specs.Meaning.{Layout, words_left, frame_word}
+use Rattle.share_laws.specs.Opening.{CanOpen}
+use Rattle.share_laws.specs.Starts.{CanStart}
+
+-- memory without the words that scheduling takes of a branch
+abbrev pub after_start : Found → ℕ → Memory → Memory
+after_start found base memory = without_words (scheduling_addresses (frame_address base found.branch.workspace)) memory
+
+-- memory without the words of the block and the channels
+abbrev pub after_opening : Par → ℕ → Memory → Memory
+after_opening par base memory = without_words (block_addresses base par ++ channel_addresses base par) memory
+
+-- the start takes none of the words that are left to read then
+pub record StartTakes (m : Contents) (found : Found) (layout : Layout) (base : ℕ) (addresses : List (Option ℕ))
+    (h : Holding) (memory new : Memory) (depth : ℤ) (workspace : ℕ) : Type 0 where
+  pub can : CanStart m found layout base addresses h new depth workspace
+  pub size : length new ≡ length memory
+  pub words : (k : ℤ) → (words_left m found.par found.par.context (found.number + 1)).reads k ≡ true
+      → frame_word new layout.origin k ≡ frame_word memory layout.origin k
+
+abbrev pub StartsTakeTheirWords : Type 0
+StartsTakeTheirWords = (m : Contents) (found : Found) (layout : Layout) (base : ℕ) (addresses : List (Option ℕ))
+    (h : Holding) (memory : Memory) (depth : ℤ) (workspace : ℕ)
+    → CanStart m found layout base addresses h memory depth workspace
+    → StartTakes m found layout base addresses h memory (after_start found base memory) depth workspace
+
+pub record OpeningTakes (m : Contents) (row : ℕ) (par : Par) (layout : Layout) (base : ℕ) (h : Holding)
+    (memory new : Memory) (depth : ℤ) (workspace : ℕ) : Type 0 where
+  pub can : CanOpen m row par layout base h new depth workspace
+  pub size : length new ≡ length memory
+  pub words : (k : ℤ) → (words_left m par par.context 0).reads k ≡ true
+      → frame_word new layout.origin k ≡ frame_word memory layout.origin k
+
+abbrev pub OpeningsTakeTheirWords : Type 0
+OpeningsTakeTheirWords = (m : Contents) (row : ℕ) (par : Par) (layout : Layout) (base : ℕ) (h : Holding)
+    (memory : Memory) (depth : ℤ) (workspace : ℕ) → CanOpen m row par layout base h memory depth workspace
+    → OpeningTakes m row par layout base h memory (after_opening par base memory) depth workspace

@@ -1,0 +1,49 @@
+//! Laws of every start of a module that keeps the format.
+
+ghost use Rattle.share_laws.specs.Climbing.{BranchesAreLent, ChangesAreByABranch, ChangesClimb, OtherWordsStay};
+ghost use Rattle.share_laws.specs.Opening.{OpenersHoldTheRest};
+ghost use Rattle.share_laws.specs.Shares.{SharesAreWords};
+ghost use Rattle.share_laws.specs.Starts.{BranchesHoldTheirShares, StartersHoldTheRest};
+ghost use Rattle.share_laws.specs.Taking.{OpeningsTakeTheirWords, StartsTakeTheirWords};
+
+/// A branch's share has the bytes of the words and regions that its row names, and the ends of the channels that it
+/// names.
+pub fn shares_are_words()
+    ensures { SharesAreWords }
+{}
+
+/// Where a branch's share is left, the branch has its frame from its start on, and holds what its context names.
+pub fn branches_hold_their_shares()
+    ensures { BranchesHoldTheirShares }
+{}
+
+/// And its starter has its frame still, and holds what its scope has left after one start more.
+pub fn starters_hold_the_rest()
+    ensures { StartersHoldTheRest }
+{}
+
+/// Before the first start a PAR's starter holds what its scope has left then: all that its context names but the block
+/// and the channels, and both ends of each channel.
+pub fn openers_hold_the_rest()
+    ensures { OpenersHoldTheRest }
+{}
+
+/// A start leaves undefined only words that are the branch's to write, and a first start besides those of the block and
+/// the channels. What the starter's scope has left is held still, and each other word that is left has its value.
+pub fn starts_take_their_words()
+    ensures starts { StartsTakeTheirWords }
+    ensures openings { OpeningsTakeTheirWords }
+{}
+
+/// What a branch has its opener has lent it.
+pub fn branches_are_lent()
+    ensures { BranchesAreLent }
+{}
+
+/// What a branch changes within its scope is a change within its opener's, and no word of the opener's that the branch
+/// has not to write. So what a process changes that is under an opener is such a change of one of its branches.
+pub fn changes_climb()
+    ensures climb { ChangesClimb }
+    ensures words { OtherWordsStay }
+    ensures above { ChangesAreByABranch }
+{}

@@ -1,0 +1,10 @@
+//! What a started branch is given of what its starter has, what the starter has left, and how changes that branches make
+//! climb to their openers.
+#![tactic(auto)]
+
+mod laws;
+
+pub use laws::{
+    branches_are_lent, branches_hold_their_shares, changes_climb, openers_hold_the_rest,
+    shares_are_words, starters_hold_the_rest, starts_take_their_words,
+};
