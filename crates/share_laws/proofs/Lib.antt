@@ -11,3 +11,5 @@ pub mod Climbing
 pub mod HiddenWords
 pub mod OpenerHolds
 pub mod TakenWords
+pub mod ShareIsThere
+pub mod BranchApart

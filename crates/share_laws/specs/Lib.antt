@@ -3,3 +3,4 @@ pub mod Starts
 pub mod Climbing
 pub mod Opening
 pub mod Taking
+pub mod Tests
