@@ -13,3 +13,4 @@ pub mod OpenerHolds
 pub mod TakenWords
 pub mod ShareIsThere
 pub mod BranchApart
+pub mod GoingOn

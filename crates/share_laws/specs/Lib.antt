@@ -4,3 +4,4 @@ pub mod Climbing
 pub mod Opening
 pub mod Taking
 pub mod Tests
+pub mod GoingOn

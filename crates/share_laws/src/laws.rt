@@ -1,10 +1,12 @@
 //! Laws of every start of a module that keeps the format.
 
 ghost use Rattle.share_laws.specs.Climbing.{BranchesAreLent, ChangesAreByABranch, ChangesClimb, OtherWordsStay};
+ghost use Rattle.share_laws.specs.GoingOn.{OpenersGoOn, OpeningsCanStart, StartersGoOn};
 ghost use Rattle.share_laws.specs.Opening.{OpenersHoldTheRest};
 ghost use Rattle.share_laws.specs.Shares.{SharesAreWords};
 ghost use Rattle.share_laws.specs.Starts.{BranchesHoldTheirShares, StartersHoldTheRest};
 ghost use Rattle.share_laws.specs.Taking.{OpeningsTakeTheirWords, StartsTakeTheirWords};
+ghost use Rattle.share_laws.specs.Tests.{BranchesAreApart, SharesAreThere};
 
 /// A branch's share has the bytes of the words and regions that its row names, and the ends of the channels that it
 /// names.
@@ -33,6 +35,26 @@ pub fn openers_hold_the_rest()
 pub fn starts_take_their_words()
     ensures starts { StartsTakeTheirWords }
     ensures openings { OpeningsTakeTheirWords }
+{}
+
+/// A share that is left passes the tests of a start: its ends are there, each once, its bytes are held, and the words
+/// that scheduling takes are held and are the branch's own.
+pub fn shares_are_there()
+    ensures { SharesAreThere }
+{}
+
+/// What a branch holds from its start on and what is left to its starter do not meet.
+pub fn branches_are_apart()
+    ensures { BranchesAreApart }
+{}
+
+/// After a start, the first or a later one, the starter is in a state among the starts of its row: it holds what the
+/// scope of that state has, and what was known of the words that are left is so still. What a process holds that has
+/// opened the PAR can start the first branch.
+pub fn starters_go_on()
+    ensures later { StartersGoOn }
+    ensures first { OpenersGoOn }
+    ensures opened { OpeningsCanStart }
 {}
 
 /// What a branch has its opener has lent it.
