@@ -14,7 +14,8 @@ use Rattle.module_format.specs.Order.{InOrder, least_word}
 use Rattle.module_format.specs.Pars.{ParKeeps, behind_par, no_branches, ChannelKeeps, behind_channel}
 use Rattle.module_format.proofs.OrderLaws.{each}
 use Rattle.machine_state.specs.BranchShares.{frame_address}
-use Rattle.machine_state.specs.Holding.{Holding}
+use Rattle.module_format.specs.declared.rows.Direction.{Direction}
+use Rattle.machine_state.specs.Holding.{Holding, may_write, has_end}
 use Rattle.machine_state.specs.Memory.{Memory, place_of}
 use Rattle.machine_state.specs.Ownership.{IsAmong}
 use Rattle.machine_state.specs.Spans.{Stretch, stretches_over, writes_place}
@@ -29,6 +30,8 @@ use Rattle.rulings.specs.Regions.{IsByteOf, channel_address}
 use Rattle.rulings.specs.Remaining.{is_hidden, is_channel_word}
 use Rattle.rulings.proofs.Words.{local_place, word_test}
 use Rattle.share_laws.specs.Opening.{CanOpen}
+use Rattle.rulings.proofs.Regions.{bytes_written}
+use Rattle.share_laws.proofs.LeftBytes.{is_false}
 use Rattle.share_laws.proofs.Rows.{among_at, each_at}
 use Rattle.share_laws.proofs.ShareBytes.{frame_channel}
 
@@ -179,3 +182,16 @@ module _ (m : Contents) (row : ℕ) (par : Par) (layout : Layout) (base : ℕ) (
       let is = u.is in
       let there = v.is in
       omega (arith, ints, p, q, e, is, there)
+
+  -- no end that the starter has is one of a channel's word
+  pub channel_free : (k : ℤ) (direction : Direction) → is_channel_word par k ≡ true
+      → has_end h (record { address = channel_address layout (FrameWord k); direction = direction }) ≡ false
+  channel_free k direction is = is_false _ (λ held.
+      let w = hidden_word k (channel_hides k is) in
+      let at : place_of (channel_address layout (FrameWord k)) ≡ w.place =
+      ap place_of (sym (channel_at k is)) ∙ hidden_place k (channel_hides k is) (channel_fits k is) in
+      let first : may_write h w.place ≡ true =
+      subst (λ (x : ℕ). may_write h x ≡ true) (let e : w.place + 0 ≡ w.place = omega arith in e)
+      (bytes_written h w.place w.mine 0 (omega arith)) in
+      o.free (record { address = channel_address layout (FrameWord k); direction = direction }) held
+      (subst (λ (x : ℕ). may_write h x ≡ true) (sym at) first))

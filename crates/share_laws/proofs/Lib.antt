@@ -14,3 +14,4 @@ pub mod TakenWords
 pub mod ShareIsThere
 pub mod BranchApart
 pub mod GoingOn
+pub mod EndsOutside

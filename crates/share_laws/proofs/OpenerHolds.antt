@@ -45,7 +45,7 @@ use Rattle.rulings.proofs.Lending.{same_word, number_means}
 use Rattle.rulings.proofs.Regions.{bytes_read, bytes_written, byte_of_own}
 use Rattle.rulings.proofs.Words.{word_test, same_word_by}
 use Rattle.share_laws.specs.Opening.{lengths_with, layout_with, held_by_opener, CanOpen, OpenersHoldTheRest}
-use Rattle.share_laws.proofs.HiddenWords.{hidden_byte, hidden_word, channel_at, one_channel, channel_is_word}
+use Rattle.share_laws.proofs.HiddenWords.{channel_free, hidden_byte, hidden_word, channel_at, one_channel, channel_is_word}
 use Rattle.share_laws.proofs.LeftBytes.{is_false, was_false, word_of_bytes, word_to_read, less_written, less_read}
 use Rattle.share_laws.proofs.LeftBytes.{less_inside}
 use Rattle.share_laws.proofs.LeftParameters.{left_by}
@@ -415,7 +415,7 @@ module _ (m : Contents) (row : ℕ) (par : Par) (layout : Layout) (base : ℕ) (
       elim (or_true (rights.has_end m par.context e) (is_own_end par kind) a.0) [
         | inl has ↦ of_context has (λ k is same.
             let held = o.named.ends kind direction has in
-            let free = o.free k direction is in
+            let free = channel_free m row par layout base h memory depth workspace o k direction is in
             let no' : false ≡ true = sym free ∙ (ap (λ (n : ℕ).
             has_end h (record { address = n; direction = direction })) same ∙ held) in cc)
         | inr mine ↦ own_end kind mine
@@ -437,7 +437,7 @@ module _ (m : Contents) (row : ℕ) (par : Par) (layout : Layout) (base : ℕ) (
           let is = channel_is_word m row par layout base h memory depth workspace o c (all c (inl refl)) in
           let held = left_claims (length memory) h (hidden base par) (to_use (record { address = a; direction = In }))
           (end_held words_rest (record { address = a; direction = In }) input) in
-          let free = o.free c.word In is in
+          let free = channel_free m row par layout base h memory depth workspace o c.word In is in
           let at : channel_address layout (FrameWord c.word) ≡ a =
           sym (channel_at m row par layout base h memory depth workspace o c.word is) ∙ here in
           let no' : false ≡ true = sym free ∙ (ap (λ (n : ℕ). has_end h (record { address = n; direction = In })) at

@@ -2,7 +2,7 @@
 
 ghost use Rattle.share_laws.specs.Climbing.{BranchesAreLent, ChangesAreByABranch, ChangesClimb, OtherWordsStay};
 ghost use Rattle.share_laws.specs.GoingOn.{OpenersGoOn, OpeningsCanStart, StartersGoOn};
-ghost use Rattle.share_laws.specs.Opening.{OpenersHoldTheRest};
+ghost use Rattle.share_laws.specs.Opening.{EndsLieOutside, OpenersHoldTheRest};
 ghost use Rattle.share_laws.specs.Shares.{SharesAreWords};
 ghost use Rattle.share_laws.specs.Starts.{BranchesHoldTheirShares, StartersHoldTheRest};
 ghost use Rattle.share_laws.specs.Taking.{OpeningsTakeTheirWords, StartsTakeTheirWords};
@@ -28,6 +28,12 @@ pub fn starters_hold_the_rest()
 /// and the channels, and both ends of each channel.
 pub fn openers_hold_the_rest()
     ensures { OpenersHoldTheRest }
+{}
+
+/// Whatever a module that keeps the format does, no end that a process has for good is one of a channel in a word that it
+/// may write: whoever has opened the channel keeps its word.
+pub fn ends_lie_outside()
+    ensures { EndsLieOutside }
 {}
 
 /// A start leaves undefined only words that are the branch's to write, and a first start besides those of the block and
