@@ -60,7 +60,7 @@ module _ (m : Contents) (row : ℕ) (par : Par) (layout : Layout) (base : ℕ) (
         channels = λ c among. channels_fit least_word row.channels c h.channels among;
       }) no_branches m.pars o.keeps.rows.pars) (among_at m.pars row par o.is)
 
-  base_frame : HasFrame h (length memory) (words_in m par.context) layout.origin (pos 0) base
+  pub base_frame : HasFrame h (length memory) (words_in m par.context) layout.origin (pos 0) base
   base_frame = record {
     small = o.frame.small;
     from_start = o.frame.from_start;

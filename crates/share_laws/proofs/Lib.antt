@@ -15,3 +15,4 @@ pub mod ShareIsThere
 pub mod BranchApart
 pub mod GoingOn
 pub mod EndsOutside
+pub mod Prepared

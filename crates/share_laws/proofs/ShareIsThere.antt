@@ -57,7 +57,7 @@ use Rattle.share_laws.proofs.Rows.{gifts, read_is_region}
 
 -- ---- lists
 
-all_from : {A : Type 0} (test : A → Bool) (xs : List A) → ((x : A) → IsAmong x xs → test x ≡ true)
+pub all_from : {A : Type 0} (test : A → Bool) (xs : List A) → ((x : A) → IsAmong x xs → test x ≡ true)
     → list_all test xs ≡ true
 all_from test [] each = refl
 all_from test (x ∷ xs) each =

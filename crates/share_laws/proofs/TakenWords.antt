@@ -184,24 +184,25 @@ module _ (m : Contents) (row : ℕ) (par : Par) (layout : Layout) (base : ℕ) (
       ((fits_words m row par layout base h memory depth workspace o).channels c (all c (inl refl)))))
   channel_taken (c ∷ cs) all a (inr there) = channel_taken cs (λ d among. all d (inr among)) a there
 
+  -- each of the words that no branch has
+  pub hidden_address : (a : ℕ) → IsAmong a (block_addresses base par ++ channel_addresses base par)
+      → IsTaken h whole_scope (length memory) (λ k. is_hidden par k ≡ true) a
+  hidden_address a (inl here) = subst (IsTaken h whole_scope (length memory) (λ k. is_hidden par k ≡ true)) here
+      (hidden_taken par.block (frame_address base par.block)
+      (block_hides m row par layout base h memory depth workspace o)
+      (hidden_place m row par layout base h memory depth workspace o par.block
+      (block_hides m row par layout base h memory depth workspace o)
+      (fits_words m row par layout base h memory depth workspace o).block))
+  hidden_address a (inr (inl here)) = subst (IsTaken h whole_scope (length memory) (λ k. is_hidden par k ≡ true)) here
+      (hidden_taken (par.block +ℤ pos 1) (frame_address (frame_address base par.block) (pos 1))
+      (next_hides m row par layout base h memory depth workspace o)
+      (second_place m row par layout base h memory depth workspace o))
+  hidden_address a (inr (inr later)) = channel_taken par.channels (λ c among. among) a later
+
   opening_takes : Takes m h whole_scope (λ k t. written_readable m par.context k t) (λ k. is_hidden par k ≡ true) memory
       (after_opening par base memory)
   opening_takes = takes_words m h whole_scope (λ k t. written_readable m par.context k t) (λ k. is_hidden par k ≡ true)
-      (block_addresses base par ++ channel_addresses base par) memory each
-    where
-      each : (a : ℕ) → IsAmong a (block_addresses base par ++ channel_addresses base par)
-          → IsTaken h whole_scope (length memory) (λ k. is_hidden par k ≡ true) a
-      each a (inl here) = subst (IsTaken h whole_scope (length memory) (λ k. is_hidden par k ≡ true)) here
-          (hidden_taken par.block (frame_address base par.block)
-          (block_hides m row par layout base h memory depth workspace o)
-          (hidden_place m row par layout base h memory depth workspace o par.block
-          (block_hides m row par layout base h memory depth workspace o)
-          (fits_words m row par layout base h memory depth workspace o).block))
-      each a (inr (inl here)) = subst (IsTaken h whole_scope (length memory) (λ k. is_hidden par k ≡ true)) here
-          (hidden_taken (par.block +ℤ pos 1) (frame_address (frame_address base par.block) (pos 1))
-          (next_hides m row par layout base h memory depth workspace o)
-          (second_place m row par layout base h memory depth workspace o))
-      each a (inr (inr later)) = channel_taken par.channels (λ c among. among) a later
+      (block_addresses base par ++ channel_addresses base par) memory hidden_address
 
   pub opening_takes_its_words : OpeningTakes m row par layout base h memory (after_opening par base memory) depth
       workspace

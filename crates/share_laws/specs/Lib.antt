@@ -5,3 +5,4 @@ pub mod Opening
 pub mod Taking
 pub mod Tests
 pub mod GoingOn
+pub mod Prepared

@@ -3,6 +3,7 @@
 ghost use Rattle.share_laws.specs.Climbing.{BranchesAreLent, ChangesAreByABranch, ChangesClimb, OtherWordsStay};
 ghost use Rattle.share_laws.specs.GoingOn.{OpenersGoOn, OpeningsCanStart, StartersGoOn};
 ghost use Rattle.share_laws.specs.Opening.{EndsLieOutside, OpenersHoldTheRest};
+ghost use Rattle.share_laws.specs.Prepared.{FirstStartsPass, LaterStartsPass, PlansAreLaidOut};
 ghost use Rattle.share_laws.specs.Shares.{SharesAreWords};
 ghost use Rattle.share_laws.specs.Starts.{BranchesHoldTheirShares, StartersHoldTheRest};
 ghost use Rattle.share_laws.specs.Taking.{OpeningsTakeTheirWords, StartsTakeTheirWords};
@@ -47,6 +48,14 @@ pub fn starts_take_their_words()
 /// that scheduling takes are held and are the branch's own.
 pub fn shares_are_there()
     ensures { SharesAreThere }
+{}
+
+/// Where the words of a PAR are prepared, and the share of the next branch is left, none of the tests of its start fails.
+/// The plan of the first start has the frame and the parameters where the starter's layout says.
+pub fn starts_pass_their_tests()
+    ensures first { FirstStartsPass }
+    ensures later { LaterStartsPass }
+    ensures plans { PlansAreLaidOut }
 {}
 
 /// What a branch holds from its start on and what is left to its starter do not meet.
