@@ -358,4 +358,5 @@ pub branches_hold_their_shares : BranchesHoldTheirShares
 branches_hold_their_shares m found layout base addresses h memory depth workspace s = record {
   frame = branch_frame m found layout base addresses h memory depth workspace s;
   named = branch_named m found layout base addresses h memory depth workspace s;
+  inside = λ x own. s.inside x (was_read m found layout base addresses h memory depth workspace s x own);
 }

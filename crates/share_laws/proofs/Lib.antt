@@ -16,3 +16,4 @@ pub mod BranchApart
 pub mod GoingOn
 pub mod EndsOutside
 pub mod Prepared
+pub mod Bases

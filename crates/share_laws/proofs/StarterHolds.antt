@@ -32,10 +32,10 @@ use Rattle.rulings.specs.Regions.{HasConstants, channel_address}
 use Rattle.rulings.specs.Remaining.{some_started, is_hidden, word_given_to_write, word_given_to_read, end_given, is_own_end}
 use Rattle.rulings.proofs.Combining.{readable_byte}
 use Rattle.rulings.proofs.Regions.{bytes_read, bytes_written}
-use Rattle.share_laws.specs.Shares.{end_at}
+use Rattle.share_laws.specs.Shares.{end_at, share_at}
 use Rattle.share_laws.specs.Starts.{CanStart, held_by_starter, StartersHoldTheRest}
 use Rattle.share_laws.proofs.RowEnds.{end_listed, listed_among}
-use Rattle.share_laws.proofs.LeftBytes.{is_false, not_true, was_false, word_of_bytes, word_to_read, less_written, less_read}
+use Rattle.share_laws.proofs.LeftBytes.{is_false, not_true, was_false, word_of_bytes, word_to_read, less_written, less_read, less_inside}
 use Rattle.share_laws.proofs.LeftBytes.{left_readable, region_to_read, share, of_words, to_write_left, to_read_left}
 use Rattle.share_laws.proofs.LeftBytes.{listed_word, written_held, HasByte, written_by_number, read_by_number}
 use Rattle.share_laws.proofs.LeftParameters.{one_more, Remains, still_written, still_read, nothing_left, still_channels}
@@ -366,4 +366,5 @@ pub starters_hold_the_rest : StartersHoldTheRest
 starters_hold_the_rest m found layout base addresses h memory depth workspace s = record {
   frame = starter_frame m found layout base addresses h memory depth workspace s;
   named = starter_named m found layout base addresses h memory depth workspace s;
+  inside = λ x own. less_inside (length memory) h (share_at m found base addresses) x own;
 }

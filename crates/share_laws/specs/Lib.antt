@@ -6,3 +6,4 @@ pub mod Taking
 pub mod Tests
 pub mod GoingOn
 pub mod Prepared
+pub mod Bases

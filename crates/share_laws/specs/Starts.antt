@@ -71,19 +71,21 @@ held_by_branch m found base addresses n = holding_of m n (share_at m found base 
 abbrev pub held_by_starter : Contents → Found → ℕ → List (Option ℕ) → Holding → ℕ → Holding
 held_by_starter m found base addresses h n = less n h (share_at m found base addresses)
 
--- a branch has its frame, and what its context names
+-- a branch has its frame, in memory, and what its context names
 pub record BranchHolds (m : Contents) (found : Found) (layout : Layout) (base : ℕ) (h : Holding)
     (memory : Memory) : Type 0 where
   pub frame : HasFrame h (length memory) (words_in m (context_of m found)) layout.origin found.branch.workspace
       (frame_address base found.branch.workspace)
   pub named : HoldsNamed m h (scope_of m (context_of m found) layout) memory
+  pub inside : (x : ℕ) → may_read h x ≡ true → x < length memory
 
--- a starter has what its scope has left after one start more
+-- a starter has its frame, in memory, and what its scope has left after one start more
 pub record StarterHolds (m : Contents) (found : Found) (layout : Layout) (h : Holding) (memory : Memory) (depth : ℤ)
     (workspace : ℕ) : Type 0 where
   pub frame : HasFrame h (length memory) (words_left m found.par found.par.context (found.number + 1)) layout.origin
       depth workspace
   pub named : HoldsNamed m h (scope_left m found.par found.par.context (found.number + 1) layout) memory
+  pub inside : (x : ℕ) → may_read h x ≡ true → x < length memory
 
 abbrev pub BranchesHoldTheirShares : Type 0
 BranchesHoldTheirShares = (m : Contents) (found : Found) (layout : Layout) (base : ℕ) (addresses : List (Option ℕ))

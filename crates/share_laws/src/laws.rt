@@ -1,5 +1,6 @@
 //! Laws of every start of a module that keeps the format.
 
+ghost use Rattle.share_laws.specs.Bases.{BasesAreFrames, FramesAreBases};
 ghost use Rattle.share_laws.specs.Climbing.{BranchesAreLent, ChangesAreByABranch, ChangesClimb, OtherWordsStay};
 ghost use Rattle.share_laws.specs.GoingOn.{OpenersGoOn, OpeningsCanStart, StartersGoOn};
 ghost use Rattle.share_laws.specs.Opening.{EndsLieOutside, OpenersHoldTheRest};
@@ -8,6 +9,12 @@ ghost use Rattle.share_laws.specs.Shares.{SharesAreWords};
 ghost use Rattle.share_laws.specs.Starts.{BranchesHoldTheirShares, StartersHoldTheRest};
 ghost use Rattle.share_laws.specs.Taking.{OpeningsTakeTheirWords, StartsTakeTheirWords};
 ghost use Rattle.share_laws.specs.Tests.{BranchesAreApart, SharesAreThere};
+
+/// The base of a join is the address of its opener's frame word 0, which lies in memory.
+pub fn bases_are_frames()
+    ensures found { BasesAreFrames }
+    ensures words { FramesAreBases }
+{}
 
 /// A branch's share has the bytes of the words and regions that its row names, and the ends of the channels that it
 /// names.
