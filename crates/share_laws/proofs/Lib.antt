@@ -17,3 +17,4 @@ pub mod GoingOn
 pub mod EndsOutside
 pub mod Prepared
 pub mod Bases
+pub mod BranchBegins

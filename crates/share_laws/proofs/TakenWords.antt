@@ -26,7 +26,7 @@ use Rattle.rulings.proofs.Regions.{keeps_all, keeps_more, write_keeps}
 use Rattle.rulings.proofs.Words.{local_place, word_elsewhere}
 use Rattle.share_laws.specs.Opening.{CanOpen}
 use Rattle.share_laws.specs.Starts.{CanStart}
-use Rattle.share_laws.specs.Taking.{after_start, after_opening, StartTakes, StartsTakeTheirWords, OpeningTakes}
+use Rattle.share_laws.specs.Taking.{IsScheduling, after_start, after_opening, StartTakes, StartsTakeTheirWords, OpeningTakes}
 use Rattle.share_laws.specs.Taking.{OpeningsTakeTheirWords}
 use Rattle.share_laws.proofs.BranchHolds.{branches_hold_their_shares}
 use Rattle.share_laws.proofs.HiddenWords.{hidden_place, second_place, block_hides, next_hides, channel_hides}
@@ -91,7 +91,7 @@ module _ (m : Contents) (found : Found) (layout : Layout) (base : ℕ) (addresse
 
   -- a word that scheduling takes is one of the branch's to write
   scheduled : (n : ℕ) → n < 3 → FitsSigned w32 (negsuc n)
-      → IsTaken h left_scope (length memory) (λ k. is_among found.branch.writes k ≡ true)
+      → IsTaken h left_scope (length memory) (IsScheduling found)
       (scheduling_word (frame_address base found.branch.workspace) n)
   scheduled n low fits =
       let among = s.left.scheduling n low in
@@ -103,23 +103,23 @@ module _ (m : Contents) (found : Found) (layout : Layout) (base : ℕ) (addresse
         writes = writes;
         word = w;
         place = local_place frame (negsuc n) fits w.place w.is w.inside;
-        such = among;
+        such = record { n = n; low = low; is = refl };
       }
 
   start_takes : Takes m h left_scope (left_readable m found.par found.par.context found.number)
-      (λ k. is_among found.branch.writes k ≡ true) memory (after_start found base memory)
+      (IsScheduling found) memory (after_start found base memory)
   start_takes = takes_words m h left_scope (left_readable m found.par found.par.context found.number)
-      (λ k. is_among found.branch.writes k ≡ true)
+      (IsScheduling found)
       (scheduling_addresses (frame_address base found.branch.workspace)) memory each
     where
       each : (a : ℕ) → IsAmong a (scheduling_addresses (frame_address base found.branch.workspace))
-          → IsTaken h left_scope (length memory) (λ k. is_among found.branch.writes k ≡ true) a
-      each a (inl here) = subst (IsTaken h left_scope (length memory) (λ k. is_among found.branch.writes k ≡ true)) here
+          → IsTaken h left_scope (length memory) (IsScheduling found) a
+      each a (inl here) = subst (IsTaken h left_scope (length memory) (IsScheduling found)) here
           (scheduled 0 (omega arith) (omega (arith, ints)))
       each a (inr (inl here)) = subst (IsTaken h left_scope (length memory)
-          (λ k. is_among found.branch.writes k ≡ true)) here (scheduled 1 (omega arith) (omega (arith, ints)))
+          (IsScheduling found)) here (scheduled 1 (omega arith) (omega (arith, ints)))
       each a (inr (inr (inl here))) = subst (IsTaken h left_scope (length memory)
-          (λ k. is_among found.branch.writes k ≡ true)) here (scheduled 2 (omega arith) (omega (arith, ints)))
+          (IsScheduling found)) here (scheduled 2 (omega arith) (omega (arith, ints)))
       each a (inr (inr (inr never))) = absurd never
 
   pub takes_its_words : StartTakes m found layout base addresses h memory (after_start found base memory) depth workspace
@@ -136,7 +136,9 @@ module _ (m : Contents) (found : Found) (layout : Layout) (base : ℕ) (addresse
           inside = λ x read. let low = s.inside x read in omega (arith, low, size);
         };
         size = size;
-        words = λ k t. start_takes.others k (λ among. given k t among);
+        others = start_takes.others;
+        words = λ k t. start_takes.others k (λ such. given k t (subst (λ (z : ℤ). is_among found.branch.writes z ≡ true)
+            (sym such.is) (s.left.scheduling such.n such.low)));
       }
     where
       given : (k : ℤ) → (words_left m found.par found.par.context (found.number + 1)).reads k ≡ true

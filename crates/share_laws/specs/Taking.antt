@@ -1,6 +1,6 @@
 -- A start takes the words that scheduling wants below the new workspace, and a first start those of the block and the
 -- channels: they are undefined from then on. What else is known of the starter's words stands.
-use Rattle.std.specs.Prelude.{◌≡◌, ℕ, ◌+◌, ℤ, true, List, ◌++◌, length, Option}
+use Rattle.std.specs.Prelude.{◌≡◌, ℕ, ◌+◌, ◌<◌, ℤ, negsuc, ◌+ℤ◌, true, List, ◌++◌, length, Option}
 use Rattle.module_format.specs.Contents.{Contents, Par}
 use Rattle.machine_state.specs.BranchShares.{frame_address}
 use Rattle.machine_state.specs.Holding.{Holding}
@@ -20,11 +20,19 @@ after_start found base memory = without_words (scheduling_addresses (frame_addre
 abbrev pub after_opening : Par → ℕ → Memory → Memory
 after_opening par base memory = without_words (block_addresses base par ++ channel_addresses base par) memory
 
--- the start takes none of the words that are left to read then
+-- word k is one of the three below the branch's workspace
+pub record IsScheduling (found : Found) (k : ℤ) : Type 0 where
+  pub n : ℕ
+  pub low : n < 3
+  pub is : k ≡ found.branch.workspace +ℤ negsuc n
+
+-- the start takes no other words, and so none of those that are left to read then
 pub record StartTakes (m : Contents) (found : Found) (layout : Layout) (base : ℕ) (addresses : List (Option ℕ))
     (h : Holding) (memory new : Memory) (depth : ℤ) (workspace : ℕ) : Type 0 where
   pub can : CanStart m found layout base addresses h new depth workspace
   pub size : length new ≡ length memory
+  pub others : (k : ℤ) → (IsScheduling found k → ⊥)
+      → frame_word new layout.origin k ≡ frame_word memory layout.origin k
   pub words : (k : ℤ) → (words_left m found.par found.par.context (found.number + 1)).reads k ≡ true
       → frame_word new layout.origin k ≡ frame_word memory layout.origin k
 

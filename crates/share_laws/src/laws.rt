@@ -2,7 +2,7 @@
 
 ghost use Rattle.share_laws.specs.Bases.{BasesAreFrames, FramesAreBases};
 ghost use Rattle.share_laws.specs.Climbing.{BranchesAreLent, ChangesAreByABranch, ChangesClimb, OtherWordsStay};
-ghost use Rattle.share_laws.specs.GoingOn.{OpenersGoOn, OpeningsCanStart, StartersGoOn};
+ghost use Rattle.share_laws.specs.GoingOn.{BranchesBegin, OpenersGoOn, OpeningsCanStart, StartersGoOn};
 ghost use Rattle.share_laws.specs.Opening.{EndsLieOutside, OpenersHoldTheRest};
 ghost use Rattle.share_laws.specs.Prepared.{FirstStartsPass, LaterStartsPass, PlansAreLaidOut};
 ghost use Rattle.share_laws.specs.Shares.{SharesAreWords};
@@ -77,6 +77,12 @@ pub fn starters_go_on()
     ensures later { StartersGoOn }
     ensures first { OpenersGoOn }
     ensures opened { OpeningsCanStart }
+{}
+
+/// After a start the branch is where it begins, in a state that knows of its words what was so before, and nothing of its
+/// registers and of the three words below its workspace: it has its frame, and holds what its context names.
+pub fn branches_begin()
+    ensures { BranchesBegin }
 {}
 
 /// What a branch has its opener has lent it.
