@@ -34,7 +34,8 @@ use Rattle.states.proofs.RowFacts.{and-parts}
 use Rattle.rulings.specs.Channels.{message_length}
 use Rattle.rulings.specs.Lends.{IsRegionKind}
 use Rattle.rulings.specs.Meaning.{Layout, HasFrame, IsOwnWord, IsReadableWord, place_in, words_in, frame_lo, frame_hi}
-use Rattle.rulings.specs.Regions.{Scope, scope_of, scope_left, IsByteOf, IsRegion, IsNamed, HoldsNamed, IsWrittenAt, IsNamedAt}
+use Rattle.rulings.specs.Regions.{Scope, scope_of, scope_left, IsByteOf, IsRegion, IsNamed, HoldsNamed, IsWrittenAt}
+use Rattle.rulings.specs.Regions.{IsNamedAt}
 use Rattle.rulings.specs.Regions.{HasConstants, channel_address, length_left}
 use Rattle.rulings.proofs.Combining.{readable_byte, readable}
 use Rattle.rulings.proofs.Words.{moved_workspace}
@@ -351,7 +352,8 @@ module _ (m : Contents) (found : Found) (layout : Layout) (base : ℕ) (addresse
     ends = branch_ends;
     back = s.named.back;
     lengths = λ kind direction t. same_length kind ∙ s.named.lengths kind direction (was_left kind direction t);
-    differ = λ a b direction t u same. s.named.differ a b direction (was_left a direction t) (was_left b direction u) same;
+    differ = λ a b direction t u same. s.named.differ a b direction (was_left a direction t) (was_left b direction u)
+        same;
   }
 
 pub branches_hold_their_shares : BranchesHoldTheirShares

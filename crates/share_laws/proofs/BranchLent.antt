@@ -29,7 +29,8 @@ use Rattle.rulings.proofs.EndNumbers.{parameter_kind}
 use Rattle.share_laws.specs.Shares.{IsBranch}
 use Rattle.share_laws.specs.Starts.{IsLeft}
 use Rattle.share_laws.specs.Climbing.{LieAlike, IsLentBy, BranchesAreLent}
-use Rattle.share_laws.proofs.LeftParameters.{left_by, Takes, takes_to_write, takes_to_read, takes_nothing, takes_channels}
+use Rattle.share_laws.proofs.LeftParameters.{left_by, Takes, takes_to_write, takes_to_read, takes_nothing}
+use Rattle.share_laws.proofs.LeftParameters.{takes_channels}
 use Rattle.share_laws.proofs.LeftParameters.{taken}
 use Rattle.share_laws.proofs.Rows.{has_context}
 
@@ -157,7 +158,8 @@ module _ (m : Contents) (found : Found) (layout other : Layout) (keeps : Keeps m
   part_of j p there = let has = has_of j p there in on has has.takes
     where
       place_is : place_of (other.starts j) ≡ place_of (layout.starts j) + 4 * 0
-      place_is = ap place_of (alike.starts j) ∙ (let e : place_of (layout.starts j) ≡ place_of (layout.starts j) + 4 * 0 =
+      place_is = ap place_of (alike.starts j) ∙ (let e : place_of (layout.starts j) ≡ place_of (layout.starts j) + 4 *
+          0 =
           omega arith in e)
 
       whole : (raw : Parameter) (size : ℕ) → slice_get (parameters_at m found.par.context) j ≡ Some raw

@@ -126,7 +126,8 @@ module _ (m : Contents) (theirs mine : Holding) (opener branch : Scope) (old new
           subst (λ x. may_read theirs x ≡ true) at (named.held (4 * n + i) (omega (arith, same, low, fits)))
       on (WrittenRegion size lo hi) e (inr k) named =
           let same : size ≡ total = cc in
-          subst (λ x. may_read theirs x ≡ true) at (readable_byte theirs (place_of (opener.layout.starts q) + (4 * n + i))
+          subst (λ x. may_read theirs x ≡ true) at (readable_byte theirs (place_of (opener.layout.starts q) + (4 * n +
+          i))
           (named.held (4 * n + i) (omega (arith, same, low, fits))))
 
   -- and those that it has lent to write it may write
@@ -267,7 +268,15 @@ module _ (m : Contents) (theirs mine : Holding) (opener branch : Scope) (old new
       let w = rung.frame.readable k counts in
       let byte : (i : ℕ) → i < 4 → byte_at new (w.place + i) ≡ byte_at old (w.place + i) =
       λ i low. word_stays k counts free (w.place + i)
-      (record { low = (let is = w.is in omega (arith, ints, is)); high = (let is = w.is in omega (arith, ints, is, low)) })
+      (record {
+        low = (let is = w.is in omega (arith, ints, is));
+        high = (let is = w.is in omega (
+          arith,
+          ints,
+          is,
+          low,
+        ));
+      })
       in
       let zero_is : w.place + 0 ≡ w.place = omega arith in
       sym (ap (word_at_place new) w.is)

@@ -14,7 +14,8 @@ use Rattle.machine_state.proofs.Claims.{written_is_read}
 use Rattle.share_laws.specs.Opening.{EndsLieOutside}
 
 -- an end is of a link, or of a channel that one above keeps the word of
-is_outside : (m : Contents) (roles : List Role) (channels : List (Option Channel)) → HoldersIn m roles channels → (p : ℕ)
+is_outside : (m : Contents) (roles : List Role) (channels : List (Option Channel)) → HoldersIn m roles channels → (p :
+    ℕ)
     (e : End) → has_end (own_in roles p) e ≡ true → may_write (own_in roles p) (place_of e.address) ≡ true → ⊥
 is_outside m roles channels t p e held mine = elim (t.ends p e held) [
   | inl outside ↦ let low = t.inside p (place_of e.address) mine in omega (arith, low, outside)

@@ -1,5 +1,6 @@
 -- After a start what is known of the starter's words stands, and it holds what its scope has left.
-use Rattle.std.proofs.Common.{◌≡◌, ℕ, ◌+◌, ◌<◌, ◌&&◌, not, ℤ, true, List, length, Option, Some, None, refl, sym, ap, ◌∙◌, subst}
+use Rattle.std.proofs.Common.{◌≡◌, ℕ, ◌+◌, ◌<◌, ◌&&◌, not, ℤ, true, List, length, Option, Some, None, refl, sym, ap}
+use Rattle.std.proofs.Common.{◌∙◌, subst}
 use Rattle.std.specs.Prelude.{slice_get}
 use Rattle.module_format.specs.Rows.{Fact}
 use Rattle.module_format.specs.declared.fact.Fact.TheVariants.{Unknown, Number, Pointer, CodeAddress, Loop}
@@ -109,7 +110,8 @@ goes_on : (m : Contents) (found : Found) (act : Activation) (base : ℕ) (addres
     → l.memory ≡ after_start found base memory → l.registers.workspace ≡ workspace
     → After m (held_by_starter m found base addresses h n) machine.Starting act s l
 goes_on m found act base addresses h memory n depth workspace s l long can says memory_is at =
-    among_starts m found act (held_by_starter m found base addresses h n) memory depth workspace s l can.is.row says.mode
+    among_starts m found act (held_by_starter m found base addresses h n) memory depth workspace s l can.is.row
+    says.mode
     says.context says.depth_is says.registers at
     (subst (λ (x : Memory). HasFrame (held_by_starter m found base addresses h n) (length x)
     (words_left m found.par found.par.context (found.number + 1)) act.layout.origin depth workspace) (sym memory_is)
@@ -167,7 +169,8 @@ openers_go_on m found act base addresses h memory depth workspace s l opens firs
 pub openings_can_start : OpeningsCanStart
 openings_can_start m found act base addresses h memory depth workspace opens first left laid is =
     let opened = opening_takes_its_words m found.row found.par act.layout base h memory depth workspace opens in
-    let holds = openers_hold_the_rest m found.row found.par act.layout base h (after_opening found.par base memory) depth
+    let holds = openers_hold_the_rest m found.row found.par act.layout base h (after_opening found.par base memory)
+    depth
     workspace opened.can in
     record {
       keeps = opens.keeps;

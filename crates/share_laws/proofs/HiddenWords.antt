@@ -81,14 +81,16 @@ module _ (m : Contents) (row : ℕ) (par : Par) (layout : Layout) (base : ℕ) (
       local_place base_frame k fits w.place (let is = w.is in omega (arith, ints, is)) w.inside
 
   pub block_hides : is_hidden par par.block ≡ true
-  block_hides = or_left _ (is_channel_word par par.block) (or_left _ (is_word (par.block +ℤ pos 1) par.block) (is_itself par.block))
+  block_hides = or_left _ (is_channel_word par par.block) (or_left _ (is_word (par.block +ℤ pos 1) par.block)
+      (is_itself par.block))
 
   pub next_hides : is_hidden par (par.block +ℤ pos 1) ≡ true
   next_hides = or_left _ (is_channel_word par (par.block +ℤ pos 1))
       (or_right (is_word par.block (par.block +ℤ pos 1)) _ (is_itself (par.block +ℤ pos 1)))
 
   pub channel_is_word : (c : ChannelRow) → IsAmong c par.channels → is_channel_word par c.word ≡ true
-  channel_is_word c among = any_among (λ (x : ChannelRow). is_word x.word c.word) par.channels c among (is_itself c.word)
+  channel_is_word c among = any_among (λ (x : ChannelRow). is_word x.word c.word) par.channels c among (is_itself
+      c.word)
 
   pub channel_hides : (k : ℤ) → is_channel_word par k ≡ true → is_hidden par k ≡ true
   channel_hides k is = or_right (is_word par.block k || is_word (par.block +ℤ pos 1) k) _ is
@@ -121,7 +123,8 @@ module _ (m : Contents) (row : ℕ) (par : Par) (layout : Layout) (base : ℕ) (
       let v = hidden_word (par.block +ℤ pos 1) next_hides in
       let is = w.is in
       let there = v.is in
-      next ∙ (let e : place_of (frame_address base par.block) + 4 ≡ v.place = omega (arith, ints, first, is, there) in e)
+      next ∙ (let e : place_of (frame_address base par.block) + 4 ≡ v.place = omega (arith, ints, first, is, there) in
+      e)
 
   channel_byte : (cs : List ChannelRow) (x : ℕ) → ((c : ChannelRow) → IsAmong c cs → IsAmong c par.channels)
       → list_any (λ s. stretches_over s x) (map stretch (map (λ (c : ChannelRow). frame_address base c.word) cs)) ≡ true

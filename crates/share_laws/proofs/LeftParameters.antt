@@ -1,5 +1,5 @@
 -- What becomes of a parameter at a start: what the branch has of it, and what its starter has left.
-use Rattle.std.proofs.Common.{◌≡◌, ℕ, zero, suc, ◌+◌, ◌||◌, Bool, true, false, if◌then◌else◌, ◌⊎◌, inl, inr, ℤ, List}
+use Rattle.std.proofs.Common.{◌≡◌, ℕ, zero, suc, ◌+◌, ◌||◌, Bool, true, false, if◌then◌else◌, inl, inr, ℤ, List}
 use Rattle.std.proofs.Common.{[], ◌∷◌, Option, Some, None, refl, sym, ap, ◌∙◌, subst, arith}
 use Rattle.std.specs.Prelude.{slice_get, option_map, take}
 use Rattle.std.specs.List.{list_any}
@@ -81,10 +81,6 @@ pub data Remains (found : Found) (j : ℕ) (mine theirs : ParameterKind) : Type 
   still_channels : (count len : ℕ) (ends : Ends) → mine ≡ Channels count len ends
       → theirs ≡ Channels count len ends → Remains found j mine theirs
 
--- a context has of a region what it may use, and no more
-abbrev IsKept : ParameterKind → ℕ → ℤ → ℤ → Type 0
-IsKept kind size lo hi = IsRegionKind kind size lo hi ⊎ (kind ≡ not_used (ReadRegion size lo hi))
-
 module _ (found : Found) (j : ℕ) where
   -- of a region that may be read, and is not written by a branch that is started, the bytes may be read
   left_to_read : (kind : ParameterKind) (size : ℕ) (lo hi : ℤ) (read : Bool) → IsRegionKind kind size lo hi
@@ -137,12 +133,6 @@ module _ (found : Found) (j : ℕ) where
       (same_left _ _ (Channels count len ends) refl refl) (same_left gw gr (Channels count len ends) refl refl)
 
 -- ---- what the starter has left
-
--- the parameter that a scope has at a number
-pub record HasKind (o : Option Parameter) (raw : Parameter) (f : ParameterKind → ParameterKind) : Type 0 where
-  pub p : Parameter
-  pub is : o ≡ Some p
-  pub kind : p.kind ≡ f raw.kind
 
 module _ (m : Contents) (found : Found) (layout : Layout) (is : IsBranch m found) where
   abbrev context : ℕ
@@ -362,14 +352,16 @@ module _ (m : Contents) (found : Found) (layout : Layout) (left : IsLeft m found
 
   -- a region that the branch writes is one that the starter may write
   pub written_left : is_listed found.branch.written_parameters j ≡ true
-      → (region : IsRegionLeft m found layout j raw) × (region.theirs.kind ≡ WrittenRegion region.size region.lo region.hi)
+      → (region : IsRegionLeft m found layout j raw) × (region.theirs.kind ≡ WrittenRegion region.size region.lo
+      region.hi)
   written_left listed =
       let l = left.written j listed in
       let same = only_one (slice_get (parameters_at m found.par.context) j) raw l.parameter there l.found in
       let kind : raw.kind ≡ WrittenRegion l.size l.lo l.hi = ap (λ (p : Parameter). p.kind) same ∙ l.kind in
       let is : left_parameter.kind ≡ WrittenRegion l.size l.lo l.hi =
       ap (λ (b : Bool). left_by b (parameter_given_to_read found.par found.number j)
-      (used_by (may_write_parameter m found.par.context j) (may_read_parameter m found.par.context j) raw.kind)) l.written
+      (used_by (may_write_parameter m found.par.context j) (may_read_parameter m found.par.context j) raw.kind))
+      l.written
       ∙ ap (λ (b : Bool). left_by false b
       (used_by (may_write_parameter m found.par.context j) (may_read_parameter m found.par.context j) raw.kind)) l.read
       ∙ ap (λ (b : Bool). used_by b (may_read_parameter m found.par.context j) raw.kind) l.may ∙ kind in (

@@ -45,7 +45,8 @@ use Rattle.rulings.proofs.Lending.{same_word, number_means}
 use Rattle.rulings.proofs.Regions.{bytes_read, bytes_written, byte_of_own}
 use Rattle.rulings.proofs.Words.{word_test, same_word_by}
 use Rattle.share_laws.specs.Opening.{lengths_with, layout_with, held_by_opener, CanOpen, OpenersHoldTheRest}
-use Rattle.share_laws.proofs.HiddenWords.{channel_free, hidden_byte, hidden_word, channel_at, one_channel, channel_is_word}
+use Rattle.share_laws.proofs.HiddenWords.{channel_free, hidden_byte, hidden_word, channel_at, one_channel}
+use Rattle.share_laws.proofs.HiddenWords.{channel_is_word}
 use Rattle.share_laws.proofs.LeftBytes.{is_false, was_false, word_of_bytes, word_to_read, less_written, less_read}
 use Rattle.share_laws.proofs.LeftBytes.{less_inside}
 use Rattle.share_laws.proofs.LeftParameters.{left_by}
@@ -506,7 +507,8 @@ module _ (m : Contents) (row : ℕ) (par : Par) (layout : Layout) (base : ℕ) (
 
       elsewhere : before.ends kind direction ≡ true
           → ((k : ℤ) → is_channel_word par k ≡ true → channel_address layout (FrameWord k) ≡ channel_address layout kind
-          → ⊥) → message_length m par.context kind ≡ Some (lengths_with layout par.channels (channel_address layout kind))
+          → ⊥) → message_length m par.context kind ≡ Some (lengths_with layout par.channels (channel_address layout
+          kind))
       elsewhere has beside = o.named.lengths kind direction has
           ∙ ap (λ (n : ℕ). Some n) (sym (lengths_elsewhere layout par.channels (channel_address layout kind)
           (λ c among. beside c.word (channel_is_word m row par layout base h memory depth workspace o c among))))

@@ -220,7 +220,8 @@ module _ (m : Contents) (p : ℕ) (found : Found) (layout : Layout) (h : Holding
   defined = both_true _ _
       (both_true _ _ (is_defined (frame_address base found.par.block) _ block_word)
       (both_true _ _ (is_defined (frame_address (frame_address base found.par.block) (pos 1)) _ count_word)
-      (channel_each (word_is_defined memory) (λ c among. is_defined (frame_address base c.word) _ (channel_word c among)))))
+      (channel_each (word_is_defined memory) (λ c among. is_defined (frame_address base c.word) _ (channel_word c
+      among)))))
       (parameter_each (word_is_defined memory) (λ j q names there.
       is_defined (frame_address base (pos q.word)) _ (parameter_word j q names there).1))
 
@@ -251,7 +252,8 @@ module _ (m : Contents) (p : ℕ) (found : Found) (layout : Layout) (h : Holding
       on None e = absurd (nothing_at (parameters_at m found.par.context) j low e)
       on (Some q) e =
           let w = parameter_word j q names e in
-          let at : slice_get (map (word_in h memory base) (named_from found.par 0 (parameters_at m found.par.context))) j
+          let at : slice_get (map (word_in h memory base) (named_from found.par 0 (parameters_at m
+          found.par.context))) j
           ≡ Some (word_in h memory base (Some (pos q.word))) =
           slice_get-map (word_in h memory base) (named_from found.par 0 (parameters_at m found.par.context)) j
           ∙ ap (option_map (word_in h memory base)) (named_at found.par 0 j (parameters_at m found.par.context) q e
@@ -272,11 +274,13 @@ module _ (m : Contents) (p : ℕ) (found : Found) (layout : Layout) (h : Holding
       → first_fault (first_faults m memory h plan found (frame_address base found.branch.workspace)) ≡ None
   first_passes first there left =
       let act : Activation = record { layout = layout; turns = λ k. 0 } in
-      let can = openings_can_start m found act base plan.addresses h memory found.par.depth workspace o first left laid_out
+      let can = openings_can_start m found act base plan.addresses h memory found.par.depth workspace o first left
+      laid_out
       there in
       let share = shares_are_there m found (layout_with layout found.par) plan (after_opening found.par base memory)
       found.par.depth workspace refl can in
-      let size = (opening_takes_its_words m found.row found.par layout base h memory found.par.depth workspace o).size in
+      let size = (opening_takes_its_words m found.row found.par layout base h memory found.par.depth workspace o).size
+      in
       four_pass (ends_are_there plan found.branch)
       (share_is_there (length memory) plan (frame_address base found.branch.workspace) found.branch
       && words_are_held h plan) (words_are_defined memory plan)

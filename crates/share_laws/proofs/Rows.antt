@@ -93,7 +93,8 @@ module _ (m : Contents) (found : Found) (keeps : Keeps m) (is : IsBranch m found
 
   pub workspace_fits : FitsSigned w32 found.branch.workspace
   workspace_fits = each_at (λ (b : Branch). FitsSigned w32 b.workspace) found.par.branches found.branch
-      (each_at (λ (row : Par). AllByRecursion (λ (b : Branch). FitsSigned w32 b.workspace) row.branches) m.pars found.par
+      (each_at (λ (row : Par). AllByRecursion (λ (b : Branch). FitsSigned w32 b.workspace) row.branches) m.pars
+      found.par
       (each (ParKeeps (first_branch m) (length m.code)) behind_par
       (λ (row : Par). AllByRecursion (λ (b : Branch). FitsSigned w32 b.workspace) row.branches)
       (λ before row h. each (BranchKeeps (length m.code)) behind_branch (λ (b : Branch). FitsSigned w32 b.workspace)
@@ -138,7 +139,8 @@ module _ (m : Contents) (found : Found) (keeps : Keeps m) (is : IsBranch m found
           j)) numbers → is_listed numbers j ≡ true → IsTrue (names is_region (parameters_at m found.par.context) j)
       listed_at [] all h = absurd (cc)
       listed_at (k ∷ ks) all h = elim (or_true (k == j) _ h) [
-        | inl here ↦ subst (λ n. IsTrue (names is_region (parameters_at m found.par.context) n)) (eqb-true k j here) all.0
+        | inl here ↦ subst (λ n. IsTrue (names is_region (parameters_at m found.par.context) n)) (eqb-true k j here)
+            all.0
         | inr later ↦ listed_at ks all.1 later
       ]
 

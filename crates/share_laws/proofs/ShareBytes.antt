@@ -108,7 +108,8 @@ module _ (m : Contents) (found : Found) (layout : Layout) (base : ℕ) (addresse
       on : (kind : EndKind) → e.kind ≡ kind → EndKindKeeps kind → IsTrue (names_end parameters kind)
           → by_kind kind ≡ record { address = channel_address layout kind; direction = e.direction } ∷ []
       on (ends.FrameWord word) kind k f = one _ _ (frame_channel layout base word laid.origin k)
-      on (ends.Parameter number element) kind k f = of_element number element kind (element_found parameters number element f)
+      on (ends.Parameter number element) kind k f = of_element number element kind (element_found parameters number
+          element f)
       on (ends.Link link) kind k f = one _ _ (link_same link k)
 
   -- ---- bytes

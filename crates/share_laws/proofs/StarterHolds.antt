@@ -29,13 +29,15 @@ use Rattle.rulings.specs.Meaning.{Layout, HasFrame, place_in, words_left}
 use Rattle.rulings.specs.Reach as reach
 use Rattle.rulings.specs.Regions.{Scope, scope_left, IsByteOf, IsRegion, IsNamed, HoldsNamed, IsWrittenAt, IsNamedAt}
 use Rattle.rulings.specs.Regions.{HasConstants, channel_address}
-use Rattle.rulings.specs.Remaining.{some_started, is_hidden, word_given_to_write, word_given_to_read, end_given, is_own_end}
+use Rattle.rulings.specs.Remaining.{some_started, is_hidden, word_given_to_write, word_given_to_read, end_given}
+use Rattle.rulings.specs.Remaining.{is_own_end}
 use Rattle.rulings.proofs.Combining.{readable_byte}
 use Rattle.rulings.proofs.Regions.{bytes_read, bytes_written}
 use Rattle.share_laws.specs.Shares.{end_at, share_at}
 use Rattle.share_laws.specs.Starts.{CanStart, held_by_starter, StartersHoldTheRest}
 use Rattle.share_laws.proofs.RowEnds.{end_listed, listed_among}
-use Rattle.share_laws.proofs.LeftBytes.{is_false, not_true, was_false, word_of_bytes, word_to_read, less_written, less_read, less_inside}
+use Rattle.share_laws.proofs.LeftBytes.{is_false, not_true, was_false, word_of_bytes, word_to_read, less_written}
+use Rattle.share_laws.proofs.LeftBytes.{less_read, less_inside}
 use Rattle.share_laws.proofs.LeftBytes.{left_readable, region_to_read, share, of_words, to_write_left, to_read_left}
 use Rattle.share_laws.proofs.LeftBytes.{listed_word, written_held, HasByte, written_by_number, read_by_number}
 use Rattle.share_laws.proofs.LeftParameters.{one_more, Remains, still_written, still_read, nothing_left, still_channels}
@@ -277,7 +279,8 @@ module _ (m : Contents) (found : Found) (layout : Layout) (base : ℕ) (addresse
       let a = kept m found layout s.is j p here in
       let b = kept m found layout s.is k q there in
       s.named.apart j k a.theirs b.theirs a.found_there b.found_there differ place
-      (remains_written (layout.starts j) place a.remains written) (remains_named (layout.starts k) place b.remains named)
+      (remains_written (layout.starts j) place a.remains written) (remains_named (layout.starts k) place b.remains
+      named)
 
   -- ---- constants
 

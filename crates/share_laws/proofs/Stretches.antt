@@ -95,8 +95,11 @@ module _ (base : ℕ) (origin : ℤ) (at : pos base ≡ pos data_start +ℤ orig
   words_found [] place proper h = absurd (cc)
   words_found (i ∷ is) place proper h = elim (or_true (stretches_over (words_of base i) place) _ h) [
     | inl here ↦
-        let w = word_found i.lo i.hi place proper.0 here in
-        (w.0, or_left _ _ (both_true (int_le i.lo w.0) (int_lt w.0 i.hi) (le-yes i.lo w.0 w.1) (lt-yes w.0 i.hi w.2)), w.3)
+        let w = word_found i.lo i.hi place proper.0 here in (
+          w.0,
+          or_left _ _ (both_true (int_le i.lo w.0) (int_lt w.0 i.hi) (le-yes i.lo w.0 w.1) (lt-yes w.0 i.hi w.2)),
+          w.3,
+        )
     | inr there ↦
         let w = words_found is place proper.1 there in
         (w.0, or_right (int_le i.lo w.0 && int_lt w.0 i.hi) _ w.1, w.2)

@@ -26,7 +26,8 @@ use Rattle.rulings.proofs.Regions.{keeps_all, keeps_more, write_keeps}
 use Rattle.rulings.proofs.Words.{local_place, word_elsewhere}
 use Rattle.share_laws.specs.Opening.{CanOpen}
 use Rattle.share_laws.specs.Starts.{CanStart}
-use Rattle.share_laws.specs.Taking.{IsScheduling, after_start, after_opening, StartTakes, StartsTakeTheirWords, OpeningTakes}
+use Rattle.share_laws.specs.Taking.{IsScheduling, after_start, after_opening, StartTakes, StartsTakeTheirWords}
+use Rattle.share_laws.specs.Taking.{OpeningTakes}
 use Rattle.share_laws.specs.Taking.{OpeningsTakeTheirWords}
 use Rattle.share_laws.proofs.BranchHolds.{branches_hold_their_shares}
 use Rattle.share_laws.proofs.HiddenWords.{hidden_place, second_place, block_hides, next_hides, channel_hides}
@@ -122,7 +123,8 @@ module _ (m : Contents) (found : Found) (layout : Layout) (base : ℕ) (addresse
           (IsScheduling found)) here (scheduled 2 (omega arith) (omega (arith, ints)))
       each a (inr (inr (inr never))) = absurd never
 
-  pub takes_its_words : StartTakes m found layout base addresses h memory (after_start found base memory) depth workspace
+  pub takes_its_words : StartTakes m found layout base addresses h memory (after_start found base memory) depth
+      workspace
   takes_its_words =
       let size : length (after_start found base memory) ≡ length memory = start_takes.keeps.size in
       record {

@@ -74,7 +74,8 @@ pub data LeadsUp (m : Contents) (memory : Memory) (own : ℕ → Holding) (began
     is_branch : (p : ℕ) → IsRung m memory (own q) (own p) (waits_in q) (began p)
         → LeadsUp m memory own began waits_in q p
     is_under : (p o : ℕ) → IsRung m memory (own o) (own p) (waits_in o) (began p)
-        → ((new : Memory) → regions.Keeps m (own o) (waits_in o) memory new → regions.Keeps m (own o) (began o) memory new)
+        → ((new : Memory) → regions.Keeps m (own o) (waits_in o) memory new → regions.Keeps m (own o) (began o) memory
+        new)
         → LeadsUp m memory own began waits_in q o → LeadsUp m memory own began waits_in q p
 
 -- the branch of q that a process is, or is under, by whose scope all changes are allowed

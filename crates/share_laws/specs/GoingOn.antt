@@ -1,4 +1,5 @@
--- What holds after a start: of the starter in the state in which it goes on, and of the branch in that in which it begins.
+-- What holds after a start: of the starter in the state in which it goes on, and of the branch in that in which it
+-- begins.
 use Rattle.std.specs.Prelude.{◌≡◌, ℕ, ◌+◌, ℤ, true, List, length, Option}
 use Rattle.module_format.specs.Stack.{of_empty}
 use Rattle.module_format.specs.Contents.{Contents}

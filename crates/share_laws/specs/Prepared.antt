@@ -42,7 +42,8 @@ PlansAreLaidOut = (m : Contents) (p : ℕ) (found : Found) (layout : Layout) (h 
     → IsPrepared m found.par layout memory
     → IsLaidOut m found.par (layout_with layout found.par) plan.base plan.addresses
 
--- The first start of a PAR passes the tests of starts: its words are prepared, and the share of the first branch is left.
+-- The first start of a PAR passes the tests of starts: its words are prepared, and the share of the first branch is
+-- left.
 abbrev pub FirstStartsPass : Type 0
 FirstStartsPass = (m : Contents) (p : ℕ) (found : Found) (layout : Layout) (h : Holding) (memory : Memory)
     (workspace : ℕ) → let plan = first_plan m p workspace h memory found in

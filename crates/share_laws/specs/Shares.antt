@@ -1,5 +1,6 @@
 -- What a branch of a PAR is given, by the words, regions and ends that its row names.
-use Rattle.std.specs.Prelude.{◌≡◌, ℕ, ◌+◌, ◌%◌, ◌^◌, ◌≤◌, ◌<◌, ℤ, pos, ◌+ℤ◌, true, List, length, map, Option, Some, slice_get}
+use Rattle.std.specs.Prelude.{◌≡◌, ℕ, ◌+◌, ◌%◌, ◌^◌, ◌≤◌, ◌<◌, ℤ, pos, ◌+ℤ◌, true, List, length, map, Option, Some}
+use Rattle.std.specs.Prelude.{slice_get}
 use Rattle.module_format.specs.declared.rows.Parameter.{Parameter}
 use Rattle.module_format.specs.declared.rows.Interval.{Interval}
 use Rattle.module_format.specs.declared.rows.EndRow.{EndRow}
@@ -48,9 +49,11 @@ end_at layout e = record { address = channel_address layout e.kind; direction = 
 -- a share has the bytes of the words and regions that the row names, and the ends
 pub record IsOfWords (m : Contents) (found : Found) (layout : Layout) (share : Share) : Type 0 where
   pub written : (place : ℕ) → writes_place share place ≡ true
-      → IsListedByte (parameters_at m found.par.context) layout found.branch.writes found.branch.written_parameters place
+      → IsListedByte (parameters_at m found.par.context) layout found.branch.writes found.branch.written_parameters
+      place
   pub writes : (place : ℕ)
-      → IsListedByte (parameters_at m found.par.context) layout found.branch.writes found.branch.written_parameters place
+      → IsListedByte (parameters_at m found.par.context) layout found.branch.writes found.branch.written_parameters
+      place
       → writes_place share place ≡ true
   pub read : (place : ℕ) → reads_place share place ≡ true
       → IsListedByte (parameters_at m found.par.context) layout found.branch.reads found.branch.read_parameters place

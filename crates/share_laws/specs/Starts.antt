@@ -37,8 +37,8 @@ pub record IsLeftToRead (m : Contents) (par : Par) (started j : ℕ) : Type 0 wh
   pub may : may_read_parameter m par.context j ≡ true
   pub written : parameter_given_to_write par started j ≡ false
 
--- What a branch's row gives it is left, once the branches before it are started: what it is to write is to write, what it
--- is to read may be read, and its ends are there. The words that scheduling takes below its workspace are its own.
+-- What a branch's row gives it is left, once the branches before it are started: what it is to write is to write, what
+-- it is to read may be read, and its ends are there. The words that scheduling takes below its workspace are its own.
 pub record IsLeft (m : Contents) (found : Found) : Type 0 where
   pub writes : (k : ℤ) → is_among found.branch.writes k ≡ true
       → (words_left m found.par found.par.context found.number).writes k ≡ true

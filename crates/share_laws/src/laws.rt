@@ -38,8 +38,8 @@ pub fn openers_hold_the_rest()
     ensures { OpenersHoldTheRest }
 {}
 
-/// Whatever a module that keeps the format does, no end that a process has for good is one of a channel in a word that it
-/// may write: whoever has opened the channel keeps its word.
+/// Whatever a module that keeps the format does, no end that a process has for good is one of a channel in a word that
+/// it may write: whoever has opened the channel keeps its word.
 pub fn ends_lie_outside()
     ensures { EndsLieOutside }
 {}
@@ -57,8 +57,8 @@ pub fn shares_are_there()
     ensures { SharesAreThere }
 {}
 
-/// Where the words of a PAR are prepared, and the share of the next branch is left, none of the tests of its start fails.
-/// The plan of the first start has the frame and the parameters where the starter's layout says.
+/// Where the words of a PAR are prepared, and the share of the next branch is left, none of the tests of its start
+/// fails. The plan of the first start has the frame and the parameters where the starter's layout says.
 pub fn starts_pass_their_tests()
     ensures first { FirstStartsPass }
     ensures later { LaterStartsPass }
@@ -79,8 +79,8 @@ pub fn starters_go_on()
     ensures opened { OpeningsCanStart }
 {}
 
-/// After a start the branch is where it begins, in a state that knows of its words what was so before, and nothing of its
-/// registers and of the three words below its workspace: it has its frame, and holds what its context names.
+/// After a start the branch is where it begins, in a state that knows of its words what was so before, and nothing of
+/// its registers and of the three words below its workspace: it has its frame, and holds what its context names.
 pub fn branches_begin()
     ensures { BranchesBegin }
 {}
