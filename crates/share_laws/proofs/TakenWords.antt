@@ -18,22 +18,24 @@ use Rattle.machine_state.specs.StartPlans.{scheduling_addresses, block_addresses
 use Rattle.machine_state.proofs.Reading.{length-with_word}
 use Rattle.machine_state.proofs.SpanLaws.{or_right}
 use Rattle.states.proofs.RowFacts.{and-parts}
-use Rattle.rulings.specs.Meaning.{Layout, IsOwnWord, words_left, frame_word}
+use Rattle.rulings.specs.Meaning.{Layout, IsOwnWord, HasFrame, words_in, words_left, frame_word}
 use Rattle.rulings.specs.Regions.{Scope, Keeps, scope_of, scope_left}
 use Rattle.rulings.specs.Remaining.{is_hidden, word_given_to_write}
 use Rattle.rulings.proofs.Combining.{same_frame, written_readable}
 use Rattle.rulings.proofs.Regions.{keeps_all, keeps_more, write_keeps}
-use Rattle.rulings.proofs.Words.{local_place, word_elsewhere}
+use Rattle.rulings.proofs.Words.{local_place, moved_workspace, word_elsewhere}
 use Rattle.share_laws.specs.Opening.{CanOpen}
-use Rattle.share_laws.specs.Starts.{CanStart}
+use Rattle.share_laws.specs.Shares.{IsBranch}
+use Rattle.share_laws.specs.Starts.{CanStart, IsLeft}
 use Rattle.share_laws.specs.Taking.{IsScheduling, after_start, after_opening, StartTakes, StartsTakeTheirWords}
-use Rattle.share_laws.specs.Taking.{OpeningTakes}
+use Rattle.share_laws.specs.Taking.{OpeningTakes, OpeningsTakeTheirWords, StartsKeepOpeners}
 use Rattle.share_laws.specs.Taking.{OpeningsTakeTheirWords}
 use Rattle.share_laws.proofs.BranchHolds.{branches_hold_their_shares}
 use Rattle.share_laws.proofs.HiddenWords.{hidden_place, second_place, block_hides, next_hides, channel_hides}
 use Rattle.share_laws.proofs.HiddenWords.{channel_is_word, fits_words, hidden_word}
 use Rattle.share_laws.proofs.LeftBytes.{left_readable, was_false}
 use Rattle.share_laws.proofs.LeftParameters.{one_more}
+use Rattle.share_laws.proofs.Rows.{workspace_fits}
 
 -- the word at an address is one of the frame that a scope may write, and of some kind
 pub record IsTaken (h : Holding) (scope : Scope) (size : ℕ) (is_such : ℤ → Type 0) (a : ℕ) : Type 0 where
@@ -224,6 +226,7 @@ module _ (m : Contents) (row : ℕ) (par : Par) (layout : Layout) (base : ℕ) (
           free = o.free;
         };
         size = size;
+        keeps = opening_takes.keeps;
         words = λ k t. opening_takes.others k (λ hides.
             let a = and-parts (rights.may_read_word m par.context k && not (is_hidden par k)) _ t in
             let shown = was_false (is_hidden par k) (and-parts (rights.may_read_word m par.context k) _ a.0).1 in
@@ -233,3 +236,78 @@ module _ (m : Contents) (row : ℕ) (par : Par) (layout : Layout) (base : ℕ) (
 pub openings_take_their_words : OpeningsTakeTheirWords
 openings_take_their_words m row par layout base h memory depth workspace o =
     opening_takes_its_words m row par layout base h memory depth workspace o
+
+-- ---- the first start, as its opener's scope sees it
+
+module _ (m : Contents) (found : Found) (layout : Layout) (base : ℕ) (h : Holding) (memory : Memory) (depth : ℤ)
+    (workspace : ℕ) (o : CanOpen m found.row found.par layout base h memory depth workspace)
+    (is : IsBranch m found) (left : IsLeft m found) where
+  abbrev opener_scope : Scope
+  opener_scope = scope_of m found.par.context layout
+
+  -- what is left to write is the context's to write
+  writes_of : (k : ℤ) → is_among found.branch.writes k ≡ true
+      → rights.may_write_word m found.par.context k ≡ true
+  writes_of k among =
+      let a = and-parts (rights.may_write_word m found.par.context k && not (is_hidden found.par k)) _
+      (left.writes k among) in
+      (and-parts (rights.may_write_word m found.par.context k) _ a.0).0
+
+  own_scheduling : (n : ℕ) → n < 3
+      → IsOwnWord h (length memory) layout.origin (found.branch.workspace +ℤ negsuc n)
+  own_scheduling n low = o.frame.own (found.branch.workspace +ℤ negsuc n)
+      (writes_of (found.branch.workspace +ℤ negsuc n) (left.scheduling n low))
+
+  -- the frame, as the branch's workspace lies in it
+  deep_frame : HasFrame h (length memory) (words_in m found.par.context) layout.origin found.branch.workspace
+      (frame_address base found.branch.workspace)
+  deep_frame = record {
+    small = o.frame.small;
+    from_start = o.frame.from_start;
+    to_end = o.frame.to_end;
+    own = o.frame.own;
+    readable = o.frame.readable;
+    start =
+        (let w = own_scheduling 0 (omega arith) in
+        let is_word = w.is in
+        let inside = w.inside in
+        let small = o.frame.small in
+        let origin_is = o.origin in
+        let moved = moved_workspace base layout.origin (pos 0) found.branch.workspace
+        (workspace_fits m found o.keeps is) (omega (arith, ints, origin_is)) (omega (arith, ints, is_word))
+        (omega (arith, ints, is_word, inside, small)) in
+        omega (arith, ints, moved));
+  }
+
+  scheduling_taken : (n : ℕ) → n < 3 → FitsSigned w32 (negsuc n)
+      → IsTaken h opener_scope (length memory) (IsScheduling found)
+      (scheduling_word (frame_address base found.branch.workspace) n)
+  scheduling_taken n low fits =
+      let w = own_scheduling n low in
+      record {
+        k = found.branch.workspace +ℤ negsuc n;
+        writes = writes_of (found.branch.workspace +ℤ negsuc n) (left.scheduling n low);
+        word = w;
+        place = local_place deep_frame (negsuc n) fits w.place w.is w.inside;
+        such = record { n = n; low = low; is = refl };
+      }
+
+  opener_takes : Takes m h opener_scope (λ k t. written_readable m found.par.context k t) (IsScheduling found) memory
+      (after_start found base memory)
+  opener_takes = takes_words m h opener_scope (λ k t. written_readable m found.par.context k t) (IsScheduling found)
+      (scheduling_addresses (frame_address base found.branch.workspace)) memory each
+    where
+      each : (a : ℕ) → IsAmong a (scheduling_addresses (frame_address base found.branch.workspace))
+          → IsTaken h opener_scope (length memory) (IsScheduling found) a
+      each a (inl here) = subst (IsTaken h opener_scope (length memory) (IsScheduling found)) here
+          (scheduling_taken 0 (omega arith) (omega (arith, ints)))
+      each a (inr (inl here)) = subst (IsTaken h opener_scope (length memory) (IsScheduling found)) here
+          (scheduling_taken 1 (omega arith) (omega (arith, ints)))
+      each a (inr (inr (inl here))) = subst (IsTaken h opener_scope (length memory) (IsScheduling found)) here
+          (scheduling_taken 2 (omega arith) (omega (arith, ints)))
+      each a (inr (inr (inr never))) = absurd never
+
+pub starts_keep_openers : StartsKeepOpeners
+starts_keep_openers m found layout base h memory depth workspace o is left =
+    let taken = opener_takes m found layout base h memory depth workspace o is left in
+    record { keeps = taken.keeps; others = taken.others }

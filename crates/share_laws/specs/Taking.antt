@@ -9,8 +9,10 @@ use Rattle.machine_state.specs.Joins.{without_words}
 use Rattle.machine_state.specs.Memory.{Memory}
 use Rattle.machine_state.specs.StartPlans.{scheduling_addresses, block_addresses, channel_addresses}
 use Rattle.rulings.specs.Meaning.{Layout, words_left, frame_word}
+use Rattle.rulings.specs.Regions.{scope_of, Keeps}
 use Rattle.share_laws.specs.Opening.{CanOpen}
-use Rattle.share_laws.specs.Starts.{CanStart}
+use Rattle.share_laws.specs.Shares.{IsBranch}
+use Rattle.share_laws.specs.Starts.{CanStart, IsLeft}
 
 -- memory without the words that scheduling takes of a branch
 abbrev pub after_start : Found → ℕ → Memory → Memory
@@ -46,6 +48,7 @@ pub record OpeningTakes (m : Contents) (row : ℕ) (par : Par) (layout : Layout)
     (memory new : Memory) (depth : ℤ) (workspace : ℕ) : Type 0 where
   pub can : CanOpen m row par layout base h new depth workspace
   pub size : length new ≡ length memory
+  pub keeps : Keeps m h (scope_of m par.context layout) memory new
   pub words : (k : ℤ) → (words_left m par par.context 0).reads k ≡ true
       → frame_word new layout.origin k ≡ frame_word memory layout.origin k
 
@@ -53,3 +56,16 @@ abbrev pub OpeningsTakeTheirWords : Type 0
 OpeningsTakeTheirWords = (m : Contents) (row : ℕ) (par : Par) (layout : Layout) (base : ℕ) (h : Holding)
     (memory : Memory) (depth : ℤ) (workspace : ℕ) → CanOpen m row par layout base h memory depth workspace
     → OpeningTakes m row par layout base h memory (after_opening par base memory) depth workspace
+
+-- What its first start takes of a process that has opened a PAR: it keeps what the scope of its context has, and all
+-- words but the three below the branch's workspace.
+pub record OpenerKeeps (m : Contents) (found : Found) (layout : Layout) (h : Holding)
+    (memory new : Memory) : Type 0 where
+  pub keeps : Keeps m h (scope_of m found.par.context layout) memory new
+  pub others : (k : ℤ) → (IsScheduling found k → ⊥)
+      → frame_word new layout.origin k ≡ frame_word memory layout.origin k
+
+abbrev pub StartsKeepOpeners : Type 0
+StartsKeepOpeners = (m : Contents) (found : Found) (layout : Layout) (base : ℕ) (h : Holding) (memory : Memory)
+    (depth : ℤ) (workspace : ℕ) → CanOpen m found.row found.par layout base h memory depth workspace
+    → IsBranch m found → IsLeft m found → OpenerKeeps m found layout h memory (after_start found base memory)

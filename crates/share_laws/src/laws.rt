@@ -7,7 +7,7 @@ ghost use Rattle.share_laws.specs.Opening.{EndsLieOutside, OpenersHoldTheRest};
 ghost use Rattle.share_laws.specs.Prepared.{FirstStartsPass, LaterStartsPass, PlansAreLaidOut};
 ghost use Rattle.share_laws.specs.Shares.{SharesAreWords};
 ghost use Rattle.share_laws.specs.Starts.{BranchesHoldTheirShares, StartersHoldTheRest};
-ghost use Rattle.share_laws.specs.Taking.{OpeningsTakeTheirWords, StartsTakeTheirWords};
+ghost use Rattle.share_laws.specs.Taking.{OpeningsTakeTheirWords, StartsKeepOpeners, StartsTakeTheirWords};
 ghost use Rattle.share_laws.specs.Tests.{BranchesAreApart, SharesAreThere};
 
 /// The base of a join is the address of its opener's frame word 0, which lies in memory.
@@ -45,10 +45,12 @@ pub fn ends_lie_outside()
 {}
 
 /// A start leaves undefined only words that are the branch's to write, and a first start besides those of the block and
-/// the channels. What the starter's scope has left is held still, and each other word that is left has its value.
+/// the channels. What the starter's scope has left is held still, and each other word that is left has its value. So of
+/// the context in which a PAR was opened: the first start keeps what its scope has.
 pub fn starts_take_their_words()
     ensures starts { StartsTakeTheirWords }
     ensures openings { OpeningsTakeTheirWords }
+    ensures openers { StartsKeepOpeners }
 {}
 
 /// A share that is left passes the tests of a start: its ends are there, each once, its bytes are held, and the words
