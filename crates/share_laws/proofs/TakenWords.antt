@@ -12,7 +12,8 @@ use Rattle.machine_state.specs.BranchShares.{frame_address}
 use Rattle.machine_state.specs.Holding.{Holding}
 use Rattle.machine_state.specs.JoinLookups.{Found}
 use Rattle.machine_state.specs.Joins.{without_words}
-use Rattle.machine_state.specs.Memory.{Memory, place_of, with_word, scheduling_word}
+use Rattle.module_format.specs.Keeping as formats
+use Rattle.machine_state.specs.Memory.{Memory, data_start, place_of, with_word, scheduling_word}
 use Rattle.machine_state.specs.Ownership.{IsAmong}
 use Rattle.machine_state.specs.StartPlans.{scheduling_addresses, block_addresses, channel_addresses}
 use Rattle.machine_state.proofs.Reading.{length-with_word}
@@ -237,11 +238,12 @@ pub openings_take_their_words : OpeningsTakeTheirWords
 openings_take_their_words m row par layout base h memory depth workspace o =
     opening_takes_its_words m row par layout base h memory depth workspace o
 
--- ---- the first start, as its opener's scope sees it
+-- ---- a start, as its opener's scope sees it
 
 module _ (m : Contents) (found : Found) (layout : Layout) (base : ℕ) (h : Holding) (memory : Memory) (depth : ℤ)
-    (workspace : ℕ) (o : CanOpen m found.row found.par layout base h memory depth workspace)
-    (is : IsBranch m found) (left : IsLeft m found) where
+    (workspace : ℕ) (keeps : formats.Keeps m) (is : IsBranch m found) (left : IsLeft m found)
+    (origin : pos base ≡ pos data_start +ℤ layout.origin)
+    (frame : HasFrame h (length memory) (words_in m found.par.context) layout.origin depth workspace) where
   abbrev opener_scope : Scope
   opener_scope = scope_of m found.par.context layout
 
@@ -255,26 +257,25 @@ module _ (m : Contents) (found : Found) (layout : Layout) (base : ℕ) (h : Hold
 
   own_scheduling : (n : ℕ) → n < 3
       → IsOwnWord h (length memory) layout.origin (found.branch.workspace +ℤ negsuc n)
-  own_scheduling n low = o.frame.own (found.branch.workspace +ℤ negsuc n)
+  own_scheduling n low = frame.own (found.branch.workspace +ℤ negsuc n)
       (writes_of (found.branch.workspace +ℤ negsuc n) (left.scheduling n low))
 
   -- the frame, as the branch's workspace lies in it
   deep_frame : HasFrame h (length memory) (words_in m found.par.context) layout.origin found.branch.workspace
       (frame_address base found.branch.workspace)
   deep_frame = record {
-    small = o.frame.small;
-    from_start = o.frame.from_start;
-    to_end = o.frame.to_end;
-    own = o.frame.own;
-    readable = o.frame.readable;
+    small = frame.small;
+    from_start = frame.from_start;
+    to_end = frame.to_end;
+    own = frame.own;
+    readable = frame.readable;
     start =
         (let w = own_scheduling 0 (omega arith) in
         let is_word = w.is in
         let inside = w.inside in
-        let small = o.frame.small in
-        let origin_is = o.origin in
+        let small = frame.small in
         let moved = moved_workspace base layout.origin (pos 0) found.branch.workspace
-        (workspace_fits m found o.keeps is) (omega (arith, ints, origin_is)) (omega (arith, ints, is_word))
+        (workspace_fits m found keeps is) (omega (arith, ints, origin)) (omega (arith, ints, is_word))
         (omega (arith, ints, is_word, inside, small)) in
         omega (arith, ints, moved));
   }
@@ -308,6 +309,6 @@ module _ (m : Contents) (found : Found) (layout : Layout) (base : ℕ) (h : Hold
       each a (inr (inr (inr never))) = absurd never
 
 pub starts_keep_openers : StartsKeepOpeners
-starts_keep_openers m found layout base h memory depth workspace o is left =
-    let taken = opener_takes m found layout base h memory depth workspace o is left in
+starts_keep_openers m found layout base h memory depth workspace keeps is left origin frame =
+    let taken = opener_takes m found layout base h memory depth workspace keeps is left origin frame in
     record { keeps = taken.keeps; others = taken.others }

@@ -1,14 +1,15 @@
 -- A start takes the words that scheduling wants below the new workspace, and a first start those of the block and the
 -- channels: they are undefined from then on. What else is known of the starter's words stands.
-use Rattle.std.specs.Prelude.{◌≡◌, ℕ, ◌+◌, ◌<◌, ℤ, negsuc, ◌+ℤ◌, true, List, ◌++◌, length, Option}
+use Rattle.std.specs.Prelude.{◌≡◌, ℕ, ◌+◌, ◌<◌, ℤ, pos, negsuc, ◌+ℤ◌, true, List, ◌++◌, length, Option}
 use Rattle.module_format.specs.Contents.{Contents, Par}
+use Rattle.module_format.specs.Keeping as formats
 use Rattle.machine_state.specs.BranchShares.{frame_address}
 use Rattle.machine_state.specs.Holding.{Holding}
 use Rattle.machine_state.specs.JoinLookups.{Found}
 use Rattle.machine_state.specs.Joins.{without_words}
-use Rattle.machine_state.specs.Memory.{Memory}
+use Rattle.machine_state.specs.Memory.{Memory, data_start}
 use Rattle.machine_state.specs.StartPlans.{scheduling_addresses, block_addresses, channel_addresses}
-use Rattle.rulings.specs.Meaning.{Layout, words_left, frame_word}
+use Rattle.rulings.specs.Meaning.{Layout, HasFrame, words_in, words_left, frame_word}
 use Rattle.rulings.specs.Regions.{scope_of, Keeps}
 use Rattle.share_laws.specs.Opening.{CanOpen}
 use Rattle.share_laws.specs.Shares.{IsBranch}
@@ -57,8 +58,8 @@ OpeningsTakeTheirWords = (m : Contents) (row : ℕ) (par : Par) (layout : Layout
     (memory : Memory) (depth : ℤ) (workspace : ℕ) → CanOpen m row par layout base h memory depth workspace
     → OpeningTakes m row par layout base h memory (after_opening par base memory) depth workspace
 
--- What its first start takes of a process that has opened a PAR: it keeps what the scope of its context has, and all
--- words but the three below the branch's workspace.
+-- What a start takes of a process that has opened a PAR, of all that this has for good: it keeps what the scope of its
+-- context has, and all words but the three below the branch's workspace.
 pub record OpenerKeeps (m : Contents) (found : Found) (layout : Layout) (h : Holding)
     (memory new : Memory) : Type 0 where
   pub keeps : Keeps m h (scope_of m found.par.context layout) memory new
@@ -67,5 +68,7 @@ pub record OpenerKeeps (m : Contents) (found : Found) (layout : Layout) (h : Hol
 
 abbrev pub StartsKeepOpeners : Type 0
 StartsKeepOpeners = (m : Contents) (found : Found) (layout : Layout) (base : ℕ) (h : Holding) (memory : Memory)
-    (depth : ℤ) (workspace : ℕ) → CanOpen m found.row found.par layout base h memory depth workspace
-    → IsBranch m found → IsLeft m found → OpenerKeeps m found layout h memory (after_start found base memory)
+    (depth : ℤ) (workspace : ℕ) → formats.Keeps m → IsBranch m found → IsLeft m found
+    → pos base ≡ pos data_start +ℤ layout.origin
+    → HasFrame h (length memory) (words_in m found.par.context) layout.origin depth workspace
+    → OpenerKeeps m found layout h memory (after_start found base memory)

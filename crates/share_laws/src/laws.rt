@@ -46,7 +46,7 @@ pub fn ends_lie_outside()
 
 /// A start leaves undefined only words that are the branch's to write, and a first start besides those of the block and
 /// the channels. What the starter's scope has left is held still, and each other word that is left has its value. So of
-/// the context in which a PAR was opened: the first start keeps what its scope has.
+/// the context in which a PAR was opened: each start keeps what its scope has.
 pub fn starts_take_their_words()
     ensures starts { StartsTakeTheirWords }
     ensures openings { OpeningsTakeTheirWords }
