@@ -1,7 +1,6 @@
 -- A frame lies in the first bytes of memory, so the address of its word 0 is none that goes round.
-use Rattle.std.proofs.Common.{◌≡◌, ℕ, ◌+◌, ◌-◌, ◌%◌, ℤ, pos, negsuc, ◌+ℤ◌, ◌≤ℤ◌}
-use Rattle.std.proofs.Common.{FitsSigned, cond, inl, inr, length, Option, Some, None, refl, sym, ap, ◌∙◌}
-use Rattle.std.proofs.Common.{subst, arith}
+use Rattle.std.proofs.Common.{◌≡◌, ℕ, ◌+◌, ◌-◌, ◌%◌, ℤ, pos, negsuc, ◌+ℤ◌, ◌≤ℤ◌, FitsSigned, cond, inl, inr, length}
+use Rattle.std.proofs.Common.{Option, Some, None, refl, sym, ap, ◌∙◌, subst, arith}
 use Rattle.std.proofs.lemmas.Bool.{cases_Bool}
 use Rattle.std.proofs.lemmas.Int.{ints}
 use Rattle.std.specs.Int.{w32, cast_unsigned}
@@ -24,9 +23,11 @@ record IsAround (lo hi : ℤ) : Type 0 where
   low : lo ≤ℤ pos 0
   high : pos 0 ≤ℤ hi
 
+-- so of the root's frame
 root_around : (m : Contents) → Keeps m → IsAround (root_context m).lo (root_context m).hi
 root_around m k = let base = k.sizes.base in record { low = omega (arith, ints); high = omega (arith, ints, base) }
 
+-- of a procedure's
 procedure_around : (m : Contents) → Keeps m → (n : ℕ) (o : Option Procedure) → slice_get m.procedures n ≡ o
     → (context : Context) → option_map procedure_context o ≡ Some context → IsAround context.lo context.hi
 procedure_around m k n None is context h = absurd (cc)
@@ -37,6 +38,7 @@ procedure_around m k n (Some p) is context h =
     let hi = row.hi_low in
     subst (λ (c : Context). IsAround c.lo c.hi) same (record { low = lo; high = omega (arith, ints, hi) })
 
+-- of those that have a frame of their own
 own_around : (m : Contents) → Keeps m → (n : ℕ) (context : Context) → own_context m n ≡ Some context
     → IsAround context.lo context.hi
 own_around m k n context h = elim (cases_Bool (n == 0)) [
@@ -52,6 +54,7 @@ own_around m k n context h = elim (cases_Bool (n == 0)) [
       (slice_get m.procedures (n - 1)))) e) ∙ h)
 ]
 
+-- of each context
 context_around : (m : Contents) → Keeps m → (n : ℕ) (context : Context) → context_at m n ≡ Some context
     → IsAround context.lo context.hi
 unfolding context_at
@@ -64,6 +67,7 @@ context_around m k n context h = elim (cases_Bool (nat_lt n (1 + length m.proced
       absurd (cc)
 ]
 
+-- also where there is no such context
 frame_around : (m : Contents) → Keeps m → (n : ℕ) → IsAround (frame_lo m n) (frame_hi m n)
 frame_around m k n = on (context_at m n) refl
   where
@@ -78,6 +82,7 @@ record LiesLow (origin : ℤ) : Type 0 where
   low : pos 0 ≤ℤ origin
   high : origin ≤ℤ pos 1048576
 
+-- a frame that lies in memory has its word 0 there, or right behind it
 lies_low : (m : Contents) (n : ℕ) (h : Holding) (size : ℕ) (origin depth : ℤ) (workspace : ℕ) → Keeps m
     → HasFrame h size (words_in m n) origin depth workspace → LiesLow origin
 lies_low m n h size origin depth workspace k frame =
@@ -89,16 +94,19 @@ lies_low m n h size origin depth workspace k frame =
     let small = frame.small in
     record { low = omega (arith, ints, lo, from); high = omega (arith, ints, hi, to, small) }
 
+-- the base is found from the workspace without going round
 base_of : (workspace : ℕ) (origin depth : ℤ) → FitsSigned w32 depth → pos 0 ≤ℤ origin → origin ≤ℤ pos 1048576
     → pos workspace ≡ pos data_start +ℤ place_in origin depth
     → pos (frame_base workspace depth) ≡ pos data_start +ℤ origin
 base_of workspace origin depth fits low high at = omega (arith, ints, fits, low, high, at)
 
+-- the base that a first start finds is where the frame lies
 pub bases_are_frames : BasesAreFrames
 bases_are_frames m context h size origin depth workspace keeps fits frame =
     let lies = lies_low m context h size origin depth workspace keeps frame in
     base_of workspace origin depth fits lies.low lies.high frame.start
 
+-- an address that low is the word that it is
 as_word : (origin : ℤ) (base : ℕ) → pos 0 ≤ℤ origin → origin ≤ℤ pos 1048576
     → base ≡ cast_unsigned w32 (word_of (pos data_start +ℤ place_in origin (pos 0)))
     → pos base ≡ pos data_start +ℤ origin
@@ -109,6 +117,7 @@ as_word (pos n) base low high is =
     is ∙ ap (λ (z : ℤ). cast_unsigned w32 (word_of z)) sum ∙ address_of_word (data_start + n) in
     omega (arith, ints, word, high)
 
+-- and a join's base, as a word, is there
 pub frames_are_bases : FramesAreBases
 frames_are_bases m context h size origin depth workspace base keeps frame is =
     let lies = lies_low m context h size origin depth workspace keeps frame in

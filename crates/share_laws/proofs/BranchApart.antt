@@ -8,6 +8,7 @@ use Rattle.share_laws.specs.Starts.{held_by_branch, held_by_starter}
 use Rattle.share_laws.specs.Tests.{BranchesAreApart}
 use Rattle.share_laws.proofs.ShareIsThere.{writes_are_there, reads_are_there, ends_held}
 
+-- whatever the branch claims was taken from the starter, or is a constant
 pub branches_are_apart : BranchesAreApart
 branches_are_apart m found layout base addresses h memory depth workspace s = is_apart
     (held_by_branch m found base addresses (length memory)) (held_by_starter m found base addresses h (length memory))

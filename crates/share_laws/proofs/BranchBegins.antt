@@ -1,6 +1,6 @@
 -- After a start what is known of the branch's words holds, and it holds what its context names.
-use Rattle.std.proofs.Common.{◌≡◌, ◌⊎◌, inl, inr, ℕ, zero, suc, ◌<◌, ℤ, negsuc, ◌+ℤ◌, true, List}
-use Rattle.std.proofs.Common.{length, Option, refl, sym, ap, ◌∙◌, subst, arith}
+use Rattle.std.proofs.Common.{◌≡◌, ◌⊎◌, inl, inr, ℕ, zero, suc, ◌<◌, ℤ, negsuc, ◌+ℤ◌, true, List, length, Option, refl}
+use Rattle.std.proofs.Common.{sym, ap, ◌∙◌, subst, arith}
 use Rattle.module_format.specs.declared.stack.Stack.{Stack}
 use Rattle.module_format.specs.Stack.{AreRelated}
 use Rattle.module_format.specs.Contents.{Contents}
@@ -59,9 +59,11 @@ module _ (m : Contents) (found : Found) (act : Activation) (base : ℕ) (address
   abbrev mine : Holding
   mine = held_by_branch m found base addresses (length memory)
 
+  -- what the start takes
   taken : StartTakes m found act.layout base addresses h memory (after_start found base memory) depth workspace
   taken = takes_its_words m found act.layout base addresses h memory depth workspace can
 
+  -- what the branch holds then
   holds : BranchHolds m found act.layout base
       (held_by_branch m found base addresses (length (after_start found base memory)))
       (after_start found base memory)
@@ -76,10 +78,12 @@ module _ (m : Contents) (found : Found) (act : Activation) (base : ℕ) (address
     | inr other ↦ means_same (begins.words k t other) refl (sym (taken.others k other))
   ]
 
+  -- in plain mode the state's scope is its context's
   scope_is : scope_in m s act.layout ≡ scope_of m (context_of m found) act.layout
   scope_is = ap (λ (c : ℕ). scope_among m c s.mode act.layout) begins.context
       ∙ ap (λ (mode : modes.Mode). scope_among m (context_of m found) mode act.layout) begins.mode
 
+  -- all that is known, over that scope
   in_scope : Described m mine machine.Plain act s l (scope_of m (context_of m found) act.layout)
   in_scope = record {
     frame = subst (λ (z : ℤ). HasFrame mine (length l.memory) (words_in m (context_of m found)) act.layout.origin z
@@ -103,9 +107,11 @@ module _ (m : Contents) (found : Found) (act : Activation) (base : ℕ) (address
     same_mode = subst (λ (x : modes.Mode). SameMode x machine.Plain) (sym begins.mode) both_plain;
   }
 
+  -- and so over the state's
   branch_begins : After m mine machine.Plain act s l
   branch_begins = subst (λ (x : Scope). Described m mine machine.Plain act s l x) (sym scope_is) in_scope
 
+-- the branch of a start is where it begins
 pub branches_begin : BranchesBegin
 branches_begin m found act base addresses h memory depth workspace s l can begins memory_is at =
     branch_begins m found act base addresses h memory depth workspace s l can begins memory_is at

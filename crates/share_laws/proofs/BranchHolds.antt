@@ -1,7 +1,6 @@
 -- A branch that is started has its frame, and holds what its context names.
 use Rattle.std.proofs.Common.{◌≡◌, ℕ, ◌+◌, ◌-◌, ◌<◌, ◌≤◌, ◌&&◌, ◌||◌, not, Bool, true, false, ◌⊎◌, inl, inr, ℤ, pos}
-use Rattle.std.proofs.Common.{◌+ℤ◌, ◌≤ℤ◌, negsuc, List, length, Option, Some, None, refl, sym, ap, ◌∙◌}
-use Rattle.std.proofs.Common.{subst, arith}
+use Rattle.std.proofs.Common.{◌+ℤ◌, ◌≤ℤ◌, negsuc, List, length, Option, Some, None, refl, sym, ap, ◌∙◌, subst, arith}
 use Rattle.std.proofs.lemmas.Bool.{cases_lt, lt-ltb, ltb-true}
 use Rattle.std.proofs.lemmas.Int.{ints}
 use Rattle.std.specs.Prelude.{slice_get, nat_lt}
@@ -34,8 +33,7 @@ use Rattle.states.proofs.RowFacts.{and-parts}
 use Rattle.rulings.specs.Channels.{message_length}
 use Rattle.rulings.specs.Lends.{IsRegionKind}
 use Rattle.rulings.specs.Meaning.{Layout, HasFrame, IsOwnWord, IsReadableWord, place_in, words_in, frame_lo, frame_hi}
-use Rattle.rulings.specs.Regions.{Scope, scope_of, scope_left, IsByteOf, IsRegion, IsNamed, HoldsNamed, IsWrittenAt}
-use Rattle.rulings.specs.Regions.{IsNamedAt}
+use Rattle.rulings.specs.Regions.{Scope, scope_of, scope_left, IsRegion, IsNamed, HoldsNamed, IsWrittenAt, IsNamedAt}
 use Rattle.rulings.specs.Regions.{HasConstants, channel_address, length_left}
 use Rattle.rulings.proofs.Combining.{readable_byte, readable}
 use Rattle.rulings.proofs.Words.{moved_workspace}
@@ -43,9 +41,9 @@ use Rattle.share_laws.specs.Shares.{of_word, of_region, end_at}
 use Rattle.share_laws.specs.Starts.{CanStart, held_by_branch, BranchesHoldTheirShares}
 use Rattle.share_laws.proofs.Rows.{has_context, workspace_fits}
 use Rattle.share_laws.proofs.RowEnds.{ends_of_branch}
-use Rattle.share_laws.proofs.LeftBytes.{word_of_bytes, word_to_read, given_written, given_constant, given_read}
-use Rattle.share_laws.proofs.LeftBytes.{region_to_read, share, of_words, branch_word_left, taken_by}
-use Rattle.share_laws.proofs.LeftBytes.{written_held, read_held}
+use Rattle.share_laws.proofs.LeftBytes.{byte_of, word_of_bytes, word_to_read, given_written, given_constant, given_read}
+use Rattle.share_laws.proofs.LeftBytes.{region_to_read, share, of_words, branch_word_left, taken_by, written_held}
+use Rattle.share_laws.proofs.LeftBytes.{read_held}
 use Rattle.share_laws.proofs.LeftParameters.{Takes, takes_to_write, takes_to_read, takes_nothing, takes_channels}
 
 -- what is written of a parameter, and what is named, is that of the starter's
@@ -61,6 +59,7 @@ takes_written start place (takes_nothing lo hi mine) at =
 takes_written start place (takes_channels count len ends mine theirs) at =
     absurd (subst (λ (k : ParameterKind). IsWrittenAt k start place) mine at)
 
+-- a byte of a region is one of what its parameter names
 named_region : (theirs : ParameterKind) (size start place : ℕ) (lo hi : ℤ) → IsRegionKind theirs size lo hi
     → (place_of start ≤ place) × (place < place_of start + size) → IsNamedAt theirs start place
 named_region theirs size start place lo hi (inl is) at =
@@ -68,6 +67,7 @@ named_region theirs size start place lo hi (inl is) at =
 named_region theirs size start place lo hi (inr is) at =
     subst (λ (k : ParameterKind). IsNamedAt k start place) (sym is) at
 
+-- and what is named of it
 takes_named : {m : Contents} {found : Found} {j : ℕ} {mine theirs : ParameterKind} (start place : ℕ)
     → Takes m found j mine theirs → IsNamedAt mine start place → IsNamedAt theirs start place
 takes_named {theirs = theirs} start place (takes_to_write raw size lo hi here long listed mine is) at =
@@ -98,11 +98,13 @@ module _ (m : Contents) (found : Found) (layout : Layout) (base : ℕ) (addresse
   abbrev size : ℕ
   size = length memory
 
+  -- the branch's context
   stands : IsContextOf m found
   stands = has_context m found s.keeps s.is
 
   -- ---- words
 
+  -- a word that the branch may write is one that its row gives it to write
   is_written : (k : ℤ) → rights.may_write_word m (context_of m found) k ≡ true → is_among found.branch.writes k ≡ true
   is_written k t =
       sym (ap (λ (o : Option (Par × Branch)). elim o as (λ o. Bool) [
@@ -110,6 +112,7 @@ module _ (m : Contents) (found : Found) (layout : Layout) (base : ℕ) (addresse
         | Some found ↦ is_among found.1.writes k
       ]) stands.numbered) ∙ (and-parts _ _ t).1
 
+  -- one that it may read is given it to write or to read
   is_read : (k : ℤ) → rights.may_read_word m (context_of m found) k ≡ true
       → (is_among found.branch.writes k ≡ true) ⊎ (is_among found.branch.reads k ≡ true)
   is_read k t = or_true (is_among found.branch.writes k) (is_among found.branch.reads k)
@@ -125,10 +128,7 @@ module _ (m : Contents) (found : Found) (layout : Layout) (base : ℕ) (addresse
     | inr r ↦ s.left.reads k r
   ]
 
-  byte_of : (k : ℤ) (place i : ℕ) → pos place ≡ place_in layout.origin k → i < 4
-      → IsByteOf layout.origin k (place + i)
-  byte_of k place i is low = record { low = omega (arith, ints, is); high = omega (arith, ints, is, low) }
-
+  -- a word that is given to write is the branch's own
   own_word : (k : ℤ) → is_among found.branch.writes k ≡ true → IsOwnWord mine size layout.origin k
   own_word k among =
       let w = s.frame.own k (s.left.writes k among) in
@@ -139,9 +139,10 @@ module _ (m : Contents) (found : Found) (layout : Layout) (base : ℕ) (addresse
         mine = word_of_bytes mine w.place (λ i low. given_written m size gift (w.place + i)
             (let inside = w.inside in omega arith)
             ((of_words m found layout base addresses h memory depth workspace s).writes (w.place + i)
-            (of_word k among (byte_of k w.place i w.is low))));
+            (of_word k among (byte_of layout.origin k w.place i w.is low))));
       }
 
+  -- one that is given to read may be read
   readable_word : (k : ℤ) → is_among found.branch.reads k ≡ true → IsReadableWord mine size layout.origin k
   readable_word k among =
       let w = s.frame.readable k (s.left.reads k among) in
@@ -152,9 +153,10 @@ module _ (m : Contents) (found : Found) (layout : Layout) (base : ℕ) (addresse
         readable = word_to_read mine w.place (λ i low. given_read m size gift (w.place + i)
             (let inside = w.inside in omega arith)
             ((of_words m found layout base addresses h memory depth workspace s).reads (w.place + i)
-            (of_word k among (byte_of k w.place i w.is low))));
+            (of_word k among (byte_of layout.origin k w.place i w.is low))));
       }
 
+  -- the branch has its frame
   branch_frame : HasFrame mine (length memory) (words_in m (context_of m found)) layout.origin found.branch.workspace
       (frame_address base found.branch.workspace)
   branch_frame = record {
@@ -195,6 +197,7 @@ module _ (m : Contents) (found : Found) (layout : Layout) (base : ℕ) (addresse
 
   -- ---- what parameters name
 
+  -- it holds what each parameter names, as its row lists it
   branch_each : (j : ℕ) (p : Parameter) → (scope_of m (context_of m found) layout).parameters j ≡ Some p
       → IsNamed m mine (scope_of m (context_of m found) layout) memory p.kind (layout.starts j)
   branch_each j p there =
@@ -247,6 +250,7 @@ module _ (m : Contents) (found : Found) (layout : Layout) (base : ℕ) (addresse
           IsNamed m mine (scope_of m (context_of m found) layout) memory k (layout.starts j)) (sym kind)
           (subst (λ (k : ParameterKind). IsNamed m h left_scope memory k (layout.starts j)) is named)
 
+  -- what it writes of one parameter is none of another's
   branch_apart : (j k : ℕ) (p q : Parameter) → (scope_of m (context_of m found) layout).parameters j ≡ Some p
       → (scope_of m (context_of m found) layout).parameters k ≡ Some q → (j ≡ k → ⊥) → (place : ℕ)
       → IsWrittenAt p.kind (layout.starts j) place → IsNamedAt q.kind (layout.starts k) place → ⊥
@@ -263,6 +267,7 @@ module _ (m : Contents) (found : Found) (layout : Layout) (base : ℕ) (addresse
   was_written x own = written_held m found layout base addresses h memory depth workspace s x
       (runs_tell (writes_place gift) 0 (length memory) x own).passes
 
+  -- what it may read its starter could read
   was_read : (x : ℕ) → may_read mine x ≡ true → may_read h x ≡ true
   was_read x own = elim (or_true (may_write mine x) _ own) [
     | inl w ↦ readable_byte h x (was_written x w)
@@ -291,6 +296,7 @@ module _ (m : Contents) (found : Found) (layout : Layout) (base : ℕ) (addresse
             (s.named.constants.readable (x - constants_start m) (omega (arith, from, high)))
       ]
 
+  -- it has the constants
   branch_constants : HasConstants m mine memory
   branch_constants = record {
     readable = λ i less. given_constant m (length memory) gift (constants_start m + i)
@@ -301,6 +307,7 @@ module _ (m : Contents) (found : Found) (layout : Layout) (base : ℕ) (addresse
 
   -- ---- ends
 
+  -- an end of its context is one that its row lists
   listed : (kind : EndKind) (direction : Direction)
       → rights.has_end m (context_of m found) (record { kind = kind; direction = direction }) ≡ true
       → IsAmong (record { kind = kind; direction = direction }) found.branch.ends
@@ -314,6 +321,7 @@ module _ (m : Contents) (found : Found) (layout : Layout) (base : ℕ) (addresse
   was_left kind direction t =
       s.left.ends (record { kind = kind; direction = direction }) (listed kind direction t)
 
+  -- it holds the ends of its context
   branch_ends : (kind : EndKind) (direction : Direction)
       → rights.has_end m (context_of m found) (record { kind = kind; direction = direction }) ≡ true
       → has_end mine (record { address = channel_address layout kind; direction = direction }) ≡ true
@@ -323,6 +331,7 @@ module _ (m : Contents) (found : Found) (layout : Layout) (base : ℕ) (addresse
       (mapped_among (end_at layout) found.branch.ends (record { kind = kind; direction = direction })
       (listed kind direction t)))
 
+  -- messages are as long as its starter knew
   same_length : (kind : EndKind)
       → message_length m (context_of m found) kind ≡ length_left m found.par found.par.context kind
   same_length (ends.FrameWord word) =
@@ -342,6 +351,7 @@ module _ (m : Contents) (found : Found) (layout : Layout) (base : ℕ) (addresse
     | Some p ↦ elim p.kind [ Channels count len ends ↦ Some len | _ ↦ None ]
   ]) stands.parameters
 
+  -- so it holds what its context names
   branch_named : HoldsNamed m mine (scope_of m (context_of m found) layout) memory
   branch_named = record {
     each = branch_each;
@@ -356,6 +366,7 @@ module _ (m : Contents) (found : Found) (layout : Layout) (base : ℕ) (addresse
         same;
   }
 
+-- the frame and all that its context names, in memory
 pub branches_hold_their_shares : BranchesHoldTheirShares
 branches_hold_their_shares m found layout base addresses h memory depth workspace s = record {
   frame = branch_frame m found layout base addresses h memory depth workspace s;

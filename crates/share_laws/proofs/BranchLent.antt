@@ -1,6 +1,6 @@
 -- What a branch has its opener has lent it.
-use Rattle.std.proofs.Common.{◌≡◌, ℕ, ◌+◌, ◌*◌, ◌/◌, ◌&&◌, ◌||◌, not, Bool, true, false, inl, inr, ℤ, pos, ◌+ℤ◌}
-use Rattle.std.proofs.Common.{Option, Some, None, refl, sym, ap, ◌∙◌, subst, arith, eqb-true}
+use Rattle.std.proofs.Common.{◌≡◌, ℕ, ◌+◌, ◌*◌, ◌/◌, ◌&&◌, ◌||◌, not, Bool, true, false, inl, inr, ℤ, pos, ◌+ℤ◌, Option}
+use Rattle.std.proofs.Common.{Some, None, refl, sym, ap, ◌∙◌, subst, arith, eqb-true}
 use Rattle.std.proofs.lemmas.Int.{ints}
 use Rattle.std.specs.Prelude.{slice_get, option_map, IsTrue, ◌%◌}
 use Rattle.module_format.specs.declared.rows.Parameter.{Parameter}
@@ -30,8 +30,7 @@ use Rattle.share_laws.specs.Shares.{IsBranch}
 use Rattle.share_laws.specs.Starts.{IsLeft}
 use Rattle.share_laws.specs.Climbing.{LieAlike, IsLentBy, BranchesAreLent}
 use Rattle.share_laws.proofs.LeftParameters.{left_by, Takes, takes_to_write, takes_to_read, takes_nothing}
-use Rattle.share_laws.proofs.LeftParameters.{takes_channels}
-use Rattle.share_laws.proofs.LeftParameters.{taken}
+use Rattle.share_laws.proofs.LeftParameters.{takes_channels, taken}
 use Rattle.share_laws.proofs.Rows.{has_context}
 
 -- ---- what is left of a kind was there
@@ -77,6 +76,7 @@ left_was_written false false kind size lo hi is = is
 quarter : (size : ℕ) → IsTrue (is_multiple_of_four size) → size ≡ 4 * (size / 4)
 quarter size whole = let none : size % 4 ≡ 0 = eqb-true (size % 4) 0 whole in omega (arith, none)
 
+-- of a kind that names a region, or none
 whole_kind : (version : Version) (kind : ParameterKind) (size : ℕ) → KindKeeps version kind → region_size kind ≡ size
     → size ≡ 4 * (size / 4)
 whole_kind version (Value lo hi) size keeps is = omega (arith, is)
@@ -94,11 +94,13 @@ module _ (m : Contents) (found : Found) (layout other : Layout) (keeps : Keeps m
   abbrev branch : Scope
   branch = scope_of m (context_of m found) other
 
+  -- the branch's context
   stands : IsContextOf m found
   stands = has_context m found keeps is
 
   -- ---- words
 
+  -- a word that the branch may write its opener may write
   writes : (k : ℤ) → rights.may_write_word m (context_of m found) k ≡ true
       → rights.may_write_word m found.par.context k ≡ true
   writes k t =
@@ -110,6 +112,7 @@ module _ (m : Contents) (found : Found) (layout other : Layout) (keeps : Keeps m
       (left.writes k among) in
       (and-parts (rights.may_write_word m found.par.context k) _ a.0).0
 
+  -- one that it may read its opener may read
   reads : (k : ℤ) → rights.may_read_word m (context_of m found) k ≡ true
       → rights.may_read_word m found.par.context k ≡ true
   reads k t = elim (or_true (is_among found.branch.writes k) (is_among found.branch.reads k)
@@ -135,6 +138,7 @@ module _ (m : Contents) (found : Found) (layout other : Layout) (keeps : Keeps m
     there : opener.parameters j ≡ Some q
     takes : Takes m found j mine.kind (kind_left found.par found.number j q.kind)
 
+  -- each parameter of the branch is one of its opener's
   has_of : (j : ℕ) (p : Parameter) → branch.parameters j ≡ Some p → HasOf j p
   has_of j p there =
       let t = taken m found layout stands.numbered stands.parameters left j p there in
@@ -153,6 +157,7 @@ module _ (m : Contents) (found : Found) (layout other : Layout) (keeps : Keeps m
             takes = subst (λ (x : Parameter). Takes m found j p.kind x.kind) (sym same) takes;
           }
 
+  -- what it names is all that the opener's names, or less may be done with it
   part_of : (j : ℕ) (p : Parameter) → branch.parameters j ≡ Some p
       → Part m opener branch (pos 0) p.kind (other.starts j)
   part_of j p there = let has = has_of j p there in on has has.takes
@@ -234,5 +239,6 @@ module _ (m : Contents) (found : Found) (layout other : Layout) (keeps : Keeps m
       written_region has size lo hi kind (takes_channels count len ends mine theirs) =
           let same : Channels count len ends ≡ WrittenRegion size lo hi = sym mine ∙ kind in absurd (cc)
 
+-- what the branch has is lent it
 pub branches_are_lent : BranchesAreLent
 branches_are_lent m found layout other keeps is left alike = is_lent m found layout other keeps is left alike

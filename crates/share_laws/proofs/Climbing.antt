@@ -11,14 +11,14 @@ use Rattle.machine_state.specs.World.{constants_start}
 use Rattle.machine_state.proofs.Reading.{word_at_same}
 use Rattle.rulings.specs.Lends.{IsRegionKind, IsPart, of_frame, of_constants, of_parameter, PartOf, Lends}
 use Rattle.rulings.specs.Meaning.{frame_word, word_at_place, place_in}
-use Rattle.rulings.specs.Regions.{Scope, IsByteOf, IsRegion, IsNamed, HoldsNamed, IsWrittenAt}
-use Rattle.rulings.specs.Regions.{MayChange, in_frame, in_region, Keeps}
+use Rattle.rulings.specs.Regions.{Scope, IsByteOf, IsRegion, IsNamed, HoldsNamed, IsWrittenAt, MayChange, in_frame}
+use Rattle.rulings.specs.Regions.{in_region, Keeps}
 use Rattle.rulings.proofs.Combining.{readable_byte}
 use Rattle.rulings.proofs.Lending.{byte_index, same_word, run_byte, lift_change, lift_named, frame_byte}
 use Rattle.rulings.proofs.Regions.{byte_of_own, bytes_read}
 use Rattle.rulings.proofs.Words.{bool_cases}
-use Rattle.share_laws.specs.Climbing.{ChangesWithin, IsRung, ChangesClimb, OtherWordsStay, is_branch}
-use Rattle.share_laws.specs.Climbing.{is_under, ChangesAreByABranch}
+use Rattle.share_laws.specs.Climbing.{ChangesWithin, IsRung, ChangesClimb, OtherWordsStay, is_branch, is_under}
+use Rattle.share_laws.specs.Climbing.{ChangesAreByABranch}
 
 -- a byte of a word that may be read may be read
 byte_to_read : (h : Holding) (origin k : ℤ) (place word : ℕ) → pos word ≡ place_in origin k
@@ -33,6 +33,7 @@ byte_to_read h origin k place word is each b =
 
 module _ (m : Contents) (theirs mine : Holding) (opener branch : Scope) (old new : Memory)
     (rung : IsRung m old theirs mine opener branch) (within : ChangesWithin m mine branch old new) where
+  -- what the opener has lent
   lends : Lends m opener branch (pos 0)
   lends = rung.lent.lends
 
@@ -69,6 +70,7 @@ module _ (m : Contents) (theirs mine : Holding) (opener branch : Scope) (old new
   abbrev endless : Scope
   endless = record branch { ends = λ kind direction. false }
 
+  -- the same parts are lent it without its ends
   lent_parts : Lends m opener endless (pos 0)
   lent_parts = record {
     origin = lends.origin;
@@ -148,6 +150,7 @@ module _ (m : Contents) (theirs mine : Holding) (opener branch : Scope) (old new
       (let e : place_of (opener.layout.starts q) + (4 * n + i) ≡ place + i = omega (arith, is) in e)
       (named.held (4 * n + i) (omega (arith, low, fits)))
 
+  -- what a parameter of the branch names the opener holds, with what is there now
   named_by_opener : (kind : ParameterKind) (start region : ℕ) (first : ℤ) (count : ℕ)
       → PartOf m opener branch (pos 0) kind start region first count → IsNamed m mine branch new kind start
       → IsNamed m theirs endless new kind start
@@ -172,6 +175,7 @@ module _ (m : Contents) (theirs mine : Holding) (opener branch : Scope) (old new
       }
   named_by_opener (Channels count' len ends) start region first count is named = named
 
+  -- so of all its parameters, with the constants and bytes that the opener may read
   held_by_opener : HoldsNamed m theirs endless new
   held_by_opener = record {
     each = λ j p there. let x = lends.parts j p there in
@@ -195,6 +199,7 @@ module _ (m : Contents) (theirs mine : Holding) (opener branch : Scope) (old new
     differ = λ a b direction t u same. absurd (cc);
   }
 
+  -- of the bytes that the opener may read only what the branch may change has changed
   keeps_endless : Keeps m theirs endless old new
   keeps_endless = record {
     size = within.keeps.size;
@@ -206,6 +211,7 @@ module _ (m : Contents) (theirs mine : Holding) (opener branch : Scope) (old new
       without_ends (in_frame k t b) = in_frame k t b
       without_ends (in_region j p there at) = in_region j p there at
 
+  -- so the opener's scope allows the change
   climbs : ChangesWithin m theirs opener old new
   climbs = record {
     own = record {
@@ -262,6 +268,7 @@ module _ (m : Contents) (theirs mine : Holding) (opener branch : Scope) (old new
               (subst (λ (n : ℕ). IsByteOf opener.layout.origin k n)
               (x.1 ∙ ap (λ (n : ℕ). n + x.0) start) b)
 
+  -- nor has the word
   stays : (k : ℤ) → opener.words.reads k ≡ true → branch.words.writes k ≡ false
       → frame_word new opener.layout.origin k ≡ frame_word old opener.layout.origin k
   stays k counts free =
@@ -284,14 +291,17 @@ module _ (m : Contents) (theirs mine : Holding) (opener branch : Scope) (old new
       (byte 1 (omega arith)) (byte 2 (omega arith)) (byte 3 (omega arith))
       ∙ ap (word_at_place old) w.is
 
+-- a change climbs one rung
 pub changes_climb : ChangesClimb
 changes_climb m theirs mine opener branch old new rung within =
     climbs m theirs mine opener branch old new rung within
 
+-- and leaves the words that the branch has not to write
 pub other_words_stay : OtherWordsStay
 other_words_stay m theirs mine opener branch old new rung within k counts free =
     stays m theirs mine opener branch old new rung within k counts free
 
+-- rung by rung to the branch of the one above
 pub changes_are_by_a_branch : ChangesAreByABranch
 changes_are_by_a_branch m old new own began waits_in q p (is_branch b rung) within =
     record { branch = b; rung = rung; within = within }

@@ -23,6 +23,7 @@ is_outside m roles channels t p e held mine = elim (t.ends p e held) [
       (written_is_read (own_in roles p) (place_of e.address) mine) (in_channel lent.0.owned)
 ]
 
+-- so in each world
 pub ends_lie_outside : EndsLieOutside
 ends_lie_outside m es p keeps = is_outside m (world_after m es).roles (world_after m es).channels
     (holders_are_in_order m es keeps) p

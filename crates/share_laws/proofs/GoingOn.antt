@@ -53,6 +53,7 @@ means_with par {f = CodeAddress offset} (is_code_address is) = is_code_address i
 means_with par {f = Loop base count weight} means = elim means [ ]
 means_with par {f = ReturnAddress} (is_return_address is) = is_return_address is
 
+-- nor does what is known of a word
 word_with : {m : Contents} {act : Activation} (found : Found) {k : ℤ} {f : WordFact} {v : Option ℤ}
     → MeansWord m act k f v → MeansWord m (act_with act found) k f v
 word_with found {f = Alone fact} (is_fact means) = is_fact (means_with found.par means)
@@ -80,6 +81,7 @@ module _ (m : Contents) (found : Found) (act : Activation) (h : Holding) (memory
         | Some par ↦ scope_left m par found.par.context (found.number + 1) act.layout
       ]) row
 
+  -- all that is known, over what is left
   in_left : Described m h machine.Starting act s l
       (scope_left m found.par found.par.context (found.number + 1) act.layout)
   in_left = record {
@@ -98,6 +100,7 @@ module _ (m : Contents) (found : Found) (act : Activation) (h : Holding) (memory
     same_mode = subst (λ (x : modes.Mode). SameMode x machine.Starting) (sym mode) both_starting;
   }
 
+  -- and so over the state's scope
   among_starts : After m h machine.Starting act s l
   among_starts = subst (λ (x : Scope). Described m h machine.Starting act s l x) (sym scope_is) in_left
 
@@ -139,10 +142,12 @@ goes_on m found act base addresses h memory n depth workspace s l long can says 
     after = starters_hold_the_rest m found act.layout base addresses h (after_start found base memory) depth workspace
         taken.can
 
+-- after a later start
 pub starters_go_on : StartersGoOn
 starters_go_on m found act base addresses h memory depth workspace s l can says memory_is at =
     goes_on m found act base addresses h memory (length memory) depth workspace s l refl can says memory_is at
 
+-- after the first one, where the opening came before
 pub openers_go_on : OpenersGoOn
 openers_go_on m found act base addresses h memory depth workspace s l opens first can says memory_is at =
     goes_on m found (act_with act found) base addresses (held_by_opener found.par base (length memory) h)
@@ -166,6 +171,7 @@ openers_go_on m found act base addresses h memory depth workspace s l opens firs
         let a = and-parts (rights.may_read_word m found.par.context k && not (is_hidden found.par k)) _ t in
         both_true _ _ a.0 (not_true _ (none_started found.par (λ b. is_among b.writes k)))
 
+-- what the opening leaves can start the first branch
 pub openings_can_start : OpeningsCanStart
 openings_can_start m found act base addresses h memory depth workspace opens first left laid is =
     let opened = opening_takes_its_words m found.row found.par act.layout base h memory depth workspace opens in

@@ -1,7 +1,6 @@
 -- The words of a PAR's block and channels, which no branch has, by their places and addresses.
-use Rattle.std.proofs.Common.{◌≡◌, ℕ, ◌+◌, ◌||◌, true, false, inl, inr, ℤ, pos, ◌+ℤ◌}
-use Rattle.std.proofs.Common.{FitsSigned, List, [], ◌∷◌, length, map, refl, sym}
-use Rattle.std.proofs.Common.{ap, ◌∙◌, subst, arith}
+use Rattle.std.proofs.Common.{◌≡◌, ℕ, ◌+◌, ◌||◌, true, false, inl, inr, ℤ, pos, ◌+ℤ◌, FitsSigned, List, [], ◌∷◌, length}
+use Rattle.std.proofs.Common.{map, refl, sym, ap, ◌∙◌, subst, arith}
 use Rattle.std.proofs.lemmas.Int.{ints}
 use Rattle.std.specs.Int.{w32}
 use Rattle.std.specs.Prelude.{int_le}
@@ -35,6 +34,7 @@ use Rattle.share_laws.proofs.LeftBytes.{is_false}
 use Rattle.share_laws.proofs.Rows.{among_at, each_at}
 use Rattle.share_laws.proofs.ShareBytes.{frame_channel}
 
+-- a word is the one that it is
 pub is_itself : (k : ℤ) → is_word k k ≡ true
 is_itself k = elim (word_test k k) [ inl t ↦ t.0 | inr t ↦ absurd (t.1 refl) ]
 
@@ -43,6 +43,7 @@ pub record RowFitsWords (par : Par) : Type 0 where
   pub block : FitsSigned w32 par.block
   pub channels : (c : ChannelRow) → IsAmong c par.channels → FitsSigned w32 c.word
 
+-- the words of channels that rise fit
 channels_fit : (low : ℤ) (cs : List ChannelRow) (c : ChannelRow) → InOrder ChannelKeeps behind_channel low cs
     → IsAmong c cs → FitsSigned w32 c.word
 channels_fit low [] c keeps among = absurd among
@@ -52,6 +53,7 @@ channels_fit low (x ∷ cs) c keeps (inr there) = channels_fit (x.word +ℤ pos 
 
 module _ (m : Contents) (row : ℕ) (par : Par) (layout : Layout) (base : ℕ) (h : Holding) (memory : Memory)
     (depth : ℤ) (workspace : ℕ) (o : CanOpen m row par layout base h memory depth workspace) where
+  -- the format says so of each row
   pub fits_words : RowFitsWords par
   fits_words = each_at RowFitsWords m.pars par
       (each (ParKeeps (first_branch m) (length m.code)) behind_par RowFitsWords
@@ -60,6 +62,7 @@ module _ (m : Contents) (row : ℕ) (par : Par) (layout : Layout) (base : ℕ) (
         channels = λ c among. channels_fit least_word row.channels c h.channels among;
       }) no_branches m.pars o.keeps.rows.pars) (among_at m.pars row par o.is)
 
+  -- the frame, as a process has it whose workspace is word 0
   pub base_frame : HasFrame h (length memory) (words_in m par.context) layout.origin (pos 0) base
   base_frame = record {
     small = o.frame.small;
@@ -70,6 +73,7 @@ module _ (m : Contents) (row : ℕ) (par : Par) (layout : Layout) (base : ℕ) (
     start = (let at = o.origin in omega (arith, ints, at));
   }
 
+  -- a hidden word is the starter's own
   pub hidden_word : (k : ℤ) → is_hidden par k ≡ true → IsOwnWord h (length memory) layout.origin k
   hidden_word k hides = o.frame.own k (o.own k hides)
 
@@ -80,18 +84,22 @@ module _ (m : Contents) (row : ℕ) (par : Par) (layout : Layout) (base : ℕ) (
       let w = hidden_word k hides in
       local_place base_frame k fits w.place (let is = w.is in omega (arith, ints, is)) w.inside
 
+  -- the first word of the block is hidden
   pub block_hides : is_hidden par par.block ≡ true
   block_hides = or_left _ (is_channel_word par par.block) (or_left _ (is_word (par.block +ℤ pos 1) par.block)
       (is_itself par.block))
 
+  -- so is the second
   pub next_hides : is_hidden par (par.block +ℤ pos 1) ≡ true
   next_hides = or_left _ (is_channel_word par (par.block +ℤ pos 1))
       (or_right (is_word par.block (par.block +ℤ pos 1)) _ (is_itself (par.block +ℤ pos 1)))
 
+  -- the word of a channel in the row is a channel's
   pub channel_is_word : (c : ChannelRow) → IsAmong c par.channels → is_channel_word par c.word ≡ true
   channel_is_word c among = any_among (λ (x : ChannelRow). is_word x.word c.word) par.channels c among (is_itself
       c.word)
 
+  -- and is hidden
   pub channel_hides : (k : ℤ) → is_channel_word par k ≡ true → is_hidden par k ≡ true
   channel_hides k is = or_right (is_word par.block k || is_word (par.block +ℤ pos 1) k) _ is
 
@@ -112,6 +120,7 @@ module _ (m : Contents) (row : ℕ) (par : Par) (layout : Layout) (base : ℕ) (
       let high = le-from (pos (x + 1)) (pos (place_of a) +ℤ pos 4) both.1 in
       (k, hides, record { low = omega (arith, ints, low, at, is); high = omega (arith, ints, high, at, is) })
 
+  -- the block's second word lies at the place of its address
   pub second_place : place_of (frame_address (frame_address base par.block) (pos 1))
       ≡ (hidden_word (par.block +ℤ pos 1) next_hides).place
   second_place =
@@ -126,6 +135,7 @@ module _ (m : Contents) (row : ℕ) (par : Par) (layout : Layout) (base : ℕ) (
       next ∙ (let e : place_of (frame_address base par.block) + 4 ≡ v.place = omega (arith, ints, first, is, there) in
       e)
 
+  -- a byte of the stretches of channels is one of a channel's word
   channel_byte : (cs : List ChannelRow) (x : ℕ) → ((c : ChannelRow) → IsAmong c cs → IsAmong c par.channels)
       → list_any (λ s. stretches_over s x) (map stretch (map (λ (c : ChannelRow). frame_address base c.word) cs)) ≡ true
       → (k : ℤ) × (is_hidden par k ≡ true) × IsByteOf layout.origin k x
@@ -154,6 +164,7 @@ module _ (m : Contents) (row : ℕ) (par : Par) (layout : Layout) (base : ℕ) (
 
   -- ---- addresses of channels
 
+  -- the word of a channel fits
   pub channel_fits : (k : ℤ) → is_channel_word par k ≡ true → FitsSigned w32 k
   channel_fits k is = on par.channels (λ c among. fits_words.channels c among) is
     where
@@ -168,6 +179,7 @@ module _ (m : Contents) (row : ℕ) (par : Par) (layout : Layout) (base : ℕ) (
         | inr there ↦ on cs (λ c among. all c (inr among)) there
       ]
 
+  -- it has the address that it has in the layout
   pub channel_at : (k : ℤ) → is_channel_word par k ≡ true
       → frame_address base k ≡ channel_address layout (FrameWord k)
   channel_at k is = frame_channel layout base k o.origin (channel_fits k is)

@@ -1,6 +1,6 @@
 -- The bytes of a share are held by the starter, and lie beside what the starter keeps.
-use Rattle.std.proofs.Common.{◌≡◌, ℕ, ◌+◌, ◌-◌, ◌<◌, ◌≤◌, ◌&&◌, ◌||◌, not, Bool, true, false, inl}
-use Rattle.std.proofs.Common.{inr, ℤ, List, length, Option, Some, refl, sym, ap, ◌∙◌, subst, arith}
+use Rattle.std.proofs.Common.{pos, ◌≡◌, ℕ, ◌+◌, ◌-◌, ◌<◌, ◌≤◌, ◌&&◌, ◌||◌, not, Bool, true, false, inl, inr, ℤ, List}
+use Rattle.std.proofs.Common.{length, Option, Some, refl, sym, ap, ◌∙◌, subst, arith}
 use Rattle.std.proofs.lemmas.Bool.{cases_eq, lt-ltb, le-ltb}
 use Rattle.std.proofs.lemmas.Int.{ints}
 use Rattle.std.specs.Prelude.{slice_get, nat_lt}
@@ -23,7 +23,7 @@ use Rattle.machine_state.specs.World.{constants_start}
 use Rattle.machine_state.proofs.SpanLaws.{both_true, or_true, or_left, or_right, runs_have, runs_tell}
 use Rattle.states.proofs.RowFacts.{and-parts}
 use Rattle.rulings.specs.Lends.{IsRegionKind}
-use Rattle.rulings.specs.Meaning.{Layout, words_left}
+use Rattle.rulings.specs.Meaning.{place_in, Layout, words_left}
 use Rattle.rulings.specs.Reach.{is_listed}
 use Rattle.rulings.specs.Regions.{Scope, scope_of, scope_left, IsByteOf, IsRegion, IsNamed, IsWrittenAt, IsNamedAt}
 use Rattle.rulings.specs.Remaining.{is_hidden, word_given_to_write, word_given_to_read}
@@ -34,22 +34,34 @@ use Rattle.share_laws.specs.Shares.{IsListedByte, of_word, of_region, share_at, 
 use Rattle.share_laws.specs.Starts.{CanStart}
 use Rattle.share_laws.proofs.Rows.{has_context, read_is_region}
 use Rattle.share_laws.proofs.ShareBytes.{share_is_of_words}
-use Rattle.share_laws.proofs.LeftParameters.{Taken}
-use Rattle.share_laws.proofs.LeftParameters.{taken, IsRegionLeft, written_left, read_left}
+use Rattle.share_laws.proofs.LeftParameters.{Taken, taken, IsRegionLeft, written_left, read_left}
 
 -- ---- tests
 
+-- a test that cannot hold is false
 pub is_false : (b : Bool) → (b ≡ true → ⊥) → b ≡ false
 is_false true never = absurd (never refl)
 is_false false never = refl
 
+-- what is false is not true
 pub not_true : (b : Bool) → b ≡ false → not b ≡ true
 not_true true h = absurd (cc)
 not_true false h = refl
 
+-- and the other way round
 pub was_false : (b : Bool) → not b ≡ true → b ≡ false
 was_false true h = absurd (cc)
 was_false false h = refl
+
+-- two that are false
+pub none_of : (a b : Bool) → a ≡ false → b ≡ false → not (a || b) ≡ true
+none_of true b p q = absurd (cc)
+none_of false true p q = absurd (cc)
+none_of false false p q = refl
+
+-- a byte of a word's four
+pub byte_of : (origin k : ℤ) (place i : ℕ) → pos place ≡ place_in origin k → i < 4 → IsByteOf origin k (place + i)
+byte_of origin k place i is low = record { low = omega (arith, ints, is); high = omega (arith, ints, is, low) }
 
 -- a word each of whose bytes may be written, or read
 pub word_of_bytes : (h : Holding) (place : ℕ) → ((i : ℕ) → i < 4 → may_write h (place + i) ≡ true)
@@ -60,6 +72,7 @@ word_of_bytes h place each =
     both_true _ _ (both_true _ _ (both_true _ _ first (each 1 (omega arith))) (each 2 (omega arith)))
     (each 3 (omega arith))
 
+-- the same of reading
 pub word_to_read : (h : Holding) (place : ℕ) → ((i : ℕ) → i < 4 → may_read h (place + i) ≡ true)
     → may_read_word h place ≡ true
 unfolding may_read_word
@@ -118,6 +131,7 @@ pub given_written : (m : Contents) (n : ℕ) (share : Share) (x : ℕ) → x < n
 given_written m n share x inside w =
     runs_have (writes_place share) 0 n x (record { above = omega arith; below = omega arith; passes = w })
 
+-- a constant may be read
 pub given_constant : (m : Contents) (n : ℕ) (share : Share) (x : ℕ) → x < n → constants_start m ≤ x
     → x < constants_start m + length m.constants → may_read (holding_of m n share) x ≡ true
 given_constant m n share x inside low high = on (writes_place share x) refl
@@ -134,6 +148,7 @@ given_constant m n share x inside low high = on (writes_place share x) refl
               (not_true _ (le-ltb x (constants_start m) low))));
         }))
 
+-- and a place that it has to read
 pub given_read : (m : Contents) (n : ℕ) (share : Share) (x : ℕ) → x < n → reads_place share x ≡ true
     → may_read (holding_of m n share) x ≡ true
 given_read m n share x inside r = on (writes_place share x) refl
@@ -197,9 +212,11 @@ module _ (m : Contents) (found : Found) (layout : Layout) (base : ℕ) (addresse
   abbrev pub n : ℕ
   n = length memory
 
+  -- the branch's share is of words
   pub of_words : IsOfWords m found layout share
   of_words = share_is_of_words m found layout base addresses s.keeps s.is s.laid
 
+  -- a word that the branch is to write counts for its starter
   pub branch_word_left : (k : ℤ) → is_among found.branch.writes k ≡ true → scope.words.reads k ≡ true
   branch_word_left k among = left_readable m found.par found.par.context found.number k (s.left.writes k among)
 
@@ -212,6 +229,7 @@ module _ (m : Contents) (found : Found) (layout : Layout) (base : ℕ) (addresse
 
   -- ---- regions that the row lists
 
+  -- a parameter that names a region, and that the branch is to read, is left as one
   region_of_kind : (j : ℕ) (raw : Parameter) (kind : ParameterKind) → raw.kind ≡ kind → is_region kind ≡ true
       → slice_get (parameters_at m found.par.context) j ≡ Some raw → is_listed found.branch.read_parameters j ≡ true
       → IsRegionLeft m found layout j raw
@@ -222,6 +240,7 @@ module _ (m : Contents) (found : Found) (layout : Layout) (base : ℕ) (addresse
   region_of_kind j raw (WrittenRegion size lo hi) e region there listed =
       read_left m found layout s.left j raw there size lo hi (inr e) (ap region_size e) listed
 
+  -- each that it is to read names one
   read_region : (j : ℕ) (raw : Parameter) → slice_get (parameters_at m found.par.context) j ≡ Some raw
       → is_listed found.branch.read_parameters j ≡ true → IsRegionLeft m found layout j raw
   read_region j raw there listed = region_of_kind j raw raw.kind refl
@@ -240,6 +259,7 @@ module _ (m : Contents) (found : Found) (layout : Layout) (base : ℕ) (addresse
     pub at : place ≡ place_of (layout.starts j) + i
     pub low : i < region.size
 
+  -- a byte of the branch's region is one of its starter's
   in_region_left : (j place : ℕ) (raw : Parameter) → IsRegionLeft m found layout j raw
       → place_of (layout.starts j) ≤ place → place < place_of (layout.starts j) + region_size raw.kind
       → InRegionLeft j raw place
@@ -254,12 +274,14 @@ module _ (m : Contents) (found : Found) (layout : Layout) (base : ℕ) (addresse
     pub regions : (j : ℕ) (raw : Parameter) → is_listed numbers j ≡ true
         → slice_get (parameters_at m found.par.context) j ≡ Some raw → IsRegionLeft m found layout j raw
 
+  -- so is what the branch is to write
   pub to_write_left : AreLeft found.branch.writes found.branch.written_parameters
   to_write_left = record {
     counts = branch_word_left;
     regions = λ j raw listed there. (written_left m found layout s.left j raw there listed).0;
   }
 
+  -- and what it is to read
   pub to_read_left : AreLeft found.branch.reads found.branch.read_parameters
   to_read_left = record {
     counts = λ k among. s.left.reads k among;
@@ -326,11 +348,13 @@ module _ (m : Contents) (found : Found) (layout : Layout) (base : ℕ) (addresse
     pub at : place ≡ place_of (layout.starts j) + i
     pub low : i < size
 
+  -- the region that has the byte
   region_of : (j : ℕ) (q : Parameter) (place : ℕ) (b : HasByte j q place)
       → IsRegion m (may_read h) scope memory (place_of (layout.starts j)) b.size b.lo b.hi
   region_of j q place b = region_to_read m h scope memory q.kind (layout.starts j) b.size b.lo b.hi b.kind
       (s.named.each j q b.found_there)
 
+  -- the byte is one of what its parameter names
   is_named_at : (j : ℕ) (q : Parameter) (place : ℕ) → HasByte j q place → IsNamedAt q.kind (layout.starts j) place
   is_named_at j q place b =
       let at = b.at in

@@ -1,6 +1,6 @@
 -- What becomes of a parameter at a start: what the branch has of it, and what its starter has left.
-use Rattle.std.proofs.Common.{◌≡◌, ℕ, zero, suc, ◌+◌, ◌||◌, Bool, true, false, if◌then◌else◌, inl, inr, ℤ, List}
-use Rattle.std.proofs.Common.{[], ◌∷◌, Option, Some, None, refl, sym, ap, ◌∙◌, subst, arith}
+use Rattle.std.proofs.Common.{◌≡◌, ℕ, zero, suc, ◌+◌, ◌||◌, Bool, true, false, if◌then◌else◌, inl, inr, ℤ, List, []}
+use Rattle.std.proofs.Common.{◌∷◌, Option, Some, None, refl, sym, ap, ◌∙◌, subst, arith}
 use Rattle.std.specs.Prelude.{slice_get, option_map, take}
 use Rattle.std.specs.List.{list_any}
 use Rattle.word_arithmetic.specs.Word.{least_word, greatest_word}
@@ -26,6 +26,7 @@ use Rattle.share_laws.specs.Starts.{IsLeft}
 
 -- ---- one branch more is started
 
+-- one item more is taken: one of those before passes, or this one
 any_taken : {A : Type 0} (test : A → Bool) (xs : List A) (n : ℕ) (x : A) → slice_get xs n ≡ Some x
     → list_any test (take (suc n) xs) ≡ (list_any test (take n xs) || test x)
 any_taken test [] n x h = absurd (cc)
@@ -89,6 +90,7 @@ module _ (found : Found) (j : ℕ) where
   left_to_read kind size lo hi true (inr is) = inl (ap only_read is)
   left_to_read kind size lo hi false is = is
 
+  -- a region is left to write, to read, or not at all
   remains_of_region : (size : ℕ) (lo hi : ℤ) (kind : ParameterKind) (gw gr lw lr : Bool)
       → is_listed found.branch.written_parameters j ≡ lw → is_listed found.branch.read_parameters j ≡ lr
       → IsRegionKind kind size lo hi
@@ -121,6 +123,7 @@ module _ (found : Found) (j : ℕ) where
   same_left false true kind o n = o
   same_left false false kind o n = refl
 
+  -- so of every kind
   remains : (kind : ParameterKind) (gw gr : Bool)
       → Remains found j (left_by (gw || is_listed found.branch.written_parameters j)
       (gr || is_listed found.branch.read_parameters j) kind) (left_by gw gr kind)
@@ -144,6 +147,7 @@ module _ (m : Contents) (found : Found) (layout : Layout) (is : IsBranch m found
     pub found_there : (scope_left m found.par found.par.context found.number layout).parameters j ≡ Some theirs
     pub remains : Remains found j mine.kind theirs.kind
 
+  -- each parameter that is left was there
   pub kept : (j : ℕ) (p : Parameter)
       → (scope_left m found.par found.par.context (found.number + 1) layout).parameters j ≡ Some p → Kept j p
   kept j p there = on (parameter_used m context j) refl there
@@ -277,12 +281,14 @@ module _ (m : Contents) (found : Found) (layout : Layout)
     on_lists (ReadRegion size lo hi) is false false e f = takes_nothing least_word greatest_word (ap not_used is)
     on_lists (WrittenRegion size lo hi) is false false e f = takes_nothing least_word greatest_word (ap not_used is)
 
+  -- a branch may write the parameters that its row lists so
   writes_by : (j : ℕ) → may_write_parameter m (context_of m found) j ≡ is_listed found.branch.written_parameters j
   writes_by j = ap (λ (o : Option (Par × Branch)). elim o as (λ o. Bool) [
     | None ↦ true
     | Some found ↦ is_listed found.1.written_parameters j
   ]) numbered
 
+  -- and read those that it lists
   reads_by : (j : ℕ) → may_read_parameter m (context_of m found) j
       ≡ (is_listed found.branch.written_parameters j || is_listed found.branch.read_parameters j)
   reads_by j = ap (λ (o : Option (Par × Branch)). elim o as (λ o. Bool) [
@@ -290,6 +296,7 @@ module _ (m : Contents) (found : Found) (layout : Layout)
     | Some found ↦ is_listed found.1.written_parameters j || is_listed found.1.read_parameters j
   ]) numbered
 
+  -- each parameter of a branch is left
   pub taken : (j : ℕ) (p : Parameter) → (scope_of m (context_of m found) layout).parameters j ≡ Some p → Taken j p
   taken j p there = on (slice_get (parameters_at m found.par.context) j) refl
       (sym (ap (λ (ps : List Parameter). option_map (λ (p : Parameter). record p {
@@ -345,6 +352,7 @@ module _ (m : Contents) (found : Found) (layout : Layout) (left : IsLeft m found
         (used_by (may_write_parameter m found.par.context j) (may_read_parameter m found.par.context j) raw.kind);
   }
 
+  -- the parameter stands in the scope of what is left
   left_there : (scope_left m found.par found.par.context found.number layout).parameters j ≡ Some left_parameter
   left_there = ap (λ (o : Option Parameter). option_map (λ (p : Parameter).
       record p { kind = kind_left found.par found.number j p.kind })

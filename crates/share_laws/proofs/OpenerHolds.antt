@@ -1,9 +1,8 @@
 -- Before the first start a PAR's starter has all but the block and the channels, of which it has both ends.
-use Rattle.std.proofs.Common.{◌≡◌, ℕ, ◌+◌, ◌<◌, ◌&&◌, ◌||◌, not, Bool, true, false, cond, ◌⊎◌}
-use Rattle.std.proofs.Common.{inl, inr, ℤ, pos, if◌then◌else◌, List, [], ◌∷◌, ◌++◌, length, map, Option}
-use Rattle.std.proofs.Common.{Some, None, refl, sym, ap, ◌∙◌, subst, arith, eqb-true}
+use Rattle.std.proofs.Common.{◌≡◌, ℕ, ◌+◌, ◌<◌, ◌&&◌, ◌||◌, not, Bool, true, false, cond, ◌⊎◌, inl, inr, ℤ}
+use Rattle.std.proofs.Common.{if◌then◌else◌, List, [], ◌∷◌, ◌++◌, length, map, Option, Some, None, refl, sym, ap, ◌∙◌}
+use Rattle.std.proofs.Common.{subst, arith, eqb-true}
 use Rattle.std.proofs.lemmas.Bool.{eq-eqb}
-use Rattle.std.proofs.lemmas.Int.{ints}
 use Rattle.std.specs.Prelude.{option_map, take, ◌==◌, find, int_le}
 use Rattle.std.specs.List.{list_any}
 use Rattle.module_format.specs.declared.rows.ChannelRow.{ChannelRow}
@@ -33,13 +32,12 @@ use Rattle.machine_state.proofs.SpanLaws.{or_true, or_left, or_right}
 use Rattle.states.specs.State.{is_word}
 use Rattle.states.proofs.RowFacts.{and-parts}
 use Rattle.rulings.specs.Channels.{message_length}
-use Rattle.rulings.specs.Meaning.{Layout, HasFrame, place_in, words_left}
+use Rattle.rulings.specs.Meaning.{Layout, HasFrame, words_left}
 use Rattle.rulings.specs.Reach as reach
 use Rattle.rulings.specs.Regions.{Scope, scope_of, scope_left, parameter_used, IsByteOf, IsRegion, IsNamed, HoldsNamed}
 use Rattle.rulings.specs.Regions.{IsWrittenAt, IsNamedAt, HasConstants, channel_address, length_left}
 use Rattle.rulings.specs.Remaining.{some_started, is_hidden, is_channel_word, is_own_end, kind_left}
-use Rattle.rulings.specs.Remaining.{parameter_given_to_write}
-use Rattle.rulings.specs.Remaining.{parameter_given_to_read}
+use Rattle.rulings.specs.Remaining.{parameter_given_to_write, parameter_given_to_read}
 use Rattle.rulings.proofs.Combining.{readable_byte, written_readable}
 use Rattle.rulings.proofs.Lending.{same_word, number_means}
 use Rattle.rulings.proofs.Regions.{bytes_read, bytes_written, byte_of_own}
@@ -47,13 +45,14 @@ use Rattle.rulings.proofs.Words.{word_test, same_word_by}
 use Rattle.share_laws.specs.Opening.{lengths_with, layout_with, held_by_opener, CanOpen, OpenersHoldTheRest}
 use Rattle.share_laws.proofs.HiddenWords.{channel_free, hidden_byte, hidden_word, channel_at, one_channel}
 use Rattle.share_laws.proofs.HiddenWords.{channel_is_word}
-use Rattle.share_laws.proofs.LeftBytes.{is_false, was_false, word_of_bytes, word_to_read, less_written, less_read}
-use Rattle.share_laws.proofs.LeftBytes.{less_inside}
+use Rattle.share_laws.proofs.LeftBytes.{byte_of, is_false, was_false, word_of_bytes, word_to_read, less_written}
+use Rattle.share_laws.proofs.LeftBytes.{less_read, less_inside}
 use Rattle.share_laws.proofs.LeftParameters.{left_by}
 use Rattle.share_laws.proofs.RowEnds.{listed_among}
 
 -- ---- no branch is started
 
+-- of no branches none passes a test
 pub none_started : (par : Par) (test : Branch → Bool) → some_started par 0 test ≡ false
 none_started par test = on par.branches
   where
@@ -61,23 +60,21 @@ none_started par test = on par.branches
     on [] = refl
     on (b ∷ bs) = refl
 
+-- what nobody was given is whole
 left_whole : (w r : Bool) (kind : ParameterKind) → w ≡ false → r ≡ false → left_by w r kind ≡ kind
 left_whole true r kind p q = absurd (cc)
 left_whole false true kind p q = absurd (cc)
 left_whole false false kind p q = refl
 
+-- so before the first start
 kind_whole : (par : Par) (j : ℕ) (kind : ParameterKind) → kind_left par 0 j kind ≡ kind
 kind_whole par j kind = left_whole (parameter_given_to_write par 0 j) (parameter_given_to_read par 0 j) kind
     (none_started par (λ b. reach.is_listed b.written_parameters j))
     (none_started par (λ b. reach.is_listed b.read_parameters j))
 
-none_of : (a b : Bool) → a ≡ false → b ≡ false → not (a || b) ≡ true
-none_of true b p q = absurd (cc)
-none_of false true p q = absurd (cc)
-none_of false false p q = refl
-
 -- ---- both ends of each channel
 
+-- ends that were held are held still
 ends_more : (addresses : List ℕ) (held : List End) (e : End) → IsAmong e held → IsAmong e (with_ends addresses held)
 ends_more [] held e among = among
 ends_more (a ∷ addresses) held e among =
@@ -100,6 +97,7 @@ abbrev HaveBoth : List ℕ → List End → Type 0
 HaveBoth addresses held = (a : ℕ) → IsAmong a addresses → IsAmong (record { address = a; direction = In }) held
     → IsAmong (record { address = a; direction = Out }) held
 
+-- both ends of each channel are held
 both_ends : (addresses : List ℕ) (held : List End) → HaveBoth addresses held → (a : ℕ) (direction : Direction)
     → IsAmong a addresses → IsAmong (record { address = a; direction = direction }) (with_ends addresses held)
 both_ends [] held both a direction among = absurd among
@@ -219,6 +217,7 @@ listed_channel (c ∷ cs) word len h = elim (word_test c.word word) [
     not_here true e = absurd (cc)
     not_here false e = refl
 
+-- the word of a channel has a length in the row
 channel_listed : (cs : List ChannelRow) (word : ℤ) → listed_length cs word ≡ None
     → list_any (λ (c : ChannelRow). is_word c.word word) cs ≡ true → ⊥
 channel_listed [] word h any = absurd (cc)
@@ -262,22 +261,21 @@ module _ (m : Contents) (row : ℕ) (par : Par) (layout : Layout) (base : ℕ) (
     has : rights ≡ true
     shown : is_hidden par k ≡ false
 
+  -- a word that is left to write was the context's, and is not hidden
   left_word : (k : ℤ) → after.words.writes k ≡ true → IsShown k (rights.may_write_word m par.context k)
   left_word k t =
       let a = and-parts (rights.may_write_word m par.context k && not (is_hidden par k)) _ t in
       let b = and-parts (rights.may_write_word m par.context k) (not (is_hidden par k)) a.0 in
       record { has = b.0; shown = was_false _ b.1 }
 
+  -- so one that is left to read
   left_to_read : (k : ℤ) → after.words.reads k ≡ true → IsShown k (rights.may_read_word m par.context k)
   left_to_read k t =
       let a = and-parts (rights.may_read_word m par.context k && not (is_hidden par k)) _ t in
       let b = and-parts (rights.may_read_word m par.context k) (not (is_hidden par k)) a.0 in
       record { has = b.0; shown = was_false _ b.1 }
 
-  byte_of : (k : ℤ) (place i : ℕ) → pos place ≡ place_in layout.origin k → i < 4
-      → IsByteOf layout.origin k (place + i)
-  byte_of k place i is low = record { low = omega (arith, ints, is); high = omega (arith, ints, is, low) }
-
+  -- a byte of a word that is not hidden is none that is taken
   word_shown : (k : ℤ) (x : ℕ) → is_hidden par k ≡ false → IsByteOf layout.origin k x
       → writes_place (hidden base par) x ≡ false
   word_shown k x shown b = is_false _ (λ w.
@@ -285,6 +283,7 @@ module _ (m : Contents) (row : ℕ) (par : Par) (layout : Layout) (base : ℕ) (
       let same = same_word layout.origin hides.0 k x hides.2 b in
       let no' : true ≡ false = sym hides.1 ∙ (ap (is_hidden par) same ∙ shown) in cc)
 
+  -- the starter has its frame
   opener_frame : HasFrame rest (length memory) (words_left m par par.context 0) layout.origin depth workspace
   opener_frame = record {
     small = o.frame.small;
@@ -299,7 +298,7 @@ module _ (m : Contents) (row : ℕ) (par : Par) (layout : Layout) (base : ℕ) (
           inside = w.inside;
           mine = word_of_bytes rest w.place (λ i low. less_written (length memory) h (hidden base par) (w.place + i)
               (let inside = w.inside in omega arith) (bytes_written h w.place w.mine i low)
-              (word_shown k (w.place + i) l.shown (byte_of k w.place i w.is low)) refl);
+              (word_shown k (w.place + i) l.shown (byte_of layout.origin k w.place i w.is low)) refl);
         };
     readable = λ k t.
         let l = left_to_read k t in
@@ -310,7 +309,7 @@ module _ (m : Contents) (row : ℕ) (par : Par) (layout : Layout) (base : ℕ) (
           inside = w.inside;
           readable = word_to_read rest w.place (λ i low. less_read (length memory) h (hidden base par) (w.place + i)
               (let inside = w.inside in omega arith) (bytes_read h w.place w.readable i low)
-              (word_shown k (w.place + i) l.shown (byte_of k w.place i w.is low)));
+              (word_shown k (w.place + i) l.shown (byte_of layout.origin k w.place i w.is low)));
         };
     start = o.frame.start;
   }
@@ -325,6 +324,7 @@ module _ (m : Contents) (row : ℕ) (par : Par) (layout : Layout) (base : ℕ) (
       let hides = hidden_byte m row par layout base h memory depth workspace o (place + i) w in
       region.beside hides.0 i (written_readable m par.context hides.0 (o.own hides.0 hides.1)) low hides.2)
 
+  -- what a parameter names is held still
   opener_kind : (kind : ParameterKind) (start : ℕ) → IsNamed m h before memory kind start
       → IsNamed m rest after memory kind start
   opener_kind (Value lo hi) start named = tt
@@ -354,6 +354,7 @@ module _ (m : Contents) (row : ℕ) (par : Par) (layout : Layout) (base : ℕ) (
     there : before.parameters j ≡ Some q
     kind : q.kind ≡ p.kind
 
+  -- the parameters are those of the context
   was : (j : ℕ) (p : Parameter) → after.parameters j ≡ Some p → IsSame j p
   was j p there = on (parameter_used m par.context j) refl there
     where
@@ -368,6 +369,7 @@ module _ (m : Contents) (row : ℕ) (par : Par) (layout : Layout) (base : ℕ) (
             kind = sym (kind_whole par j q.kind) ∙ ap (λ (x : Parameter). x.kind) is;
           }
 
+  -- so of each parameter
   opener_each : (j : ℕ) (p : Parameter) → after.parameters j ≡ Some p
       → IsNamed m rest after memory p.kind (layout.starts j)
   opener_each j p there =
@@ -375,6 +377,7 @@ module _ (m : Contents) (row : ℕ) (par : Par) (layout : Layout) (base : ℕ) (
       opener_kind p.kind (layout.starts j) (subst (λ (k : ParameterKind). IsNamed m h before memory k (layout.starts j))
       s.kind (o.named.each j s.q s.there))
 
+  -- and their regions are apart as before
   opener_apart : (j k : ℕ) (p q : Parameter) → after.parameters j ≡ Some p → after.parameters k ≡ Some q
       → (j ≡ k → ⊥) → (place : ℕ) → IsWrittenAt p.kind (layout.starts j) place
       → IsNamedAt q.kind (layout.starts k) place → ⊥
@@ -385,6 +388,7 @@ module _ (m : Contents) (row : ℕ) (par : Par) (layout : Layout) (base : ℕ) (
       (subst (λ (x : ParameterKind). IsWrittenAt x (layout.starts j) place) (sym a.kind) written)
       (subst (λ (x : ParameterKind). IsNamedAt x (layout.starts k) place) (sym b.kind) named)
 
+  -- the constants are there
   opener_constants : HasConstants m rest memory
   opener_constants = record {
     readable = λ i low. less_read (length memory) h (hidden base par) (constants_start m + i)
@@ -409,6 +413,7 @@ module _ (m : Contents) (row : ℕ) (par : Par) (layout : Layout) (base : ℕ) (
         → ⊥) → IsEnd kind direction
     of_channel : (k : ℤ) → is_channel_word par k ≡ true → kind ≡ FrameWord k → IsEnd kind direction
 
+  -- each end that is left is of one kind
   left_end : (kind : EndKind) (direction : Direction) → after.ends kind direction ≡ true → IsEnd kind direction
   left_end kind direction t =
       let e : EndRow = record { kind = kind; direction = direction } in
@@ -427,6 +432,7 @@ module _ (m : Contents) (row : ℕ) (par : Par) (layout : Layout) (base : ℕ) (
       own_end (ends.Parameter number element) mine = absurd (cc)
       own_end (ends.Link link) mine = absurd (cc)
 
+  -- no end of a channel of the PAR was held
   no_channel_end : HaveBoth (channel_addresses base par) words_rest.ends
   no_channel_end a among input = absurd (on par.channels (λ c there. there) among)
     where
@@ -450,6 +456,7 @@ module _ (m : Contents) (row : ℕ) (par : Par) (layout : Layout) (base : ℕ) (
   unfolding less
   whole_ends e among = filter_keeps (λ end. not (is_listed [] end)) h.ends e among refl
 
+  -- a channel's address is one of the row's
   address_among : (cs : List ChannelRow) (k : ℤ) → list_any (λ (c : ChannelRow). is_word c.word k) cs ≡ true
       → IsAmong (frame_address base k) (map (λ (c : ChannelRow). frame_address base c.word) cs)
   address_among [] k h = absurd (cc)
@@ -458,6 +465,7 @@ module _ (m : Contents) (row : ℕ) (par : Par) (layout : Layout) (base : ℕ) (
     | inr there ↦ inr (address_among cs k there)
   ]
 
+  -- the ends that are left are held
   opener_ends : (kind : EndKind) (direction : Direction) → after.ends kind direction ≡ true
       → has_end rest (record { address = channel_address layout kind; direction = direction }) ≡ true
   opener_ends kind direction t = on (left_end kind direction t)
@@ -476,6 +484,7 @@ module _ (m : Contents) (row : ℕ) (par : Par) (layout : Layout) (base : ℕ) (
           (both_ends (channel_addresses base par) words_rest.ends no_channel_end (frame_address base k) direction
           (address_among par.channels k is)))
 
+  -- messages are as long as the row or the context says
   opener_lengths : (kind : EndKind) (direction : Direction) → after.ends kind direction ≡ true
       → length_left m par par.context kind ≡ Some (lengths_with layout par.channels (channel_address layout kind))
   opener_lengths kind direction t = on (left_end kind direction t)
@@ -532,6 +541,7 @@ module _ (m : Contents) (row : ℕ) (par : Par) (layout : Layout) (base : ℕ) (
       on (of_channel k is same) = subst (λ (x : EndKind). length_left m par par.context x
           ≡ Some (lengths_with layout par.channels (channel_address layout x))) (sym same) (of_word k is)
 
+  -- ends with one address are of one channel
   opener_differ : (a b : EndKind) (direction : Direction) → after.ends a direction ≡ true
       → after.ends b direction ≡ true → channel_address layout a ≡ channel_address layout b → a ≡ b
   opener_differ a b direction t u same = on (left_end a direction t) (left_end b direction u)
@@ -545,6 +555,7 @@ module _ (m : Contents) (row : ℕ) (par : Par) (layout : Layout) (base : ℕ) (
           (one_channel m row par layout base h memory depth workspace o j k is there
           (ap (channel_address layout) (sym e) ∙ same ∙ ap (channel_address layout) f)) ∙ sym f
 
+  -- so all that is left is held
   opener_named : HoldsNamed m rest after memory
   opener_named = record {
     each = opener_each;
@@ -561,6 +572,7 @@ module _ (m : Contents) (row : ℕ) (par : Par) (layout : Layout) (base : ℕ) (
     differ = opener_differ;
   }
 
+-- the frame and what is left, in memory
 pub openers_hold_the_rest : OpenersHoldTheRest
 openers_hold_the_rest m row par layout base h memory depth workspace o = record {
   frame = opener_frame m row par layout base h memory depth workspace o;

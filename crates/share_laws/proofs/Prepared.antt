@@ -1,7 +1,7 @@
 -- Where the words of a PAR are prepared, and a branch's share is left, a start passes its tests.
 use Rattle.std.proofs.Common.{◌≡◌, ℕ, zero, suc, ◌+◌, ◌*◌, ◌%◌, ◌^◌, ◌<◌, ◌&&◌, Bool, true, false, if◌then◌else◌, inl}
-use Rattle.std.proofs.Common.{inr, ℤ, pos, ◌+ℤ◌, List, [], ◌∷◌, ◌++◌, map, length, Option, Some, None, FitsSigned}
-use Rattle.std.proofs.Common.{refl, sym, ap, ◌∙◌, subst, arith}
+use Rattle.std.proofs.Common.{inr, ℤ, pos, ◌+ℤ◌, List, [], ◌∷◌, ◌++◌, map, length, Option, Some, None, FitsSigned, refl}
+use Rattle.std.proofs.Common.{sym, ap, ◌∙◌, subst, arith}
 use Rattle.std.proofs.lemmas.Bool.{eq-eqb}
 use Rattle.std.proofs.lemmas.Int.{ints, of_z-to_z}
 use Rattle.std.proofs.lemmas.Option.{slice_get-map}
@@ -45,6 +45,7 @@ use Rattle.share_laws.proofs.TakenWords.{hidden_address, opening_takes_its_words
 
 -- ---- tests, one after the other
 
+-- where three tests hold none fails
 three_pass : (a b c : Bool) → a ≡ true → b ≡ true → c ≡ true
     → first_fault ((a, EndNotHeld) ∷ (b, NotOwn) ∷ (c, JoinOrder) ∷ []) ≡ None
 three_pass true true true p q r = refl
@@ -52,6 +53,7 @@ three_pass true true false p q r = absurd (cc)
 three_pass true false c p q r = absurd (cc)
 three_pass false b c p q r = absurd (cc)
 
+-- so of four
 four_pass : (a b c d : Bool) → a ≡ true → b ≡ true → c ≡ true → d ≡ true
     → first_fault ((a, EndNotHeld) ∷ (b, NotOwn) ∷ (c, Undefined) ∷ (d, JoinOrder) ∷ []) ≡ None
 four_pass true true true true p q r s = refl
@@ -73,6 +75,7 @@ named_each test par j (p ∷ ps) none each =
     on true e = each 0 p refl (ap (row_names par) (let z : j + 0 ≡ j = omega arith in z) ∙ e)
     on false e = none
 
+-- a parameter that the row names has its word among the named
 named_at : (par : Par) (j i : ℕ) (ps : List Parameter) (p : Parameter) → slice_get ps i ≡ Some p
     → row_names par (j + i) ≡ true → slice_get (named_from par j ps) i ≡ Some (Some (pos p.word))
 named_at par j i [] p there names = absurd (cc)
@@ -93,6 +96,7 @@ nothing_at (x ∷ xs) (suc i) low none = nothing_at xs i (omega (arith, low)) no
 
 -- ---- what the words hold
 
+-- a word with this value passes the test for it
 word_passes : (memory : Memory) (a : ℕ) (u v : ℤ) → word_at memory (place_of a) ≡ Some u
     → cast_unsigned w32 u ≡ cast_unsigned w32 v → is_word memory a v ≡ true
 word_passes memory a u v is same = ap (λ (o : Option ℤ). elim o as (λ o. Bool) [
@@ -118,6 +122,7 @@ module _ (m : Contents) (p : ℕ) (found : Found) (layout : Layout) (h : Holding
 
   -- ---- hidden words
 
+  -- a hidden word has at its address what is said of it
   hidden_value : (k : ℤ) (hides : is_hidden found.par k ≡ true) (a : ℕ) (v : ℤ)
       → place_of a ≡ (hidden_word m found.row found.par layout base h memory found.par.depth workspace o k hides).place
       → frame_word memory layout.origin k ≡ Some v → word_at memory (place_of a) ≡ Some v
@@ -125,6 +130,7 @@ module _ (m : Contents) (p : ℕ) (found : Found) (layout : Layout) (h : Holding
       let w = hidden_word m found.row found.par layout base h memory found.par.depth workspace o k hides in
       ap (word_at memory) at ∙ sym (frame_word_is memory layout.origin k w.place w.is) ∙ says
 
+  -- the block has the successor's address
   block_word : word_at memory (place_of (frame_address base found.par.block))
       ≡ Some (word_of (pos (code_address m found.par.successor)))
   block_word = hidden_value found.par.block
@@ -134,6 +140,7 @@ module _ (m : Contents) (p : ℕ) (found : Found) (layout : Layout) (h : Holding
       (block_hides m found.row found.par layout base h memory found.par.depth workspace o)
       (fits_words m found.row found.par layout base h memory found.par.depth workspace o).block) is.block
 
+  -- and one more than the number of branches
   count_word : word_at memory (place_of (frame_address (frame_address base found.par.block) (pos 1)))
       ≡ Some (pos (length found.par.branches + 1))
   count_word = hidden_value (found.par.block +ℤ pos 1)
@@ -141,6 +148,7 @@ module _ (m : Contents) (p : ℕ) (found : Found) (layout : Layout) (h : Holding
       (frame_address (frame_address base found.par.block) (pos 1)) _
       (second_place m found.row found.par layout base h memory found.par.depth workspace o) is.count
 
+  -- each channel is empty
   channel_word : (c : ChannelRow) → IsAmong c found.par.channels
       → word_at memory (place_of (frame_address base c.word)) ≡ Some least_word
   channel_word c among =
@@ -151,6 +159,7 @@ module _ (m : Contents) (p : ℕ) (found : Found) (layout : Layout) (h : Holding
       ((fits_words m found.row found.par layout base h memory found.par.depth workspace o).channels c among))
       (is.channels c among)
 
+  -- what each channel's address passes all pass
   channel_each : (test : ℕ → Bool)
       → ((c : ChannelRow) → IsAmong c found.par.channels → test (frame_address base c.word) ≡ true)
       → list_all test (channel_addresses base found.par) ≡ true
@@ -192,6 +201,7 @@ module _ (m : Contents) (p : ℕ) (found : Found) (layout : Layout) (h : Holding
         ap (word_at memory) at ∙ sym (frame_word_is memory layout.origin (pos q.word) w.place w.is) ∙ says.is,
       )
 
+  -- what the word of each named parameter passes all pass
   parameter_each : (test : ℕ → Bool) → ((j : ℕ) (q : Parameter) → row_names found.par j ≡ true
       → slice_get (parameters_at m found.par.context) j ≡ Some q → test (frame_address base (pos q.word)) ≡ true)
       → list_all (λ (named : Option ℤ). elim named as (λ o. Bool) [
@@ -206,6 +216,7 @@ module _ (m : Contents) (p : ℕ) (found : Found) (layout : Layout) (h : Holding
 
   -- ---- the tests
 
+  -- the words that open the PAR are held
   held : words_are_held h plan ≡ true
   held = both_true _ _
       (all_from (λ a. may_write_word h (place_of a)) kept_addresses (λ a among.
@@ -213,9 +224,11 @@ module _ (m : Contents) (p : ℕ) (found : Found) (layout : Layout) (h : Holding
       subst (λ (x : ℕ). may_write_word h x ≡ true) (sym t.place) t.word.mine))
       (parameter_each (λ a. may_read_word h (place_of a)) (λ j q names there. (parameter_word j q names there).0))
 
+  -- a word with a value is defined
   is_defined : (a : ℕ) (v : ℤ) → word_at memory (place_of a) ≡ Some v → word_is_defined memory a ≡ true
   is_defined a v says = ap (λ (o : Option ℤ). is_some o) says
 
+  -- the words are defined
   defined : words_are_defined memory plan ≡ true
   defined = both_true _ _
       (both_true _ _ (is_defined (frame_address base found.par.block) _ block_word)
@@ -225,11 +238,13 @@ module _ (m : Contents) (p : ℕ) (found : Found) (layout : Layout) (h : Holding
       (parameter_each (word_is_defined memory) (λ j q names there.
       is_defined (frame_address base (pos q.word)) _ (parameter_word j q names there).1))
 
+  -- the successor's address is the word that is asked for
   code_word : cast_unsigned w32 (word_of (pos (code_address m found.par.successor)))
       ≡ cast_unsigned w32 (cast_signed w32 ((data_start + 4 * m.data_words + found.par.successor) % 2 ^ 32))
   code_word = address_of_word (code_address m found.par.successor)
       ∙ sym (of_z-to_z w32 ((data_start + 4 * m.data_words + found.par.successor) % 2 ^ 32) (omega arith))
 
+  -- the words are as they are asked for
   prepared : is_prepared m memory plan ≡ true
   prepared = both_true _ _ (both_true _ _
       (word_passes memory (frame_address base found.par.block) (word_of (pos (code_address m found.par.successor)))
@@ -241,6 +256,7 @@ module _ (m : Contents) (p : ℕ) (found : Found) (layout : Layout) (h : Holding
 
   -- ---- where parameters lie
 
+  -- the word of a named parameter has its address
   address_is : (j : ℕ) → row_names found.par j ≡ true → j < length (parameters_at m found.par.context)
       → address_of (map (word_in h memory base) (named_from found.par 0 (parameters_at m found.par.context))) j
       ≡ Some (layout.starts j % 2 ^ 32)
@@ -264,12 +280,14 @@ module _ (m : Contents) (p : ℕ) (found : Found) (layout : Layout) (h : Holding
           ∙ ap (option_map (cast_unsigned w32)) w.1
           ∙ ap (λ (n : ℕ). Some n) (address_of_word (layout.starts j))
 
+  -- so the plan lies where the layout says
   pub laid_out : IsLaidOut m found.par (layout_with layout found.par) base
       (map (word_in h memory base) (named_from found.par 0 (parameters_at m found.par.context)))
   laid_out = record { origin = o.origin; named = address_is }
 
   -- ---- all of them
 
+  -- no test of the first start fails
   pub first_passes : found.number ≡ 0 → IsBranch m found → IsLeft m found
       → first_fault (first_faults m memory h plan found (frame_address base found.branch.workspace)) ≡ None
   first_passes first there left =
@@ -291,13 +309,16 @@ module _ (m : Contents) (p : ℕ) (found : Found) (layout : Layout) (h : Holding
       (both_true _ _ (both_true _ _ (eq-eqb found.number 0 first) (eq-eqb (frame_address base found.branch.workspace)
       (frame_address base found.branch.workspace) refl)) prepared)
 
+-- the plan of a first start
 pub plans_are_laid_out : PlansAreLaidOut
 plans_are_laid_out m p found layout h memory workspace o is = laid_out m p found layout h memory workspace o is
 
+-- its tests
 pub first_starts_pass : FirstStartsPass
 first_starts_pass m p found layout h memory workspace o is first there left =
     first_passes m p found layout h memory workspace o is first there left
 
+-- those of a later one
 pub later_starts_pass : LaterStartsPass
 later_starts_pass m join found layout memory depth workspace can number =
     let share = shares_are_there m found layout (later_plan m join found.par) memory depth workspace refl can in

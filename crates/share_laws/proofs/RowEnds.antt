@@ -1,6 +1,6 @@
 -- Ends that rows list: two with one key are one.
-use Rattle.std.proofs.Common.{◌≡◌, ℕ, ◌&&◌, Bool, true, inl, inr, pos, List, [], ◌∷◌, Option, Some, None}
-use Rattle.std.proofs.Common.{refl, sym, ap, ap₂, ◌∙◌, arith, eqb-true, if◌then◌else◌}
+use Rattle.std.proofs.Common.{◌≡◌, ℕ, ◌&&◌, Bool, true, inl, inr, pos, List, [], ◌∷◌, Option, Some, None, refl, sym, ap}
+use Rattle.std.proofs.Common.{ap₂, ◌∙◌, arith, eqb-true, if◌then◌else◌}
 use Rattle.std.proofs.lemmas.Int.{ints}
 use Rattle.std.specs.Prelude.{◌==◌, int_le, is_some}
 use Rattle.std.specs.List.{list_any}
@@ -24,12 +24,14 @@ use Rattle.machine_state.proofs.SpanLaws.{both_true, or_true}
 use Rattle.states.proofs.RowFacts.{and-parts, le-yes}
 use Rattle.rulings.proofs.Words.{same_word_by}
 
+-- directions with one number are one
 same_direction_by : (a b : Direction) → (direction_number a == direction_number b) ≡ true → a ≡ b
 same_direction_by In In h = refl
 same_direction_by Out Out h = refl
 same_direction_by In Out h = absurd (cc)
 same_direction_by Out In h = absurd (cc)
 
+-- channels with one kind, number and element are one
 same_kind_by : (a b : EndKind) → (kind_of a == kind_of b) ≡ true
     → (int_le (number_of a) (number_of b) && int_le (number_of b) (number_of a)) ≡ true
     → (element_of a == element_of b) ≡ true → a ≡ b
@@ -55,12 +57,14 @@ same_end_by a b h =
     ap₂ (λ (k : EndKind) (d : Direction). let e : EndRow = record { kind = k; direction = d } in e)
     (same_kind_by a.kind b.kind one.0 one.1 two.1) (same_direction_by a.direction b.direction three.1)
 
+-- an end has its own key
 pub end_itself : (e : EndRow) → is_same_end (key_of e) (key_of e) ≡ true
 end_itself e = both_true _ _ (both_true _ _ (both_true _ _ (number_itself (kind_of e.kind))
     (both_true _ _ (le-yes (number_of e.kind) (number_of e.kind) (omega (arith, ints)))
     (le-yes (number_of e.kind) (number_of e.kind) (omega (arith, ints)))))
     (number_itself (element_of e.kind))) (number_itself (direction_number e.direction))
 
+-- an end whose key is listed stands there
 pub listed_end : (es : List EndRow) (e : EndRow)
     → list_any (λ other. is_same_end (key_of other) (key_of e)) es ≡ true → IsAmong e es
 listed_end [] e h = absurd (cc)
@@ -87,6 +91,7 @@ ends_of_branch m n par b e numbered has = listed_end b.ends e
 
 -- ---- ends that processes hold
 
+-- directions that are the same are one
 direction_is : (a b : Direction) → same_direction a b ≡ true → a ≡ b
 direction_is In In same = refl
 direction_is Out Out same = refl

@@ -1,7 +1,6 @@
 -- The bytes and ends of a share are those of the words, regions and ends that its row names.
-use Rattle.std.proofs.Common.{◌≡◌, ℕ, ◌+◌, ◌*◌, ◌%◌, ◌^◌, ◌<◌, true, inl, inr, ℤ, pos}
-use Rattle.std.proofs.Common.{◌+ℤ◌, List, [], ◌∷◌, ◌++◌, map, Option, Some, None, FitsSigned, refl, sym}
-use Rattle.std.proofs.Common.{ap, ◌∙◌, subst, arith}
+use Rattle.std.proofs.Common.{◌≡◌, ℕ, ◌+◌, ◌*◌, ◌%◌, ◌^◌, ◌<◌, true, inl, inr, ℤ, pos, ◌+ℤ◌, List, [], ◌∷◌, ◌++◌, map}
+use Rattle.std.proofs.Common.{Option, Some, None, FitsSigned, refl, sym, ap, ◌∙◌, subst, arith}
 use Rattle.std.proofs.lemmas.Int.{ints, of_z-to_z}
 use Rattle.std.proofs.lemmas.Option.{slice_get_within}
 use Rattle.std.specs.Int.{w32, cast_unsigned}
@@ -36,6 +35,7 @@ use Rattle.share_laws.proofs.Rows.{written_is_named, read_is_named, end_is_named
 
 -- ---- addresses
 
+-- an address is below 2^32
 address_bound : (base : ℕ) (word : ℤ) → frame_address base word < 2 ^ 32
 unfolding local_address
 address_bound base word = omega arith
@@ -48,18 +48,22 @@ frame_channel layout base word at fits =
     ∙ ap (cast_unsigned w32) (local_word base word (pos data_start +ℤ place_in layout.origin word) fits
     (omega (arith, ints, at)))
 
+-- a part of a sum may be taken modulo 2^32 first
 around : (s t : ℕ) → (s % 2 ^ 32 + t) % 2 ^ 32 ≡ (s + t) % 2 ^ 32
 around s t = omega arith
 
+-- the word of a link does not go round
 link_same : (link : ℕ) → link < 8 → link_word link ≡ (link_words + 4 * link) % 2 ^ 32
 link_same link low = omega (arith, low)
 
+-- nor does the place of an address change by going round
 pub place_around : (s : ℕ) → place_of (s % 2 ^ 32) ≡ place_of s
 unfolding place_of
 place_around s = omega arith
 
 -- ---- ends
 
+-- the ends that rows name, each found
 ends_are : (base : ℕ) (addresses : List (Option ℕ)) (layout : Layout) (es : List EndRow)
     → ((e : EndRow) → IsAmong e es → end_of base addresses e ≡ end_at layout e ∷ [])
     → flat_map (end_of base addresses) es ≡ map (end_at layout) es
@@ -73,6 +77,7 @@ module _ (m : Contents) (found : Found) (layout : Layout) (base : ℕ) (addresse
   abbrev parameters : List Parameter
   parameters = parameters_at m found.par.context
 
+  -- each end of the branch is found
   end_is : (e : EndRow) → IsAmong e found.branch.ends → end_of base addresses e ≡ end_at layout e ∷ []
   end_is e among = on e.kind refl (end_keeps m found keeps is e among) (end_fits m found keeps is e among)
     where
@@ -151,6 +156,7 @@ module _ (m : Contents) (found : Found) (layout : Layout) (base : ℕ) (addresse
         (regions_there parameters addresses numbers j place (layout.starts j % 2 ^ 32) p listed here
         (address_is j p listed here) (omega (arith, there, low)) (omega (arith, there, high)))
 
+  -- the share is of words
   pub share_is_of_words : IsOfWords m found layout (share_at m found base addresses)
   share_is_of_words = record {
     written = λ place h. byte_listed found.branch.writes found.branch.written_parameters
@@ -164,6 +170,7 @@ module _ (m : Contents) (found : Found) (layout : Layout) (base : ℕ) (addresse
     ends = ends_are base addresses layout found.branch.ends end_is;
   }
 
+-- so of each branch
 pub shares_are_words : SharesAreWords
 shares_are_words m found layout base addresses keeps is laid =
     share_is_of_words m found layout base addresses keeps is laid

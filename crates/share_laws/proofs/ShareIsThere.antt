@@ -1,7 +1,7 @@
 -- A share that is left passes the tests of a start.
-use Rattle.std.proofs.Common.{◌≡◌, ℕ, zero, suc, ◌+◌, ◌-◌, ◌*◌, ◌<◌, ◌≤◌, ◌&&◌, Bool, true, false, inl}
-use Rattle.std.proofs.Common.{inr, ℤ, pos, negsuc, ◌+ℤ◌, ◌-ℤ◌, ◌*ℤ◌, ◌<ℤ◌, List, [], ◌∷◌, length, map, get_or}
-use Rattle.std.proofs.Common.{Option, Some, None, FitsSigned, refl, sym, ap, ap₂, ◌∙◌, subst, arith, nat_abs}
+use Rattle.std.proofs.Common.{◌≡◌, ℕ, zero, suc, ◌+◌, ◌-◌, ◌*◌, ◌<◌, ◌≤◌, ◌&&◌, Bool, true, false, inl, inr, ℤ, pos}
+use Rattle.std.proofs.Common.{negsuc, ◌+ℤ◌, ◌-ℤ◌, ◌*ℤ◌, ◌<ℤ◌, List, [], ◌∷◌, length, map, get_or, Option, Some, None}
+use Rattle.std.proofs.Common.{FitsSigned, refl, sym, ap, ap₂, ◌∙◌, subst, arith, nat_abs}
 use Rattle.std.proofs.lemmas.Bool.Decides.{nat_tests}
 use Rattle.std.proofs.lemmas.Int.{ints}
 use Rattle.std.specs.Int.{w32}
@@ -57,17 +57,20 @@ use Rattle.share_laws.proofs.Rows.{gifts, read_is_region}
 
 -- ---- lists
 
+-- what each item passes all pass
 pub all_from : {A : Type 0} (test : A → Bool) (xs : List A) → ((x : A) → IsAmong x xs → test x ≡ true)
     → list_all test xs ≡ true
 all_from test [] each = refl
 all_from test (x ∷ xs) each =
     both_true _ _ (each x (inl refl)) (all_from test xs (λ y among. each y (inr among)))
 
+-- an item of mapped ones comes from one
 among_map : {A B : Type 0} (f : A → B) (xs : List A) (y : B) → IsAmong y (map f xs) → (x : A) × IsAmong x xs × (f x ≡ y)
 among_map f [] y among = absurd among
 among_map f (x ∷ xs) y (inl here) = (x, inl refl, here)
 among_map f (x ∷ xs) y (inr there) = let r = among_map f xs y there in (r.0, inr r.1, r.2)
 
+-- an item of joined lists comes from one of them
 among_flat : {A B : Type 0} (f : A → List B) (xs : List A) (y : B) → IsAmong y (flat_map f xs)
     → (x : A) × IsAmong x xs × IsAmong y (f x)
 among_flat f [] y among = absurd among
@@ -76,11 +79,13 @@ among_flat f (x ∷ xs) y among = elim (among_more y (f x) (flat_map f xs) among
   | inr there ↦ let r = among_flat f xs y there in (r.0, inr r.1, r.2)
 ]
 
+-- a number that stands there is listed
 listed_number : (js : List ℕ) (j : ℕ) → IsAmong j js → reach.is_listed js j ≡ true
 listed_number js j among = any_among (λ k. k == j) js j among (number_itself j)
 
 -- ---- stretches
 
+-- places each of which passes a test pass it
 places_from : (test : ℕ → Bool) (first size : ℕ) → ((x : ℕ) → first ≤ x → x < first + size → test x ≡ true)
     → all_places test first size ≡ true
 unfolding all_places
@@ -101,6 +106,7 @@ stretch_within n test first size some each inside =
     (le-yes (pos first +ℤ pos size) (pos n) (omega (arith, ints, last, some))))
     (places_from test first size each)
 
+-- a place of a stretch is over it
 over_from : (first size x : ℕ) → first ≤ x → x < first + size
     → stretches_over (record { start = pos first; size = size }) x ≡ true
 over_from first size x low high =
@@ -112,6 +118,7 @@ over_from first size x low high =
 abbrev IsSome : Stretch → Type 0
 IsSome s = (first : ℕ) × (s.start ≡ pos first) × (1 ≤ s.size)
 
+-- all of them do
 stretches_within : (n : ℕ) (test : ℕ → Bool) (stretches : List Stretch)
     → ((s : Stretch) → IsAmong s stretches → IsSome s)
     → ((x : ℕ) → list_any (λ s. stretches_over s x) stretches ≡ true → test x ≡ true)
@@ -131,12 +138,14 @@ stretches_within n test stretches some each inside = all_from (is_within n test)
 
 -- ---- ends
 
+-- an item that stands there has a number
 among_get : (es : List EndRow) (e d : EndRow) → IsAmong e es → (j : ℕ) × (j < length es) × (get_or es j d ≡ e)
 among_get [] e d among = absurd among
 among_get (x ∷ es) e d (inl here) = (0, omega arith, here)
 among_get (x ∷ es) e d (inr there) =
     let r = among_get es e d there in (suc r.0, (let low = r.1 in omega (arith, low)), r.2)
 
+-- no key is below itself
 not_below_itself : (x : EndKey) → is_below x x ≡ true → ⊥
 not_below_itself x h = let no' : is_below x x ≡ false = grind (arith, nat_tests, ints) in cc
 
@@ -151,6 +160,7 @@ stands_once low e (x ∷ es) order among =
     not_below_itself (key_of x)
     (parted e (key_of x) (key_of e) (x ∷ es) order.1 0 r.0 (omega arith) r.1 there)
 
+-- so their ends differ, where no two have one address
 ends_differ : (layout : Layout) (low : EndKey) (es : List EndRow) → InOrder EndKeeps behind_end low es
     → ((a b : EndRow) → IsAmong a es → IsAmong b es → end_at layout a ≡ end_at layout b → a ≡ b)
     → differ (map (end_at layout) es) ≡ true
@@ -163,16 +173,19 @@ ends_differ layout low (e ∷ es) order once =
     stands_once low e es order (subst (λ (x : EndRow). IsAmong x es) same r.1))))
     (ends_differ layout (key_of e) es order.1 (λ a b p q. once a b (inr p) (inr q)))
 
+-- a direction is the same as itself
 same_as_itself : (d : Direction) → same_direction d d ≡ true
 same_as_itself In = refl
 same_as_itself Out = refl
 
+-- an end that stands there is listed
 among_listed : (xs : List End) (e : End) → IsAmong e xs → is_listed xs e ≡ true
 among_listed xs e among = any_among (is_same_end e) xs e among
     (both_true _ _ (number_itself e.address) (same_as_itself e.direction))
 
 -- ---- regions
 
+-- a region has a byte at least
 some_bytes : (version : Version) (kind : ParameterKind) → KindKeeps version kind → is_region kind ≡ true
     → 1 ≤ region_size kind
 some_bytes version (Value lo hi) keeps region = absurd (cc)
@@ -180,6 +193,7 @@ some_bytes version (ReadRegion size lo hi) keeps region = let some = keeps.some 
 some_bytes version (WrittenRegion size lo hi) keeps region = let some = keeps.some in omega (arith, some)
 some_bytes version (Channels count len ends) keeps region = absurd (cc)
 
+-- so has its stretch
 region_some : (parameters : List Parameter) (addresses : List (Option ℕ)) (j : ℕ) (s : Stretch)
     → ((p : Parameter) → slice_get parameters j ≡ Some p → 1 ≤ region_size p.kind)
     → IsAmong s (region_of parameters addresses j) → IsSome s
@@ -227,17 +241,20 @@ module _ (m : Contents) (found : Found) (layout : Layout) (base : ℕ) (addresse
             (let e : 1 ≤ 4 * nat_abs (r.0.hi -ℤ r.0.lo) = omega (arith, ints, some) in e),
       )
 
+  -- an interval has a word at least
   intervals_some : (low : ℤ) (is : List Interval) → InOrder IntervalKeeps behind_interval low is → (i : Interval)
       → IsAmong i is → i.lo <ℤ i.hi
   intervals_some low [] keeps i among = absurd among
   intervals_some low (x ∷ is) keeps i (inl here) = subst (λ (y : Interval). y.lo <ℤ y.hi) here keeps.0.some
   intervals_some low (x ∷ is) keeps i (inr there) = intervals_some x.hi is keeps.1 i there
 
+  -- a parameter that names a region names some bytes
   bytes_of : (j : ℕ) (p : Parameter) → slice_get (parameters_at m found.par.context) j ≡ Some p
       → is_region p.kind ≡ true → 1 ≤ region_size p.kind
   bytes_of j p there region =
       some_bytes m.version p.kind (parameter_kind m s.keeps found.par.context j p there) region
 
+  -- each stretch to write has a place in memory
   written_some : (t : Stretch) → IsAmong t gift.writes → IsSome t
   written_some t among = elim (among_more t (map (words_of base) found.branch.writes)
       (flat_map (region_of (parameters_at m found.par.context) addresses) found.branch.written_parameters) among) [
@@ -253,6 +270,7 @@ module _ (m : Contents) (found : Found) (layout : Layout) (base : ℕ) (addresse
             bytes_of r.0 p there (ap (λ (p : Parameter). is_region p.kind) same ∙ ap is_region l.kind)) r.2
       ]
 
+  -- and each to read
   read_some : (t : Stretch) → IsAmong t gift.reads → IsSome t
   read_some t among = elim (among_more t (map (words_of base) found.branch.reads)
       (flat_map (region_of (parameters_at m found.par.context) addresses) found.branch.read_parameters) among) [
@@ -268,21 +286,25 @@ module _ (m : Contents) (found : Found) (layout : Layout) (base : ℕ) (addresse
             (listed_number found.branch.read_parameters r.0 r.1) there)) r.2
       ]
 
+  -- the stretches to write lie within what the starter may write
   pub writes_are_there : list_all (is_within (length memory) (may_write h)) gift.writes ≡ true
   writes_are_there = stretches_within (length memory) (may_write h) gift.writes written_some
       (λ x w. written_held m found layout base addresses h memory depth workspace s x w)
       (λ x own. s.inside x (readable_byte h x own))
 
+  -- those to read within what it may read
   pub reads_are_there : list_all (is_within (length memory) (may_read h)) gift.reads ≡ true
   reads_are_there = stretches_within (length memory) (may_read h) gift.reads read_some
       (λ x r. read_held m found layout base addresses h memory depth workspace s x r) (λ x read. s.inside x read)
 
   -- ---- ends
 
+  -- each end of the branch is held
   held_end : (e : EndRow) → IsAmong e found.branch.ends → is_listed h.ends (end_at layout e) ≡ true
   held_end e among = among_listed h.ends (end_at layout e)
       (end_among h (end_at layout e) (s.named.ends e.kind e.direction (s.left.ends e among)))
 
+  -- ends with one address and direction are one
   one_end : (a b : EndRow) → IsAmong a found.branch.ends → IsAmong b found.branch.ends
       → end_at layout a ≡ end_at layout b → a ≡ b
   one_end a b p q same =
@@ -294,6 +316,7 @@ module _ (m : Contents) (found : Found) (layout : Layout) (base : ℕ) (addresse
       direction (s.left.ends a p)) (s.left.ends b q) address in
       ap₂ (λ (k : EndKind) (d : Direction). let e : EndRow = record { kind = k; direction = d } in e) kinds direction
 
+  -- all ends are held
   pub ends_held : list_all (is_listed h.ends) gift.ends ≡ true
   ends_held = subst (λ (es : List End). list_all (is_listed h.ends) es ≡ true)
       (sym (of_words m found layout base addresses h memory depth workspace s).ends)
@@ -301,6 +324,7 @@ module _ (m : Contents) (found : Found) (layout : Layout) (base : ℕ) (addresse
       let r = among_map (end_at layout) found.branch.ends e among in
       subst (λ (x : End). is_listed h.ends x ≡ true) r.2 (held_end r.0 r.1)))
 
+  -- each is named once
   pub ends_once : differ gift.ends ≡ true
   ends_once = subst (λ (es : List End). differ es ≡ true)
       (sym (of_words m found layout base addresses h memory depth workspace s).ends)
@@ -308,6 +332,7 @@ module _ (m : Contents) (found : Found) (layout : Layout) (base : ℕ) (addresse
 
   -- ---- the words that scheduling takes
 
+  -- a word that scheduling takes is held, and is the branch's to write
   scheduled : (n : ℕ) → n < 3 → FitsSigned w32 (negsuc n)
       → word_passes (λ place. may_write h place && writes_place gift place)
       (place_of (scheduling_word (frame_address base found.branch.workspace) n)) ≡ true
@@ -330,12 +355,14 @@ module _ (m : Contents) (found : Found) (layout : Layout) (base : ℕ) (addresse
       (both_true _ _ (both_true _ _ (both_true _ _ first (byte 1 (omega arith))) (byte 2 (omega arith)))
       (byte 3 (omega arith)))
 
+  -- so are all three
   pub scheduling_is_there : list_all (word_passes (λ place. may_write h place && writes_place gift place))
       (scheduling_places (frame_address base found.branch.workspace)) ≡ true
   scheduling_is_there = both_true _ _ (scheduled 0 (omega arith) (omega (arith, ints)))
       (both_true _ _ (scheduled 1 (omega arith) (omega (arith, ints)))
       (both_true _ _ (scheduled 2 (omega arith) (omega (arith, ints))) refl))
 
+-- the tests of a start
 pub shares_are_there : SharesAreThere
 shares_are_there m found layout plan memory depth workspace same s = record {
   ends = subst (λ (ps : List Parameter).

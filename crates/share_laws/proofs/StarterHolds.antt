@@ -1,7 +1,6 @@
 -- A starter has its frame, and holds what its scope has left after one start more.
-use Rattle.std.proofs.Common.{◌≡◌, ℕ, ◌+◌, ◌<◌, ◌&&◌, ◌||◌, not, Bool, true, false, inl, inr, ℤ, pos}
-use Rattle.std.proofs.Common.{List, [], ◌∷◌, length, map, Option, Some, refl, sym, ap, ap₂, ◌∙◌, subst, arith}
-use Rattle.std.proofs.lemmas.Int.{ints}
+use Rattle.std.proofs.Common.{◌≡◌, ℕ, ◌+◌, ◌<◌, ◌&&◌, ◌||◌, not, Bool, true, false, inl, inr, ℤ, List, [], ◌∷◌, length}
+use Rattle.std.proofs.Common.{map, Option, Some, refl, sym, ap, ap₂, ◌∙◌, subst, arith}
 use Rattle.std.specs.List.{list_any}
 use Rattle.module_format.specs.declared.rows.Direction.{Direction}
 use Rattle.module_format.specs.declared.rows.EndKind.{EndKind}
@@ -25,7 +24,7 @@ use Rattle.machine_state.proofs.Shares.{left_claims, end_among, end_held}
 use Rattle.machine_state.proofs.SpanLaws.{both_true}
 use Rattle.states.proofs.RowFacts.{and-parts}
 use Rattle.rulings.specs.Lends.{IsRegionKind}
-use Rattle.rulings.specs.Meaning.{Layout, HasFrame, place_in, words_left}
+use Rattle.rulings.specs.Meaning.{Layout, HasFrame, words_left}
 use Rattle.rulings.specs.Reach as reach
 use Rattle.rulings.specs.Regions.{Scope, scope_left, IsByteOf, IsRegion, IsNamed, HoldsNamed, IsWrittenAt, IsNamedAt}
 use Rattle.rulings.specs.Regions.{HasConstants, channel_address}
@@ -36,15 +35,16 @@ use Rattle.rulings.proofs.Regions.{bytes_read, bytes_written}
 use Rattle.share_laws.specs.Shares.{end_at, share_at}
 use Rattle.share_laws.specs.Starts.{CanStart, held_by_starter, StartersHoldTheRest}
 use Rattle.share_laws.proofs.RowEnds.{end_listed, listed_among}
-use Rattle.share_laws.proofs.LeftBytes.{is_false, not_true, was_false, word_of_bytes, word_to_read, less_written}
-use Rattle.share_laws.proofs.LeftBytes.{less_read, less_inside}
-use Rattle.share_laws.proofs.LeftBytes.{left_readable, region_to_read, share, of_words, to_write_left, to_read_left}
-use Rattle.share_laws.proofs.LeftBytes.{listed_word, written_held, HasByte, written_by_number, read_by_number}
+use Rattle.share_laws.proofs.LeftBytes.{byte_of, none_of, is_false, not_true, was_false, word_of_bytes, word_to_read}
+use Rattle.share_laws.proofs.LeftBytes.{less_written, less_read, less_inside, left_readable, region_to_read, share}
+use Rattle.share_laws.proofs.LeftBytes.{of_words, to_write_left, to_read_left, listed_word, written_held, HasByte}
+use Rattle.share_laws.proofs.LeftBytes.{written_by_number, read_by_number}
 use Rattle.share_laws.proofs.LeftParameters.{one_more, Remains, still_written, still_read, nothing_left, still_channels}
 use Rattle.share_laws.proofs.LeftParameters.{kept}
 
 -- ---- what remains of a parameter
 
+-- what is written of what remains was written
 remains_written : {found : Found} {j : ℕ} {mine theirs : ParameterKind} (start place : ℕ)
     → Remains found j mine theirs → IsWrittenAt mine start place → IsWrittenAt theirs start place
 remains_written start place (still_written size lo hi w r mine theirs) at =
@@ -57,6 +57,7 @@ remains_written start place (nothing_left lo hi mine) at =
 remains_written start place (still_channels count len ends mine theirs) at =
     absurd (subst (λ (k : ParameterKind). IsWrittenAt k start place) mine at)
 
+-- what is named was named
 remains_named : {found : Found} {j : ℕ} {mine theirs : ParameterKind} (start place : ℕ)
     → Remains found j mine theirs → IsNamedAt mine start place → IsNamedAt theirs start place
 remains_named start place (still_written size lo hi w r mine theirs) at =
@@ -75,16 +76,13 @@ remains_named start place (still_channels count len ends mine theirs) at =
 
 -- ---- tests
 
+-- neither of two is true
 neither : (a b : Bool) → not (a || b) ≡ true → (a ≡ false) × (b ≡ false)
 neither true b h = absurd (cc)
 neither false true h = absurd (cc)
 neither false false h = (refl, refl)
 
-none_of : (a b : Bool) → a ≡ false → b ≡ false → not (a || b) ≡ true
-none_of true b p q = absurd (cc)
-none_of false true p q = absurd (cc)
-none_of false false p q = refl
-
+-- the same of one that is false
 both_false : (a b : Bool) → (a || b) ≡ false → (a ≡ false) × (b ≡ false)
 both_false true b h = absurd (cc)
 both_false false true h = absurd (cc)
@@ -105,6 +103,7 @@ module _ (m : Contents) (found : Found) (layout : Layout) (base : ℕ) (addresse
   abbrev gift : Share
   gift = share m found layout base addresses h memory depth workspace s
 
+  -- what is given after the start was given before, or is by this branch
   given : (test : Branch → Bool) → some_started found.par (found.number + 1) test
       ≡ (some_started found.par found.number test || test found.branch)
   given test = one_more found.par found.number found.branch test s.is.branch
@@ -117,6 +116,7 @@ module _ (m : Contents) (found : Found) (layout : Layout) (base : ℕ) (addresse
     not_written : is_among found.branch.writes k ≡ false
     not_read : is_among found.branch.reads k ≡ false
 
+  -- a word that is left to write after the start
   left_word : (k : ℤ) → after.words.writes k ≡ true → IsLeftWord k
   left_word k t =
       let a = and-parts (rights.may_write_word m found.par.context k && not (is_hidden found.par k)) _ t in
@@ -137,16 +137,13 @@ module _ (m : Contents) (found : Found) (layout : Layout) (base : ℕ) (addresse
     before_it : before.words.reads k ≡ true
     not_written : is_among found.branch.writes k ≡ false
 
+  -- one that is left to read: it was before, and the branch has not to write it
   left_to_read : (k : ℤ) → after.words.reads k ≡ true → IsLeftToRead k
   left_to_read k t =
       let a = and-parts (rights.may_read_word m found.par.context k && not (is_hidden found.par k)) _ t in
       let w = both_false (word_given_to_write found.par found.number k) (is_among found.branch.writes k)
       (sym (given (λ b. is_among b.writes k)) ∙ was_false _ a.1) in
       record { before_it = both_true _ _ a.0 (not_true _ w.0); not_written = w.1 }
-
-  byte_of : (k : ℤ) (place i : ℕ) → pos place ≡ place_in layout.origin k → i < 4
-      → IsByteOf layout.origin k (place + i)
-  byte_of k place i is low = record { low = omega (arith, ints, is); high = omega (arith, ints, is, low) }
 
   -- a byte of a word that the branch has not to write is none of its share's
   word_unwritten : (k : ℤ) (x : ℕ) → before.words.reads k ≡ true → is_among found.branch.writes k ≡ false
@@ -157,6 +154,7 @@ module _ (m : Contents) (found : Found) (layout : Layout) (base : ℕ) (addresse
       ((of_words m found layout base addresses h memory depth workspace s).written x w) in
       let no' : false ≡ true = sym free ∙ among in cc)
 
+  -- nor one that it has not to read
   word_unread : (k : ℤ) (x : ℕ) → before.words.reads k ≡ true → is_among found.branch.reads k ≡ false
       → IsByteOf layout.origin k x → reads_place gift x ≡ false
   word_unread k x counts free b = is_false (reads_place gift x) (λ w.
@@ -165,6 +163,7 @@ module _ (m : Contents) (found : Found) (layout : Layout) (base : ℕ) (addresse
       ((of_words m found layout base addresses h memory depth workspace s).read x w) in
       let no' : false ≡ true = sym free ∙ among in cc)
 
+  -- the starter has its frame
   starter_frame : HasFrame mine (length memory) (words_left m found.par found.par.context (found.number + 1))
       layout.origin depth workspace
   starter_frame = record {
@@ -181,8 +180,8 @@ module _ (m : Contents) (found : Found) (layout : Layout) (base : ℕ) (addresse
           inside = w.inside;
           mine = word_of_bytes mine w.place (λ i low. less_written (length memory) h gift (w.place + i)
               (let inside = w.inside in omega arith) (bytes_written h w.place w.mine i low)
-              (word_unwritten k (w.place + i) counts l.not_written (byte_of k w.place i w.is low))
-              (word_unread k (w.place + i) counts l.not_read (byte_of k w.place i w.is low)));
+              (word_unwritten k (w.place + i) counts l.not_written (byte_of layout.origin k w.place i w.is low))
+              (word_unread k (w.place + i) counts l.not_read (byte_of layout.origin k w.place i w.is low)));
         };
     readable = λ k t.
         let l = left_to_read k t in
@@ -193,7 +192,7 @@ module _ (m : Contents) (found : Found) (layout : Layout) (base : ℕ) (addresse
           inside = w.inside;
           readable = word_to_read mine w.place (λ i low. less_read (length memory) h gift (w.place + i)
               (let inside = w.inside in omega arith) (bytes_read h w.place w.readable i low)
-              (word_unwritten k (w.place + i) l.before_it l.not_written (byte_of k w.place i w.is low)));
+              (word_unwritten k (w.place + i) l.before_it l.not_written (byte_of layout.origin k w.place i w.is low)));
         };
     start = s.frame.start;
   }
@@ -215,6 +214,7 @@ module _ (m : Contents) (found : Found) (layout : Layout) (base : ℕ) (addresse
     low = low;
   }
 
+  -- a byte of a region that the branch has not to write is none of its share's
   region_unwritten : (j : ℕ) (q : Parameter) (size i : ℕ) (lo hi : ℤ) → before.parameters j ≡ Some q
       → IsRegionKind q.kind size lo hi → i < size → reach.is_listed found.branch.written_parameters j ≡ false
       → writes_place gift (place_of (layout.starts j) + i) ≡ false
@@ -223,6 +223,7 @@ module _ (m : Contents) (found : Found) (layout : Layout) (base : ℕ) (addresse
       (place_of (layout.starts j) + i) (has_byte j q size i lo hi there kind low) w in
       let no' : false ≡ true = sym free ∙ listed in cc)
 
+  -- nor one of a region that it has not to read
   region_unread : (j : ℕ) (q : Parameter) (size i : ℕ) (lo hi : ℤ) → before.parameters j ≡ Some q
       → q.kind ≡ WrittenRegion size lo hi → i < size → reach.is_listed found.branch.read_parameters j ≡ false
       → reads_place gift (place_of (layout.starts j) + i) ≡ false
@@ -231,6 +232,7 @@ module _ (m : Contents) (found : Found) (layout : Layout) (base : ℕ) (addresse
       (place_of (layout.starts j) + i) (has_byte j q size i lo hi there (inr kind) low) kind w in
       let no' : false ≡ true = sym free ∙ listed in cc)
 
+  -- it holds what each parameter names that is left
   starter_each : (j : ℕ) (p : Parameter) → after.parameters j ≡ Some p
       → IsNamed m mine after memory p.kind (layout.starts j)
   starter_each j p there =
@@ -272,6 +274,7 @@ module _ (m : Contents) (found : Found) (layout : Layout) (base : ℕ) (addresse
           subst (λ (k : ParameterKind). IsNamed m mine after memory k (layout.starts j)) (sym kind)
           (subst (λ (k : ParameterKind). IsNamed m h before memory k (layout.starts j)) is named)
 
+  -- regions are apart as before
   starter_apart : (j k : ℕ) (p q : Parameter) → after.parameters j ≡ Some p → after.parameters k ≡ Some q
       → (j ≡ k → ⊥) → (place : ℕ) → IsWrittenAt p.kind (layout.starts j) place
       → IsNamedAt q.kind (layout.starts k) place → ⊥
@@ -284,6 +287,7 @@ module _ (m : Contents) (found : Found) (layout : Layout) (base : ℕ) (addresse
 
   -- ---- constants
 
+  -- the constants are there
   starter_constants : HasConstants m mine memory
   starter_constants = record {
     readable = λ i low. less_read (length memory) h gift (constants_start m + i)
@@ -304,6 +308,7 @@ module _ (m : Contents) (found : Found) (layout : Layout) (base : ℕ) (addresse
     before_it : before.ends kind direction ≡ true
     not_given : IsAmong (record { kind = kind; direction = direction }) found.branch.ends → ⊥
 
+  -- each end that is left is one
   left_end : (kind : EndKind) (direction : Direction) → after.ends kind direction ≡ true → IsLeftEnd kind direction
   left_end kind direction t =
       let e : EndRow = record { kind = kind; direction = direction } in
@@ -315,6 +320,7 @@ module _ (m : Contents) (found : Found) (layout : Layout) (base : ℕ) (addresse
         not_given = λ among. let no' : false ≡ true = sym g.1 ∙ end_listed found.branch.ends e among in cc;
       }
 
+  -- the ends that are left are held
   starter_ends : (kind : EndKind) (direction : Direction) → after.ends kind direction ≡ true
       → has_end mine (record { address = channel_address layout kind; direction = direction }) ≡ true
   unfolding less
@@ -348,6 +354,7 @@ module _ (m : Contents) (found : Found) (layout : Layout) (base : ℕ) (addresse
               kinds same)
           on (x ∷ es) all (inr there) = inr (on es (λ y later. all y (inr later)) there)
 
+  -- so all that is left is held
   starter_named : HoldsNamed m mine after memory
   starter_named = record {
     each = starter_each;
@@ -365,6 +372,7 @@ module _ (m : Contents) (found : Found) (layout : Layout) (base : ℕ) (addresse
         (left_end b direction u).before_it same;
   }
 
+-- the frame and what is left, in memory
 pub starters_hold_the_rest : StartersHoldTheRest
 starters_hold_the_rest m found layout base addresses h memory depth workspace s = record {
   frame = starter_frame m found layout base addresses h memory depth workspace s;

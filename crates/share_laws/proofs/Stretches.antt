@@ -1,7 +1,7 @@
 -- Stretches of words of a frame, and of regions.
-use Rattle.std.proofs.Common.{◌≡◌, ℕ, ◌+◌, ◌*◌, ◌/◌, ◌<◌, ◌≤◌, ◌&&◌, Bool, true, false, ◌⊎◌}
-use Rattle.std.proofs.Common.{inl, inr, ℤ, pos, ◌+ℤ◌, ◌-ℤ◌, ◌*ℤ◌, ◌≤ℤ◌, ◌<ℤ◌, List, [], ◌∷◌, ◌++◌, map, Option, Some}
-use Rattle.std.proofs.Common.{None, refl, sym, ap, ◌∙◌, subst, arith, nat_abs}
+use Rattle.std.proofs.Common.{◌≡◌, ℕ, ◌+◌, ◌*◌, ◌/◌, ◌<◌, ◌≤◌, ◌&&◌, Bool, true, false, ◌⊎◌, inl, inr, ℤ, pos, ◌+ℤ◌}
+use Rattle.std.proofs.Common.{◌-ℤ◌, ◌*ℤ◌, ◌≤ℤ◌, ◌<ℤ◌, List, [], ◌∷◌, ◌++◌, map, Option, Some, None, refl, sym, ap, ◌∙◌}
+use Rattle.std.proofs.Common.{subst, arith, nat_abs}
 use Rattle.std.proofs.lemmas.Bool.{eqb-true}
 use Rattle.std.proofs.lemmas.Int.{ints}
 use Rattle.std.specs.Prelude.{int_le, int_lt, slice_get, ◌==◌}
@@ -30,6 +30,7 @@ any_either test (x ∷ xs) ys h = elim (or_true (test x) _ h) [
   | inr there ↦ elim (any_either test xs ys there) [ inl p ↦ inl (or_right (test x) _ p) | inr q ↦ inr q ]
 ]
 
+-- what passes in the first list passes
 pub any_first : {A : Type 0} (test : A → Bool) (xs ys : List A) → list_any test xs ≡ true
     → list_any test (xs ++ ys) ≡ true
 any_first test [] ys h = absurd (cc)
@@ -38,6 +39,7 @@ any_first test (x ∷ xs) ys h = elim (or_true (test x) _ h) [
   | inr there ↦ or_right (test x) _ (any_first test xs ys there)
 ]
 
+-- and in the second
 pub any_second : {A : Type 0} (test : A → Bool) (xs ys : List A) → list_any test ys ≡ true
     → list_any test (xs ++ ys) ≡ true
 any_second test [] ys h = h
@@ -54,6 +56,7 @@ over_tells start size place h =
     let high = le-from (pos (place + 1)) (start +ℤ pos size) both.1 in
     (low, omega (arith, ints, high))
 
+-- a place that lies there is over it
 over_there : (start : ℤ) (size place : ℕ) → start ≤ℤ pos place → pos place <ℤ (start +ℤ pos size)
     → stretches_over (record { start = start; size = size }) place ≡ true
 over_there start size place low high =
@@ -81,6 +84,7 @@ module _ (base : ℕ) (origin : ℤ) (at : pos base ≡ pos data_start +ℤ orig
         record { low = omega (arith, ints, is); high = omega (arith, ints, is) },
       )
 
+  -- and the other way round
   word_there : (lo hi k : ℤ) (place : ℕ) → lo ≤ℤ k → k <ℤ hi → IsByteOf origin k place
       → stretches_over (words_of base (record { lo = lo; hi = hi })) place ≡ true
   word_there lo hi k place low high b =
@@ -89,6 +93,7 @@ module _ (base : ℕ) (origin : ℤ) (at : pos base ≡ pos data_start +ℤ orig
       over_there (pos base -ℤ pos data_start +ℤ pos 4 *ℤ lo) (4 * nat_abs (hi -ℤ lo)) place
       (omega (arith, ints, at, from, low)) (omega (arith, ints, at, to, low, high))
 
+  -- a byte of intervals is one of a word of them
   pub words_found : (is : List Interval) (place : ℕ) → AreProper is
       → list_any (λ s. stretches_over s place) (map (words_of base) is) ≡ true
       → (k : ℤ) × (is_among is k ≡ true) × IsByteOf origin k place
@@ -105,6 +110,7 @@ module _ (base : ℕ) (origin : ℤ) (at : pos base ≡ pos data_start +ℤ orig
         (w.0, or_right (int_le i.lo w.0 && int_lt w.0 i.hi) _ w.1, w.2)
   ]
 
+  -- a byte of a word of them is one of theirs
   pub words_there : (is : List Interval) (k : ℤ) (place : ℕ) → is_among is k ≡ true → IsByteOf origin k place
       → list_any (λ s. stretches_over s place) (map (words_of base) is) ≡ true
   words_there [] k place among b = absurd (cc)
@@ -130,6 +136,7 @@ pub record InListedRegion (parameters : List Parameter) (addresses : List (Optio
   pub high : place < place_of address + region_size p.kind
 
 module _ (parameters : List Parameter) (addresses : List (Option ℕ)) where
+  -- a byte of a parameter's region, where that and its address are known
   region_found : (j place : ℕ) (o : Option ℕ) (q : Option Parameter) → address_of addresses j ≡ o
       → slice_get parameters j ≡ q → list_any (λ s. stretches_over s place) (elim o as (λ o. List Stretch) [
         | None ↦ []
@@ -149,6 +156,7 @@ module _ (parameters : List Parameter) (addresses : List (Option ℕ)) where
         | inr there ↦ absurd (cc)
       ]
 
+  -- a byte of the regions of listed parameters
   pub regions_found : (numbers : List ℕ) (place : ℕ)
       → list_any (λ s. stretches_over s place) (flat_map (region_of parameters addresses) numbers) ≡ true
       → InListedRegion parameters addresses numbers place
@@ -181,6 +189,7 @@ module _ (parameters : List Parameter) (addresses : List (Option ℕ)) where
             }
       ]
 
+  -- and the other way round
   region_there : (j place address : ℕ) (p : Parameter) → slice_get parameters j ≡ Some p
       → address_of addresses j ≡ Some address → place_of address ≤ place
       → place < place_of address + region_size p.kind
@@ -200,6 +209,7 @@ module _ (parameters : List Parameter) (addresses : List (Option ℕ)) where
       ∙ or_left _ false (over_there (pos (place_of address)) (region_size p.kind) place (omega (arith, ints, low))
       (omega (arith, ints, high)))
 
+  -- the same of a list
   pub regions_there : (numbers : List ℕ) (j place address : ℕ) (p : Parameter) → is_listed numbers j ≡ true
       → slice_get parameters j ≡ Some p → address_of addresses j ≡ Some address → place_of address ≤ place
       → place < place_of address + region_size p.kind

@@ -1,7 +1,6 @@
 -- Words that are taken: they are the process's own, what its scope names is still there, and other words stay.
-use Rattle.std.proofs.Common.{◌≡◌, ℕ, ◌+◌, ◌<◌, ◌&&◌, not, true, false, inl, inr, ℤ, pos}
-use Rattle.std.proofs.Common.{negsuc, ◌+ℤ◌, List, [], ◌∷◌, ◌++◌, length, map, Option, None, FitsSigned, refl, sym}
-use Rattle.std.proofs.Common.{◌∙◌, subst, arith}
+use Rattle.std.proofs.Common.{◌≡◌, ℕ, ◌+◌, ◌<◌, ◌&&◌, not, true, false, inl, inr, ℤ, pos, negsuc, ◌+ℤ◌, List, [], ◌∷◌}
+use Rattle.std.proofs.Common.{◌++◌, length, map, Option, None, FitsSigned, refl, sym, ◌∙◌, subst, arith}
 use Rattle.std.proofs.lemmas.Int.{ints}
 use Rattle.std.specs.Int.{w32}
 use Rattle.module_format.specs.declared.rows.ChannelRow.{ChannelRow}
@@ -30,7 +29,6 @@ use Rattle.share_laws.specs.Shares.{IsBranch}
 use Rattle.share_laws.specs.Starts.{CanStart, IsLeft}
 use Rattle.share_laws.specs.Taking.{IsScheduling, after_start, after_opening, StartTakes, StartsTakeTheirWords}
 use Rattle.share_laws.specs.Taking.{OpeningTakes, OpeningsTakeTheirWords, StartsKeepOpeners}
-use Rattle.share_laws.specs.Taking.{OpeningsTakeTheirWords}
 use Rattle.share_laws.proofs.BranchHolds.{branches_hold_their_shares}
 use Rattle.share_laws.proofs.HiddenWords.{hidden_place, second_place, block_hides, next_hides, channel_hides}
 use Rattle.share_laws.proofs.HiddenWords.{channel_is_word, fits_words, hidden_word}
@@ -54,6 +52,7 @@ module _ (m : Contents) (h : Holding) (scope : Scope)
     pub others : (k : ℤ) → (is_such k → ⊥)
         → frame_word new scope.layout.origin k ≡ frame_word memory scope.layout.origin k
 
+  -- words are taken one after the other
   pub takes_words : (addresses : List ℕ) (memory : Memory)
       → ((a : ℕ) → IsAmong a addresses → IsTaken h scope (length memory) is_such a)
       → Takes memory (without_words addresses memory)
@@ -110,6 +109,7 @@ module _ (m : Contents) (found : Found) (layout : Layout) (base : ℕ) (addresse
         such = record { n = n; low = low; is = refl };
       }
 
+  -- the three words that scheduling takes
   start_takes : Takes m h left_scope (left_readable m found.par found.par.context found.number)
       (IsScheduling found) memory (after_start found base memory)
   start_takes = takes_words m h left_scope (left_readable m found.par found.par.context found.number)
@@ -126,6 +126,7 @@ module _ (m : Contents) (found : Found) (layout : Layout) (base : ℕ) (addresse
           (IsScheduling found)) here (scheduled 2 (omega arith) (omega (arith, ints)))
       each a (inr (inr (inr never))) = absurd never
 
+  -- what is known of the starter stands
   pub takes_its_words : StartTakes m found layout base addresses h memory (after_start found base memory) depth
       workspace
   takes_its_words =
@@ -156,6 +157,7 @@ module _ (m : Contents) (found : Found) (layout : Layout) (base : ℕ) (addresse
           (is_among found.branch.writes k) among in
           cc
 
+-- so at each start
 pub starts_take_their_words : StartsTakeTheirWords
 starts_take_their_words m found layout base addresses h memory depth workspace s =
     takes_its_words m found layout base addresses h memory depth workspace s
@@ -167,6 +169,7 @@ module _ (m : Contents) (row : ℕ) (par : Par) (layout : Layout) (base : ℕ) (
   abbrev whole_scope : Scope
   whole_scope = scope_of m par.context layout
 
+  -- a hidden word is one that may be taken
   hidden_taken : (k : ℤ) (a : ℕ) (hides : is_hidden par k ≡ true)
       → place_of a ≡ (hidden_word m row par layout base h memory depth workspace o k hides).place
       → IsTaken h whole_scope (length memory) (λ k. is_hidden par k ≡ true) a
@@ -178,6 +181,7 @@ module _ (m : Contents) (row : ℕ) (par : Par) (layout : Layout) (base : ℕ) (
     such = hides;
   }
 
+  -- so is that of each channel
   channel_taken : (cs : List ChannelRow) → ((c : ChannelRow) → IsAmong c cs → IsAmong c par.channels) → (a : ℕ)
       → IsAmong a (map (λ (c : ChannelRow). frame_address base c.word) cs)
       → IsTaken h whole_scope (length memory) (λ k. is_hidden par k ≡ true) a
@@ -206,11 +210,13 @@ module _ (m : Contents) (row : ℕ) (par : Par) (layout : Layout) (base : ℕ) (
       (second_place m row par layout base h memory depth workspace o))
   hidden_address a (inr (inr later)) = channel_taken par.channels (λ c among. among) a later
 
+  -- all of them are taken
   opening_takes : Takes m h whole_scope (λ k t. written_readable m par.context k t) (λ k. is_hidden par k ≡ true) memory
       (after_opening par base memory)
   opening_takes = takes_words m h whole_scope (λ k t. written_readable m par.context k t) (λ k. is_hidden par k ≡ true)
       (block_addresses base par ++ channel_addresses base par) memory hidden_address
 
+  -- what is known of the starter stands
   pub opening_takes_its_words : OpeningTakes m row par layout base h memory (after_opening par base memory) depth
       workspace
   opening_takes_its_words =
@@ -234,6 +240,7 @@ module _ (m : Contents) (row : ℕ) (par : Par) (layout : Layout) (base : ℕ) (
             let no' : true ≡ false = sym hides ∙ shown in cc);
       }
 
+-- so at each opening
 pub openings_take_their_words : OpeningsTakeTheirWords
 openings_take_their_words m row par layout base h memory depth workspace o =
     opening_takes_its_words m row par layout base h memory depth workspace o
@@ -255,6 +262,7 @@ module _ (m : Contents) (found : Found) (layout : Layout) (base : ℕ) (h : Hold
       (left.writes k among) in
       (and-parts (rights.may_write_word m found.par.context k) _ a.0).0
 
+  -- the three words are the opener's own
   own_scheduling : (n : ℕ) → n < 3
       → IsOwnWord h (length memory) layout.origin (found.branch.workspace +ℤ negsuc n)
   own_scheduling n low = frame.own (found.branch.workspace +ℤ negsuc n)
@@ -280,6 +288,7 @@ module _ (m : Contents) (found : Found) (layout : Layout) (base : ℕ) (h : Hold
         omega (arith, ints, moved));
   }
 
+  -- they may be taken
   scheduling_taken : (n : ℕ) → n < 3 → FitsSigned w32 (negsuc n)
       → IsTaken h opener_scope (length memory) (IsScheduling found)
       (scheduling_word (frame_address base found.branch.workspace) n)
@@ -293,6 +302,7 @@ module _ (m : Contents) (found : Found) (layout : Layout) (base : ℕ) (h : Hold
         such = record { n = n; low = low; is = refl };
       }
 
+  -- and are
   opener_takes : Takes m h opener_scope (λ k t. written_readable m found.par.context k t) (IsScheduling found) memory
       (after_start found base memory)
   opener_takes = takes_words m h opener_scope (λ k t. written_readable m found.par.context k t) (IsScheduling found)
@@ -308,6 +318,7 @@ module _ (m : Contents) (found : Found) (layout : Layout) (base : ℕ) (h : Hold
           (scheduling_taken 2 (omega arith) (omega (arith, ints)))
       each a (inr (inr (inr never))) = absurd never
 
+-- so what the opener's scope has stands
 pub starts_keep_openers : StartsKeepOpeners
 starts_keep_openers m found layout base h memory depth workspace keeps is left origin frame =
     let taken = opener_takes m found layout base h memory depth workspace keeps is left origin frame in
