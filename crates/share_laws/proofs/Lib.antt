@@ -18,3 +18,4 @@ pub mod EndsOutside
 pub mod Prepared
 pub mod Bases
 pub mod BranchBegins
+pub mod GivenOnce

@@ -7,3 +7,4 @@ pub mod Tests
 pub mod GoingOn
 pub mod Prepared
 pub mod Bases
+pub mod GivenOnce

@@ -2,6 +2,7 @@
 
 ghost use Rattle.share_laws.specs.Bases.{BasesAreFrames, FramesAreBases};
 ghost use Rattle.share_laws.specs.Climbing.{BranchesAreLent, ChangesAreByABranch, ChangesClimb, OtherWordsStay};
+ghost use Rattle.share_laws.specs.GivenOnce.{SharesAreLeft};
 ghost use Rattle.share_laws.specs.GoingOn.{BranchesBegin, OpenersGoOn, OpeningsCanStart, StartersGoOn};
 ghost use Rattle.share_laws.specs.Opening.{EndsLieOutside, OpenersHoldTheRest};
 ghost use Rattle.share_laws.specs.Prepared.{FirstStartsPass, LaterStartsPass, PlansAreLaidOut};
@@ -20,6 +21,12 @@ pub fn bases_are_frames()
 /// names.
 pub fn shares_are_words()
     ensures { SharesAreWords }
+{}
+
+/// What a branch's row gives it is left once the branches before it are started, if the context of its PAR has it, none
+/// of it is of the block or a channel, and none of these branches has what it writes, or writes what it has.
+pub fn shares_are_left()
+    ensures { SharesAreLeft }
 {}
 
 /// Where a branch's share is left, the branch has its frame from its start on, and holds what its context names.
