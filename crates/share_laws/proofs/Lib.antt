@@ -19,3 +19,4 @@ pub mod Prepared
 pub mod Bases
 pub mod BranchBegins
 pub mod GivenOnce
+pub mod IntervalTests
