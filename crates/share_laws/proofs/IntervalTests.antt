@@ -1,0 +1,68 @@
+-- What tests of whole intervals tell of each word.
+use Rattle.std.proofs.Common.{◌≡◌, ℕ, ◌&&◌, ℤ, pos, ◌+ℤ◌, ◌-ℤ◌, ◌≤ℤ◌, ◌<ℤ◌, Bool, true, false, inl, inr, List}
+use Rattle.std.proofs.Common.{[], ◌∷◌, sym, ◌∙◌, subst, arith, nat_abs}
+use Rattle.std.proofs.lemmas.Int.{ints}
+use Rattle.std.specs.Prelude.{int_le, int_lt}
+use Rattle.std.specs.List.{list_any, list_all}
+use Rattle.module_format.specs.declared.rows.Interval.{Interval}
+use Rattle.module_format.specs.Pars.{meet}
+use Rattle.certificate.specs.Rights.{is_among}
+use Rattle.machine_state.proofs.SpanLaws.{both_true, or_true, or_left, or_right}
+use Rattle.states.specs.Spans.{all_words}
+use Rattle.states.proofs.RowFacts.{and-parts, le-from, lt-from, lt-yes}
+use Rattle.rulings.proofs.Offsets.{all_words_at}
+use Rattle.share_laws.proofs.LeftBytes.{is_false}
+
+-- a word of an interval passes what all of its words pass
+word_passes : (test : ℤ → Bool) (i : Interval) (k : ℤ) → all_words test i.lo (nat_abs (i.hi -ℤ i.lo)) ≡ true
+    → i.lo ≤ℤ k → k <ℤ i.hi → test k ≡ true
+word_passes test i k all low high =
+    let n : ℕ = nat_abs (k -ℤ i.lo) in
+    let at : i.lo +ℤ pos n ≡ k = omega (arith, ints, low) in
+    subst (λ (z : ℤ). test z ≡ true) at
+    (all_words_at test i.lo (nat_abs (i.hi -ℤ i.lo)) n all (omega (arith, ints, low, high)))
+
+-- so does each word of a list of intervals
+pub words_pass : (test : ℤ → Bool) (is : List Interval) (k : ℤ)
+    → list_all (λ (i : Interval). all_words test i.lo (nat_abs (i.hi -ℤ i.lo))) is ≡ true → is_among is k ≡ true
+    → test k ≡ true
+words_pass test [] k all among = absurd (cc)
+words_pass test (i ∷ is) k all among =
+    let both = and-parts (all_words test i.lo (nat_abs (i.hi -ℤ i.lo))) _ all in
+    elim (or_true (int_le i.lo k && int_lt k i.hi) _ among) [
+      | inl here ↦
+          let ends = and-parts (int_le i.lo k) (int_lt k i.hi) here in
+          word_passes test i k both.0 (le-from i.lo k ends.0) (lt-from k i.hi ends.1)
+      | inr there ↦ words_pass test is k both.1 there
+    ]
+
+-- an interval meets one of a list if both have a word
+meets_one : (other : Interval) (is : List Interval) (k : ℤ) → other.lo ≤ℤ k → k <ℤ other.hi → is_among is k ≡ true
+    → list_any (meet other) is ≡ true
+meets_one other [] k low high among = absurd (cc)
+meets_one other (i ∷ is) k low high among = elim (or_true (int_le i.lo k && int_lt k i.hi) _ among) [
+  | inl here ↦
+      let ends = and-parts (int_le i.lo k) (int_lt k i.hi) here in
+      let from = le-from i.lo k ends.0 in
+      let to = lt-from k i.hi ends.1 in
+      or_left _ _ (both_true (int_lt other.lo i.hi) (int_lt i.lo other.hi)
+      (lt-yes other.lo i.hi (omega (arith, ints, low, to))) (lt-yes i.lo other.hi (omega (arith, ints, from, high))))
+  | inr there ↦ or_right (meet other i) _ (meets_one other is k low high there)
+]
+
+-- two lists with a word in common have intervals that meet
+common_word : (is others : List Interval) (k : ℤ) → is_among is k ≡ true → is_among others k ≡ true
+    → list_any (λ other. list_any (meet other) is) others ≡ true
+common_word is [] k mine theirs = absurd (cc)
+common_word is (other ∷ others) k mine theirs = elim (or_true (int_le other.lo k && int_lt k other.hi) _ theirs) [
+  | inl here ↦
+      let ends = and-parts (int_le other.lo k) (int_lt k other.hi) here in
+      or_left _ _ (meets_one other is k (le-from other.lo k ends.0) (lt-from k other.hi ends.1) mine)
+  | inr there ↦ or_right (list_any (meet other) is) _ (common_word is others k mine there)
+]
+
+-- where no intervals meet, no word is in both lists
+pub no_common_word : (is others : List Interval) (k : ℤ)
+    → list_any (λ other. list_any (meet other) is) others ≡ false → is_among is k ≡ true → is_among others k ≡ false
+no_common_word is others k apart mine = is_false (is_among others k) (λ theirs.
+    let no' : false ≡ true = sym apart ∙ common_word is others k mine theirs in cc)
