@@ -58,6 +58,7 @@ fn leaves_agreed(module: &Module, par: &ParRow, state: &State) -> bool
 }
 
 /// Judges `endp`, by its rule: the process ends, and nothing goes on after the instruction. The state is used up.
+/// `Rule::Label`: a branch does not leave what the label after its PAR says of the words that it writes.
 #[tactic(auto, unfolding(crate::specs::ParRules::endp_rule))]
 pub fn end_process(place: &Place, state: &mut State) -> Result<Continuation, Rule>
     requires { BelongsTo place.now.module.now state.old }

@@ -142,7 +142,7 @@ fn is_as_given(module: &Module, state: &State, parameter: usize) -> bool
     }
 }
 
-/// Whether that of the parameter is whose channel has this end, if it is a parameter's.
+/// The same of the parameter whose channel has this end, if it is a parameter's.
 fn end_is_as_given(module: &Module, state: &State, end: &EndRow) -> bool
     ensures { result ≡ end_is_as_given «module».now (state_of state.now) end.now.kind }
 {
@@ -154,14 +154,14 @@ fn end_is_as_given(module: &Module, state: &State, end: &EndRow) -> bool
     }
 }
 
-/// Whether those of all these parameters are.
+/// The same of all these parameters.
 fn are_as_given(module: &Module, state: &State, parameters: &[u16]) -> bool
     ensures { result ≡ list_all (is_as_given «module».now (state_of state.now)) parameters.now }
 {
     parameters.iter().all(|parameter| is_as_given(module, state, usize::from(*parameter)))
 }
 
-/// Whether those of all parameters are whose channels have these ends.
+/// The same of all parameters whose channels have these ends.
 fn ends_are_as_given(module: &Module, state: &State, ends: &[EndRow]) -> bool
     ensures { let s = state_of state.now in
         result ≡ list_all (λ e. end_is_as_given «module».now s e.kind) ends.now }
@@ -169,7 +169,7 @@ fn ends_are_as_given(module: &Module, state: &State, ends: &[EndRow]) -> bool
     ends.iter().all(|end| end_is_as_given(module, state, end))
 }
 
-/// Whether those of all parameters are that a branch names.
+/// The same of all parameters that a branch names.
 fn named_are_as_given(module: &Module, state: &State, branch: &BranchRow) -> bool
     ensures { result ≡ named_are_as_given «module».now (state_of state.now) (branch_of branch.now) }
 {
@@ -178,7 +178,7 @@ fn named_are_as_given(module: &Module, state: &State, branch: &BranchRow) -> boo
         && ends_are_as_given(module, state, &branch.ends)
 }
 
-/// Whether those of all parameters are that the branches in these rows name.
+/// The same of all parameters that the branches in these rows name.
 fn rows_are_as_given(module: &Module, state: &State, rows: &[BranchRow]) -> bool
     ensures { let test = named_are_as_given «module».now (state_of state.now) in
         result ≡ list_all (λ row. test (branch_of row)) rows.now }
@@ -187,7 +187,7 @@ fn rows_are_as_given(module: &Module, state: &State, rows: &[BranchRow]) -> bool
         .all(|branch| named_are_as_given(module, state, branch))
 }
 
-/// Whether those of all parameters are that some branches name.
+/// The same of all parameters that some branches name.
 #[tactic(auto, using(crate::proofs::Mapped::all_of_mapped))]
 fn all_are_as_given(module: &Module, state: &State, branches: &[BranchRow]) -> bool
     ensures { let test = named_are_as_given «module».now (state_of state.now) in

@@ -375,8 +375,9 @@ fn starts_branch(place: &Place, state: &mut State, a: Fact, found: &Found) -> Re
 }
 
 /// Judges `startp`, by its rule, and reports the labels at which others go on. The process goes on after the
-/// instruction, in the state that is left, with one more branch started; each label is paid. Where the rule is broken,
-/// the state is left part of the way.
+/// instruction, in the state that is left: one more branch is started, each label is paid from the number, and nothing
+/// is known of the registers. Where the rule is broken, the state is left part of the way. `Rule::Label` and
+/// `Rule::Budget` speak of the label of the branch, and at the first start of a PAR of the label after it.
 #[tactic(auto, unfolding(crate::specs::ParRules::startp_rule))]
 pub fn start_process(place: &Place, state: &mut State) -> Result<Started, Rule>
     requires { BelongsTo place.now.module.now state.old }
