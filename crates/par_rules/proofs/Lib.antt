@@ -1,0 +1,6 @@
+pub mod FirstBranches
+pub mod FoundBranches
+pub mod Mapped
+pub mod PairJudged
+pub mod Paying
+pub mod WordTests

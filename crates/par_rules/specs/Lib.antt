@@ -1,0 +1,9 @@
+pub mod Comparisons
+pub mod Finding
+pub mod Gifts
+pub mod Openings
+pub mod Pair
+pub mod PairOverChannel
+pub mod ParRules
+pub mod Sights
+pub mod Telling

@@ -1,0 +1,215 @@
+//! What a PAR wants where its first branch is started.
+
+ghost use Rattle.std.specs.Prelude.{◌≡◌, ◌&&◌, pos, ◌+ℤ◌, map, length};
+ghost use Rattle.std.specs.List.{list_all};
+ghost use Rattle.module_format.specs.Contents.{branch_of, par_of};
+ghost use Rattle.certificate.specs.Rights.{may_write_word};
+ghost use Rattle.states.specs.State.{is_word};
+ghost use Rattle.states.specs.Below.{holds_constant};
+ghost use Rattle.states.specs.Views.{state_of};
+ghost use Rattle.par_rules.specs.Openings.{is_code_address, block_is_prepared, channel_is_empty, is_start_of};
+ghost use Rattle.par_rules.specs.Openings.{is_as_given, end_is_as_given, named_are_as_given, is_prepared};
+
+use certificate::{BranchRow, ChannelRow, EndKind, EndRow, Fact, Module, ParRow, Step};
+use states::{State, WordFact};
+
+/// Whether a word has this number, which is no loop's.
+pub(crate) fn holds_constant(fact: WordFact, number: i64) -> bool
+    ensures { result ≡ holds_constant fact number }
+{
+    match fact {
+        WordFact::Alone(Fact::Number { lo, hi }) => {
+            i64::from(lo) == number && i64::from(hi) == number
+        }
+        _ => false,
+    }
+}
+
+/// Whether a word is the address of this code offset.
+fn is_code_address(fact: WordFact, to: u32) -> bool
+    ensures { result ≡ is_code_address fact to }
+{
+    match fact {
+        WordFact::Alone(Fact::CodeAddress { offset }) => offset == to,
+        _ => false,
+    }
+}
+
+/// Whether a number is one above another.
+fn is_one_more(value: i32, count: i64) -> bool
+    ensures { result ≡ is_word value (count +ℤ pos 1) }
+{
+    i64::from(value) - 1 == count
+}
+
+/// Whether a word has the number one above this, which is no loop's.
+fn holds_one_more(fact: WordFact, count: i64) -> bool
+    ensures { result ≡ holds_constant fact (count +ℤ pos 1) }
+{
+    match fact {
+        WordFact::Alone(Fact::Number { lo, hi }) => is_one_more(lo, count)
+            && is_one_more(hi, count),
+        _ => false,
+    }
+}
+
+/// Whether the word after this one has the number one above a count.
+fn next_holds_one_more(state: &State, word: i32, count: i64) -> bool
+    ensures { result ≡ holds_constant ((state_of state.now).frame (word +ℤ pos 1)) (count +ℤ pos 1) }
+{
+    holds_one_more(state.fact_of(i64::from(word) + 1), count)
+}
+
+/// Whether a context may write the word after this one.
+fn writes_next(module: &Module, context: u32, word: i32) -> bool
+    ensures { result ≡ may_write_word «module».now context (word +ℤ pos 1) }
+{
+    module.may_write_word(context, i64::from(word) + 1)
+}
+
+/// How many branches a PAR has.
+fn branch_count(par: &ParRow) -> i64
+    ensures { result ≡ pos (length (par_of par.now).branches) }
+{
+    par.branches.len() as i64
+}
+
+/// Whether the word after that of the block may be written, and has one more than the number of branches.
+fn branches_are_counted(module: &Module, state: &State, par: &ParRow) -> bool
+    ensures { let s = state_of state.now in
+        let p = par_of par.now in
+        let word = p.block +ℤ pos 1 in
+        result ≡ (may_write_word «module».now s.context word
+        && holds_constant (s.frame word) (pos (length p.branches) +ℤ pos 1)) }
+{
+    writes_next(module, state.context, par.block)
+        && next_holds_one_more(state, par.block, branch_count(par))
+}
+
+/// Whether the word of the block may be written, and has the address of the successor.
+fn successor_is_there(module: &Module, state: &State, par: &ParRow) -> bool
+    ensures { let s = state_of state.now in
+        let p = par_of par.now in
+        result ≡ (may_write_word «module».now s.context p.block && is_code_address (s.frame p.block) p.successor) }
+{
+    module.may_write_word(state.context, i64::from(par.block))
+        && is_code_address(state.fact_at(par.block), par.successor)
+}
+
+/// Whether the words of the block may be written, and have the address of the successor and one more than the number
+/// of branches.
+fn block_is_prepared(module: &Module, state: &State, par: &ParRow) -> bool
+    ensures { result ≡ block_is_prepared «module».now (state_of state.now) (par_of par.now) }
+{
+    successor_is_there(module, state, par) && branches_are_counted(module, state, par)
+}
+
+/// Whether the word of a channel may be written, and has the least word.
+fn channel_is_empty(module: &Module, state: &State, channel: &ChannelRow) -> bool
+    ensures { result ≡ channel_is_empty «module».now (state_of state.now) channel.now }
+{
+    module.may_write_word(state.context, i64::from(channel.word))
+        && holds_constant(state.fact_at(channel.word), i64::from(i32::MIN))
+}
+
+/// Whether a word is the address of the first byte of a region.
+fn is_start_of(region: usize, fact: WordFact) -> bool
+    ensures { result ≡ is_start_of region fact }
+{
+    match fact {
+        WordFact::Alone(
+            Fact::Pointer {
+                region: other,
+                lo,
+                hi,
+                step: Step::Word,
+            },
+        ) => usize::from(other) == region && lo == 0 && hi == 0,
+        _ => false,
+    }
+}
+
+/// Whether the word of a parameter may be read, and has what the procedure was given.
+fn is_as_given(module: &Module, state: &State, parameter: usize) -> bool
+    ensures { result ≡ is_as_given «module».now (state_of state.now) parameter }
+{
+    match module.parameters(state.context).get(parameter) {
+        Some(row) => {
+            module.may_read_word(state.context, i64::from(row.word))
+                && is_start_of(parameter + 2, state.fact_at(i32::from(row.word)))
+        }
+        None => false,
+    }
+}
+
+/// The same of the parameter whose channel has this end, if it is a parameter's.
+fn end_is_as_given(module: &Module, state: &State, end: &EndRow) -> bool
+    ensures { result ≡ end_is_as_given «module».now (state_of state.now) end.now.kind }
+{
+    match end.kind {
+        EndKind::Parameter { number, .. } => {
+            number >= 0 && is_as_given(module, state, number.unsigned_abs() as usize)
+        }
+        _ => true,
+    }
+}
+
+/// The same of all these parameters.
+fn are_as_given(module: &Module, state: &State, parameters: &[u16]) -> bool
+    ensures { result ≡ list_all (is_as_given «module».now (state_of state.now)) parameters.now }
+{
+    parameters.iter().all(|parameter| is_as_given(module, state, usize::from(*parameter)))
+}
+
+/// The same of all parameters whose channels have these ends.
+fn ends_are_as_given(module: &Module, state: &State, ends: &[EndRow]) -> bool
+    ensures { let s = state_of state.now in
+        result ≡ list_all (λ e. end_is_as_given «module».now s e.kind) ends.now }
+{
+    ends.iter().all(|end| end_is_as_given(module, state, end))
+}
+
+/// The same of all parameters that a branch names.
+fn named_are_as_given(module: &Module, state: &State, branch: &BranchRow) -> bool
+    ensures { result ≡ named_are_as_given «module».now (state_of state.now) (branch_of branch.now) }
+{
+    are_as_given(module, state, &branch.written_parameters)
+        && are_as_given(module, state, &branch.read_parameters)
+        && ends_are_as_given(module, state, &branch.ends)
+}
+
+/// The same of all parameters that the branches in these rows name.
+fn rows_are_as_given(module: &Module, state: &State, rows: &[BranchRow]) -> bool
+    ensures { let test = named_are_as_given «module».now (state_of state.now) in
+        result ≡ list_all (λ row. test (branch_of row)) rows.now }
+{
+    rows.iter()
+        .all(|branch| named_are_as_given(module, state, branch))
+}
+
+/// The same of all parameters that some branches name.
+#[tactic(auto, using(crate::proofs::Mapped::all_of_mapped))]
+fn all_are_as_given(module: &Module, state: &State, branches: &[BranchRow]) -> bool
+    ensures { let test = named_are_as_given «module».now (state_of state.now) in
+        result ≡ list_all test (map branch_of branches.now) }
+{
+    rows_are_as_given(module, state, branches)
+}
+
+/// Whether the words of all channels may be written, and have the least word.
+fn channels_are_empty(module: &Module, state: &State, channels: &[ChannelRow]) -> bool
+    ensures { result ≡ list_all (channel_is_empty «module».now (state_of state.now)) channels.now }
+{
+    channels
+        .iter()
+        .all(|channel| channel_is_empty(module, state, channel))
+}
+
+/// Whether all is prepared that a PAR wants.
+pub(crate) fn is_prepared(module: &Module, state: &State, par: &ParRow) -> bool
+    ensures { result ≡ is_prepared «module».now (state_of state.now) (par_of par.now) }
+{
+    block_is_prepared(module, state, par)
+        && channels_are_empty(module, state, &par.channels)
+        && all_are_as_given(module, state, &par.branches)
+}

@@ -1,0 +1,54 @@
+//! What the registers of starts and ends name.
+
+ghost use Rattle.std.specs.Prelude.{◌≡◌, ◌*ℤ◌, pos};
+ghost use Rattle.states.specs.State.{is_word};
+ghost use Rattle.par_rules.specs.ParRules.{is_near_pointer, is_at_word, is_workspace};
+
+use certificate::{Fact, Step};
+use rulings::pointers::are_near;
+
+/// Whether a pointer is near; what is no pointer is.
+pub(crate) fn is_near_pointer(fact: Fact) -> bool
+    ensures { result ≡ is_near_pointer fact }
+{
+    match fact {
+        Fact::Pointer { lo, hi, .. } => are_near(i64::from(lo), i64::from(hi)),
+        _ => true,
+    }
+}
+
+/// Whether an offset in the frame is that of a word.
+fn is_offset_of(word: i32, offset: i32) -> bool
+    ensures { result ≡ is_word offset (pos 4 *ℤ word) }
+{
+    i64::from(offset) == 4 * i64::from(word)
+}
+
+/// Whether a fact is the exact pointer to a word of the frame.
+pub(crate) fn is_at_word(word: i32, fact: Fact) -> bool
+    ensures { result ≡ is_at_word word fact }
+{
+    match fact {
+        Fact::Pointer { region, lo, hi, .. } => {
+            region == 0 && is_offset_of(word, lo) && is_offset_of(word, hi)
+        }
+        _ => false,
+    }
+}
+
+/// Whether a fact is the exact pointer to a word of the frame, with a step of words.
+pub(crate) fn is_workspace(word: i32, fact: Fact) -> bool
+    ensures { result ≡ is_workspace word fact }
+{
+    match fact {
+        Fact::Pointer {
+            region,
+            lo,
+            hi,
+            step,
+        } => {
+            region == 0 && is_offset_of(word, lo) && is_offset_of(word, hi) && step == Step::Word
+        }
+        _ => false,
+    }
+}

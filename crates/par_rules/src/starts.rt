@@ -1,0 +1,398 @@
+//! The rule of `startp`.
+
+ghost use Rattle.std.specs.Prelude.{◌≡◌, ◌∷◌, ◌&&◌, ◌+◌, ◌-◌, ◌≤◌, ◌<◌, ◌^◌, ℕ, Some, SomeIff};
+ghost use Rattle.std.specs.List.{list_all};
+ghost use Rattle.module_format.specs.Contents.{Contents, label_of, par_of};
+ghost use Rattle.machine_state.specs.BranchContexts.{context_of};
+ghost use Rattle.states.specs.Below.{cost, agrees, entries_hold, is_whole};
+ghost use Rattle.states.specs.Views.{state_of, BelongsTo};
+ghost use Rattle.rulings.specs.Places.{site_of};
+ghost use Rattle.rulings.specs.Telling.{Gives};
+ghost use Rattle.par_rules.specs.Finding.{found_view};
+ghost use Rattle.par_rules.specs.Sights.{begins_there, facts_in};
+ghost use Rattle.par_rules.specs.ParRules.{is_apart, ends_are_free, is_next, is_in_turn, may_give, at_first};
+ghost use Rattle.par_rules.specs.ParRules.{leaves_loops, may_open, label_after, cost_of_start, start_agrees};
+ghost use Rattle.par_rules.specs.ParRules.{offset_after, after_start, pays_labels, with_label};
+ghost use Rattle.par_rules.specs.ParRules.{starts_branch, startp_rule};
+ghost use Rattle.par_rules.specs.Comparisons.{branch_facts, branch_view, cost_after, agrees_after};
+ghost use Rattle.par_rules.specs.Telling.{Starts, label_view, labels_of};
+
+use crate::found::{Found, named_branch};
+use crate::gifts::{
+    has_ends_to_give, has_other_ends_than, has_scheduling_words, is_beside_all,
+    leaves_hidden_words, may_give_parameters, may_give_words, started_in,
+};
+use crate::labels::{is_after, leaves_loops};
+use crate::openings::is_prepared;
+use crate::pointers::{is_near_pointer, is_workspace};
+use crate::sights::{Asked, Sight};
+use certificate::{Fact, LabelRow, Module, ParRow, Stack};
+use rulings::Place;
+use rulings::combinators::{outside_alternation, uses, wants};
+use states::{Known, Mode, Rule, State, implies};
+
+/// A branch of a PAR that is started.
+#[derive(Clone, Copy)]
+pub struct Started {
+    /// The code offset of the label at which it begins.
+    pub branch: u32,
+    /// At the first start of the PAR, the code offset of the label after it.
+    pub successor: Option<u32>,
+}
+
+/// Whether the branch is beside those that the process has started.
+fn is_apart(place: &Place, state: &State, found: &Found) -> bool
+    ensures { result ≡ is_apart place.now.module.now (state_of state.now) (found_view found.now) }
+{
+    is_beside_all(found.branch, started_in(place.module.tables(), state.mode))
+}
+
+/// Whether each end of the branch is there to be given, and was not given to one that the process has started.
+fn ends_are_free(place: &Place, state: &State, found: &Found) -> bool
+    requires { found.now.context ≡ context_of place.now.module.now (found_view found.now) }
+    ensures { result ≡ ends_are_free place.now.module.now (state_of state.now) (found_view found.now) }
+{
+    let started = started_in(place.module.tables(), state.mode);
+    has_ends_to_give(place.module, state.context, found.par, &found.branch.ends)
+        && has_other_ends_than(place.module, found.context, started)
+}
+
+/// Whether the branch is the first of its PAR, or the one after those that a process in this mode has started.
+fn is_next(mode: Mode, found: &Found) -> bool
+    ensures { result ≡ is_next mode (found_view found.now) }
+{
+    match mode {
+        Mode::Plain => found.number == 0,
+        Mode::Enabling | Mode::Disabling { .. } => false,
+        Mode::Starting { row, started } => {
+            found.row == row as usize && found.number == started as usize
+        }
+    }
+}
+
+/// Whether the branch is the next one of a PAR that is here, and A is its workspace.
+fn is_in_turn(state: &State, a: Fact, found: &Found) -> bool
+    ensures { result ≡ is_in_turn (state_of state.now) a (found_view found.now) }
+{
+    is_next(state.mode, found)
+        && u32::from(found.par.context) == state.context
+        && found.par.depth == state.depth
+        && is_workspace(found.branch.workspace, a)
+}
+
+/// Whether the context has the words and the parameters that the branch is given, and none of them is hidden.
+fn may_give(place: &Place, state: &State, found: &Found) -> bool
+    requires belongs { BelongsTo place.now.module.now state.now }
+    requires context { found.now.context ≡ context_of place.now.module.now (found_view found.now) }
+    ensures { result ≡ may_give place.now.module.now (state_of state.now) (found_view found.now) }
+{
+    may_give_words(place, state, found.branch)
+        && may_give_parameters(place, state.context, found.branch)
+        && leaves_hidden_words(place.module, found.context, found.par)
+}
+
+/// Whether all is prepared that the PAR wants, and there is a label after it.
+fn may_open(module: &Module, state: &State, par: &ParRow) -> bool
+    ensures { result ≡ may_open «module».now (state_of state.now) (par_of par.now) }
+{
+    if !is_prepared(module, state, par) {
+        return false;
+    }
+    match module.label_at(par.successor) {
+        Some(row) => is_after(par, row),
+        None => false,
+    }
+}
+
+/// The label after the PAR, where a process in this mode starts its first branch.
+fn label_after<'s>(module: &'s Module, mode: Mode, par: &ParRow) -> Option<&'s LabelRow>
+    ensures { label_view result ≡ label_after «module».now mode (par_of par.now) }
+{
+    if mode != Mode::Plain {
+        return None;
+    }
+    match module.label_at(par.successor) {
+        Some(row) => Some(row),
+        None => None,
+    }
+}
+
+/// What is known of words at the first byte of the branch that a state starts.
+fn sight_of<'s, 'm, 't>(
+    place: &Place<'s, 'm>,
+    state: &'s State<'t>,
+    found: &Found,
+) -> Sight<'s, 'm, 't>
+    requires { found.now.context ≡ context_of place.now.module.now (found_view found.now) }
+    ensures { let m = place.now.module.now in
+        let f = found_view found.now in
+        facts_in result ≡ branch_facts m (context_of m f) f.branch.workspace (state_of state.now).frame }
+{
+    Sight::AtBranch {
+        module: place.module,
+        state,
+        context: found.context,
+        workspace: found.branch.workspace,
+    }
+}
+
+/// What is left of a number once the label of a branch is paid, which a state starts, and the loops that it enters.
+fn left_of_branch(
+    place: &Place,
+    state: &State,
+    found: &Found,
+    number: u64,
+    row: &LabelRow,
+) -> Option<u64>
+    requires { found.now.context ≡ context_of place.now.module.now (found_view found.now) }
+    ensures { let m = place.now.module.now in
+        let f = found_view found.now in
+        let price = cost (branch_view m (context_of m f) f.branch (state_of state.now)) (label_of row.now) in
+        SomeIff result (price ≤ number) (number - price) }
+{
+    sight_of(place, state, found).left_of(number, row)
+}
+
+/// What is left of a number once the label after a PAR is paid, and the loops that it enters, if it is compared.
+fn left_after(state: &State, number: u64, after: Option<&LabelRow>) -> Option<u64>
+    ensures { let price = cost_after (state_of state.now) (label_view after.entry) in
+        SomeIff result (price ≤ number) (number - price) }
+{
+    match after {
+        Some(row) => Sight::InState { state }.left_of(number, row),
+        None => Some(number),
+    }
+}
+
+/// Whether the label is where the branch begins, and says nothing of the registers.
+fn begins_there(found: &Found, row: &LabelRow) -> bool
+    ensures { result ≡ begins_there found.now.context found.now.branch.now.workspace (label_of row.now) }
+{
+    u32::from(row.context) == found.context
+        && row.depth == found.branch.workspace
+        && implies(Fact::Unknown, row.stack.a)
+        && implies(Fact::Unknown, row.stack.b)
+        && implies(Fact::Unknown, row.stack.c)
+}
+
+/// Whether what the label says of words is known where a state starts the branch.
+fn branch_says(place: &Place, state: &State, found: &Found, row: &LabelRow) -> bool
+    requires { found.now.context ≡ context_of place.now.module.now (found_view found.now) }
+    ensures { let m = place.now.module.now in
+        let f = found_view found.now in
+        let view = branch_view m (context_of m f) f.branch (state_of state.now) in
+        result ≡ entries_hold view.frame (label_of row.now).entries }
+{
+    sight_of(place, state, found).says_all(row)
+}
+
+/// Whether no loop of the label is half known where a state starts the branch.
+fn branch_is_whole(place: &Place, state: &State, found: &Found, row: &LabelRow) -> bool
+    requires { found.now.context ≡ context_of place.now.module.now (found_view found.now) }
+    ensures { let m = place.now.module.now in
+        let f = found_view found.now in
+        let view = branch_view m (context_of m f) f.branch (state_of state.now) in
+        result ≡ list_all (is_whole view.frame) (label_of row.now).entries }
+{
+    sight_of(place, state, found).are_whole(row)
+}
+
+/// Whether the label is there, and what it says of words is known where a state starts the branch.
+fn begins_and_says(place: &Place, state: &State, found: &Found, row: &LabelRow) -> bool
+    requires { found.now.context ≡ context_of place.now.module.now (found_view found.now) }
+    ensures { let m = place.now.module.now in
+        let f = found_view found.now in
+        let view = branch_view m (context_of m f) f.branch (state_of state.now) in
+        let t = label_of row.now in
+        result ≡ (begins_there (context_of m f) f.branch.workspace t && entries_hold view.frame t.entries) }
+{
+    begins_there(found, row) && branch_says(place, state, found, row)
+}
+
+/// Whether what a state knows implies what the label says at the first byte of the branch that it starts.
+fn branch_agrees(place: &Place, state: &State, found: &Found, row: &LabelRow) -> bool
+    requires { found.now.context ≡ context_of place.now.module.now (found_view found.now) }
+    ensures { let m = place.now.module.now in
+        let f = found_view found.now in
+        let view = branch_view m (context_of m f) f.branch (state_of state.now) in
+        result ≡ agrees view (label_of row.now) }
+{
+    begins_and_says(place, state, found, row) && branch_is_whole(place, state, found, row)
+}
+
+/// Whether a state knows what a label says of words that no branch of a PAR writes.
+fn agrees_with(state: &State, par: &ParRow, row: &LabelRow) -> bool
+    ensures { result ≡ agrees_after (par_of par.now) (state_of state.now) (Some (label_of row.now)) }
+{
+    Asked::Left { par, state }.label_passes(row) && Sight::InState { state }.are_whole(row)
+}
+
+/// Whether a state knows what the label after a PAR says of words that no branch writes, if it is compared.
+fn agrees_after(state: &State, par: &ParRow, after: Option<&LabelRow>) -> bool
+    ensures { result ≡ agrees_after (par_of par.now) (state_of state.now) (label_view after.entry) }
+{
+    match after {
+        Some(row) => agrees_with(state, par, row),
+        None => true,
+    }
+}
+
+/// What is left of the number of a state once the labels of a start are paid, and the loops that they enter.
+#[tactic(auto, using(crate::proofs::Paying::both_are_paid))]
+fn left_of_start(
+    place: &Place,
+    state: &State,
+    found: &Found,
+    row: &LabelRow,
+    after: Option<&LabelRow>,
+) -> Option<u64>
+    requires context { found.now.context ≡ context_of place.now.module.now (found_view found.now) }
+    requires after { label_view after
+        ≡ label_after place.now.module.now (state_of state.now).mode (par_of found.now.par.now) }
+    ensures { let s = state_of state.now in
+        let price = cost_of_start place.now.module.now s (found_view found.now) (label_of row.now) in
+        SomeIff result (price ≤ s.number) (s.number - price) }
+{
+    let left = left_of_branch(place, state, found, state.number, row)?;
+    left_after(state, left, after)
+}
+
+/// Whether what is known implies what the labels of a start say.
+fn start_agrees(
+    place: &Place,
+    state: &State,
+    found: &Found,
+    row: &LabelRow,
+    after: Option<&LabelRow>,
+) -> bool
+    requires context { found.now.context ≡ context_of place.now.module.now (found_view found.now) }
+    requires after { label_view after
+        ≡ label_after place.now.module.now (state_of state.now).mode (par_of found.now.par.now) }
+    ensures { let s = state_of state.now in
+        result ≡ start_agrees place.now.module.now s (found_view found.now) (label_of row.now) }
+{
+    branch_agrees(place, state, found, row) && agrees_after(state, found.par, after)
+}
+
+/// The labels at which others go on.
+fn report(found: &Found, after: Option<&LabelRow>) -> Started
+    ensures { let f = found_view found.now in
+        labels_of result ≡ f.branch.entry ∷ offset_after f.par (label_view after.entry) }
+{
+    let successor = match after {
+        Some(_row) => Some(found.par.successor),
+        None => None,
+    };
+    Started {
+        branch: found.branch.entry,
+        successor,
+    }
+}
+
+/// One more branch is started, and so much is left of the number.
+fn go_on(state: &mut State, found: &Found, left: u64)
+    requires small { (found.now.row < 2 ^ 32) × (found.now.number + 1 < 2 ^ 32) }
+    ensures state { (price : ℕ) → left ≡ (state_of state.old).number - price
+        → state_of state.new ≡ after_start (found_view found.now) price (state_of state.old) }
+    ensures belongs { (m : Contents) → BelongsTo m state.old → BelongsTo m state.new }
+{
+    state.number = left;
+    state.stack = Stack::of_empty(Known::UNKNOWN);
+    state.mode = Mode::Starting {
+        row: found.row as u32,
+        started: found.number as u32 + 1,
+    };
+}
+
+/// The labels are paid, and what they say is known.
+#[tactic(auto, unfolding(crate::specs::ParRules::pays_labels))]
+fn pays_labels(
+    place: &Place,
+    state: &mut State,
+    found: &Found,
+    row: &LabelRow,
+) -> Result<Started, Rule>
+    requires context { found.now.context ≡ context_of place.now.module.now (found_view found.now) }
+    requires small { (found.now.row < 2 ^ 32) × (found.now.number + 1 < 2 ^ 32) }
+    ensures ruling { let ruling = pays_labels (site_of place.now) (found_view found.now) (label_of row.now) in
+        Starts result (state_of state.new) (ruling (state_of state.old)) }
+    ensures belongs { (m : Contents) → BelongsTo m state.old → BelongsTo m state.new }
+{
+    let after = label_after(place.module, state.mode, found.par);
+    let left = left_of_start(place, state, found, row, after).ok_or(Rule::Budget)?;
+    let agrees = start_agrees(place, state, found, row, after);
+    wants(agrees, Rule::Label)?;
+    go_on(state, found, left);
+    Ok(report(found, after))
+}
+
+/// The label at a code offset, unless there is none.
+#[tactic(auto, unfolding(crate::specs::ParRules::with_label))]
+fn with_label<'s>(place: &Place<'s, '_>, at: u32) -> Result<&'s LabelRow, Rule>
+    ensures { Gives (λ row. label_of row.now) result (with_label (site_of place.now) at) }
+{
+    place.module.label_at(at).ok_or(Rule::Par)
+}
+
+/// Whether no branch writes a word of a loop that the label after the PAR has, which is asked at the first start.
+fn leaves_loops_at_first(module: &Module, mode: Mode, par: &ParRow) -> bool
+    ensures { result ≡ at_first mode (leaves_loops «module».now (par_of par.now)) }
+{
+    mode != Mode::Plain || leaves_loops(module, par)
+}
+
+/// Whether all is there that the PAR wants at the first start.
+fn may_open_at_first(module: &Module, state: &State, par: &ParRow) -> bool
+    ensures { let s = state_of state.now in
+        result ≡ at_first s.mode (may_open «module».now s (par_of par.now)) }
+{
+    state.mode != Mode::Plain || may_open(module, state, par)
+}
+
+/// This branch is started, with its workspace in A.
+#[tactic(auto, unfolding(crate::specs::ParRules::starts_branch))]
+fn starts_branch(place: &Place, state: &mut State, a: Fact, found: &Found) -> Result<Started, Rule>
+    requires belongs { BelongsTo place.now.module.now state.old }
+    requires context { found.now.context ≡ context_of place.now.module.now (found_view found.now) }
+    requires small { (found.now.row < 2 ^ 32) × (found.now.number + 1 < 2 ^ 32) }
+    ensures ruling { let ruling = starts_branch (site_of place.now) (state_of state.old) a (found_view found.now) in
+        Starts result (state_of state.new) ruling }
+    ensures belongs { BelongsTo place.now.module.now state.new }
+{
+    wants(is_apart(place, state, found), Rule::RegionsMeet)?;
+    wants(ends_are_free(place, state, found), Rule::Channel)?;
+    outside_alternation(state.mode)?;
+    let leaves_loops = leaves_loops_at_first(place.module, state.mode, found.par);
+    wants(leaves_loops, Rule::Forward)?;
+    wants(is_in_turn(state, a, found), Rule::Par)?;
+    wants(may_give(place, state, found), Rule::Par)?;
+    wants(may_open_at_first(place.module, state, found.par), Rule::Par)?;
+    let row = with_label(place, found.branch.entry)?;
+    let has_scheduling_words = has_scheduling_words(place.module, found.context, found.branch);
+    wants(has_scheduling_words, Rule::OwnWord)?;
+    place.pays(state)?;
+    pays_labels(place, state, found, row)
+}
+
+/// Judges `startp`, by its rule, and reports the labels at which others go on. The process goes on after the
+/// instruction, in the state that is left: one more branch is started, each label is paid from the number, and nothing
+/// is known of the registers. Where the rule is broken, the state is left part of the way. `Rule::Label` and
+/// `Rule::Budget` speak of the label of the branch, and at the first start of a PAR of the label after it.
+#[tactic(auto, unfolding(crate::specs::ParRules::startp_rule))]
+pub fn start_process(place: &Place, state: &mut State) -> Result<Started, Rule>
+    requires { BelongsTo place.now.module.now state.old }
+    ensures ruling { let ruling = startp_rule (site_of place.now) (state_of state.old) in
+        Starts result (state_of state.new) ruling }
+    ensures belongs { BelongsTo place.now.module.now state.new }
+{
+    let a = uses(state.stack.a)?;
+    let b = uses(state.stack.b)?;
+    wants(is_near_pointer(a), Rule::Pointer)?;
+    match named_branch(place, b) {
+        Some(found) => starts_branch(place, state, a, &found),
+        None => {
+            outside_alternation(state.mode)?;
+            Err(Rule::Par)
+        }
+    }
+}
