@@ -1,0 +1,2 @@
+pub mod ChainCode
+pub mod OperandsBelow

@@ -1,0 +1,5 @@
+pub mod Pieces
+pub mod Homes
+pub mod Expressions
+pub mod PieceViews
+pub mod SettingViews

@@ -1,0 +1,15 @@
+//! The code of a checked program: which instructions a process becomes, and what is known between them.
+#![tactic(auto)]
+
+mod expressions;
+mod home;
+mod listing;
+mod operations;
+mod piece;
+mod setting;
+mod writing;
+
+pub use home::Home;
+pub use listing::Listing;
+pub use piece::{Piece, RowEntry, WordFact};
+pub use setting::Setting;
