@@ -3,3 +3,8 @@ pub mod Homes
 pub mod Expressions
 pub mod PieceViews
 pub mod SettingViews
+pub mod Declarations
+pub mod Actions
+pub mod TargetViews
+pub mod Numbers
+pub mod Laying

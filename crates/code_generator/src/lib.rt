@@ -1,12 +1,14 @@
 //! The code of a checked program: which instructions a process becomes, and what is known between them.
 #![tactic(auto)]
 
+mod acting;
 mod expressions;
 mod home;
 mod listing;
 mod operations;
 mod piece;
 mod setting;
+mod targets;
 mod writing;
 
 pub use home::Home;
