@@ -14,7 +14,8 @@ onto_written : (s a : Setting) (x : Term) (leaf : Bool) (old stored pushed new :
     → stored ≡ old ++ stores s.top ∷ [] → pushed ≡ stored ++ term_in a x → new ≡ pushed ++ below s.top
     → new ≡ old ++ onto_in s x
 onto_written s a x leaf old stored pushed new other is scope homes top k p n =
-    n ∙ ap (λ c. c ++ below s.top) (p ∙ (λ j. k j ++ term_code (homes_seen (homes j).now) (entries_of (scope j).now) (top j) x))
+    n ∙ ap (λ c. c ++ below s.top)
+    (p ∙ (λ j. k j ++ term_code (homes_seen (homes j).now) (entries_of (scope j).now) (top j) x))
     ∙ append_assoc (old ++ stores s.top ∷ []) (term_above s x) (below s.top)
     ∙ append_assoc old (stores s.top ∷ []) (term_above s x ++ below s.top)
     ∙ ap (λ l. old ++ onto s.top l (term_above s x)) (sym other ∙ is)

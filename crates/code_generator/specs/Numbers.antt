@@ -1,6 +1,7 @@
 -- The numbers of a program: how many bytes are executed at most from each label on, and what a turn of each loop costs.
 -- They are found from the last piece to the first, apart from what is known of words.
-use Rattle.std.specs.Prelude.{ℕ, ◌+◌, ◌-◌, ◌*◌, max, nat_eq, Bool, false, List, [], ◌∷◌, if◌then◌else◌, Option, Some, None}
+use Rattle.std.specs.Prelude.{ℕ, ◌+◌, ◌-◌, ◌*◌, max, nat_eq, Bool, false, List, [], ◌∷◌, if◌then◌else◌, Option}
+use Rattle.std.specs.Prelude.{Some, None}
 use Rattle.prefix_decoder.specs.declared.function.Fun.{Fun}
 use Rattle.prefix_decoder.specs.declared.function.Fun.TheVariants as fun
 use Rattle.std.specs.Ordering.{int_eq}
@@ -53,8 +54,8 @@ abbrev pub turns_at : ℕ → List RowEntry → Option ℕ
 turns_at label [] = None
 turns_at label (e ∷ es) = turns_of label e.fact (turns_at label es)
 
--- At the head of a loop a turn costs what is executed from here on, less what is behind the loop; the first turn is paid
--- with what is needed here, and the others with their weight.
+-- At the head of a loop a turn costs what is executed from here on, less what is behind the loop; the first turn is
+-- paid with what is needed here, and the others with their weight.
 abbrev pub at_head : ℕ → Option ℕ → Needs → Needs
 at_head label None after = after
 at_head label (Some count) after =

@@ -107,8 +107,8 @@ impl Listing {
         target: &Place,
         value: &Expr,
     ) -> Result<(), GenFault>
-        ensures { IfOk result (λ _. self.new ≡ self.old ++ assign_code (homes_in setting.entry) (entries_in setting.entry)
-            setting.entry.top (place_of target.now) (expression_of value.now)) }
+        ensures { IfOk result (λ _. self.new ≡ self.old ++ assign_code (homes_in setting.entry)
+            (entries_in setting.entry) setting.entry.top (place_of target.now) (expression_of value.now)) }
     {
         let above = setting.above()?;
         self.write_expression(setting, value)?;
@@ -207,8 +207,8 @@ impl Listing {
         channel: &Place,
         target: &Place,
     ) -> Result<(), GenFault>
-        ensures { IfOk result (λ _. self.new ≡ self.old ++ input_code (homes_in setting.entry) (entries_in setting.entry)
-            setting.entry.top (place_of channel.now) (place_of target.now)) }
+        ensures { IfOk result (λ _. self.new ≡ self.old ++ input_code (homes_in setting.entry)
+            (entries_in setting.entry) setting.entry.top (place_of channel.now) (place_of target.now)) }
     {
         let target = target_of(setting, place_ref(target));
         self.write_target_address(setting, target)?;
@@ -223,8 +223,8 @@ impl Listing {
         channel: &Place,
         value: &Expr,
     ) -> Result<(), GenFault>
-        ensures { IfOk result (λ _. self.new ≡ self.old ++ output_code (homes_in setting.entry) (entries_in setting.entry)
-            setting.entry.top (place_of channel.now) (expression_of value.now)) }
+        ensures { IfOk result (λ _. self.new ≡ self.old ++ output_code (homes_in setting.entry)
+            (entries_in setting.entry) setting.entry.top (place_of channel.now) (expression_of value.now)) }
     {
         self.write_expression(setting, value)?;
         self.store(setting.top)?;

@@ -4,6 +4,7 @@
 mod acting;
 mod expressions;
 mod home;
+mod laws;
 mod listing;
 mod operations;
 mod piece;
@@ -12,6 +13,7 @@ mod targets;
 mod writing;
 
 pub use home::Home;
+pub use laws::small_programs_have_code;
 pub use listing::Listing;
 pub use piece::{Piece, RowEntry, WordFact};
 pub use setting::Setting;

@@ -22,7 +22,8 @@ write_operation-returns-in_ok-constant-in-Some t c =
     let whole = view ∙ view-Chain chain.operator chain.first chain.second chain.others
     ∙ ap (λ os. Chained chain.operator (with_others (Two first second) (map term_of os)))
     (sym c.deref.ensures.value) in
-    chain_written_if c.write_others.result s chain.operator front first second others (operation_of c.args.operation.now)
+    chain_written_if c.write_others.result s chain.operator front first second others
+    (operation_of c.args.operation.now)
     c.args.self.now c.constant.new.self c.write_others.new.self whole c.requires.varies c.requires.front
     (front_known s chain.operator front first second c.covered.result c.in-Some.value c.args.self.now
     c.constant.new.self c.covered.ensures c.in-Some.is (search rules))
@@ -41,7 +42,8 @@ write_operation-returns-in_ok-write_joined-in-None t c =
     let whole = view ∙ view-Chain chain.operator chain.first chain.second chain.others
     ∙ ap (λ os. Chained chain.operator (with_others (Two first second) (map term_of os)))
     (sym c.deref-in-None.ensures.value) in
-    chain_written_if c.write_others-in-None.result s chain.operator front first second others (operation_of c.args.operation.now)
+    chain_written_if c.write_others-in-None.result s chain.operator front first second others
+    (operation_of c.args.operation.now)
     c.args.self.now c.write_joined.new.self c.write_others-in-None.new.self whole c.requires.varies c.requires.front
     (front_pushed s chain.operator front first second c.covered.result c.args.self.now
     c.write_operand-in-None.new.self c.write_joined.new.self c.covered.ensures c.in-None.is
