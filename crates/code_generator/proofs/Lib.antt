@@ -1,0 +1,3 @@
+pub mod ChainCode
+pub mod OperandsBelow
+pub mod WorkedCode

@@ -1,0 +1,279 @@
+-- The code of expressions: it pushes the value, and keeps nothing that was in the registers.
+use Rattle.std.specs.Prelude.{ℕ, ◌+◌, ◌/◌, ◌%◌, nat_eq, nat_le, ℤ, pos, unsigned_abs, Bool, true, false, List, []}
+use Rattle.std.specs.Prelude.{◌∷◌, ◌++◌, if◌then◌else◌, Option, Some, None, Result, Ok, Err}
+use Rattle.std.specs.Ordering.{int_eq}
+use Rattle.prefix_decoder.specs.declared.function.Fun.TheVariants as fun
+use Rattle.word_arithmetic.specs.Word.{least_word, greatest_word}
+use Rattle.word_arithmetic.specs.Range.{Ends}
+use Rattle.word_arithmetic.specs.declared.compare.Comparison.{Comparison}
+use Rattle.word_arithmetic.specs.declared.compare.Comparison.TheVariants as comparison
+use Rattle.occam_parser.specs.declared.tree.ValueType.{ValueType}
+use Rattle.occam_parser.specs.declared.tree.ValueType.TheVariants as value_type
+use Rattle.occam_parser.specs.declared.tree.PrefixOperator.{PrefixOperator}
+use Rattle.occam_parser.specs.declared.tree.PrefixOperator.TheVariants as prefix
+use Rattle.occam_parser.specs.declared.tree.PairOperator.{PairOperator}
+use Rattle.occam_parser.specs.declared.tree.PairOperator.TheVariants as pair
+use Rattle.occam_parser.specs.declared.tree.ArithmeticPair.{ArithmeticPair}
+use Rattle.occam_parser.specs.declared.tree.ArithmeticPair.TheVariants as arithmetic
+use Rattle.occam_parser.specs.declared.tree.ChainOperator.{ChainOperator}
+use Rattle.occam_parser.specs.declared.tree.ChainOperator.TheVariants as chain
+use Rattle.occam_parser.specs.declared.tree.ArithmeticChain.TheVariants as arithmetic_chain
+use Rattle.occam_parser.specs.declared.tree.Logic.TheVariants as logic
+use Rattle.occam_parser.specs.Expressions.{Expression, Alone, Prefixed, Paired, Chained, Terms, Two, Then, Term}
+use Rattle.occam_parser.specs.Expressions.{Number, Byte, Truth, MostPos, MostNeg, Named, Element, Bracketed, Converted}
+use Rattle.scalar_ranges.specs.declared.scope.ScalarKind.TheVariants as kinds
+use Rattle.scalar_ranges.specs.Entries.{Meaning, Scalar, Array, Entry, meaning_in}
+use Rattle.scalar_ranges.specs.Bounds.{bound_of, bound_of_term, exact_value, range_found}
+use Rattle.scalar_ranges.specs.Fronts.{Front, count_of, front_in}
+use Rattle.code_generator.specs.declared.operations.TheConstants.{LOAD_BYTE, BYTE_SUBSCRIPT, DIFFERENCE, ADD}
+use Rattle.code_generator.specs.declared.operations.TheConstants.{PRODUCT, GREATER, WORD_SUBSCRIPT, SUBTRACT}
+use Rattle.code_generator.specs.declared.operations.TheConstants.{REMAINDER, DIVIDE, NOT, EXCLUSIVE_OR, SHIFT_RIGHT}
+use Rattle.code_generator.specs.declared.operations.TheConstants.{SHIFT_LEFT, AND, OR, SUM, MULTIPLY}
+use Rattle.code_generator.specs.declared.expressions.Pushes.{Pushes}
+use Rattle.code_generator.specs.declared.expressions.Pushes.TheVariants as pushes
+use Rattle.code_generator.specs.Pieces.{Piece, Direct, TableAddress, operates, loads, stores, points, constant, below}
+use Rattle.code_generator.specs.Homes.{Home, Word, Block, Table, home_of}
+
+-- ---- operations
+
+abbrev pub pair_operation : ArithmeticPair → ℤ
+pair_operation arithmetic.Subtract = SUBTRACT
+pair_operation arithmetic.Divide = DIVIDE
+pair_operation arithmetic.Remainder = REMAINDER
+pair_operation arithmetic.Minus = DIFFERENCE
+pair_operation arithmetic.ShiftLeft = SHIFT_LEFT
+pair_operation arithmetic.ShiftRight = SHIFT_RIGHT
+
+abbrev pub chain_operation : ChainOperator → ℤ
+chain_operation (chain.Arithmetic arithmetic_chain.Add) = ADD
+chain_operation (chain.Arithmetic arithmetic_chain.Multiply) = MULTIPLY
+chain_operation (chain.Arithmetic arithmetic_chain.Plus) = SUM
+chain_operation (chain.Arithmetic arithmetic_chain.Times) = PRODUCT
+chain_operation (chain.Arithmetic arithmetic_chain.BitAnd) = AND
+chain_operation (chain.Arithmetic arithmetic_chain.BitOr) = OR
+chain_operation (chain.Arithmetic arithmetic_chain.BitXor) = EXCLUSIVE_OR
+chain_operation (chain.Logic logic.And) = AND
+chain_operation (chain.Logic logic.Or) = OR
+
+-- A becomes the truth that it is not
+abbrev pub negates : Piece
+negates = Direct fun.EqualsConstant (pos 0)
+
+abbrev pub prefix_code : PrefixOperator → List Piece
+prefix_code prefix.Negate = operates NOT ∷ Direct fun.AddConstant (pos 1) ∷ []
+prefix_code prefix.BitNot = operates NOT ∷ []
+prefix_code prefix.Not = negates ∷ []
+
+-- ---- operands
+
+-- the value of a constant in place of the code that would compute it
+abbrev pub constant_or : Option ℤ → List Piece → List Piece
+constant_or None code = code
+constant_or (Some v) code = constant v ∷ []
+
+-- the one number that a range has, if it has one alone
+abbrev pub single : Result Ends ℕ → Option ℤ
+single (Ok r) = if int_eq r.lo r.hi then Some r.lo else None
+single (Err e) = None
+
+-- a parameter that is a BYTE variable: what is beside its byte is not known
+abbrev pub is_byte_reference : Option Meaning → Bool
+is_byte_reference (Some (Scalar kinds.Reference value_type.Byte range)) = true
+is_byte_reference m = false
+
+abbrev pub scalar_code : Bool → Option Home → List Piece
+scalar_code true (Some (Word w)) = points w ∷ operates LOAD_BYTE ∷ []
+scalar_code false (Some (Word w)) = loads w ∷ []
+scalar_code reference (Some (Block w head)) = loads w ∷ []
+scalar_code reference h = []
+
+abbrev pub is_known : Option ℤ → Bool
+is_known None = false
+is_known (Some v) = true
+
+-- constants, and scalars but for BYTE variables that are parameters
+abbrev pub is_pushed : Option Meaning → Bool
+is_pushed (Some (Scalar kinds.Reference value_type.Byte range)) = false
+is_pushed m = true
+
+-- Whether an operand is one push. Then the operand before it may stay in a register.
+abbrev mutual
+  pub is_leaf : List Entry → Expression → Bool
+  is_leaf es (Alone x) = is_leaf_term es x
+  is_leaf es (Prefixed op x) = is_known (exact_value (bound_of es (Prefixed op x)))
+  is_leaf es (Paired op x y) = is_known (exact_value (bound_of es (Paired op x y)))
+  is_leaf es (Chained op xs) = is_known (exact_value (bound_of es (Chained op xs)))
+
+  pub is_leaf_term : List Entry → Term → Bool
+  is_leaf_term es (Number value) = true
+  is_leaf_term es (Byte byte) = true
+  is_leaf_term es (Truth holds) = true
+  is_leaf_term es MostPos = true
+  is_leaf_term es MostNeg = true
+  is_leaf_term es (Named name) = is_pushed (meaning_in name es)
+  is_leaf_term es (Element name e) = false
+  is_leaf_term es (Bracketed e) = is_leaf es e
+  is_leaf_term es (Converted to x) = is_leaf_term es x
+
+-- ---- elements
+
+-- the byte of an array with this number, in words from w on
+abbrev pub byte_address : ℕ → ℕ → List Piece
+byte_address w n =
+    if nat_eq (n % 4) 0 then points (w + n / 4) ∷ []
+    else constant (pos (n % 4)) ∷ points (w + n / 4) ∷ operates BYTE_SUBSCRIPT ∷ []
+
+abbrev pub known_address : ValueType → ℕ → ℕ → List Piece
+known_address value_type.Int w n = points (w + n) ∷ []
+known_address value_type.Byte w n = byte_address w n
+
+-- behind the code of a subscript
+abbrev pub subscript_code : ValueType → ℕ → List Piece
+subscript_code value_type.Int w = points w ∷ operates WORD_SUBSCRIPT ∷ []
+subscript_code value_type.Byte w = points w ∷ operates BYTE_SUBSCRIPT ∷ []
+
+-- The address of an element of an array whose words begin with w: of one whose subscript has a single value, or else by
+-- the code of the subscript.
+abbrev pub address_code : ValueType → ℕ → Option ℤ → List Piece → List Piece
+address_code type w (Some c) subscript = known_address type w (unsigned_abs c)
+address_code type w None subscript = subscript ++ subscript_code type w
+
+abbrev pub loads_at : ℤ → Piece
+loads_at n = Direct fun.LoadNonLocal n
+
+abbrev pub element_of_words : ValueType → ℕ → Option ℤ → List Piece → List Piece
+element_of_words value_type.Int w (Some c) subscript = loads (w + unsigned_abs c) ∷ []
+element_of_words value_type.Int w None subscript = address_code value_type.Int w None subscript ++ loads_at (pos 0) ∷ []
+element_of_words value_type.Byte w c subscript = address_code value_type.Byte w c subscript ++ operates LOAD_BYTE ∷ []
+
+abbrev pub element_of_table : List ℤ → Option ℤ → List Piece → List Piece
+element_of_table values (Some c) subscript = TableAddress values ∷ loads_at c ∷ []
+element_of_table values None subscript =
+    subscript ++ TableAddress values ∷ operates WORD_SUBSCRIPT ∷ loads_at (pos 0) ∷ []
+
+abbrev pub element_code : Option Home → Option Meaning → Option ℤ → List Piece → List Piece
+element_code (Some (Word w)) (Some (Array kind type size range)) c subscript = element_of_words type w c subscript
+element_code (Some (Table values)) m c subscript = element_of_table values c subscript
+element_code h m c subscript = []
+
+-- ---- two operands
+
+-- An operand beside another one: its code where a temporary is free and where the next one is, and whether it is one
+-- push.
+pub record Operand : Type 0 where
+  pub first : List Piece
+  pub second : List Piece
+  pub leaf : Bool
+
+abbrev pub beside : List Entry → Term → List Piece → List Piece → Operand
+beside es x first second = record {
+  first = first;
+  second = second;
+  leaf = is_leaf_term es x;
+}
+
+-- The right operand is pushed on the left one. Where it is no leaf, the left one waits for it in a temporary.
+abbrev pub onto : ℕ → Bool → List Piece → List Piece
+onto t true right = right
+onto t false right = stores t ∷ right ++ below t
+
+-- which operands of an operator between two are pushed, by the values of both if they are constants
+abbrev pub equality_pushes : Option ℤ → Option ℤ → Pushes
+equality_pushes a (Some v) = pushes.Left
+equality_pushes (Some v) None = pushes.Right
+equality_pushes None None = pushes.Both
+
+abbrev pub comparison_pushes : Comparison → Option ℤ → Option ℤ → Pushes
+comparison_pushes comparison.Greater a b = pushes.Both
+comparison_pushes comparison.LessOrEqual a b = pushes.Both
+comparison_pushes comparison.Less a b = pushes.Exchanged
+comparison_pushes comparison.GreaterOrEqual a b = pushes.Exchanged
+comparison_pushes comparison.Equal a b = equality_pushes a b
+comparison_pushes comparison.NotEqual a b = equality_pushes a b
+
+abbrev pub pushes_of : PairOperator → Option ℤ → Option ℤ → Pushes
+pushes_of (pair.Arithmetic op) a b = pushes.Both
+pushes_of (pair.Comparison op) a b = comparison_pushes op a b
+
+abbrev pub pushed : Pushes → ℕ → Operand → Operand → List Piece
+pushed pushes.Both t x y = x.first ++ onto t y.leaf y.second
+pushed pushes.Exchanged t x y = y.first ++ onto t x.leaf x.second
+pushed pushes.Left t x y = x.first
+pushed pushes.Right t x y = y.first
+
+-- What is pushed is compared with a constant, or two numbers are equal if they differ by 0.
+abbrev pub equality_code : Option ℤ → Option ℤ → List Piece
+equality_code a (Some v) = Direct fun.EqualsConstant v ∷ []
+equality_code (Some v) None = Direct fun.EqualsConstant v ∷ []
+equality_code None None = operates DIFFERENCE ∷ negates ∷ []
+
+abbrev pub comparison_code : Comparison → Option ℤ → Option ℤ → List Piece
+comparison_code comparison.Greater a b = operates GREATER ∷ []
+comparison_code comparison.Less a b = operates GREATER ∷ []
+comparison_code comparison.LessOrEqual a b = operates GREATER ∷ negates ∷ []
+comparison_code comparison.GreaterOrEqual a b = operates GREATER ∷ negates ∷ []
+comparison_code comparison.Equal a b = equality_code a b
+comparison_code comparison.NotEqual a b = equality_code a b ++ negates ∷ []
+
+abbrev pub pair_code : PairOperator → Option ℤ → Option ℤ → List Piece
+pair_code (pair.Arithmetic op) a b = operates (pair_operation op) ∷ []
+pair_code (pair.Comparison op) a b = comparison_code op a b
+
+-- an operand more of a chain
+abbrev pub joined : ℕ → ChainOperator → Bool → List Piece → List Piece
+joined t op leaf right = onto t leaf right ++ operates (chain_operation op) ∷ []
+
+-- the value of so many operands, if they belong to the front
+abbrev pub covered : Option Front → ℕ → Option ℤ
+covered None count = None
+covered (Some front) count = if nat_le count front.operands then Some front.value else None
+
+abbrev pub unless : Bool → List Piece → List Piece
+unless true code = []
+unless false code = code
+
+-- ---- expressions
+
+abbrev pub truth : Bool → ℤ
+truth true = pos 1
+truth false = pos 0
+
+abbrev mutual
+  -- the code of an expression where the words from t on are free
+  pub expression_code : List Home → List Entry → ℕ → Expression → List Piece
+  expression_code hs es t (Alone x) = constant_or (exact_value (bound_of es (Alone x))) (term_code hs es t x)
+  expression_code hs es t (Prefixed op x) =
+      constant_or (exact_value (bound_of es (Prefixed op x))) (term_code hs es t x ++ prefix_code op)
+  expression_code hs es t (Paired op x y) =
+      constant_or (exact_value (bound_of es (Paired op x y)))
+      (pushed (pushes_of op (exact_value (bound_of_term es x)) (exact_value (bound_of_term es y))) t
+      (beside es x (term_code hs es t x) (term_code hs es (t + 1) x))
+      (beside es y (term_code hs es t y) (term_code hs es (t + 1) y))
+      ++ pair_code op (exact_value (bound_of_term es x)) (exact_value (bound_of_term es y)))
+  expression_code hs es t (Chained op xs) =
+      constant_or (exact_value (bound_of es (Chained op xs))) (terms_code hs es t op (front_in es op xs) xs)
+
+  -- operand by operand, with one constant for those at the front that are together a constant
+  pub terms_code : List Home → List Entry → ℕ → ChainOperator → Option Front → Terms → List Piece
+  terms_code hs es t op front (Two x y) =
+      constant_or (covered front 2)
+      (term_code hs es t x ++ joined t op (is_leaf_term es y) (term_code hs es (t + 1) y))
+  terms_code hs es t op front (Then xs x) =
+      terms_code hs es t op front xs
+      ++ unless (is_known (covered front (count_of xs + 1)))
+      (joined t op (is_leaf_term es x) (term_code hs es (t + 1) x))
+
+  pub term_code : List Home → List Entry → ℕ → Term → List Piece
+  term_code hs es t (Number value) = constant value ∷ []
+  term_code hs es t (Byte byte) = constant (pos byte) ∷ []
+  term_code hs es t (Truth holds) = constant (truth holds) ∷ []
+  term_code hs es t MostPos = constant greatest_word ∷ []
+  term_code hs es t MostNeg = constant least_word ∷ []
+  term_code hs es t (Named name) =
+      constant_or (exact_value (bound_of_term es (Named name)))
+      (scalar_code (is_byte_reference (meaning_in name es)) (home_of hs es name))
+  term_code hs es t (Element name e) =
+      element_code (home_of hs es name) (meaning_in name es) (single (range_found (bound_of es e)))
+      (expression_code hs es t e)
+  term_code hs es t (Bracketed e) = expression_code hs es t e
+  term_code hs es t (Converted to x) = term_code hs es t x

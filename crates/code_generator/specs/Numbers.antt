@@ -1,0 +1,87 @@
+-- The numbers of a program: how many bytes are executed at most from each label on, and what a turn of each loop costs.
+-- They are found from the last piece to the first, apart from what is known of words.
+use Rattle.std.specs.Prelude.{ℕ, ◌+◌, ◌-◌, ◌*◌, max, nat_eq, Bool, false, List, [], ◌∷◌, if◌then◌else◌, Option}
+use Rattle.std.specs.Prelude.{Some, None}
+use Rattle.prefix_decoder.specs.declared.function.Fun.{Fun}
+use Rattle.prefix_decoder.specs.declared.function.Fun.TheVariants as fun
+use Rattle.std.specs.Ordering.{int_eq}
+use Rattle.code_generator.specs.declared.operations.TheConstants.{STOP_PROCESS}
+use Rattle.code_generator.specs.declared.piece.WordFact.{WordFact}
+use Rattle.code_generator.specs.declared.piece.WordFact.TheVariants.{Between, Turning}
+use Rattle.code_generator.specs.declared.piece.RowEntry.{RowEntry}
+use Rattle.code_generator.specs.Pieces.{Piece, Direct, Jump, JumpUnless, LoopBack}
+use Rattle.code_generator.specs.Pieces.{TableAddress, Row}
+
+-- a number for a label
+pub record Numbered : Type 0 where
+  pub label : ℕ
+  pub number : ℕ
+
+-- 0 for a label that has none
+abbrev pub number_at : ℕ → List Numbered → ℕ
+number_at label [] = 0
+number_at label (n ∷ ns) = if nat_eq n.label label then n.number else number_at label ns
+
+abbrev pub with_number : ℕ → ℕ → List Numbered → List Numbered
+with_number label number ns = record { label = label; number = number } ∷ ns
+
+-- What is known behind a piece: how many bytes are executed from there on at most; of each label further on the same;
+-- of each loop that ends further on, by its head, what is executed behind it; and of each loop whose head is further
+-- on, what a turn costs.
+pub record Needs : Type 0 where
+  pub need : ℕ
+  pub labels : List Numbered
+  pub ends : List Numbered
+  pub weights : List Numbered
+
+abbrev pub nothing_needed : Needs
+nothing_needed = record { need = 0; labels = []; ends = []; weights = [] }
+
+abbrev pub needs : ℕ → Needs → Needs
+needs n after = record after { need = n }
+
+-- `stopp` has nothing behind it
+abbrev pub is_stop : Fun → Bool → Bool
+is_stop fun.Operate stops = stops
+is_stop f stops = false
+
+-- how many turns a loop has, if it has its head at this label; or else what others say
+abbrev pub turns_of : ℕ → WordFact → Option ℕ → Option ℕ
+turns_of label (Between lo hi) others = others
+turns_of label (Turning head base count) others = if nat_eq head label then Some count else others
+
+abbrev pub turns_at : ℕ → List RowEntry → Option ℕ
+turns_at label [] = None
+turns_at label (e ∷ es) = turns_of label e.fact (turns_at label es)
+
+-- At the head of a loop a turn costs what is executed from here on, less what is behind the loop; the first turn is
+-- paid with what is needed here, and the others with their weight.
+abbrev pub at_head : ℕ → Option ℕ → Needs → Needs
+at_head label None after = after
+at_head label (Some count) after =
+    let weight = after.need - number_at label after.ends in
+    record after {
+      need = after.need + weight * (count - 1);
+      weights = with_number label weight after.weights;
+    }
+
+-- before a piece of so many bytes
+abbrev pub needed_before : Piece → ℕ → Needs → Needs
+needed_before (Direct f operand) bytes after =
+    if is_stop f (int_eq operand STOP_PROCESS) then needs bytes after else needs (bytes + after.need) after
+needed_before (Jump to) bytes after = needs (bytes + number_at to after.labels) after
+needed_before (JumpUnless to) bytes after = needs (bytes + max after.need (number_at to after.labels)) after
+needed_before (LoopBack head behind) bytes after = record after {
+  need = bytes + after.need;
+  ends = with_number head after.need after.ends;
+}
+needed_before (TableAddress values) bytes after = needs (bytes + after.need) after
+needed_before (Row label entries) bytes after =
+    at_head label (turns_at label entries)
+    (record after { labels = with_number label after.need after.labels })
+
+-- how many bytes are executed at most from the first of these pieces on, each of so many bytes
+abbrev pub needs_of : List Piece → List ℕ → Needs
+needs_of [] sizes = nothing_needed
+needs_of (p ∷ ps) [] = nothing_needed
+needs_of (p ∷ ps) (n ∷ ns) = needed_before p n (needs_of ps ns)

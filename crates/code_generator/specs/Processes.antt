@@ -1,0 +1,220 @@
+-- The code of processes: a definition over the tree, with what is known at each place. A PAR, an ALT and an instance
+-- have none here.
+use Rattle.std.specs.Prelude.{ℕ, zero, suc, ◌+◌, ◌-◌, ℤ, pos, Bool, true, false, List, [], ◌∷◌, ◌++◌}
+use Rattle.std.specs.Prelude.{if◌then◌else◌, Option, Some, None, unwrap_or, option_map}
+use Rattle.occam_layout.specs.declared.mark.Mark.TheVariants as mark
+use Rattle.occam_parser.specs.Terminals.{Terminal, Mark}
+use Rattle.occam_parser.specs.Expressions.{Expression, Alone, Truth, Bracketed}
+use Rattle.occam_parser.specs.Lines.{Declaration, Replicator, block_word}
+use Rattle.occam_parser.specs.Blocks.{Process, Declared, Does, Construct, Act, Block, Replicated, Body, One, Part}
+use Rattle.occam_parser.specs.Blocks.{Components, NoComponent, Further, Component, Plain, Chosen, Guarded}
+use Rattle.scalar_ranges.specs.declared.types.ExprType.TheVariants as types
+use Rattle.scalar_ranges.specs.Entries.{Meaning, Scalar, Entry, entry_at}
+use Rattle.scalar_ranges.specs.Moves.{Known}
+use Rattle.program_uses.specs.Actions.{Around, is_before}
+use Rattle.program_uses.specs.Changes.{changed_by_body}
+use Rattle.program_uses.specs.Constants.{value_as}
+use Rattle.program_uses.specs.Declaring.{add, add_declaration}
+use Rattle.program_uses.specs.Indices.{Repeats, repeats_of, index_in, is_seq, turn_by_turn}
+use Rattle.usage_checks.specs.NameRules.{with_entries}
+use Rattle.usage_checks.specs.AfterProcesses.{begun, ended, begun_body, chosen, after_components}
+use Rattle.usage_checks.specs.AfterProcesses.{after_component, after_body}
+use Rattle.code_generator.specs.declared.operations.TheConstants.{STOP_PROCESS}
+use Rattle.code_generator.specs.Pieces.{Piece, Jump, LoopBack, Row, operates, stores, points, constant, Code, no_code}
+use Rattle.code_generator.specs.Pieces.{written, before, then_code, closed_by}
+use Rattle.code_generator.specs.Homes.{Nowhere, Block, facts_of}
+use Rattle.code_generator.specs.Declarations.{Frame, with_home, declared, declaration_code}
+use Rattle.code_generator.specs.Actions.{action_code, test_code}
+
+-- ---- places
+
+-- Where code is written: what names stand for, what is known of them, and the least label that is free.
+pub record Site : Type 0 where
+  pub frame : Frame
+  pub known : Known
+  pub label : ℕ
+
+abbrev pub entries_at : Site → List Entry
+entries_at s = s.known.entries
+
+-- a label, and what a scope knows there
+abbrev pub row_of : ℕ → Frame → Known → Piece
+row_of label f k = Row label (facts_of f.homes k.entries)
+
+abbrev pub with_declaration : Declaration → Site → Site
+with_declaration d s = record {
+  frame = declared s.known.entries d s.frame;
+  known = with_entries (add_declaration d) s.known;
+  label = s.label;
+}
+
+abbrev pub at_place : Known → ℕ → Site → Site
+at_place k label s = record { frame = s.frame; known = k; label = label }
+
+-- ---- choices
+
+-- whether a condition is the operand TRUE, in any brackets
+abbrev pub is_true : Expression → Bool
+is_true (Alone (Truth holds)) = holds
+is_true (Alone (Bracketed e)) = is_true e
+is_true e = false
+
+-- where the process of a choice begins that has a test, which takes a label
+abbrev pub in_choice : Expression → Site → Site
+in_choice e s = at_place (chosen e s.known) (s.label + 1) s
+
+-- A choice whose test jumps to the site's label if it does not hold, and the label at the end of its IF.
+abbrev pub tested_choice : Site → Expression → ℕ → Known → Option Code → Option Code
+tested_choice s e end after process =
+    before (test_code s.frame.homes s.known.entries s.frame.top e s.label)
+    (closed_by (Jump end ∷ row_of s.label s.frame after ∷ []) process)
+
+-- The last choice needs no test if its condition is TRUE. If it is not, the process stops behind it.
+abbrev pub last_choice : Bool → Option Code → Option Code → Option Code
+last_choice true always tested = always
+last_choice false always tested = closed_by (operates STOP_PROCESS ∷ []) tested
+
+-- ---- loops
+
+-- the site of a loop's body, whose block is at the first words that are free
+abbrev pub in_loop : Site → Known → List ℕ → Meaning → Site
+in_loop s begun name index = record {
+  frame = record { homes = s.frame.homes ++ Block s.frame.top s.label ∷ []; top = s.frame.top + 2 };
+  known = with_entries (add name index) begun;
+  label = suc (s.label + 1);
+}
+
+-- before the head: the base and the count
+abbrev pub loop_start : ℕ → ℤ → ℤ → List Piece
+loop_start word base count =
+    constant base ∷ stores word ∷ constant count ∷ stores (word + 1) ∷ []
+
+-- behind the body
+abbrev pub loop_end : ℕ → ℕ → Piece → List Piece
+loop_end word head behind = points word ∷ LoopBack head (head + 1) ∷ behind ∷ []
+
+-- A loop has its head at the site's label, and the one after that behind it.
+abbrev pub loop_code : Site → Site → Known → ℤ → ℤ → Option Code → Option Code
+loop_code s inner after base count body =
+    before (loop_start s.frame.top base count ++ row_of s.label inner.frame inner.known ∷ [])
+    (closed_by (loop_end s.frame.top s.label (row_of (s.label + 1) s.frame after)) body)
+
+abbrev pub is_scalar : Option Meaning → Bool
+is_scalar (Some (Scalar kind type range)) = true
+is_scalar m = false
+
+-- whether one of these numbers is that of a scalar
+
+abbrev pub has_scalar : List ℕ → List Entry → Bool
+has_scalar [] es = false
+has_scalar (n ∷ ns) es = if is_scalar (option_map (λ e. e.meaning) (entry_at n es)) then true else has_scalar ns es
+
+-- A loop without turns has no code. If its body changes a scalar, a row says that less is known of it.
+abbrev pub no_loop : Bool → Site → Known → Option Code
+no_loop false s after = no_code s.label
+no_loop true s after = written (row_of s.label s.frame after ∷ []) (s.label + 1)
+
+abbrev pub repeated_seq : Site → List ℕ → Known → ℤ → Option Code → ℤ → Option Code
+repeated_seq s changed after base loop (pos zero) = no_loop (has_scalar changed s.known.entries) s after
+repeated_seq s changed after base loop count = loop
+
+-- ---- processes
+
+-- SEQ is all its components, and IF its choices with a row behind them.
+abbrev pub by_block : Terminal → Option Code → Option Code → Option Code
+by_block (Mark mark.Seq) all choices = all
+by_block (Mark mark.If) all choices = choices
+by_block word all choices = None
+
+-- an IF without a choice stops
+abbrev pub stopped : ℕ → Option Code
+stopped label = written (operates STOP_PROCESS ∷ []) label
+
+-- where a turn of a choice under a replicator begins
+abbrev pub turn_site : {part : Part} → Around → Terminal → List ℕ → Component part → Repeats → Known → Site
+    → (turn label : ℕ) → Site
+turn_site a word name c repeats start s n label = record {
+  frame = with_home Nowhere s.frame;
+  known = with_entries (add name (index_in repeats n))
+      (turn_by_turn (λ m l. after_component a word c (with_entries (add name (index_in repeats m)) l)) n start);
+  label = label;
+}
+
+-- a choice under a replicator, once for each turn, of which the last one is apart
+abbrev pub turns_code : Bool → ℕ → ℕ → (choice last : ℕ → ℕ → Option Code) → Option Code
+turns_code false count label choice last = stopped label
+turns_code true count label choice last =
+    then_code (turn_by_turn (λ n code. then_code code (choice n)) (count - 1) (no_code label)) (last (count - 1))
+
+abbrev mutual
+  pub process_code : Around → Process → Site → Option Code
+  process_code a (Declared d p) s =
+      before (declaration_code s.known.entries d s.frame.top) (process_code a p (with_declaration d s))
+  process_code a (Does line c) s = construct_code a line c s
+
+  pub construct_code : Around → ℕ → Construct → Site → Option Code
+  construct_code a line (Act action) s = action_code s.frame s.known.entries s.label action
+  construct_code a line (Block kind cs) s =
+      let word = block_word kind in
+      let inner = at_place (begun word s.known) (s.label + 1) s in
+      by_block word (components_code a cs s)
+      (closed_by (row_of s.label s.frame (ended word (after_components a word cs (begun word s.known))) ∷ [])
+      (choices_code a s.label cs inner))
+  construct_code a line (Replicated r b) s = body_code a line r b s
+
+  pub body_code : Around → ℕ → Replicator → Body → Site → Option Code
+  body_code a line r (One kind c) s =
+      let word = block_word kind in
+      let changed = changed_by_body a.signatures s.known.entries r (One kind c) in
+      let repeats = repeats_of (is_before line a.uncounted) s.known.entries (is_seq word) r in
+      let start = begun_body word changed repeats.happens s.known in
+      let after = after_body a line r (One kind c) s.known in
+      let base = unwrap_or (value_as s.known.entries types.Int r.base) (pos 0) in
+      let count = unwrap_or (value_as s.known.entries types.Int r.count) (pos 0) in
+      let inner = in_loop s start r.name (index_in repeats 0) in
+      by_block word
+      (repeated_seq s changed after base (loop_code s inner after base count (component_code a c inner)) count)
+      (closed_by (row_of s.label s.frame after ∷ []) (turns_code repeats.happens repeats.turns.count (s.label + 1)
+      (λ n label. choice_code a s.label c (turn_site a word r.name c repeats start s n label))
+      (λ n label. last_code a s.label c (turn_site a word r.name c repeats start s n label))))
+
+  -- one after the other
+  pub components_code : {part : Part} → Around → Components part → Site → Option Code
+  components_code a NoComponent s = no_code s.label
+  components_code a (Further cs c) s =
+      then_code (components_code a cs s)
+      (λ label. component_code a c (at_place (after_components a (Mark mark.Seq) cs s.known) label s))
+
+  pub component_code : {part : Part} → Around → Component part → Site → Option Code
+  component_code a (Plain p) s = process_code a p s
+  component_code a (Chosen line e p) s = None
+  component_code a (Guarded line g p) s = None
+
+  -- the choices of an IF that ends at a label, of which the last one is apart
+  pub choices_code : {part : Part} → Around → ℕ → Components part → Site → Option Code
+  choices_code a end NoComponent s = stopped s.label
+  choices_code a end (Further cs c) s =
+      then_code (tested_code a end cs s)
+      (λ label. last_code a end c (at_place (after_components a (Mark mark.If) cs s.known) label s))
+
+  -- choices with others behind them
+  pub tested_code : {part : Part} → Around → ℕ → Components part → Site → Option Code
+  tested_code a end NoComponent s = no_code s.label
+  tested_code a end (Further cs c) s =
+      then_code (tested_code a end cs s)
+      (λ label. choice_code a end c (at_place (after_components a (Mark mark.If) cs s.known) label s))
+
+  pub choice_code : {part : Part} → Around → ℕ → Component part → Site → Option Code
+  choice_code a end (Plain p) s = None
+  choice_code a end (Chosen line e p) s =
+      tested_choice s e end (after_component a (Mark mark.If) (Chosen line e p) s.known)
+      (process_code a p (in_choice e s))
+  choice_code a end (Guarded line g p) s = None
+
+  pub last_code : {part : Part} → Around → ℕ → Component part → Site → Option Code
+  last_code a end (Plain p) s = None
+  last_code a end (Chosen line e p) s =
+      last_choice (is_true e) (process_code a p (at_place (chosen e s.known) s.label s))
+      (tested_choice s e end (after_component a (Mark mark.If) (Chosen line e p) s.known)
+      (process_code a p (in_choice e s)))
+  last_code a end (Guarded line g p) s = None

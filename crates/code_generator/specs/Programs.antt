@@ -1,0 +1,56 @@
+-- The code of a program: that of main, which may read what was declared before it.
+use Rattle.std.specs.Prelude.{ℕ, ◌+◌, List, [], ◌∷◌, ◌++◌, map, Option, None, Some}
+use Rattle.occam_parser.specs.Lines.{Constants, Formal}
+use Rattle.occam_parser.specs.Blocks.{Procedure, ProgramItem, GlobalConstant, GlobalProcedure}
+use Rattle.scalar_ranges.specs.Moves.{Known}
+use Rattle.program_uses.specs.Actions.{Around}
+use Rattle.program_uses.specs.declared.uses.Direction.TheVariants as direction
+use Rattle.program_meaning.specs.Links.{Port}
+use Rattle.program_meaning.specs.Meaning.{port_for}
+use Rattle.usage_checks.specs.ItemRules.{Outside, outermost, around_in, weighed, after_item, in_body}
+use Rattle.code_generator.specs.declared.operations.TheConstants.{STOP_PROCESS}
+use Rattle.code_generator.specs.Pieces.{operates, Code, closed_by}
+use Rattle.code_generator.specs.Homes.{Home, Nowhere, Link}
+use Rattle.code_generator.specs.Declarations.{Frame, with_home, declared}
+use Rattle.code_generator.specs.Processes.{process_code}
+
+-- the words that a process has to itself: 0 and 1 are for the selection of an alternation and the block of a PAR
+abbrev pub first_word : ℕ
+first_word = 2
+
+-- the links in follow those out
+abbrev pub link_of : Port → ℕ
+link_of p = elim p.way [ direction.Output ↦ p.link | direction.Input ↦ p.link + 4 ]
+
+abbrev pub home_of_port : Option Port → Home
+home_of_port None = Nowhere
+home_of_port (Some p) = Link (link_of p)
+
+abbrev pub with_links : List Formal → Frame → Frame
+with_links fs f = record f { homes = f.homes ++ map (λ x. home_of_port (port_for x)) fs }
+
+-- ---- items
+
+-- what is known after some items, and where what they declare is
+abbrev pub framed : ProgramItem → Outside → Frame → Frame
+framed (GlobalConstant c) o f = declared o.known.entries (Constants c) f
+framed (GlobalProcedure p) o f = with_home Nowhere f
+
+-- behind main the process stops
+abbrev pub main_code : Around → Procedure → Known → Frame → Option Code
+main_code a p k f =
+    closed_by (operates STOP_PROCESS ∷ [])
+    (process_code a p.body (record { frame = with_links p.head.formals f; known = in_body p k; label = 0 }))
+
+abbrev pub last_item_code : ProgramItem → Outside → Frame → Option Code
+last_item_code (GlobalConstant c) o f = None
+last_item_code (GlobalProcedure p) o f = main_code (around_in o) p o.known f
+
+abbrev pub items_code : ProgramItem → List ProgramItem → Outside → Frame → Option Code
+items_code item [] o f = last_item_code item (weighed item o) f
+items_code item (next ∷ items) o f = items_code next items (after_item item o) (framed item o f)
+
+-- the code of a program, if main has neither a PAR nor an ALT nor an instance
+abbrev pub code_of : List ProgramItem → Option Code
+code_of [] = None
+code_of (item ∷ items) = items_code item items outermost (record { homes = []; top = first_word })

@@ -1,0 +1,61 @@
+-- The code of what stands in a setting of the program.
+use Rattle.std.specs.Prelude.{ℕ, ◌+◌, List, [], ◌∷◌, ◌++◌, Option, ℤ}
+use Rattle.occam_parser.specs.Expressions.{Expression, Paired, Term, Terms}
+use Rattle.code_generator.specs.declared.expressions.Pushes.{Pushes}
+use Rattle.occam_parser.specs.declared.tree.ChainOperator.{ChainOperator}
+use Rattle.scalar_ranges.specs.Entries.{Entry}
+use Rattle.scalar_ranges.specs.Scopes.{entries_of}
+use Rattle.scalar_ranges.specs.Bounds.{bound_of, exact_value}
+use Rattle.scalar_ranges.specs.Fronts.{Front, front_of}
+use Rattle.code_generator.specs.declared.setting.Setting.{Setting}
+use Rattle.code_generator.specs.Pieces.{Piece, operates}
+use Rattle.code_generator.specs.Homes.{Home}
+use Rattle.code_generator.specs.PieceViews.{homes_seen}
+use Rattle.code_generator.specs.Expressions.{expression_code, term_code, terms_code, onto, pushed, beside}
+use Rattle.code_generator.specs.Expressions.{is_leaf_term, unless, is_known, covered, chain_operation}
+
+abbrev pub entries_in : Setting → List Entry
+entries_in s = entries_of s.scope.now
+
+abbrev pub homes_in : Setting → List Home
+homes_in s = homes_seen s.homes.now
+
+abbrev pub expression_in : Setting → Expression → List Piece
+expression_in s e = expression_code (homes_in s) (entries_in s) s.top e
+
+abbrev pub term_in : Setting → Term → List Piece
+term_in s x = term_code (homes_in s) (entries_in s) s.top x
+
+abbrev pub terms_in : Setting → ChainOperator → Option Front → Terms → List Piece
+terms_in s op front xs = terms_code (homes_in s) (entries_in s) s.top op front xs
+
+-- where the first word that is free is taken
+abbrev pub term_above : Setting → Term → List Piece
+term_above s x = term_code (homes_in s) (entries_in s) (s.top + 1) x
+
+abbrev pub onto_in : Setting → Term → List Piece
+onto_in s x = onto s.top (is_leaf_term (entries_in s) x) (term_above s x)
+
+-- an operand of a chain, on those before it; nothing if its value is that of the front
+abbrev pub joined_in : Setting → ChainOperator → Option ℤ → Term → List Piece
+joined_in s op known x = unless (is_known known) (onto_in s x ++ operates (chain_operation op) ∷ [])
+
+-- the operands of a chain after so many others
+abbrev pub others_in : Setting → ChainOperator → Option Front → ℕ → List Term → List Piece
+others_in s op front count [] = []
+others_in s op front count (x ∷ xs) =
+    joined_in s op (covered front (count + 1)) x ++ others_in s op front (count + 1) xs
+
+-- what is pushed of an operator between two operands
+abbrev pub operands_in : Setting → Pushes → Expression → List Piece
+operands_in s how (Paired op x y) =
+    pushed how s.top (beside (entries_in s) x (term_in s x) (term_above s x))
+    (beside (entries_in s) y (term_in s y) (term_above s y))
+operands_in s how e = []
+
+-- the value of an expression, if it is a constant
+abbrev pub value_in : Setting → Expression → Option ℤ
+value_in s e = exact_value (bound_of (entries_in s) e)
+
+abbrev pub front_at : Setting → Expression → Option Front
+front_at s e = front_of (entries_in s) e

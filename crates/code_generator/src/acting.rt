@@ -1,0 +1,277 @@
+//! Writing the code of assignments, inputs, outputs and tests. If a function fails, some pieces more may have come.
+
+ghost use Rattle.std.specs.Prelude.{◌≡◌, ◌++◌, ◌*◌, IfOk, option_map, pos};
+ghost use Rattle.occam_parser.specs.LineViews.{place_of};
+ghost use Rattle.occam_parser.specs.Views.{expression_of};
+ghost use Rattle.scalar_ranges.specs.Scopes.{meaning_of};
+ghost use Rattle.code_generator.specs.PieceViews.{home_seen};
+ghost use Rattle.code_generator.specs.Pieces.{moves};
+ghost use Rattle.code_generator.specs.Actions.{stores_below, store_known, store_code, assign_code, target_address};
+ghost use Rattle.code_generator.specs.Actions.{channel_code, element_home, channel_home, length_of, carried, exchange};
+ghost use Rattle.code_generator.specs.Actions.{link_code, cleaned, input_code, output_code, test_code};
+ghost use Rattle.code_generator.specs.SettingViews.{entries_in, homes_in};
+ghost use Rattle.code_generator.specs.TargetViews.{target_seen};
+
+use crate::expressions::single;
+use crate::home::Home;
+use crate::listing::Listing;
+use crate::operations;
+use crate::piece::Piece;
+use crate::setting::{Setting, word_after};
+use crate::targets::{Target, target_of};
+use module_builder::GenFault;
+use occam_parser::{Expr, Place, ValueType};
+use prefix_decoder::Fun;
+use program_uses::place_ref;
+use scalar_ranges::{Meaning, range_of, test_of};
+
+impl Listing {
+    /// So many words go from one place of the frame to another.
+    pub(crate) fn write_moves(&mut self, count: u32, from: u32, to: u32) -> Result<(), GenFault>
+        ensures { IfOk result (λ _. self.new ≡ self.old ++ moves count from to) }
+    {
+        self.point(from)?;
+        self.point(to)?;
+        self.constant(bytes_of_words(count)?)?;
+        self.operate(operations::MOVE)
+    }
+
+    /// What is in a temporary goes to the address in A.
+    fn write_store_below(&mut self, value_type: ValueType, temporary: u32) -> Result<(), GenFault>
+        ensures { IfOk result (λ _. self.new ≡ self.old ++ stores_below value_type temporary) }
+    {
+        self.push_below(temporary)?;
+        match value_type {
+            ValueType::Int => self.direct(Fun::StoreNonLocal, 0),
+            ValueType::Byte => self.operate(operations::STORE_BYTE),
+        }
+    }
+
+    /// What is in a temporary is stored in an element.
+    fn write_store_known(
+        &mut self,
+        value_type: ValueType,
+        word: u32,
+        number: u32,
+        temporary: u32,
+    ) -> Result<(), GenFault>
+        ensures { IfOk result (λ _. self.new ≡ self.old ++ store_known value_type word number temporary) }
+    {
+        match value_type {
+            ValueType::Int => self.write_moves(1, temporary, word_after(word, number)?),
+            ValueType::Byte => {
+                self.write_known_address(value_type, word, number)?;
+                self.write_store_below(value_type, temporary)
+            }
+        }
+    }
+
+    /// What is in A is stored, by way of a temporary if the target is an element.
+    fn write_store(
+        &mut self,
+        setting: Setting,
+        target: Target,
+        temporary: u32,
+    ) -> Result<(), GenFault>
+        ensures { IfOk result (λ _. self.new
+            ≡ self.old ++ store_code (target_seen setting.entry target.entry) temporary) }
+    {
+        match target {
+            Target::Nothing => Ok(()),
+            Target::Word { word, .. } => self.store(word),
+            Target::Known {
+                value_type,
+                word,
+                number,
+            } => {
+                self.store(temporary)?;
+                self.write_store_known(value_type, word, number, temporary)
+            }
+            Target::Other {
+                value_type,
+                word,
+                subscript,
+            } => {
+                self.store(temporary)?;
+                self.write_expression(setting, subscript)?;
+                self.write_subscript(value_type, word)?;
+                self.write_store_below(value_type, temporary)
+            }
+        }
+    }
+
+    /// An assignment.
+    pub fn write_assignment(
+        &mut self,
+        setting: Setting,
+        target: &Place,
+        value: &Expr,
+    ) -> Result<(), GenFault>
+        ensures { IfOk result (λ _. self.new ≡ self.old ++ assign_code (homes_in setting.entry)
+            (entries_in setting.entry) setting.entry.top (place_of target.now) (expression_of value.now)) }
+    {
+        let above = setting.above()?;
+        self.write_expression(setting, value)?;
+        self.write_store(above, target_of(above, place_ref(target)), setting.top)
+    }
+
+    /// The address of what is stored into.
+    fn write_target_address(&mut self, setting: Setting, target: Target) -> Result<(), GenFault>
+        ensures { IfOk result (λ _. self.new
+            ≡ self.old ++ target_address (target_seen setting.entry target.entry)) }
+    {
+        match target {
+            Target::Nothing => Ok(()),
+            Target::Word { word, .. } => self.point(word),
+            Target::Known {
+                value_type,
+                word,
+                number,
+            } => self.write_known_address(value_type, word, number),
+            Target::Other {
+                value_type,
+                word,
+                subscript,
+            } => {
+                self.write_expression(setting, subscript)?;
+                self.write_subscript(value_type, word)
+            }
+        }
+    }
+
+    /// The word of a BYTE scalar has its byte alone, which came in.
+    fn write_cleaned(&mut self, setting: Setting, target: Target) -> Result<(), GenFault>
+        ensures { IfOk result (λ _. self.new ≡ self.old ++ cleaned (target_seen setting.entry target.entry)) }
+    {
+        match target {
+            Target::Word {
+                value_type: ValueType::Byte,
+                word,
+            } => {
+                self.point(word)?;
+                self.operate(operations::LOAD_BYTE)?;
+                self.store(word)
+            }
+            _ => Ok(()),
+        }
+    }
+
+    /// The address of a link.
+    fn write_link(&mut self, number: u8) -> Result<(), GenFault>
+        ensures { IfOk result (λ _. self.new ≡ self.old ++ link_code number) }
+    {
+        self.operate(operations::MINIMUM_INTEGER)?;
+        if number != 0 {
+            self.direct(Fun::LoadNonLocalPointer, i32::from(number))?;
+        }
+        Ok(())
+    }
+
+    /// The address of a channel.
+    fn write_channel(&mut self, setting: Setting, channel: &Place) -> Result<(), GenFault>
+        ensures { IfOk result (λ _. self.new ≡ self.old
+            ++ channel_code (channel_home (homes_in setting.entry) (entries_in setting.entry) (place_of channel.now))) }
+    {
+        match (setting.home(channel.name), &channel.subscript) {
+            (Some(Home::Link(number)), _) => self.write_link(*number),
+            (Some(Home::Word(word)), None) => self.point(*word),
+            (Some(Home::Word(word)), Some(subscript)) => {
+                match single(range_of(setting.scope, subscript)) {
+                    Some(number) => self.point(word_after(*word, number.unsigned_abs())?),
+                    None => self.point(*word),
+                }
+            }
+            _ => Ok(()),
+        }
+    }
+
+    /// The channel, the length of its messages and `in` or `out`, behind the address of a message.
+    fn write_exchange(
+        &mut self,
+        setting: Setting,
+        channel: &Place,
+        operation: i32,
+    ) -> Result<(), GenFault>
+        ensures { IfOk result (λ _. self.new ≡ self.old
+            ++ exchange (homes_in setting.entry) (entries_in setting.entry) (place_of channel.now) operation) }
+    {
+        self.write_channel(setting, channel)?;
+        self.constant(message_length(setting.scope.meaning(channel.name)))?;
+        self.operate(operation)
+    }
+
+    /// An input.
+    pub fn write_input(
+        &mut self,
+        setting: Setting,
+        channel: &Place,
+        target: &Place,
+    ) -> Result<(), GenFault>
+        ensures { IfOk result (λ _. self.new ≡ self.old ++ input_code (homes_in setting.entry)
+            (entries_in setting.entry) setting.entry.top (place_of channel.now) (place_of target.now)) }
+    {
+        let target = target_of(setting, place_ref(target));
+        self.write_target_address(setting, target)?;
+        self.write_exchange(setting, channel, operations::INPUT)?;
+        self.write_cleaned(setting, target)
+    }
+
+    /// An output.
+    pub fn write_output(
+        &mut self,
+        setting: Setting,
+        channel: &Place,
+        value: &Expr,
+    ) -> Result<(), GenFault>
+        ensures { IfOk result (λ _. self.new ≡ self.old ++ output_code (homes_in setting.entry)
+            (entries_in setting.entry) setting.entry.top (place_of channel.now) (expression_of value.now)) }
+    {
+        self.write_expression(setting, value)?;
+        self.store(setting.top)?;
+        self.point(setting.top)?;
+        self.write_exchange(setting, channel, operations::OUTPUT)
+    }
+
+    /// A condition, and a jump to a label where it does not hold.
+    pub fn write_test(
+        &mut self,
+        setting: Setting,
+        condition: &Expr,
+        label: usize,
+    ) -> Result<(), GenFault>
+        ensures { IfOk result (λ _. self.new ≡ self.old ++ test_code (homes_in setting.entry) (entries_in setting.entry)
+            setting.entry.top (expression_of condition.now) label) }
+    {
+        self.write_expression(setting, condition)?;
+        if test_of(setting.scope, condition).is_none() {
+            self.direct(Fun::AddConstant, 0)?;
+        }
+        self.push(Piece::JumpUnless { to: label })
+    }
+}
+
+/// How many bytes some words have, as an operand. The error is [`GenFault::Limit`] if it is none.
+fn bytes_of_words(count: u32) -> Result<i32, GenFault>
+    ensures { IfOk result (λ n. n ≡ pos (4 * count)) }
+{
+    let bytes = count.checked_mul(4).ok_or(GenFault::Limit)?;
+    i32::try_from(bytes).map_err(|_| GenFault::Limit)
+}
+
+/// How many bytes a message of a channel has that means this.
+fn message_length(channel: Option<Meaning>) -> i32
+    ensures { result ≡ length_of (carried (option_map meaning_of channel)) }
+{
+    match channel {
+        Some(
+            Meaning::Channel {
+                value_type: ValueType::Byte,
+            }
+            | Meaning::Channels {
+                value_type: ValueType::Byte,
+                ..
+            },
+        ) => 1,
+        _ => 4,
+    }
+}

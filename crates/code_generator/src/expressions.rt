@@ -1,0 +1,286 @@
+//! The code of expressions: it pushes the value, and keeps nothing that was in the registers.
+
+ghost use Rattle.std.specs.Prelude.{◌≡◌, ◌++◌, ◌∷◌, [], IfOk, ◌+◌, suc, option_map, unsigned_abs};
+ghost use Rattle.prefix_decoder.specs.declared.function.Fun.TheVariants as fun;
+ghost use Rattle.occam_parser.specs.Views.{expression_of, term_of};
+ghost use Rattle.scalar_ranges.specs.Scopes.{entries_of, meaning_of};
+ghost use Rattle.scalar_ranges.specs.Bounds.{bound_of, bound_of_term, exact_value, range_found};
+ghost use Rattle.scalar_ranges.specs.BoundViews.{all_ends};
+ghost use Rattle.code_generator.specs.Pieces.{Direct};
+ghost use Rattle.code_generator.specs.PieceViews.{home_seen, homes_seen};
+ghost use Rattle.code_generator.specs.Homes.{home_of};
+ghost use Rattle.scalar_ranges.specs.FrontViews.{seen_front};
+ghost use Rattle.code_generator.specs.Expressions.{covered, pair_operation, chain_operation, prefix_code, single};
+ghost use Rattle.code_generator.specs.Expressions.{is_byte_reference, scalar_code, is_leaf, is_leaf_term, is_pushed};
+ghost use Rattle.code_generator.specs.Expressions.{byte_address, address_code, element_of_words, element_of_table};
+ghost use Rattle.code_generator.specs.Expressions.{element_code, expression_code, term_code, truth, known_address};
+ghost use Rattle.code_generator.specs.Expressions.{subscript_code, pushes_of, pair_code, equality_code};
+
+use crate::home::Home;
+use crate::listing::Listing;
+use crate::operations;
+use crate::setting::word_after;
+use module_builder::GenFault;
+use occam_parser::{
+    ArithmeticChain, ArithmeticPair, ChainOperator, Comparison, Expr, Logic, Operand, Operation,
+    PairOperator, PrefixOperator, ValueType,
+};
+use prefix_decoder::Fun;
+use scalar_ranges::{Front, Meaning, ScalarKind, Scope, value_of};
+use word_arithmetic::Range;
+
+/// The operation that an operator between two numbers is.
+pub(crate) fn pair_operation(operator: ArithmeticPair) -> i32
+    ensures { result ≡ pair_operation operator }
+{
+    match operator {
+        ArithmeticPair::Subtract => operations::SUBTRACT,
+        ArithmeticPair::Divide => operations::DIVIDE,
+        ArithmeticPair::Remainder => operations::REMAINDER,
+        ArithmeticPair::Minus => operations::DIFFERENCE,
+        ArithmeticPair::ShiftLeft => operations::SHIFT_LEFT,
+        ArithmeticPair::ShiftRight => operations::SHIFT_RIGHT,
+    }
+}
+
+/// The operation that an operator of a chain is.
+pub(crate) fn chain_operation(operator: ChainOperator) -> i32
+    ensures { result ≡ chain_operation operator }
+{
+    match operator {
+        ChainOperator::Arithmetic(ArithmeticChain::Add) => operations::ADD,
+        ChainOperator::Arithmetic(ArithmeticChain::Multiply) => operations::MULTIPLY,
+        ChainOperator::Arithmetic(ArithmeticChain::Plus) => operations::SUM,
+        ChainOperator::Arithmetic(ArithmeticChain::Times) => operations::PRODUCT,
+        ChainOperator::Arithmetic(ArithmeticChain::BitAnd) | ChainOperator::Logic(Logic::And) => {
+            operations::AND
+        }
+        ChainOperator::Arithmetic(ArithmeticChain::BitOr) | ChainOperator::Logic(Logic::Or) => {
+            operations::OR
+        }
+        ChainOperator::Arithmetic(ArithmeticChain::BitXor) => operations::EXCLUSIVE_OR,
+    }
+}
+
+/// Which operands of an operator between two are pushed.
+#[derive(Clone, Copy)]
+pub(crate) enum Pushes {
+    /// The left one, and then the right one.
+    Both,
+    /// The right one, and then the left one.
+    Exchanged,
+    /// The left one alone.
+    Left,
+    /// The right one alone.
+    Right,
+}
+
+/// Which operands are pushed, by the values of those that are constants. One side of an equality may be a constant that
+/// is an operand of the comparison.
+pub(crate) fn pushes_of(operator: PairOperator, left: Option<i32>, right: Option<i32>) -> Pushes
+    ensures { result ≡ pushes_of operator left right }
+{
+    match operator {
+        PairOperator::Comparison(Comparison::Less | Comparison::GreaterOrEqual) => {
+            Pushes::Exchanged
+        }
+        PairOperator::Comparison(Comparison::Equal | Comparison::NotEqual) => match (left, right) {
+            (_, Some(_)) => Pushes::Left,
+            (Some(_), None) => Pushes::Right,
+            (None, None) => Pushes::Both,
+        },
+        PairOperator::Arithmetic(_)
+        | PairOperator::Comparison(Comparison::Greater | Comparison::LessOrEqual) => Pushes::Both,
+    }
+}
+
+/// The value of so many operands of a chain, if they belong to its front.
+pub(crate) fn covered(front: Option<Front>, count: usize) -> Option<i32>
+    ensures { result ≡ covered (option_map seen_front front) count }
+{
+    match front {
+        Some(front) if count <= front.operands => Some(front.value),
+        _ => None,
+    }
+}
+
+/// The one number of a range, if it has one alone.
+pub(crate) fn single(range: Result<Range, u8>) -> Option<i32>
+    ensures { result ≡ single (all_ends range) }
+{
+    match range {
+        Ok(range) if range.lo == range.hi => Some(range.lo),
+        _ => None,
+    }
+}
+
+/// Whether what has this meaning is a parameter that is a BYTE variable.
+pub(crate) fn is_byte_reference(meaning: Option<Meaning>) -> bool
+    ensures { result ≡ is_byte_reference (option_map meaning_of meaning) }
+{
+    match meaning {
+        Some(
+            Meaning::Scalar {
+                kind: ScalarKind::Reference,
+                value_type: ValueType::Byte,
+                ..
+            },
+        ) => true,
+        _ => false,
+    }
+}
+
+/// Whether a name with this meaning is one push.
+fn is_pushed(meaning: Option<Meaning>) -> bool
+    ensures { result ≡ is_pushed (option_map meaning_of meaning) }
+{
+    !is_byte_reference(meaning)
+}
+
+/// Whether an expression is one push.
+#[cycle(leaf)]
+fn is_leaf(scope: &Scope, expr: &Expr) -> bool
+    ensures { result ≡ is_leaf (entries_of scope.now) (expression_of expr.now) }
+{
+    match &*expr.operation {
+        Operation::Operand(operand) => is_leaf_term(scope, operand),
+        Operation::Prefix { .. } | Operation::Pair { .. } | Operation::Chain { .. } => {
+            value_of(scope, expr).is_some()
+        }
+    }
+}
+
+/// Whether an operand is one push. Then the operand before it may stay in a register.
+#[cycle(leaf)]
+pub(crate) fn is_leaf_term(scope: &Scope, operand: &Operand) -> bool
+    ensures { result ≡ is_leaf_term (entries_of scope.now) (term_of operand.now) }
+{
+    match operand {
+        Operand::Integer(_)
+        | Operand::Character(_)
+        | Operand::Truth(_)
+        | Operand::MostPos
+        | Operand::MostNeg => true,
+        Operand::Name(name) => is_pushed(scope.meaning(name)),
+        Operand::Element { .. } => false,
+        Operand::Bracketed(inner) => is_leaf(scope, inner),
+        Operand::Converted { operand, .. } => is_leaf_term(scope, operand),
+    }
+}
+
+impl Listing {
+    /// What an operator before an operand does with its value.
+    pub(crate) fn write_prefix(&mut self, operator: PrefixOperator) -> Result<(), GenFault>
+        ensures { IfOk result (λ _. self.new ≡ self.old ++ prefix_code operator) }
+    {
+        match operator {
+            PrefixOperator::Negate => {
+                self.operate(operations::NOT)?;
+                self.direct(Fun::AddConstant, 1)
+            }
+            PrefixOperator::BitNot => self.operate(operations::NOT),
+            PrefixOperator::Not => self.direct(Fun::EqualsConstant, 0),
+        }
+    }
+
+    /// The value of a scalar that is in this place.
+    pub(crate) fn write_scalar(
+        &mut self,
+        is_reference: bool,
+        home: Option<&Home>,
+    ) -> Result<(), GenFault>
+        ensures { IfOk result (λ _. self.new
+            ≡ self.old ++ scalar_code is_reference (option_map (λ h. home_seen h.now) home.entry)) }
+    {
+        match home {
+            Some(Home::Word(word)) if is_reference => {
+                self.point(*word)?;
+                self.operate(operations::LOAD_BYTE)
+            }
+            Some(Home::Word(word) | Home::Block { word, .. }) => self.load(*word),
+            Some(Home::Nowhere | Home::Link(_) | Home::Table(_)) | None => Ok(()),
+        }
+    }
+
+    /// The address of a byte of an array, by the first of its words.
+    fn write_byte_address(&mut self, word: u32, byte: u32) -> Result<(), GenFault>
+        ensures { IfOk result (λ _. self.new ≡ self.old ++ byte_address word byte) }
+    {
+        let at = word_after(word, byte / 4)?;
+        if byte % 4 == 0 {
+            return self.point(at);
+        }
+        self.constant((byte % 4) as i32)?;
+        self.point(at)?;
+        self.operate(operations::BYTE_SUBSCRIPT)
+    }
+
+    /// The address of an element of an array, by the first of its words and the number of the element.
+    pub(crate) fn write_known_address(
+        &mut self,
+        value_type: ValueType,
+        word: u32,
+        number: u32,
+    ) -> Result<(), GenFault>
+        ensures { IfOk result (λ _. self.new ≡ self.old ++ known_address value_type word number) }
+    {
+        match value_type {
+            ValueType::Int => self.point(word_after(word, number)?),
+            ValueType::Byte => self.write_byte_address(word, number),
+        }
+    }
+
+    /// The address of an element of an array, by the first of its words and the number of the element in A.
+    pub(crate) fn write_subscript(
+        &mut self,
+        value_type: ValueType,
+        word: u32,
+    ) -> Result<(), GenFault>
+        ensures { IfOk result (λ _. self.new ≡ self.old ++ subscript_code value_type word) }
+    {
+        self.point(word)?;
+        match value_type {
+            ValueType::Int => self.operate(operations::WORD_SUBSCRIPT),
+            ValueType::Byte => self.operate(operations::BYTE_SUBSCRIPT),
+        }
+    }
+
+    /// What an operator between two operands does with what is pushed of them, by their values if they are constants.
+    pub(crate) fn write_pair(
+        &mut self,
+        operator: PairOperator,
+        left: Option<i32>,
+        right: Option<i32>,
+    ) -> Result<(), GenFault>
+        ensures { IfOk result (λ _. self.new ≡ self.old ++ pair_code operator left right) }
+    {
+        match operator {
+            PairOperator::Arithmetic(operator) => self.operate(pair_operation(operator)),
+            PairOperator::Comparison(Comparison::Greater | Comparison::Less) => {
+                self.operate(operations::GREATER)
+            }
+            PairOperator::Comparison(Comparison::LessOrEqual | Comparison::GreaterOrEqual) => {
+                self.operate(operations::GREATER)?;
+                self.direct(Fun::EqualsConstant, 0)
+            }
+            PairOperator::Comparison(Comparison::Equal) => self.write_equality(left, right),
+            PairOperator::Comparison(Comparison::NotEqual) => {
+                self.write_equality(left, right)?;
+                self.direct(Fun::EqualsConstant, 0)
+            }
+        }
+    }
+
+    /// Whether what is pushed is equal to a constant, or both operands are equal.
+    fn write_equality(&mut self, left: Option<i32>, right: Option<i32>) -> Result<(), GenFault>
+        ensures { IfOk result (λ _. self.new ≡ self.old ++ equality_code left right) }
+    {
+        match (left, right) {
+            (_, Some(value)) | (Some(value), None) => self.direct(Fun::EqualsConstant, value),
+            (None, None) => {
+                self.operate(operations::DIFFERENCE)?;
+                self.direct(Fun::EqualsConstant, 0)
+            }
+        }
+    }
+}

@@ -1,0 +1,19 @@
+//! The code of a checked program: which instructions a process becomes, and what is known between them.
+#![tactic(auto)]
+
+mod acting;
+mod expressions;
+mod home;
+mod laws;
+mod listing;
+mod operations;
+mod piece;
+mod setting;
+mod targets;
+mod writing;
+
+pub use home::Home;
+pub use laws::small_programs_have_code;
+pub use listing::Listing;
+pub use piece::{Piece, RowEntry, WordFact};
+pub use setting::Setting;

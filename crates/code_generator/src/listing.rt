@@ -1,0 +1,117 @@
+//! Code that grows piece by piece.
+
+ghost use Rattle.std.specs.Prelude.{◌≡◌, ◌++◌, ◌∷◌, [], IfOk, ℤ, pos};
+ghost use Rattle.prefix_decoder.specs.declared.function.Fun.TheVariants as fun;
+ghost use Rattle.code_generator.specs.Pieces.{Direct, TableAddress, operates, loads, stores, points, constant, below};
+ghost use Rattle.code_generator.specs.PieceViews.{pieces_of, piece_of};
+
+use crate::operations::{MINIMUM_INTEGER, REVERSE};
+use crate::piece::Piece;
+use module_builder::GenFault;
+use prefix_decoder::Fun;
+use std::alloc::Global;
+use std::marker::Model;
+use std::rc::Rc;
+
+/// Pieces of code in their order. If a call fails, some pieces more may have come.
+#[derive(Drop)]
+pub struct Listing {
+    pieces: Vec<Piece>,
+}
+
+impl Model for Listing {
+    ghost use Rattle.std.specs.Prelude.{List};
+    ghost use Rattle.code_generator.specs.Pieces.{Piece};
+    ghost use Rattle.code_generator.specs.PieceViews.{pieces_of};
+
+    ghost Value = { List Piece };
+
+    ghost view = { λ l. pieces_of l.pieces.items };
+}
+
+/// A word of the frame as an operand. The error is [`GenFault::Limit`] if it is none.
+fn operand(word: u32) -> Result<i32, GenFault>
+    ensures { IfOk result (λ n. n ≡ pos word) }
+{
+    i32::try_from(word).map_err(|_| GenFault::Limit)
+}
+
+impl Listing {
+    /// No code.
+    pub fn new(alloc: Global) -> Listing
+        ensures { result ≡ [] }
+    {
+        Listing {
+            pieces: Vec::new(alloc),
+        }
+    }
+
+    /// One piece more.
+    pub(crate) fn push(&mut self, piece: Piece) -> Result<(), GenFault>
+        ensures { IfOk result (λ _. self.new ≡ self.old ++ piece_of piece ∷ []) }
+    {
+        self.pieces.push(piece)?;
+        Ok(())
+    }
+
+    /// An instruction.
+    pub(crate) fn direct(&mut self, fun: Fun, operand: i32) -> Result<(), GenFault>
+        ensures { IfOk result (λ _. self.new ≡ self.old ++ Direct fun operand ∷ []) }
+    {
+        self.push(Piece::Direct { fun, operand })
+    }
+
+    /// An operation.
+    pub(crate) fn operate(&mut self, operation: i32) -> Result<(), GenFault>
+        ensures { IfOk result (λ _. self.new ≡ self.old ++ operates operation ∷ []) }
+    {
+        self.direct(Fun::Operate, operation)
+    }
+
+    /// `ldl`
+    pub(crate) fn load(&mut self, word: u32) -> Result<(), GenFault>
+        ensures { IfOk result (λ _. self.new ≡ self.old ++ loads word ∷ []) }
+    {
+        self.direct(Fun::LoadLocal, operand(word)?)
+    }
+
+    /// `stl`
+    pub(crate) fn store(&mut self, word: u32) -> Result<(), GenFault>
+        ensures { IfOk result (λ _. self.new ≡ self.old ++ stores word ∷ []) }
+    {
+        self.direct(Fun::StoreLocal, operand(word)?)
+    }
+
+    /// `ldlp`
+    pub(crate) fn point(&mut self, word: u32) -> Result<(), GenFault>
+        ensures { IfOk result (λ _. self.new ≡ self.old ++ points word ∷ []) }
+    {
+        self.direct(Fun::LoadLocalPointer, operand(word)?)
+    }
+
+    /// Pushes a constant.
+    pub(crate) fn constant(&mut self, value: i32) -> Result<(), GenFault>
+        ensures { IfOk result (λ _. self.new ≡ self.old ++ constant value ∷ []) }
+    {
+        if value == i32::MIN {
+            self.operate(MINIMUM_INTEGER)
+        } else {
+            self.direct(Fun::LoadConstant, value)
+        }
+    }
+
+    /// Pushes what was stored in a temporary below what is in A.
+    pub(crate) fn push_below(&mut self, temporary: u32) -> Result<(), GenFault>
+        ensures { IfOk result (λ _. self.new ≡ self.old ++ below temporary) }
+    {
+        self.load(temporary)?;
+        self.operate(REVERSE)
+    }
+
+    /// Pushes the address of a table.
+    pub(crate) fn table(&mut self, values: &Rc<Vec<i32>>) -> Result<(), GenFault>
+        ensures { IfOk result (λ _. self.new ≡ self.old ++ TableAddress values.now.value.items ∷ []) }
+    {
+        self.push(Piece::TableAddress(Rc::clone(values)?))
+    }
+}

@@ -1,0 +1,275 @@
+//! Writing the code of expressions: each function appends the code that its tree has in its setting. If one fails, some
+//! pieces more may have come.
+
+ghost use Rattle.std.specs.Prelude.{◌≡◌, ◌++◌, IfOk, None, map, option_map};
+ghost use Rattle.occam_parser.specs.Views.{expression_of, operation_of, term_of};
+ghost use Rattle.scalar_ranges.specs.Entries.{meaning_in};
+ghost use Rattle.scalar_ranges.specs.Bounds.{bound_of, range_found};
+ghost use Rattle.scalar_ranges.specs.FrontViews.{seen_front};
+ghost use Rattle.code_generator.specs.Homes.{home_of};
+ghost use Rattle.code_generator.specs.SettingViews.{entries_in, homes_in, expression_in, term_in, onto_in, joined_in};
+ghost use Rattle.code_generator.specs.SettingViews.{others_in, operands_in, value_in, front_at};
+ghost use Rattle.code_generator.specs.Expressions.{single, address_code, element_of_words, element_of_table};
+ghost use Rattle.code_generator.specs.Expressions.{element_code};
+
+use crate::expressions::{
+    Pushes, chain_operation, covered, is_byte_reference, is_leaf_term, pushes_of, single,
+};
+use crate::home::Home;
+use crate::listing::Listing;
+use crate::operations;
+use crate::setting::{Setting, word_after};
+use module_builder::GenFault;
+use occam_parser::{ChainOperator, Expr, Operand, Operation, ValueType};
+use prefix_decoder::Fun;
+use scalar_ranges::{Front, Meaning, front_of, range_of, read_operand, value_of};
+
+impl Listing {
+    /// An expression.
+    #[cycle(write)]
+    pub fn write_expression(&mut self, setting: Setting, expr: &Expr) -> Result<(), GenFault>
+        ensures { IfOk result (λ _. self.new ≡ self.old ++ expression_in setting.entry (expression_of expr.now)) }
+    {
+        match value_of(setting.scope, expr) {
+            Some(value) => self.constant(value),
+            None => {
+                let front = front_of(setting.scope, expr);
+                self.write_operation(setting, front, &expr.operation)
+            }
+        }
+    }
+
+    /// An operation that is no constant, with the front that it has if it is a chain.
+    #[cycle(write)]
+    fn write_operation(
+        &mut self,
+        setting: Setting,
+        front: Option<Front>,
+        operation: &Operation,
+    ) -> Result<(), GenFault>
+        requires varies { value_in setting (operation_of operation.now) ≡ None }
+        requires front { option_map seen_front front ≡ front_at setting (operation_of operation.now) }
+        ensures { IfOk result (λ _. self.new ≡ self.old ++ expression_in setting.entry (operation_of operation.now)) }
+    {
+        match operation {
+            Operation::Operand(operand) => self.write_operand(setting, operand),
+            Operation::Prefix { operator, operand } => {
+                self.write_operand(setting, operand)?;
+                self.write_prefix(*operator)
+            }
+            Operation::Pair {
+                operator,
+                left,
+                right,
+            } => {
+                let left = read_operand(setting.scope, left).value();
+                let right = read_operand(setting.scope, right).value();
+                self.write_operands(setting, pushes_of(*operator, left, right), operation)?;
+                self.write_pair(*operator, left, right)
+            }
+            Operation::Chain {
+                operator,
+                first,
+                second,
+                others,
+            } => match covered(front, 2) {
+                Some(value) => {
+                    self.constant(value)?;
+                    self.write_others(setting, front, *operator, others)
+                }
+                None => {
+                    self.write_operand(setting, first)?;
+                    self.write_joined(setting, None, *operator, second)?;
+                    self.write_others(setting, front, *operator, others)
+                }
+            },
+        }
+    }
+
+    /// The operands of an operator between two. Another operation has none.
+    #[cycle(write)]
+    fn write_operands(
+        &mut self,
+        setting: Setting,
+        pushes: Pushes,
+        operation: &Operation,
+    ) -> Result<(), GenFault>
+        ensures { IfOk result (λ _. self.new
+            ≡ self.old ++ operands_in setting.entry pushes (operation_of operation.now)) }
+    {
+        match (operation, pushes) {
+            (Operation::Pair { left, right, .. }, Pushes::Both) => {
+                self.write_operand(setting, left)?;
+                self.write_onto(setting, right)
+            }
+            (Operation::Pair { left, right, .. }, Pushes::Exchanged) => {
+                self.write_operand(setting, right)?;
+                self.write_onto(setting, left)
+            }
+            (Operation::Pair { left, .. }, Pushes::Left) => self.write_operand(setting, left),
+            (Operation::Pair { right, .. }, Pushes::Right) => self.write_operand(setting, right),
+            _ => Ok(()),
+        }
+    }
+
+    /// A right operand, on the left one that is in A.
+    #[cycle(write)]
+    fn write_onto(&mut self, setting: Setting, right: &Operand) -> Result<(), GenFault>
+        ensures { IfOk result (λ _. self.new ≡ self.old ++ onto_in setting.entry (term_of right.now)) }
+    {
+        let above = setting.above()?;
+        if is_leaf_term(setting.scope, right) {
+            return self.write_operand(above, right);
+        }
+        self.store(setting.top)?;
+        self.write_operand(above, right)?;
+        self.push_below(setting.top)
+    }
+
+    /// The operands of a chain after the first two.
+    #[cycle(write)]
+    fn write_others(
+        &mut self,
+        setting: Setting,
+        front: Option<Front>,
+        operator: ChainOperator,
+        others: &[Operand],
+    ) -> Result<(), GenFault>
+        ensures { IfOk result (λ _. self.new ≡ self.old ++ others_in setting.entry operator
+            (option_map seen_front front) 2 (map term_of others.now)) }
+    {
+        for (place, other) in others.iter().enumerate() {
+            self.write_joined(setting, covered(front, place + 3), operator, other)?;
+        }
+        Ok(())
+    }
+
+    /// An operand of a chain, on those before it that are in A; nothing if the value of the front is that of both.
+    #[cycle(write)]
+    fn write_joined(
+        &mut self,
+        setting: Setting,
+        known: Option<i32>,
+        operator: ChainOperator,
+        operand: &Operand,
+    ) -> Result<(), GenFault>
+        ensures { IfOk result (λ _. self.new ≡ self.old
+            ++ joined_in setting.entry operator known (term_of operand.now)) }
+    {
+        if known.is_some() {
+            return Ok(());
+        }
+        self.write_onto(setting, operand)?;
+        self.operate(chain_operation(operator))
+    }
+
+    /// An operand.
+    #[cycle(write)]
+    fn write_operand(&mut self, setting: Setting, operand: &Operand) -> Result<(), GenFault>
+        ensures { IfOk result (λ _. self.new ≡ self.old ++ term_in setting.entry (term_of operand.now)) }
+    {
+        match operand {
+            Operand::Integer(value) => self.constant(*value),
+            Operand::Character(byte) => self.constant(i32::from(*byte)),
+            Operand::Truth(holds) => self.constant(i32::from(*holds)),
+            Operand::MostPos => self.constant(i32::MAX),
+            Operand::MostNeg => self.constant(i32::MIN),
+            Operand::Name(name) => match read_operand(setting.scope, operand).value() {
+                Some(value) => self.constant(value),
+                None => {
+                    let is_reference = is_byte_reference(setting.scope.meaning(name));
+                    self.write_scalar(is_reference, setting.home(name))
+                }
+            },
+            Operand::Element { name, subscript } => self.write_element(setting, name, subscript),
+            Operand::Bracketed(inner) => self.write_expression(setting, inner),
+            Operand::Converted { operand, .. } => self.write_operand(setting, operand),
+        }
+    }
+
+    /// An element of an array or of a table.
+    #[cycle(write)]
+    fn write_element(
+        &mut self,
+        setting: Setting,
+        name: &[u8],
+        subscript: &Expr,
+    ) -> Result<(), GenFault>
+        ensures { IfOk result (λ _. self.new ≡ self.old
+            ++ element_code (home_of (homes_in setting.entry) (entries_in setting.entry) name.now)
+            (meaning_in name.now (entries_in setting.entry))
+            (single (range_found (bound_of (entries_in setting.entry) (expression_of subscript.now))))
+            (expression_in setting.entry (expression_of subscript.now))) }
+    {
+        match (setting.home(name), setting.scope.meaning(name)) {
+            (Some(Home::Word(word)), Some(Meaning::Array { value_type, .. })) => {
+                self.write_element_of_words(setting, value_type, *word, subscript)
+            }
+            (Some(Home::Table(values)), _) => {
+                match single(range_of(setting.scope, subscript)) {
+                    Some(number) => {
+                        self.table(values)?;
+                        self.direct(Fun::LoadNonLocal, number)
+                    }
+                    None => {
+                        self.write_expression(setting, subscript)?;
+                        self.table(values)?;
+                        self.operate(operations::WORD_SUBSCRIPT)?;
+                        self.direct(Fun::LoadNonLocal, 0)
+                    }
+                }
+            }
+            _ => Ok(()),
+        }
+    }
+
+    /// An element of an array whose words begin with this one.
+    #[cycle(write)]
+    fn write_element_of_words(
+        &mut self,
+        setting: Setting,
+        value_type: ValueType,
+        word: u32,
+        subscript: &Expr,
+    ) -> Result<(), GenFault>
+        ensures { IfOk result (λ _. self.new ≡ self.old ++ element_of_words value_type word
+            (single (range_found (bound_of (entries_in setting.entry) (expression_of subscript.now))))
+            (expression_in setting.entry (expression_of subscript.now))) }
+    {
+        match (value_type, single(range_of(setting.scope, subscript))) {
+            (ValueType::Int, Some(number)) => {
+                self.load(word_after(word, number.unsigned_abs())?)
+            }
+            (ValueType::Int, None) => {
+                self.write_address(setting, value_type, word, subscript)?;
+                self.direct(Fun::LoadNonLocal, 0)
+            }
+            (ValueType::Byte, _) => {
+                self.write_address(setting, value_type, word, subscript)?;
+                self.operate(operations::LOAD_BYTE)
+            }
+        }
+    }
+
+    /// The address of an element of an array whose words begin with this one.
+    #[cycle(write)]
+    pub(crate) fn write_address(
+        &mut self,
+        setting: Setting,
+        value_type: ValueType,
+        word: u32,
+        subscript: &Expr,
+    ) -> Result<(), GenFault>
+        ensures { IfOk result (λ _. self.new ≡ self.old ++ address_code value_type word
+            (single (range_found (bound_of (entries_in setting.entry) (expression_of subscript.now))))
+            (expression_in setting.entry (expression_of subscript.now))) }
+    {
+        match single(range_of(setting.scope, subscript)) {
+            Some(number) => self.write_known_address(value_type, word, number.unsigned_abs()),
+            None => {
+                self.write_expression(setting, subscript)?;
+                self.write_subscript(value_type, word)
+            }
+        }
+    }
+}
