@@ -9,7 +9,7 @@ use crate::stepping::function;
 use crate::words::{Words, question};
 use certificate::{Fact, LabelRow, Module};
 use conformance::{Answer, Outcome, judged};
-use facts::{Successor, Successors, advance, has_rule, transfer};
+use facts::{Successor, Successors, has_rule, transfer};
 use prefix_decoder::{Fun, Instr};
 use states::{Known, Loop, Source, State, WordFact, label_rows_are_sound};
 use std::alloc::Global;
@@ -221,15 +221,38 @@ fn put_following<'a>(
     }
 }
 
+/// What follows two instructions, one after the other, of which the first falls through.
+fn put_following_both<'a>(
+    alloc: Global,
+    module: &'a Module<'a>,
+    state: &State<'a>,
+    at: usize,
+    both: (Instr, Instr),
+    out: &mut Answer,
+) -> bool
+    requires { BelongsTo «module».now state.now }
+{
+    let (first, second) = both;
+    let Ok(successors) = transfer(alloc, module, state, at, first) else {
+        return false;
+    };
+    let Some(behind) = &successors.behind else {
+        return false;
+    };
+    let next = at.saturating_add(first.len);
+    put_following(alloc, module, &behind.state, next, second, out);
+    true
+}
+
 /// Takes an offset and one instruction or two, and writes what follows the last.
 fn answer<'a>(
     alloc: Global,
     module: &'a Module<'a>,
-    state: &mut State<'a>,
+    state: &State<'a>,
     words: &mut Words,
     out: &mut Answer,
 )
-    requires { BelongsTo «module».now state.old }
+    requires { BelongsTo «module».now state.now }
 {
     let at = words.number() as usize;
     let first = instruction(words);
@@ -237,17 +260,9 @@ fn answer<'a>(
         put_following(alloc, module, state, at, first, out);
         return;
     }
-    let second = instruction(words);
-    match advance(state, module, at, first) {
-        Ok(_) => put_following(
-            alloc,
-            module,
-            state,
-            at.saturating_add(first.len),
-            second,
-            out,
-        ),
-        Err(_) => words.fail(),
+    let both = (first, instruction(words));
+    if !put_following_both(alloc, module, state, at, both, out) {
+        words.fail();
     }
 }
 
@@ -265,7 +280,7 @@ pub(crate) fn follow<'a>(
         return Outcome::OutOfMemory;
     };
     prepare(module, &mut state, &mut before);
-    answer(alloc, module, &mut state, &mut asked, out);
+    answer(alloc, module, &state, &mut asked, out);
     if before.is_read() && asked.is_read() {
         judged(out, expected)
     } else {
