@@ -1,17 +1,14 @@
 -- In another mode than its own an operation of an alternation breaks a rule.
-use Rattle.std.proofs.Common.{ℕ, Option, Some, None, refl}
+use Rattle.std.proofs.Common.{ℕ, refl}
 use Rattle.module_format.specs.Rows.{Fact}
-use Rattle.module_format.specs.declared.rows.EndKind.{EndKind}
 use Rattle.states.specs.declared.rule.Rule.TheVariants as rules
 use Rattle.states.specs.declared.known.Mode.{Mode}
 use Rattle.states.specs.declared.known.Mode.TheVariants.{Plain, Enabling, Disabling, Starting}
 use Rattle.states.specs.declared.known.GuardKind.{GuardKind}
-use Rattle.states.specs.declared.known.WordFact.TheVariants.{Alone}
 use Rattle.states.specs.State.{State}
-use Rattle.rulings.specs.Rulings.{Ruling, Site, breaks}
-use Rattle.rulings.specs.Channels.{channel_of}
-use Rattle.rulings.proofs.OtherModes.{Breaks, uses_break, wants_break, settles_break}
-use Rattle.alternation_rules.specs.AlternationRules.{while_plain, while_enabling, while_disabling, names_channel}
+use Rattle.rulings.specs.Rulings.{Ruling, Site}
+use Rattle.rulings.proofs.OtherModes.{Breaks, uses_break, wants_break, settles_break, names_break}
+use Rattle.alternation_rules.specs.AlternationRules.{while_plain, while_enabling, while_disabling}
 use Rattle.alternation_rules.specs.AlternationRules.{alt_rule, enables, enbc_rule, enbs_rule, altwt_rule, disables}
 use Rattle.alternation_rules.specs.AlternationRules.{disc_rule, diss_rule, altend_rule}
 use Rattle.alternation_rules.specs.ModesAsked.{IsPlain, IsEnabling, IsDisabling, ModesAreAsked}
@@ -36,16 +33,6 @@ disabling_breaks Plain other r = (rules.Alternation, refl)
 disabling_breaks Enabling other r = (rules.Alternation, refl)
 disabling_breaks (Disabling done) other r = absurd (other (done, refl))
 disabling_breaks (Starting row started) other r = (rules.Alternation, refl)
-
-names_break : (fact : Fact) (r : EndKind → Ruling) → ((kind : EndKind) → Breaks (r kind))
-    → Breaks (names_channel fact r)
-unfolding names_channel
-names_break fact r all = wants_break _ _ _ (on (channel_of (Alone fact)))
-  where
-    on : (found : Option EndKind)
-        → Breaks (elim found as (λ found. Ruling) [ None ↦ breaks rules.Channel | Some kind ↦ r kind ])
-    on None = (rules.Channel, refl)
-    on (Some kind) = all kind
 
 module _ (site : Site) (s : State) where
   alt_breaks : (IsPlain s.mode → ⊥) → Breaks (alt_rule site s)

@@ -48,7 +48,8 @@ use Rattle.rulings.proofs.Within.{in_other_mode}
 use Rattle.rulings.proofs.Regions.{keeps_more, write_keeps}
 use Rattle.rulings.proofs.Words.{word_elsewhere}
 use Rattle.rulings.proofs.Dues.{written_owed}
-use Rattle.rulings.proofs.HeldChannels.{IsHeldChannel, held_channel, held_channel_fits}
+use Rattle.rulings.specs.Pointers.{is_near_pointer}
+use Rattle.rulings.proofs.HeldChannels.{IsHeldChannel, held_channel, held_channel_fits, names_channel_fits}
 use Rattle.rulings.proofs.Combining.{FitsIf, unknown_means, on_rule_test, on_step_test, uses_fits, wants_fits}
 use Rattle.rulings.proofs.Combining.{settles_fits}
 use Rattle.rulings.proofs.Combining.{writes_word_fits, writes_fits, in_plain_step, after_stack, after_write, enough}
@@ -68,7 +69,7 @@ use Rattle.alternation_rules.specs.Guards.{is_new, has_room, enabled_guard, guar
 use Rattle.alternation_rules.specs.Guards.{is_same_name}
 use Rattle.alternation_rules.specs.Guards.{is_off_scheduling}
 use Rattle.alternation_rules.specs.AlternationRules as alternation
-use Rattle.alternation_rules.specs.AlternationRules.{names_channel, is_near_channel, may_receive, keeps_selection}
+use Rattle.alternation_rules.specs.AlternationRules.{may_receive, keeps_selection}
 use Rattle.alternation_rules.specs.AlternationRules.{with_enabled, with_disabled, in_mode}
 use Rattle.alternation_rules.proofs.EqualGuards.{tests_compare}
 use Rattle.alternation_rules.proofs.GuardNames.{name_value, is_true, is_false, off_is_not_below}
@@ -323,18 +324,6 @@ module _ (x : Here) (s : State) (l : Local) (a : Within AreStill x.m x.h x.mode 
       let q = enabling_mode a.same_mode.modes enabling in
       subst (λ (q : machine.Mode). FitsIf x r (step.while_enabling q o)) (sym q.1) go
 
-  names_channel_fits : (fact : Fact) (r : EndKind → Ruling) (o : Outcome)
-      → ((kind : EndKind) → channel_of (Alone fact) ≡ Some kind → FitsIf x (r kind) o)
-      → FitsIf x (names_channel fact r) o
-  unfolding names_channel
-  names_channel_fits fact r o go =
-      wants_fits x (is_near_channel fact) _ _ _ (λ near. on (channel_of (Alone fact)) refl)
-    where
-      on : (found : Option EndKind) → channel_of (Alone fact) ≡ found
-          → FitsIf x (elim found as (λ found. Ruling) [ None ↦ breaks rules.Channel | Some kind ↦ r kind ]) o
-      on None e = λ next. it_breaks
-      on (Some kind) e = go kind e
-
   at_channel : (kind : EndKind) (u : ℤ) → IsHeldChannel x s In kind u
       → rights.has_end x.m s.context (record { kind = kind; direction = In }) ≡ true
       → IsAtChannel x kind (step.address u)
@@ -356,7 +345,7 @@ module _ (x : Here) (s : State) (l : Local) (a : Within AreStill x.m x.h x.mode 
   enbc_fits enabling =
       in_enabling_step enabling _ _ (uses_fits x s.stack.a l.registers.stack.a _ _ a.knows.registers.a (λ v first.
       uses_fits x s.stack.b l.registers.stack.b _ _ a.knows.registers.b (λ u second.
-      names_channel_fits s.stack.b.fact _ _ (λ kind named.
+      names_channel_fits x s.stack.b.fact _ _ (λ kind named.
       wants_fits x (may_receive (rule_site x) s kind) _ _ _ (λ held.
       let c = held_channel x s l a In s.stack.b.fact u second.fact kind named held in
       held_channel_fits x In u _ _ c
@@ -619,7 +608,7 @@ module _ (x : Here) (s : State) (l : Local) (a : Within AreStill x.m x.h x.mode 
       uses_fits x s.stack.a l.registers.stack.a _ _ a.knows.registers.a (λ v first.
       uses_fits x s.stack.b l.registers.stack.b _ _ a.knows.registers.b (λ u second.
       uses_fits x s.stack.c l.registers.stack.c _ _ a.knows.registers.c (λ w third.
-      wants_fits x (is_near_channel s.stack.c.fact) _ _ _ (λ near.
+      wants_fits x (is_near_pointer s.stack.c.fact) _ _ _ (λ near.
       settles_fits x (guard_channel s.stack.c.fact) _ _ (λ kind is.
       let named = channel_found s.stack.c.fact kind is in
       wants_fits x (may_receive (rule_site x) s kind) _ _ _ (λ held.

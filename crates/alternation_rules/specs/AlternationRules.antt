@@ -1,10 +1,10 @@
 -- The rules of the operations of an alternation, by which a process takes the first message of several (T414 compiler
 -- writer's guide). Their tests are in rising order of the numbers of rules.
-use Rattle.std.specs.Prelude.{ℕ, ◌+◌, ◌==◌, not, Bool, true, if◌then◌else◌, pos, ◌+ℤ◌, List, [], ◌∷◌, ◌++◌}
-use Rattle.std.specs.Prelude.{length, slice_set, Some, None}
+use Rattle.std.specs.Prelude.{ℕ, ◌+◌, ◌==◌, not, Bool, if◌then◌else◌, pos, ◌+ℤ◌, List, [], ◌∷◌, ◌++◌}
+use Rattle.std.specs.Prelude.{length, slice_set}
 use Rattle.std.specs.List.{list_any, list_all}
 use Rattle.module_format.specs.Rows.{Fact}
-use Rattle.module_format.specs.declared.fact.Fact.TheVariants.{Unknown, Number, Pointer}
+use Rattle.module_format.specs.declared.fact.Fact.TheVariants.{Unknown, Number}
 use Rattle.module_format.specs.declared.rows.EndKind.{EndKind}
 use Rattle.module_format.specs.declared.rows.Direction.TheVariants.{In}
 use Rattle.module_format.specs.Stack.{of_empty, with_top}
@@ -20,12 +20,11 @@ use Rattle.states.specs.declared.known.Guard.{Guard}
 use Rattle.states.specs.declared.known.GuardKind.{GuardKind}
 use Rattle.states.specs.declared.known.GuardKind.TheVariants.{Channel, Skip}
 use Rattle.states.specs.declared.known.GuardName.{GuardName}
-use Rattle.states.specs.declared.known.WordFact.TheVariants.{Alone}
 use Rattle.states.specs.State.{State, unknown, known, written}
 use Rattle.rulings.specs.Rulings.{Ruling, breaks, selects, Site, uses, wants, settles, writes_word, schedules, pays}
 use Rattle.rulings.specs.Rulings.{goes_on, without_registers}
-use Rattle.rulings.specs.Pointers.{are_near}
-use Rattle.rulings.specs.Channels.{channel_of}
+use Rattle.rulings.specs.Pointers.{is_near_pointer}
+use Rattle.rulings.specs.Channels.{names_channel}
 use Rattle.alternation_rules.specs.Guards.{name_of, may_name, guard_channel, distance_of, is_guard, is_named_by}
 use Rattle.alternation_rules.specs.Guards.{is_new, has_room}
 use Rattle.alternation_rules.specs.Guards.{enabled_guard, guard_at, disabled_guard, exits, leads_to_label}
@@ -55,17 +54,6 @@ while_disabling (Disabling done) k = k done
 while_disabling (Starting row started) k = breaks rules.Alternation
 
 -- ---- the channel of a guard
-
--- a pointer that names a channel is near
-abbrev pub is_near_channel : Fact → Bool
-is_near_channel (Pointer region lo hi step) = are_near lo hi
-is_near_channel fact = true
-
--- the fact is that of a word which names a channel
-unfoldable pub names_channel : Fact → (EndKind → Ruling) → Ruling
-names_channel fact k =
-    wants (is_near_channel fact) rules.Pointer
-    (elim (channel_of (Alone fact)) [ None ↦ breaks rules.Channel | Some kind ↦ k kind ])
 
 -- the state's context has the end by which a channel is received from
 abbrev pub may_receive : Site → State → EndKind → Bool
@@ -152,7 +140,7 @@ disables site s kind distance =
 unfoldable pub disc_rule : Site → State → Ruling
 disc_rule site s =
     uses s.stack.a (λ a. uses s.stack.b (λ b. uses s.stack.c (λ c.
-    wants (is_near_channel c) rules.Pointer
+    wants (is_near_pointer c) rules.Pointer
     (settles (guard_channel c) (λ kind.
     wants (may_receive site s kind) rules.Alternation (disables site s (Channel kind) a))))))
 

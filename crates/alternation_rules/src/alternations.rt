@@ -14,13 +14,12 @@ use crate::guards::{
     distance_of, enable, guard_at, guard_channel, has_room, is_any_named_by, is_guard, is_new,
     may_name, name_of,
 };
-use crate::modes::{
-    is_near_channel, keeps_selection, may_receive, names_channel, while_disabling, while_enabling,
-    while_plain,
-};
+use crate::modes::{keeps_selection, may_receive, while_disabling, while_enabling, while_plain};
 use certificate::{Fact, Stack};
 use machine_state::Op;
+use rulings::channels::names_channel;
 use rulings::combinators::{uses, wants};
+use rulings::pointers::is_near_pointer;
 use rulings::{Continuation, Place};
 use states::{Guard, GuardKind, Known, Mode, Rule, State};
 
@@ -150,7 +149,7 @@ fn disable_channel(place: &Place, state: &mut State) -> Result<Continuation, Rul
     let a = uses(state.stack.a)?;
     uses(state.stack.b)?;
     let c = uses(state.stack.c)?;
-    wants(is_near_channel(c), Rule::Pointer)?;
+    wants(is_near_pointer(c), Rule::Pointer)?;
     let kind = guard_channel(c)?;
     wants(may_receive(place, state, kind), Rule::Alternation)?;
     disables(place, state, GuardKind::Channel(kind), a)

@@ -5,14 +5,11 @@ ghost use Rattle.states.specs.Views.{state_of, BelongsTo};
 ghost use Rattle.rulings.specs.Telling.{Admits, Gives, Leaves};
 ghost use Rattle.rulings.specs.Places.{site_of};
 ghost use Rattle.alternation_rules.specs.AlternationRules.{while_plain, while_enabling, while_disabling};
-ghost use Rattle.alternation_rules.specs.AlternationRules.{is_near_channel, names_channel, may_receive};
-ghost use Rattle.alternation_rules.specs.AlternationRules.{keeps_selection};
+ghost use Rattle.alternation_rules.specs.AlternationRules.{may_receive, keeps_selection};
 
 use certificate::{Direction, EndKind, EndRow, Fact};
 use rulings::Place;
-use rulings::channels::channel_of;
 use rulings::combinators::wants;
-use rulings::pointers::are_near;
 use states::{Mode, Rule, State, WordFact};
 
 /// An instruction that begins an alternation.
@@ -46,25 +43,6 @@ pub(crate) fn while_disabling(mode: Mode) -> Result<u32, Rule>
         Mode::Disabling { done } => Ok(done),
         Mode::Plain | Mode::Enabling | Mode::Starting { .. } => Err(Rule::Alternation),
     }
-}
-
-/// Whether a pointer that names a channel is near; what is no pointer is.
-pub(crate) fn is_near_channel(fact: Fact) -> bool
-    ensures { result ≡ is_near_channel fact }
-{
-    match fact {
-        Fact::Pointer { lo, hi, .. } => are_near(i64::from(lo), i64::from(hi)),
-        _ => true,
-    }
-}
-
-/// The channel that a word names.
-#[tactic(auto, unfolding(crate::specs::AlternationRules::names_channel))]
-pub(crate) fn names_channel(fact: Fact) -> Result<EndKind, Rule>
-    ensures { Gives (λ kind. kind) result (names_channel fact) }
-{
-    wants(is_near_channel(fact), Rule::Pointer)?;
-    channel_of(WordFact::Alone(fact)).ok_or(Rule::Channel)
 }
 
 /// Whether the state's context has the end by which a channel is received from.

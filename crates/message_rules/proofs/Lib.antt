@@ -3,4 +3,3 @@ pub mod MessageFits
 pub mod MessageOtherModes
 pub mod MessagesFit
 pub mod NamedChannels
-pub mod Nearest

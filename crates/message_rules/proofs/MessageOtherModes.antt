@@ -1,20 +1,17 @@
 -- In an alternation, and among the starts of a PAR, an instruction that takes or gives a message breaks a rule.
-use Rattle.std.proofs.Common.{◌≡◌, ℤ, ◌+ℤ◌, Bool, true, false, cond, Option, Some, None, refl, sym, ◌∙◌}
+use Rattle.std.proofs.Common.{◌≡◌, ℤ, ◌+ℤ◌, Bool, true, false, cond, refl, sym, ◌∙◌}
 use Rattle.module_format.specs.Rows.{Fact}
 use Rattle.module_format.specs.declared.rows.Direction.{Direction}
 use Rattle.module_format.specs.declared.rows.Direction.TheVariants.{In, Out}
-use Rattle.module_format.specs.declared.rows.EndKind.{EndKind}
 use Rattle.states.specs.declared.rule.Rule.TheVariants as rules
-use Rattle.states.specs.declared.known.WordFact.TheVariants.{Alone}
 use Rattle.states.specs.State.{State, is_word}
 use Rattle.rulings.specs.declared.pointers.Pointed.{Pointed}
-use Rattle.rulings.specs.Rulings.{Ruling, Site, breaks, wants}
-use Rattle.rulings.specs.Channels.{channel_of}
+use Rattle.rulings.specs.Rulings.{Ruling, Site}
 use Rattle.rulings.specs.Filling.{filled}
 use Rattle.rulings.specs.Pointers.{leaves_words, stored_byte}
 use Rattle.rulings.proofs.OtherModes.{Breaks, IsBusy, uses_break, wants_break, bounds_break, settles_break}
-use Rattle.rulings.proofs.OtherModes.{reads_break, writes_break, alone_breaks, leaves_mode, filled_mode}
-use Rattle.message_rules.specs.MessageRules.{names_channel, holds_end, has_length, over_channel, is_message, received}
+use Rattle.rulings.proofs.OtherModes.{reads_break, writes_break, names_break, alone_breaks, leaves_mode, filled_mode}
+use Rattle.message_rules.specs.MessageRules.{over_channel, is_message, received}
 use Rattle.message_rules.specs.MessageRules.{exchanges, takes, receives, receives_some, in_rule, gives, sends}
 use Rattle.message_rules.specs.MessageRules.{sends_some, out_rule}
 
@@ -29,16 +26,9 @@ received_mode p end s = on (is_word p.lo p.hi)
 module _ (site : Site) (s : State) (busy : IsBusy s.mode) where
   over_breaks : (fact : Fact) (direction : Direction) (count : ℤ) (r : Ruling) → Breaks r
       → Breaks (over_channel site s fact direction count r)
-  unfolding over_channel names_channel
-  over_breaks fact direction count r all = wants_break _ _ _ (on (channel_of (Alone fact)))
-    where
-      on : (found : Option EndKind) → Breaks (elim found as (λ found. Ruling) [
-        | None ↦ breaks rules.Channel
-        | Some kind ↦ wants (holds_end site s kind direction) rules.Channel
-            (wants (has_length site s kind count) rules.MessageLength r)
-      ])
-      on None = (rules.Channel, refl)
-      on (Some kind) = wants_break _ _ _ (wants_break _ _ _ all)
+  unfolding over_channel
+  over_breaks fact direction count r all =
+      names_break fact _ (λ kind. wants_break _ _ _ (wants_break _ _ _ all))
 
   exchanges_break : (t : State) → t.mode ≡ s.mode → Breaks (exchanges site t)
   exchanges_break t same = alone_breaks t.mode (λ e. busy (sym same ∙ e)) _

@@ -51,10 +51,11 @@ use Rattle.rulings.proofs.Moving.{written_room, copied-inside, length-copied, Mo
 use Rattle.rulings.proofs.BufferPlaces.{message_place_is, of_message_tells, of_message, beside_message, IsOff}
 use Rattle.rulings.proofs.BufferPlaces.{off_scheduling, off_stays, unscheduled_agree, beside_scheduling}
 use Rattle.rulings.proofs.FillingKeeps.{fills_keep}
+use Rattle.rulings.proofs.HeldChannels.{held_channel_fits}
 use Rattle.message_rules.specs.MessageRules as message
 use Rattle.message_rules.specs.MessageRules.{is_message, ends_before, begins_behind, is_off_scheduling, received}
 use Rattle.message_rules.proofs.Buffering.{IsLeft, received_left, received_into}
-use Rattle.message_rules.proofs.NamedChannels.{IsChannel, is_channel, over_channel_fits, channel_fits}
+use Rattle.message_rules.proofs.NamedChannels.{IsChannel, is_channel, over_channel_fits}
 
 -- one of two tests holds
 either : (a b : Bool) → (a || b) ≡ true → (a ≡ true) ⊎ (b ≡ true)
@@ -174,7 +175,7 @@ module _ (x : Here) (wf : IsWellFormed x.m) (s : State) (l : Local) (a : Within 
   goes_over direction k v e some long at c = record {
     kind = c.kind;
     end = subst (λ (context : ℕ). (scope_of x.m context x.act.layout).ends c.kind direction ≡ true) same c.end;
-    address = c.address ∙ sym at;
+    address = c.at.address ∙ sym at;
     len = subst (λ (context : ℕ). (scope_of x.m context x.act.layout).lengths c.kind ≡ Some e.length) same
         (c.known ∙ ap Some (sym long));
     some = omega (arith, some, long);
@@ -282,7 +283,7 @@ module _ (x : Here) (wf : IsWellFormed x.m) (s : State) (l : Local) (a : Within 
         wants_fits x (is_off_scheduling s p end) _ _ _ (λ off.
         over_channel_fits x s channel Out (pos k) _ _ (λ kind named held long.
         let c = is_channel x s l a Out k channel u means_channel kind named held long in
-        channel_fits x Out u _ _ c
+        held_channel_fits x Out u _ _ c.at
         (in_plain_rule x s a.same_mode _ _ (beside_plain_rule x s a.same_mode _ _
         (rule_schedules_fits x s _ _ (λ m.
         let d = scheduling x s l a m in
@@ -523,7 +524,7 @@ module _ (x : Here) (wf : IsWellFormed x.m) (s : State) (l : Local) (a : Within 
       let t = received p (p.hi +ℤ pos k) s in
       let left = received_left x.act p (p.hi +ℤ pos k) s in
       let plain : ArePlain t.mode x.mode = record { rule = left.mode ∙ a.same_mode.rule; step = a.same_mode.step } in
-      channel_fits x In u _ _ c
+      held_channel_fits x In u _ _ c.at
       (in_plain_rule x t plain _ _ (beside_plain_rule x t plain _ _
       (rule_schedules_fits x t _ _ (λ m.
       let d = scheduling x s l a (same_words k some p channel u w means_channel means_buffer wide may off m) in

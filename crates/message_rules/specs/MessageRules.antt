@@ -1,9 +1,8 @@
 -- The rules of `in` and `out`, by which a process takes and gives a message over a channel (T414 compiler writer's
 -- guide). Their tests are in rising order of the numbers of rules.
-use Rattle.std.specs.Prelude.{ℕ, ◌==◌, ◌&&◌, ◌||◌, not, ℤ, pos, negsuc, ◌+ℤ◌, ◌-ℤ◌, int_le, int_lt, Bool, true}
+use Rattle.std.specs.Prelude.{ℕ, ◌==◌, ◌&&◌, ◌||◌, not, ℤ, pos, ◌+ℤ◌, ◌-ℤ◌, int_le, int_lt, Bool, true}
 use Rattle.std.specs.Prelude.{if◌then◌else◌, Option, Some, None, false}
 use Rattle.module_format.specs.Rows.{Fact}
-use Rattle.module_format.specs.declared.fact.Fact.TheVariants.{Pointer}
 use Rattle.module_format.specs.declared.rows.EndKind.{EndKind}
 use Rattle.module_format.specs.declared.rows.Direction.{Direction}
 use Rattle.module_format.specs.declared.rows.Direction.TheVariants.{In, Out}
@@ -11,33 +10,21 @@ use Rattle.certificate.specs.Rights.{has_end}
 use Rattle.machine_state.specs.declared.op.Op.{Op}
 use Rattle.machine_state.specs.declared.op.Op.TheVariants.{Input, Output}
 use Rattle.states.specs.declared.rule.Rule.TheVariants as rules
-use Rattle.states.specs.declared.known.WordFact.TheVariants.{Alone}
 use Rattle.states.specs.State.{State, is_word}
 use Rattle.rulings.specs.declared.pointers.Pointed.{Pointed}
 use Rattle.rulings.specs.Rulings.{Ruling, breaks, Site, alone, uses, goes_on, in_bounds, settles, wants, schedules}
 use Rattle.rulings.specs.Rulings.{without_registers}
 use Rattle.rulings.specs.Reach.{word_of_byte}
-use Rattle.rulings.specs.Pointers.{are_near, constant_of, pointer_of, reads_bytes, writes_bytes, takes_any}
+use Rattle.rulings.specs.Pointers.{constant_of, pointer_of, reads_bytes, writes_bytes, takes_any}
 use Rattle.rulings.specs.Pointers.{stored_byte, leaves_words}
 use Rattle.rulings.specs.Filling.{are_numbers, filled}
-use Rattle.rulings.specs.Channels.{channel_of, message_length}
+use Rattle.rulings.specs.Channels.{names_channel, message_length}
 
 -- ---- the channel
 
 -- a message has 1 to 4,096 bytes
 abbrev pub is_message : ℤ → Bool
 is_message count = int_le (pos 1) count && int_le count (pos 4096)
-
--- a pointer that names a channel is near
-abbrev pub is_near_channel : Fact → Bool
-is_near_channel (Pointer region lo hi step) = are_near lo hi
-is_near_channel fact = true
-
--- the fact is that of a word which names a channel
-unfoldable pub names_channel : Fact → (EndKind → Ruling) → Ruling
-names_channel fact k =
-    wants (is_near_channel fact) rules.Pointer
-    (elim (channel_of (Alone fact)) [ None ↦ breaks rules.Channel | Some kind ↦ k kind ])
 
 -- the state's context has the end of a channel in a direction
 abbrev pub holds_end : Site → State → EndKind → Direction → Bool

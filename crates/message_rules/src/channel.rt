@@ -2,37 +2,16 @@
 
 ghost use Rattle.std.specs.Prelude.{◌≡◌};
 ghost use Rattle.states.specs.Views.{state_of};
-ghost use Rattle.rulings.specs.Telling.{Admits, Gives};
+ghost use Rattle.rulings.specs.Telling.{Admits};
 ghost use Rattle.rulings.specs.Places.{site_of};
 ghost use Rattle.module_format.specs.Keeping.{Keeps};
-ghost use Rattle.message_rules.specs.MessageRules.{is_near_channel, names_channel, holds_end, is_length, has_length};
-ghost use Rattle.message_rules.specs.MessageRules.{over_channel};
+ghost use Rattle.message_rules.specs.MessageRules.{holds_end, is_length, has_length, over_channel};
 
 use certificate::{Direction, EndKind, EndRow, Fact};
 use rulings::Place;
-use rulings::channels::channel_of;
+use rulings::channels::names_channel;
 use rulings::combinators::wants;
-use rulings::pointers::are_near;
-use states::{Rule, State, WordFact};
-
-/// Whether a pointer that names a channel is near; what is no pointer is.
-fn is_near_channel(fact: Fact) -> bool
-    ensures { result ≡ is_near_channel fact }
-{
-    match fact {
-        Fact::Pointer { lo, hi, .. } => are_near(i64::from(lo), i64::from(hi)),
-        _ => true,
-    }
-}
-
-/// The channel that a word names.
-#[tactic(auto, unfolding(crate::specs::MessageRules::names_channel))]
-fn names_channel(fact: Fact) -> Result<EndKind, Rule>
-    ensures { Gives (λ kind. kind) result (names_channel fact) }
-{
-    wants(is_near_channel(fact), Rule::Pointer)?;
-    channel_of(WordFact::Alone(fact)).ok_or(Rule::Channel)
-}
+use states::{Rule, State};
 
 /// Whether the state's context has the end of a channel in a direction.
 fn holds_end(place: &Place, state: &State, kind: EndKind, direction: Direction) -> bool
@@ -54,7 +33,7 @@ fn is_length(count: i32, length: Option<u32>) -> bool
 }
 
 /// Whether the channel has messages of so many bytes.
-#[tactic(auto, using(crate::proofs::Nearest::no_further))]
+#[tactic(auto, using(rulings::proofs::HeldChannels::none_further))]
 fn has_length(place: &Place, state: &State, kind: EndKind, count: i32) -> bool
     requires { Keeps place.now.module.now }
     ensures { result ≡ has_length (site_of place.now) (state_of state.now) kind count }

@@ -1,6 +1,6 @@
 -- A word that names a channel of which the context has the end, and the step that looks at it.
-use Rattle.std.proofs.Common.{◌≡◌, ℕ, ◌+◌, ◌*◌, ◌%◌, ◌<◌, ◌==◌, ℤ, pos, ◌+ℤ◌, FitsSigned, true, false, Some, refl, sym}
-use Rattle.std.proofs.Common.{ap, ◌∙◌, subst, arith}
+use Rattle.std.proofs.Common.{◌≡◌, ℕ, ◌+◌, ◌*◌, ◌%◌, ◌<◌, ◌==◌, ℤ, pos, ◌+ℤ◌, FitsSigned, true, false, refl, sym}
+use Rattle.std.proofs.Common.{ap, ◌∙◌, subst, arith, Option, Some, None}
 use Rattle.std.proofs.lemmas.Bool.{eq-eqb}
 use Rattle.std.proofs.lemmas.Int.{ints}
 use Rattle.std.specs.Int.{w32, cast_unsigned}
@@ -14,16 +14,18 @@ use Rattle.machine_state.specs.Holding.{has_end}
 use Rattle.machine_state.specs.LocalStep as step
 use Rattle.machine_state.specs.Site.{Outcome, Local}
 use Rattle.states.specs.declared.known.WordFact.TheVariants.{Alone}
+use Rattle.states.specs.declared.rule.Rule.TheVariants as rules
 use Rattle.states.specs.State.{State}
-use Rattle.rulings.specs.Rulings.{Ruling}
+use Rattle.rulings.specs.Rulings.{Ruling, breaks}
+use Rattle.rulings.specs.Pointers.{is_near_pointer}
 use Rattle.rulings.specs.Meaning.{Means, is_fact}
 use Rattle.rulings.specs.Regions.{channel_address}
-use Rattle.rulings.specs.Channels.{channel_of, further}
-use Rattle.rulings.specs.Fitting.{Here, step_site}
+use Rattle.rulings.specs.Channels.{channel_of, names_channel, further}
+use Rattle.rulings.specs.Fitting.{Here, step_site, it_breaks}
 use Rattle.rulings.proofs.Within.{Modes, Within}
 use Rattle.rulings.proofs.Ends.{names}
 use Rattle.rulings.proofs.EvenChannels.{channel_even}
-use Rattle.rulings.proofs.Combining.{FitsIf, on_step_test, holds_fits}
+use Rattle.rulings.proofs.Combining.{FitsIf, wants_fits, on_step_test, holds_fits}
 
 -- A value is the address of a channel: the context has the end in a direction.
 pub record IsHeldChannel (x : Here) (s : State) (direction : Direction) (kind : EndKind) (v : ℤ) : Type 0 where
@@ -62,6 +64,19 @@ held_channel x s l a direction fact v means kind named end =
       where
         below : (k : ℕ) → k < 4294967296 → (k + 4 * 0) % 4294967296 ≡ k
         below k low = omega arith
+
+-- what is wanted of a word that names one
+pub names_channel_fits : (x : Here) (fact : Fact) (r : EndKind → Ruling) (o : Outcome)
+    → ((kind : EndKind) → channel_of (Alone fact) ≡ Some kind → FitsIf x (r kind) o)
+    → FitsIf x (names_channel fact r) o
+unfolding names_channel
+names_channel_fits x fact r o go =
+    wants_fits x (is_near_pointer fact) _ _ _ (λ near. on (channel_of (Alone fact)) refl)
+  where
+    on : (found : Option EndKind) → channel_of (Alone fact) ≡ found
+        → FitsIf x (elim found as (λ found. Ruling) [ None ↦ breaks rules.Channel | Some kind ↦ r kind ]) o
+    on None e = λ next. it_breaks
+    on (Some kind) e = go kind e
 
 -- the machine looks at it
 pub held_channel_fits : (x : Here) {s : State} {kind : EndKind} (direction : Direction) (v : ℤ) (r : Ruling)

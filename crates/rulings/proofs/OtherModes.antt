@@ -1,15 +1,17 @@
 -- In an alternation, and among the starts of a PAR, an instruction that may not stand there breaks a rule.
 use Rattle.std.proofs.Common.{◌≡◌, ℕ, ℤ, pos, negsuc, Bool, true, false, cond, Result, Ok, Err, refl, sym, ap, ◌∙◌}
-use Rattle.std.proofs.Common.{subst}
+use Rattle.std.proofs.Common.{subst, Option, Some, None}
 use Rattle.std.specs.Prelude.{◌==◌}
 use Rattle.module_format.specs.Rows.{Fact}
 use Rattle.module_format.specs.declared.fact.Fact.TheVariants.{Unknown, Number, Pointer, CodeAddress, Loop}
 use Rattle.module_format.specs.declared.fact.Fact.TheVariants.{ReturnAddress}
+use Rattle.module_format.specs.declared.rows.EndKind.{EndKind}
 use Rattle.machine_state.specs.Site.{Outcome}
 use Rattle.states.specs.declared.rule.Rule.{Rule}
 use Rattle.states.specs.declared.rule.Rule.TheVariants as rules
 use Rattle.states.specs.declared.known.Known.{Known}
 use Rattle.states.specs.declared.known.Mode.{Mode}
+use Rattle.states.specs.declared.known.WordFact.TheVariants.{Alone}
 use Rattle.states.specs.declared.known.Mode.TheVariants.{Plain, Enabling, Disabling, Starting}
 use Rattle.states.specs.declared.span.Leaving.{Leaving}
 use Rattle.states.specs.State.{State}
@@ -20,6 +22,7 @@ use Rattle.rulings.specs.Reach.{word_of_byte, words_touched}
 use Rattle.rulings.specs.Rulings.{Ruling, Site, breaks, outside_alternation, outside_starts, alone, uses, forward}
 use Rattle.rulings.specs.Rulings.{in_bounds, settles, wants}
 use Rattle.rulings.specs.Pointers.{reads_bytes, writes_bytes, leaves_words, number_within}
+use Rattle.rulings.specs.Channels.{channel_of, names_channel}
 use Rattle.rulings.specs.Filling.{filled, become_numbers, word_behind, words_within}
 use Rattle.rulings.specs.declared.pointers.Pointed.{Pointed}
 use Rattle.rulings.specs.Fitting.{Here, it_breaks}
@@ -105,6 +108,16 @@ alternation_breaks (Starting row started) busy r all = all refl
 
 pub alone_breaks : (mode : Mode) → IsBusy mode → (r : Ruling) → Breaks (alone mode r)
 alone_breaks mode busy r = alternation_breaks mode busy _ (λ e. starts_break mode e r)
+
+pub names_break : (fact : Fact) (r : EndKind → Ruling) → ((kind : EndKind) → Breaks (r kind))
+    → Breaks (names_channel fact r)
+unfolding names_channel
+names_break fact r all = wants_break _ _ _ (on (channel_of (Alone fact)))
+  where
+    on : (found : Option EndKind)
+        → Breaks (elim found as (λ found. Ruling) [ None ↦ breaks rules.Channel | Some kind ↦ r kind ])
+    on None = (rules.Channel, refl)
+    on (Some kind) = all kind
 
 -- ---- states of the same mode
 

@@ -8,6 +8,7 @@ use Rattle.module_format.specs.declared.rows.EndKind.TheVariants as ends
 use Rattle.module_format.specs.Contents.{Contents, link_length}
 use Rattle.module_format.specs.Contexts.{parameters_at}
 use Rattle.certificate.specs.Rights.{channel_length, has_end}
+use Rattle.module_format.specs.Rows.{Fact}
 use Rattle.module_format.specs.declared.fact.Fact.TheVariants.{Number, Pointer}
 use Rattle.module_format.specs.declared.fact.Step.TheVariants.{Word}
 use Rattle.module_format.specs.declared.rows.Direction.{Direction}
@@ -16,7 +17,10 @@ use Rattle.word_arithmetic.specs.Word.{least_word}
 use Rattle.states.specs.declared.known.WordFact.{WordFact}
 use Rattle.states.specs.declared.known.WordFact.TheVariants.{Alone}
 use Rattle.states.specs.State.{is_word}
+use Rattle.states.specs.declared.rule.Rule.TheVariants as rules
 use Rattle.rulings.specs.Reach.{word_of_byte}
+use Rattle.rulings.specs.Rulings.{Ruling, breaks, wants}
+use Rattle.rulings.specs.Pointers.{is_near_pointer}
 use Rattle.std.specs.Int.{w32}
 
 -- ---- channels that words name
@@ -43,6 +47,12 @@ unfoldable pub channel_of : WordFact → Option EndKind
 channel_of (Alone (Number lo hi)) = if is_word lo hi then link_at lo else None
 channel_of (Alone (Pointer region lo hi Word)) = if is_word lo hi then channel_in region lo else None
 channel_of _ = None
+
+-- the fact is that of a word which names a channel
+unfoldable pub names_channel : Fact → (EndKind → Ruling) → Ruling
+names_channel fact k =
+    wants (is_near_pointer fact) rules.Pointer
+    (elim (channel_of (Alone fact)) [ None ↦ breaks rules.Channel | Some kind ↦ k kind ])
 
 -- so many channels further
 abbrev pub further : EndKind → ℕ → EndKind

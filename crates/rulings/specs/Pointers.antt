@@ -34,6 +34,11 @@ near offset k = if is_near offset then k else breaks rules.Pointer
 abbrev pub are_near : ℤ → ℤ → Bool
 are_near lo hi = is_near lo && is_near hi
 
+-- a fact of what may be a pointer or a number: a pointer is near
+abbrev pub is_near_pointer : Fact → Bool
+is_near_pointer (Pointer region lo hi step) = are_near lo hi
+is_near_pointer fact = true
+
 -- a pointer that may be used or shifted: its offsets are near
 unfoldable pub pointer_of : Fact → Result Pointed Rule
 pointer_of (Pointer region lo hi step) =

@@ -3,12 +3,15 @@
 ghost use Rattle.std.specs.Int.{w32};
 ghost use Rattle.std.specs.Prelude.{◌≡◌, SomeIff, FitsSigned, ◌==◌, bit_and, ◌≤ℤ◌, pos, negsuc};
 ghost use Rattle.rulings.specs.Channels.{link_at, channel_in, channel_of, further, has_direction, runs_meet};
-ghost use Rattle.rulings.specs.Channels.{channels_meet, IsNumbered};
+ghost use Rattle.rulings.specs.Channels.{channels_meet, IsNumbered, names_channel};
+ghost use Rattle.rulings.specs.Telling.{Gives};
 
+use crate::combinators::wants;
+use crate::pointers::is_near_pointer;
 use crate::reach::word_of_byte;
 use bitflags::Flags;
 use certificate::{Direction, EndKind, Ends, Fact, Step};
-use states::WordFact;
+use states::{Rule, WordFact};
 
 /// How many bytes the words of links have.
 const LINK_BYTES: u32 = 32;
@@ -57,6 +60,15 @@ pub fn channel_of(fact: WordFact) -> Option<EndKind>
         ) if lo == hi => channel_in(region, lo),
         _ => None,
     }
+}
+
+/// The channel that a word names, by which a rule goes on.
+#[tactic(auto, unfolding(crate::specs::Channels::names_channel))]
+pub fn names_channel(fact: Fact) -> Result<EndKind, Rule>
+    ensures { Gives (λ kind. kind) result (names_channel fact) }
+{
+    wants(is_near_pointer(fact), Rule::Pointer)?;
+    channel_of(WordFact::Alone(fact)).ok_or(Rule::Channel)
 }
 
 /// The number as a word, if it is one.

@@ -2,6 +2,7 @@
 
 ghost use Rattle.std.specs.Prelude.{IfOk, true, ◌≡◌, ◌≤ℤ◌, pos, negsuc};
 ghost use Rattle.rulings.specs.Pointers.{is_near, near, are_near, pointer_of, number_of, constant_of, exact_pointer};
+ghost use Rattle.rulings.specs.Pointers.{is_near_pointer};
 ghost use Rattle.rulings.specs.Rulings.{settles};
 ghost use Rattle.rulings.specs.Telling.{Admits, Gives};
 
@@ -67,6 +68,16 @@ pub fn are_near(lo: i64, hi: i64) -> bool
     ensures { result ≡ are_near lo hi }
 {
     is_near(lo) && is_near(hi)
+}
+
+/// Whether a pointer is near; what is no pointer is.
+pub fn is_near_pointer(fact: Fact) -> bool
+    ensures { result ≡ is_near_pointer fact }
+{
+    match fact {
+        Fact::Pointer { lo, hi, .. } => are_near(i64::from(lo), i64::from(hi)),
+        _ => true,
+    }
 }
 
 /// A pointer that may be used or shifted: its offsets are near.

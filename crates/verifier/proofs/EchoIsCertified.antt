@@ -13,11 +13,11 @@ use Rattle.rulings.specs.Pointers.{near, pointer_of, constant_of, reads_bytes, b
 use Rattle.rulings.specs.Pointers.{leaves_words}
 use Rattle.rulings.specs.Reach.{may_read_bytes, may_write_bytes}
 use Rattle.rulings.specs.Filling.{become_numbers, filled}
-use Rattle.rulings.specs.Channels.{channel_of}
+use Rattle.rulings.specs.Channels.{channel_of, names_channel}
 use Rattle.local_rules.specs.LocalRules.{local_operation_rule, local_rule}
 use Rattle.local_rules.specs.MemoryRules.{near_fact, word_fact, shifted, place_fact}
 use Rattle.local_rules.specs.WordRules.{becomes, in_frame}
-use Rattle.message_rules.specs.MessageRules.{names_channel, over_channel, received, takes, receives, receives_some, in_rule}
+use Rattle.message_rules.specs.MessageRules.{over_channel, received, takes, receives, receives_some, in_rule}
 use Rattle.message_rules.specs.MessageRules.{gives, sends, sends_some, out_rule, message_rule}
 use Rattle.facts.specs.Rules.{operation_rule, instruction_rule, rule_of, rule}
 use Rattle.verifier.specs.Judge.{judged_at, judge, verdict, refused}
