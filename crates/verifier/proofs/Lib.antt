@@ -4,6 +4,7 @@ pub mod Reporting
 pub mod RowsLeft
 pub mod Passing
 pub mod LivesAs
+pub mod BehindKeeps
 pub mod Steps
 pub mod Carrying
 pub mod Tables

@@ -21,7 +21,7 @@ use Rattle.machine_state.proofs.Claims.{only_one}
 use Rattle.machine_state.proofs.Lines.{got_set, got_other, set_either}
 use Rattle.rulings.proofs.Words.{bool_cases}
 use Rattle.rulings.proofs.Combining.{readable_byte}
-use Rattle.rulings.specs.Regions.{scope_in}
+use Rattle.rulings.specs.Regions.{scope_in, Keeps}
 use Rattle.states.specs.State.{State}
 use Rattle.rulings.specs.Meaning.{Activation}
 use Rattle.verifier.specs.Alternating.{AlternatesHere}
@@ -30,6 +30,7 @@ use Rattle.rulings.specs.Fitting.{After}
 use Rattle.machine_state.specs.Site.{Local}
 use Rattle.machine_state.specs.declared.process.Mode as machine
 use Rattle.verifier.proofs.Carrying.{alternates_still}
+use Rattle.verifier.proofs.BehindKeeps.{behind_in_keeps}
 use Rattle.verifier.proofs.LivesAs.{LivesAs}
 use Rattle.verifier.specs.Point.{Began, Point}
 use Rattle.rulings.specs.Buffers.{message_place, IsByte}
@@ -117,14 +118,8 @@ lives_on {m} {h} {began} {memory} {t} {due} new c quiet size same fewer either c
       | inr over ↦ inl (f.others place e over)
     ];
   });
-  named = (l.fills memory new (record {
-    size = size;
-    others = same;
-    come = λ place e awaited. elim (bool_cases (awaits c place)) [
-      | inl still ↦ either place still
-      | inr over ↦ inr (came place awaited over)
-    ];
-  })).named l.named;
+  named = kept.named l.named;
+  behind = behind_in_keeps began l.point.state.mode l.point.state.context l.point.act.layout l.point.callers kept l.behind;
   known_length = λ e is. absurd (quiet e is);
   paid = l.paid;
 }
@@ -134,6 +129,16 @@ lives_on {m} {h} {began} {memory} {t} {due} new c quiet size same fewer either c
       | inl still ↦ let no' : true ≡ false = sym (fewer place still) ∙ none in absurd (cc)
       | inr over ↦ over
     ]
+
+    kept : Keeps m h (scope_in m l.point.state l.point.act.layout) memory new
+    kept = l.fills memory new (record {
+      size = size;
+      others = same;
+      come = λ place e awaited. elim (bool_cases (awaits c place)) [
+        | inl still ↦ either place still
+        | inr over ↦ inr (came place awaited over)
+      ];
+    })
 
 -- one that awaits nothing
 unfoldable pub lives_whatever : {m : Contents} {h : Holding} {began : Began} {memory : Memory} {t : Task} {due : ℕ}
@@ -188,6 +193,7 @@ lives_in_mode {t = t} next l same = record {
     sends = l.sends;
     fills = l.fills;
     named = l.named;
+    behind = l.behind;
     known_length = l.known_length;
     paid = l.paid;
   };
@@ -208,7 +214,8 @@ meets_elsewhere {m} {g} {h} {began} {memory} {new} apart changes (it_lives l) = 
   sends = λ e is j less. let sent = l.sends e is j less in
       (sent.0, subst IsByte (sym (same (message_place e j) sent.0)) sent.1);
   fills = l.fills;
-  named = (agree_keeps h memory new changes.size same m (scope_in m l.point.state l.point.act.layout)).named l.named;
+  named = kept.named l.named;
+  behind = behind_in_keeps began l.point.state.mode l.point.state.context l.point.act.layout l.point.callers kept l.behind;
   known_length = l.known_length;
   paid = l.paid;
 })
@@ -216,6 +223,9 @@ meets_elsewhere {m} {g} {h} {began} {memory} {new} apart changes (it_lives l) = 
     same : (place : ℕ) → may_read h place ≡ true → byte_at new place ≡ byte_at memory place
     same place e = changes.others place (elim (bool_cases (may_write g place))
         [ inl mine ↦ absurd (apart.written place mine e) | inr free ↦ free ])
+
+    kept : Keeps m h (scope_in m l.point.state l.point.act.layout) memory new
+    kept = agree_keeps h memory new changes.size same m (scope_in m l.point.state l.point.act.layout)
 
 -- ---- a process of a world in which the invariant holds
 
