@@ -24,6 +24,8 @@ pub mod RootHolds
 pub mod RootEnds
 pub mod Start
 pub mod Kept
+pub mod BranchChanges
+pub mod ParsStay
 pub mod CertifiedRuns
 pub mod Examples
 pub mod EchoIsCertified
