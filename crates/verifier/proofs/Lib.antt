@@ -26,6 +26,7 @@ pub mod Start
 pub mod Kept
 pub mod BranchChanges
 pub mod ParsStay
+pub mod StartsKeepPars
 pub mod CertifiedRuns
 pub mod Examples
 pub mod EchoIsCertified
