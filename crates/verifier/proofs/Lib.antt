@@ -27,6 +27,7 @@ pub mod Kept
 pub mod BranchChanges
 pub mod ParsStay
 pub mod StartsKeepPars
+pub mod OpeningsMakePars
 pub mod CertifiedRuns
 pub mod Examples
 pub mod EchoIsCertified
