@@ -28,6 +28,9 @@ pub mod BranchChanges
 pub mod ParsStay
 pub mod StartsKeepPars
 pub mod OpeningsMakePars
+pub mod EndsKeepPars
+pub mod EndsAreInOrder
+pub mod JoinedOpeners
 pub mod CertifiedRuns
 pub mod Examples
 pub mod EchoIsCertified
