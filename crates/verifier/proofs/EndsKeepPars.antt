@@ -148,11 +148,10 @@ module _ {m : Contents} {own : Holding} {o : ℕ} {began : Began} {all : List Be
     written_word : (k : ℤ) → (words_in m after.par.context).reads k ≡ true → is_among member.branch.writes k ≡ true
         → MeansWord m after.act k (entry_fact after.label.entries k) (frame_word memory after.act.layout.origin k)
     written_word k reads among =
+        let alone = after.alone k (given_at after.par.branches member.number member.branch k member.here among) in
         subst (λ (z : ℤ). MeansWord m after.act k (entry_fact after.label.entries k) (frame_word memory z k))
         alike.origin
-        (word_alike alike back (entry_fact after.label.entries k)
-        (after.alone k (given_at after.par.branches member.number member.branch k member.here among))
-        (leaves k (may_write k reads among)))
+        (word_alike alike back (entry_fact after.label.entries k) alone (leaves k (may_write k reads among) alone))
 
     -- no other word is joined with it
     out_still : (k : ℤ) → is_among member.branch.writes k ≡ false → IsOut m o all after.par j k

@@ -1,18 +1,19 @@
 -- A later start of a PAR leaves what its opener goes on with, and the branch that is started is one of its members.
 use Rattle.std.proofs.Common.{◌≡◌, ◌≢◌, ℕ, ◌+◌, true, inl, inr, ℤ, pos, List, []}
-use Rattle.std.proofs.Common.{◌∷◌, ◌++◌, length, Option, Some, refl, sym, ap, ◌∙◌, subst, arith}
+use Rattle.std.proofs.Common.{◌∷◌, ◌++◌, ◌+ℤ◌, length, Option, Some, refl, sym, ap, ◌∙◌, subst, arith}
 use Rattle.std.proofs.lemmas.Bool.{cases_lt}
-use Rattle.std.specs.Prelude.{slice_get, ◌==◌}
+use Rattle.std.specs.Prelude.{slice_get, ◌==◌, ◌%◌, ◌^◌}
 use Rattle.module_format.specs.Contents.{Contents, Par, Branch}
 use Rattle.module_format.specs.Keeping as formats
 use Rattle.certificate.specs.Branches.{numbered_branch}
 use Rattle.certificate.specs.Rights.{is_among}
+use Rattle.machine_state.specs.declared.process.Task.{Task}
 use Rattle.machine_state.specs.BranchContexts.{context_of}
 use Rattle.machine_state.specs.BranchShares.{frame_address, address_of}
 use Rattle.machine_state.specs.Holding.{Holding}
 use Rattle.machine_state.specs.JoinLookups.{Found}
 use Rattle.machine_state.specs.Joins.{join_after}
-use Rattle.machine_state.specs.Memory.{Memory}
+use Rattle.machine_state.specs.Memory.{Memory, data_start}
 use Rattle.machine_state.specs.Ownership.{AtPlace}
 use Rattle.machine_state.specs.StartPlans.{later_plan}
 use Rattle.machine_state.specs.Waiting.{is_member}
@@ -21,18 +22,20 @@ use Rattle.machine_state.proofs.Claims.{only_one}
 use Rattle.machine_state.proofs.FoundContexts.{branches_are_contexts}
 use Rattle.machine_state.proofs.Shares.{number_itself}
 use Rattle.machine_state.proofs.SpanLaws.{or_true, or_left, or_right}
-use Rattle.rulings.specs.Meaning.{Layout, HasFrame, words_in}
+use Rattle.states.specs.declared.known.Mode.TheVariants.{Starting}
+use Rattle.rulings.specs.Meaning.{Layout, Activation, HasFrame, words_in}
 use Rattle.rulings.specs.Regions.{scope_of, Keeps}
 use Rattle.rulings.proofs.Combining.{same_frame}
 use Rattle.rulings.proofs.Words.{means_same}
 use Rattle.share_laws.specs.Climbing.{LieAlike}
 use Rattle.share_laws.specs.Shares as shares
+use Rattle.share_laws.specs.Shares.{IsLaidOut}
 use Rattle.share_laws.specs.Starts.{IsLeft}
 use Rattle.share_laws.specs.Taking.{IsScheduling, OpenerKeeps, after_start}
 use Rattle.share_laws.proofs.BranchLent.{branches_are_lent}
 use Rattle.share_laws.proofs.TakenWords.{starts_keep_openers}
-use Rattle.verifier.specs.Point.{Began}
-use Rattle.verifier.specs.Pending.{HasMember, IsOut, AfterPar, Pending, IsMember}
+use Rattle.verifier.specs.Point.{Began, Point}
+use Rattle.verifier.specs.Pending.{IsStarter, HasMember, IsOut, AfterPar, Pending, IsMember}
 use Rattle.verifier.proofs.BehindKeeps.{behind_keeps}
 
 -- ---- members
@@ -99,6 +102,35 @@ after_next {m = m} more after = record {
   block = more.block ∙ after.block;
   paid = after.paid;
 }
+
+-- ---- who starts
+
+-- who is among the starts of a PAR lies where the activation does that goes on after it
+module _ {m : Contents} {t : Task} {point : Point m t} {j : Join} {due : ℕ} (after : AfterPar m j due)
+    (starter : IsStarter m t point after.par j after.act) where
+  pub starter_alike : LieAlike after.act.layout point.act.layout
+  starter_alike = record { origin = starter.origin; starts = starter.starts }
+
+  pub starter_laid : IsLaidOut m after.par point.act.layout j.base j.parameters
+  starter_laid = record {
+    origin = after.laid.origin ∙ ap (λ (z : ℤ). pos data_start +ℤ z) (sym starter.origin);
+    named = λ k names low. after.laid.named k names low ∙ ap (λ (n : ℕ). Some (n % 2 ^ 32)) (sym (starter.starts k));
+  }
+
+  -- and still does in a state one start further
+  pub starter_goes_on : {u : Task} {next : Join} {new : ℕ} (more : IsOneMore j next new) (later : Point m u)
+      → later.state.mode ≡ Starting j.row (j.started + 1) → later.state.context ≡ point.state.context
+      → later.state.depth ≡ point.state.depth → later.act ≡ point.act
+      → IsStarter m u later after.par next after.act
+  starter_goes_on {next = next} more later mode context depth act = record {
+    mode = mode ∙ ap (λ (n : ℕ). Starting n (j.started + 1)) (sym more.row)
+        ∙ ap (λ (n : ℕ). Starting next.row n) (sym more.started);
+    context = context ∙ starter.context;
+    depth = depth ∙ starter.depth;
+    origin = ap (λ (a : Activation). a.layout.origin) act ∙ starter.origin;
+    starts = λ n. ap (λ (a : Activation). a.layout.starts n) act ∙ starter.starts n;
+    back = ap (λ (a : Activation). a.layout.back) act ∙ starter.back;
+  }
 
 -- ---- the branch
 

@@ -31,10 +31,11 @@ pub record LabelStands (m : Contents) (par : Par) (act : Activation) (memory : M
       → word_given_to_write par (length par.branches) k ≡ false
       → MeansWord m act k (entry_fact label.entries k) (frame_word memory act.layout.origin k)
 
--- Of the words that a branch may write, which is this context, all that the entries say holds in its activation.
+-- Of the words that a branch may write, which is this context, all that the entries say holds in its activation, where
+-- they say it of the word by itself.
 abbrev pub LeavesSaid : Contents → ℕ → List Entry → Activation → Memory → Type 0
 LeavesSaid m context entries act memory =
-    (k : ℤ) → may_write_word m context k ≡ true
+    (k : ℤ) → may_write_word m context k ≡ true → is_alone (entry_fact entries k) ≡ true
     → MeansWord m act k (entry_fact entries k) (frame_word memory act.layout.origin k)
 
 -- A process in a state has started all branches of a PAR, or is one of them; and this is the address of the block.
