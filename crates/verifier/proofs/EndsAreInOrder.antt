@@ -1,5 +1,5 @@
 -- No fault of an end comes: whoever ends a PAR has started all its branches or is one of them, and names its block.
-use Rattle.std.proofs.Common.{◌≡◌, ℕ, ◌+◌, ◌-◌, ◌<◌, ◌==◌, true, false, Bool, Option, cond, inl, inr, ℤ, pos, ◌+ℤ◌, List}
+use Rattle.std.proofs.Common.{◌≡◌, ℕ, ◌-◌, ◌<◌, ◌==◌, true, false, Bool, Option, cond, inl, inr, ℤ, pos, ◌+ℤ◌, List}
 use Rattle.std.proofs.Common.{length, Some, None, refl, sym, ap, ◌∙◌, subst, arith}
 use Rattle.std.proofs.lemmas.Bool.{cases_lt, eq-eqb, lt-ltb}
 use Rattle.std.specs.Prelude.{slice_get}
@@ -23,7 +23,7 @@ use Rattle.machine_state.specs.Memory.{Memory, data_start}
 use Rattle.machine_state.specs.Site.{Local, joins}
 use Rattle.machine_state.specs.Turn.{at_here}
 use Rattle.machine_state.specs.Waiting.{Branches, Starters, HasOpened, IsGone, IsCounted, IsOver}
-use Rattle.machine_state.specs.World.{World, Role, Join, held}
+use Rattle.machine_state.specs.World.{World, Role, Join}
 use Rattle.machine_state.proofs.Claims.{only_one}
 use Rattle.machine_state.proofs.SpanLaws.{both_true}
 use Rattle.states.specs.declared.known.Mode as states

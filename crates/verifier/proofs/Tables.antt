@@ -2,6 +2,7 @@
 use Rattle.std.proofs.Common.{◌≡◌, ◌≢◌, ℕ, zero, suc, ◌+◌, ◌≤◌, ◌<◌, ◌⊎◌, true, false, inl, inr, List, [], ◌∷◌, length}
 use Rattle.std.proofs.Common.{Option, Some, None, refl, sym, ap, ◌∙◌, subst, arith}
 use Rattle.std.proofs.lemmas.Bool.{cases_eq}
+use Rattle.std.proofs.lemmas.List.{length-set}
 use Rattle.std.specs.Prelude.{slice_get, slice_set}
 use Rattle.module_format.specs.Contents.{Contents}
 use Rattle.machine_state.specs.declared.process.Task.{Task}
@@ -36,7 +37,7 @@ use Rattle.verifier.specs.Point.{Began, Point}
 use Rattle.rulings.specs.Buffers.{message_place, IsByte}
 use Rattle.verifier.specs.Lives.{awaits, IsExchanging, Lives, Meets, it_lives, it_stopped, it_ended}
 use Rattle.verifier.specs.Invariant.{AlternatesIn, Process, Table, LengthAgrees, at_link, at_channel, LengthsAgree}
-use Rattle.verifier.specs.Invariant.{total, Holds}
+use Rattle.verifier.specs.Invariant.{total, AreCounted, Holds}
 use Rattle.rulings.proofs.Agreeing.{agree_keeps}
 
 -- ---- one process
@@ -322,12 +323,14 @@ total_set (x ∷ xs) (suc p) d e h = let rest = total_set xs p d e h in omega ar
 -- where nobody has a join open or is a branch, the table, lengths and links are all
 pub quietly : (m : Contents) (w : World) (dues pending_dues : List ℕ) (began : List Began) → IsQuiet w
     → Table m w began dues → LengthsAgree m w.roles w.channels began → AreBytes w.links.inputs
-    → total dues + total pending_dues + w.counters.executed ≤ m.budget → w.fault ≡ None → IsSound m w
-quietly m w dues pending_dues began quiet table lengths kept owed well = record {
+    → total dues + total pending_dues + w.counters.executed ≤ m.budget → w.fault ≡ None
+    → AreCounted w.tasks began dues pending_dues → IsSound m w
+quietly m w dues pending_dues began quiet table lengths kept owed well counted = record {
   holds = record {
     dues = dues;
     pending_dues = pending_dues;
     began = began;
+    counted = counted;
     table = table;
     pending = λ p role j here is. let no' : None ≡ Some j = sym (quiet.roles p role here).0 ∙ is in absurd (cc);
     lengths = lengths;
@@ -409,7 +412,14 @@ module _ (m : Contents) (w : World) (h : IsSound m w) (apart : AreApart w.roles)
       (record { each = each_after changes mine })
       (lengths_kept m after.roles h.holds.began puts.channels (rw puts.roles h.holds.lengths)) puts.kept
       (let t = total_set h.holds.dues p row.due later row.has_due in let o = h.holds.owed in omega arith)
-      (puts.fault ∙ h.holds.well)
+      (puts.fault ∙ h.holds.well) (record {
+        begun = h.holds.counted.begun ∙ same_count;
+        owing = length-set h.holds.dues p later ∙ h.holds.counted.owing ∙ same_count;
+        pending = h.holds.counted.pending ∙ same_count;
+      })
+    where
+      same_count : length w.tasks ≡ length after.tasks
+      same_count = sym (ap (λ (tasks : List Task). length tasks) puts.tasks ∙ length-set w.tasks p u)
 
   -- The invariant holds where one process changes bytes of its own, goes on in plain mode as another task, and owes
   -- less
@@ -467,7 +477,7 @@ holds_aside m w after rests still h =
           there);
     })
     (rw (rests.roles, rests.channels) h.holds.lengths) rests.kept (rw rests.counters h.holds.owed)
-    (rests.fault ∙ h.holds.well)
+    (rests.fault ∙ h.holds.well) (rw rests.tasks h.holds.counted)
   where
     again : {g : Holding} {start : Began} {due : ℕ} (p : ℕ) (t : Task) (meets : Meets m g start w.memory t due)
         → slice_get w.tasks p ≡ Some t → Again m w after p meets

@@ -1,7 +1,7 @@
 -- What holds of every world that a certified module comes to, in parts: but for alternations, each reads only some parts
 -- of the world. Who runs and who waits, and that holdings are apart, are laws of every module.
-use Rattle.std.specs.Prelude.{◌≡◌, ℕ, ◌+◌, ◌≤◌, ◌<◌, ⊤, true, if◌then◌else◌, List, [], ◌∷◌, Option, Some, None, nat_lt}
-use Rattle.std.specs.Prelude.{slice_get}
+use Rattle.std.specs.Prelude.{◌≡◌, ℕ, ◌+◌, ◌≤◌, ◌<◌, ⊤, true, if◌then◌else◌, List, [], ◌∷◌, length, Option, Some, None}
+use Rattle.std.specs.Prelude.{nat_lt, slice_get}
 use Rattle.module_format.specs.Contents.{Contents, link_length}
 use Rattle.module_format.specs.declared.rows.ChannelRow.{ChannelRow}
 use Rattle.module_format.specs.declared.rows.Direction.TheVariants.{In, Out}
@@ -88,10 +88,17 @@ abbrev pub total : List ℕ → ℕ
 total [] = 0
 total (n ∷ ns) = n + total ns
 
+-- for each process what it began with, what it owes, and what waits for its PAR
+pub record AreCounted (tasks : List Task) (began : List Began) (dues pending_dues : List ℕ) : Type 0 where
+  pub begun : length began ≡ length tasks
+  pub owing : length dues ≡ length tasks
+  pub pending : length pending_dues ≡ length tasks
+
 pub record Holds (m : Contents) (w : World) : Type 0 where
   pub dues : List ℕ
   pub pending_dues : List ℕ
   pub began : List Began
+  pub counted : AreCounted w.tasks began dues pending_dues
   pub table : Table m w began dues
   pub pending : (p : ℕ) (role : Role) (j : Join) → slice_get w.roles p ≡ Some role → role.opened ≡ Some j
       → Opener m w began dues pending_dues table p role j
