@@ -266,6 +266,7 @@ module _ (m : Contents) (d : Decodes m) (wf : IsWellFormed m) (c : IsCertified m
         sends = r.lives.sends;
         fills = r.lives.fills;
         named = r.lives.named;
+        behind = r.lives.behind;
         known_length = r.lives.known_length;
         paid = let paid = r.lives.paid in omega (arith, paid, one);
       };

@@ -228,7 +228,7 @@ module _ (m : Contents) (d : Decodes m) (wf : IsWellFormed m) (c : IsCertified m
       (en.after root_local root_after)
       (entered_behind m d wf c en nobody_behind) in
       let due : ℕ = owed en.state en.act + owed_behind [] in
-      quietly m (loaded m) (due ∷ []) [] (root_began ∷ [])
+      quietly m (loaded m) (due ∷ []) (0 ∷ []) (root_began ∷ [])
       (record {
         roles = λ p role h.
             let x = only (root_role m) role p h in
@@ -253,6 +253,7 @@ module _ (m : Contents) (d : Decodes m) (wf : IsWellFormed m) (c : IsCertified m
             };
       }) root_agrees quiet_links_keep_nothing
       (let none = nothing_due root_activation.turns in omega (arith, en.paid, none)) refl
+      (record { begun = refl; owing = refl; pending = refl })
     where
       root_plain : (p : ℕ) (t : Task) → slice_get (root_task m ∷ []) p ≡ Some t → t.mode ≡ machine_modes.Plain
       root_plain p t h = let x = only (root_task m) t p h in ap (λ (u : Task). u.mode) (sym x.1)

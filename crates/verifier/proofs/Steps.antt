@@ -39,10 +39,11 @@ use Rattle.rulings.specs.Meaning.{owed, Layout, Activation, with_turns, at_label
 use Rattle.rulings.specs.Meaning.{HasFrame, place_in, SameMode, both_plain, both_enabling, both_disabling}
 use Rattle.rulings.specs.Meaning.{both_starting}
 use Rattle.machine_state.specs.Frame.{ChangesOwn}
-use Rattle.verifier.specs.Point.{IsReading, Began, Behind, nobody_waits, one_waits, owed_behind, Point, BehindIn}
+use Rattle.verifier.specs.Point.{IsReading, Began, Behind, nobody_waits, one_waits, owed_behind, Point}
 use Rattle.verifier.specs.Point.{owed_at, MeetsPoint, Decodes}
 use Rattle.verifier.specs.Lives.{awaits, IsExchanging, Lives}
 use Rattle.verifier.proofs.LivesAs.{LivesAs}
+use Rattle.verifier.proofs.BehindKeeps.{behind_as, behind_keeps, behind_lengths, behind_of}
 use Rattle.rulings.specs.Guarding.{HasSelected}
 use Rattle.states.specs.Below.{is_plain}
 use Rattle.states.specs.declared.known.Guard.{Guard}
@@ -64,7 +65,7 @@ use Rattle.rulings.proofs.Combining.{elsewhere, unknown_means}
 use Rattle.facts.proofs.Local.{function_fits}
 use Rattle.rulings.proofs.Entering.{below_tells, label_after}
 use Rattle.rulings.proofs.Dues.{label_owed}
-use Rattle.rulings.proofs.Regions.{keeps_all, keeps_more}
+use Rattle.rulings.proofs.Regions.{keeps_all}
 use Rattle.rulings.specs.Regions.{Scope, scope_of, scope_in, scope_among, Keeps, HoldsNamed}
 use Rattle.rulings.proofs.Lending.{lift}
 use Rattle.verifier.proofs.Given.{nothing_given, is_given, given_label, given_none, label_is_start, given_procedure}
@@ -80,37 +81,6 @@ same_ok {A} {E} r x y p q = let e : ◌≡◌ {A = Result A E} (Ok x) (Ok y) = s
 
 same_some : {A : Type 0} (o : Option A) (x y : A) → o ≡ Some x → o ≡ Some y → x ≡ y
 same_some {A} o x y p q = let e : Some x ≡ Some y = sym p ∙ q in cc
-
--- ---- who waits
-
-behind_keeps : {m : Contents} {h : Holding} {began : Began} {context : ℕ} {layout : Layout} {old new : Memory}
-    {callers : List Caller} → Keeps m h (scope_of m context layout) old new
-    → Behind m h began context layout old callers → Behind m h began context layout new callers
-behind_keeps keeps (nobody_waits same there procedure) = nobody_waits same there procedure
-behind_keeps keeps (one_waits some few reached going lengths base lends resumes rest) =
-    one_waits some few reached going lengths base lends (λ later more. resumes later (keeps_more keeps more))
-    (λ later more. rest later (keeps_more keeps more))
-
--- all of them know the same lengths of messages
-behind_lengths : {m : Contents} {h : Holding} {began : Began} {context : ℕ} {layout : Layout} {memory : Memory}
-    {callers : List Caller} → Behind m h began context layout memory callers → layout.lengths ≡ began.layout.lengths
-behind_lengths (nobody_waits same there procedure) = ap (λ (layout : Layout). layout.lengths) there
-behind_lengths {memory = memory} (one_waits some few reached going lengths base lends resumes rest) =
-    lengths ∙ behind_lengths (rest memory keeps_all)
-
--- whatever keeps what an activation has keeps what its process began with
-pub behind_lifts : {m : Contents} {h : Holding} {began : Began} {context : ℕ} {layout : Layout} {old new : Memory}
-    {callers : List Caller} → Behind m h began context layout old callers → HoldsNamed m h (scope_of m context layout) old
-    → Keeps m h (scope_of m context layout) old new → Keeps m h (scope_of m began.context began.layout) old new
-behind_lifts {m} {h} {began} {context = context} {layout = layout} {old = old} {new = new}
-    (nobody_waits same there procedure) named keeps =
-    subst (λ (layout : Layout). Keeps m h (scope_of m began.context layout) old new) there
-    (subst (λ (n : ℕ). Keeps m h (scope_of m n layout) old new) same keeps)
-behind_lifts {m} {h} {context = context} {layout = layout} {old = old} {new = new} {callers = caller ∷ callers}
-    (one_waits some few reached going lengths base lends resumes rest) named keeps =
-    behind_lifts (rest old keeps_all) (resumes old keeps_all).named
-    (lift m h (scope_of m caller.state.context caller.act.layout) (scope_of m context layout) base lends old new named
-    keeps)
 
 -- ---- modes
 
@@ -129,23 +99,6 @@ plain_process both_plain e = refl
 plain_process both_enabling e = absurd (cc)
 plain_process both_disabling e = absurd (cc)
 plain_process both_starting e = absurd (cc)
-
--- those that wait for a return, where no branch is started
-behind_as : {m : Contents} {h : Holding} {began : Began} (q : states.Mode) {context : ℕ} {layout : Layout}
-    {memory : Memory} {callers : List Caller} → is_starting q ≡ false → Behind m h began context layout memory callers
-    → BehindIn m h began q context layout memory callers
-behind_as states_modes.Plain still behind = behind
-behind_as states_modes.Enabling still behind = behind
-behind_as (states_modes.Disabling done) still behind = behind
-behind_as (states_modes.Starting row started) still behind = absurd (cc)
-
-behind_of : {m : Contents} {h : Holding} {began : Began} (q : states.Mode) {context : ℕ} {layout : Layout}
-    {memory : Memory} {callers : List Caller} → is_starting q ≡ false
-    → BehindIn m h began q context layout memory callers → Behind m h began context layout memory callers
-behind_of states_modes.Plain still behind = behind
-behind_of states_modes.Enabling still behind = behind
-behind_of (states_modes.Disabling done) still behind = behind
-behind_of (states_modes.Starting row started) still behind = absurd (cc)
 
 owed_still : (q : states.Mode) (s : State) (act : Activation) (callers : List Caller) → is_starting q ≡ false
     → owed_at q s act callers ≡ owed s act + owed_behind callers
@@ -518,6 +471,8 @@ module _ (m : Contents) (d : Decodes m) (wf : IsWellFormed m) (c : IsCertified m
               (sym (whole_scope s act.layout still)) (meanwhile.fills old new fills);
           named = subst (λ (scope : Scope). HoldsNamed m h scope l.memory) (sym (whole_scope s act.layout still))
               meanwhile.named;
+          behind = behind_as {m = m} {h = h} {began = began} s.mode {context = s.context} {layout = act.layout}
+              {memory = l.memory} {callers = callers} still behind;
           known_length = meanwhile.known_length;
           paid = let same = owed_still s.mode s act callers still in omega (arith, same);
         };

@@ -2,6 +2,7 @@
 use Rattle.std.proofs.Common.{◌≡◌, ◌≢◌, ℕ, zero, suc, ◌+◌, ◌≤◌, ◌<◌, ◌⊎◌, true, false, inl, inr, List, [], ◌∷◌, length}
 use Rattle.std.proofs.Common.{Option, Some, None, refl, sym, ap, ◌∙◌, subst, arith}
 use Rattle.std.proofs.lemmas.Bool.{cases_eq}
+use Rattle.std.proofs.lemmas.List.{length-set}
 use Rattle.std.specs.Prelude.{slice_get, slice_set}
 use Rattle.module_format.specs.Contents.{Contents}
 use Rattle.machine_state.specs.declared.process.Task.{Task}
@@ -21,7 +22,7 @@ use Rattle.machine_state.proofs.Claims.{only_one}
 use Rattle.machine_state.proofs.Lines.{got_set, got_other, set_either}
 use Rattle.rulings.proofs.Words.{bool_cases}
 use Rattle.rulings.proofs.Combining.{readable_byte}
-use Rattle.rulings.specs.Regions.{scope_in}
+use Rattle.rulings.specs.Regions.{scope_in, Keeps}
 use Rattle.states.specs.State.{State}
 use Rattle.rulings.specs.Meaning.{Activation}
 use Rattle.verifier.specs.Alternating.{AlternatesHere}
@@ -30,12 +31,13 @@ use Rattle.rulings.specs.Fitting.{After}
 use Rattle.machine_state.specs.Site.{Local}
 use Rattle.machine_state.specs.declared.process.Mode as machine
 use Rattle.verifier.proofs.Carrying.{alternates_still}
+use Rattle.verifier.proofs.BehindKeeps.{behind_in_keeps}
 use Rattle.verifier.proofs.LivesAs.{LivesAs}
 use Rattle.verifier.specs.Point.{Began, Point}
 use Rattle.rulings.specs.Buffers.{message_place, IsByte}
 use Rattle.verifier.specs.Lives.{awaits, IsExchanging, Lives, Meets, it_lives, it_stopped, it_ended}
 use Rattle.verifier.specs.Invariant.{AlternatesIn, Process, Table, LengthAgrees, at_link, at_channel, LengthsAgree}
-use Rattle.verifier.specs.Invariant.{total, Holds}
+use Rattle.verifier.specs.Invariant.{total, AreCounted, Holds}
 use Rattle.rulings.proofs.Agreeing.{agree_keeps}
 
 -- ---- one process
@@ -117,14 +119,8 @@ lives_on {m} {h} {began} {memory} {t} {due} new c quiet size same fewer either c
       | inr over ↦ inl (f.others place e over)
     ];
   });
-  named = (l.fills memory new (record {
-    size = size;
-    others = same;
-    come = λ place e awaited. elim (bool_cases (awaits c place)) [
-      | inl still ↦ either place still
-      | inr over ↦ inr (came place awaited over)
-    ];
-  })).named l.named;
+  named = kept.named l.named;
+  behind = behind_in_keeps began l.point.state.mode l.point.state.context l.point.act.layout l.point.callers kept l.behind;
   known_length = λ e is. absurd (quiet e is);
   paid = l.paid;
 }
@@ -134,6 +130,16 @@ lives_on {m} {h} {began} {memory} {t} {due} new c quiet size same fewer either c
       | inl still ↦ let no' : true ≡ false = sym (fewer place still) ∙ none in absurd (cc)
       | inr over ↦ over
     ]
+
+    kept : Keeps m h (scope_in m l.point.state l.point.act.layout) memory new
+    kept = l.fills memory new (record {
+      size = size;
+      others = same;
+      come = λ place e awaited. elim (bool_cases (awaits c place)) [
+        | inl still ↦ either place still
+        | inr over ↦ inr (came place awaited over)
+      ];
+    })
 
 -- one that awaits nothing
 unfoldable pub lives_whatever : {m : Contents} {h : Holding} {began : Began} {memory : Memory} {t : Task} {due : ℕ}
@@ -188,6 +194,7 @@ lives_in_mode {t = t} next l same = record {
     sends = l.sends;
     fills = l.fills;
     named = l.named;
+    behind = l.behind;
     known_length = l.known_length;
     paid = l.paid;
   };
@@ -208,7 +215,8 @@ meets_elsewhere {m} {g} {h} {began} {memory} {new} apart changes (it_lives l) = 
   sends = λ e is j less. let sent = l.sends e is j less in
       (sent.0, subst IsByte (sym (same (message_place e j) sent.0)) sent.1);
   fills = l.fills;
-  named = (agree_keeps h memory new changes.size same m (scope_in m l.point.state l.point.act.layout)).named l.named;
+  named = kept.named l.named;
+  behind = behind_in_keeps began l.point.state.mode l.point.state.context l.point.act.layout l.point.callers kept l.behind;
   known_length = l.known_length;
   paid = l.paid;
 })
@@ -216,6 +224,9 @@ meets_elsewhere {m} {g} {h} {began} {memory} {new} apart changes (it_lives l) = 
     same : (place : ℕ) → may_read h place ≡ true → byte_at new place ≡ byte_at memory place
     same place e = changes.others place (elim (bool_cases (may_write g place))
         [ inl mine ↦ absurd (apart.written place mine e) | inr free ↦ free ])
+
+    kept : Keeps m h (scope_in m l.point.state l.point.act.layout) memory new
+    kept = agree_keeps h memory new changes.size same m (scope_in m l.point.state l.point.act.layout)
 
 -- ---- a process of a world in which the invariant holds
 
@@ -312,12 +323,14 @@ total_set (x ∷ xs) (suc p) d e h = let rest = total_set xs p d e h in omega ar
 -- where nobody has a join open or is a branch, the table, lengths and links are all
 pub quietly : (m : Contents) (w : World) (dues pending_dues : List ℕ) (began : List Began) → IsQuiet w
     → Table m w began dues → LengthsAgree m w.roles w.channels began → AreBytes w.links.inputs
-    → total dues + total pending_dues + w.counters.executed ≤ m.budget → w.fault ≡ None → IsSound m w
-quietly m w dues pending_dues began quiet table lengths kept owed well = record {
+    → total dues + total pending_dues + w.counters.executed ≤ m.budget → w.fault ≡ None
+    → AreCounted w.tasks began dues pending_dues → IsSound m w
+quietly m w dues pending_dues began quiet table lengths kept owed well counted = record {
   holds = record {
     dues = dues;
     pending_dues = pending_dues;
     began = began;
+    counted = counted;
     table = table;
     pending = λ p role j here is. let no' : None ≡ Some j = sym (quiet.roles p role here).0 ∙ is in absurd (cc);
     lengths = lengths;
@@ -399,7 +412,14 @@ module _ (m : Contents) (w : World) (h : IsSound m w) (apart : AreApart w.roles)
       (record { each = each_after changes mine })
       (lengths_kept m after.roles h.holds.began puts.channels (rw puts.roles h.holds.lengths)) puts.kept
       (let t = total_set h.holds.dues p row.due later row.has_due in let o = h.holds.owed in omega arith)
-      (puts.fault ∙ h.holds.well)
+      (puts.fault ∙ h.holds.well) (record {
+        begun = h.holds.counted.begun ∙ same_count;
+        owing = length-set h.holds.dues p later ∙ h.holds.counted.owing ∙ same_count;
+        pending = h.holds.counted.pending ∙ same_count;
+      })
+    where
+      same_count : length w.tasks ≡ length after.tasks
+      same_count = sym (ap (λ (tasks : List Task). length tasks) puts.tasks ∙ length-set w.tasks p u)
 
   -- The invariant holds where one process changes bytes of its own, goes on in plain mode as another task, and owes
   -- less
@@ -457,7 +477,7 @@ holds_aside m w after rests still h =
           there);
     })
     (rw (rests.roles, rests.channels) h.holds.lengths) rests.kept (rw rests.counters h.holds.owed)
-    (rests.fault ∙ h.holds.well)
+    (rests.fault ∙ h.holds.well) (rw rests.tasks h.holds.counted)
   where
     again : {g : Holding} {start : Began} {due : ℕ} (p : ℕ) (t : Task) (meets : Meets m g start w.memory t due)
         → slice_get w.tasks p ≡ Some t → Again m w after p meets

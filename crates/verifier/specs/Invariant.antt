@@ -1,7 +1,7 @@
 -- What holds of every world that a certified module comes to, in parts: but for alternations, each reads only some parts
 -- of the world. Who runs and who waits, and that holdings are apart, are laws of every module.
-use Rattle.std.specs.Prelude.{◌≡◌, ℕ, ◌+◌, ◌≤◌, ◌<◌, ⊤, true, if◌then◌else◌, List, [], ◌∷◌, Option, Some, None, nat_lt}
-use Rattle.std.specs.Prelude.{slice_get}
+use Rattle.std.specs.Prelude.{◌≡◌, ℕ, ◌+◌, ◌≤◌, ◌<◌, ⊤, true, if◌then◌else◌, List, [], ◌∷◌, length, Option, Some, None}
+use Rattle.std.specs.Prelude.{nat_lt, slice_get}
 use Rattle.module_format.specs.Contents.{Contents, link_length}
 use Rattle.module_format.specs.declared.rows.ChannelRow.{ChannelRow}
 use Rattle.module_format.specs.declared.rows.Direction.TheVariants.{In, Out}
@@ -19,7 +19,7 @@ use Rattle.machine_state.specs.World.{World, Role, Join, held, link_word}
 use Rattle.rulings.specs.Regions.{channel_address}
 use Rattle.verifier.specs.Point.{Began}
 use Rattle.verifier.specs.Lives.{Meets, it_lives, it_stopped, it_ended}
-use Rattle.verifier.specs.Pending.{Pending, IsMember, StartsHere}
+use Rattle.verifier.specs.Pending.{AfterPar, Pending, IsMember, StartsHere}
 use Rattle.verifier.specs.Alternating.{AlternatesHere}
 
 -- ---- processes
@@ -72,14 +72,14 @@ pub record Opener (m : Contents) (w : World) (began : List Began) (dues pending_
   pub has_start : slice_get began p ≡ Some start
   pub due : ℕ
   pub has_due : slice_get pending_dues p ≡ Some due
-  pub pending : Pending m role.own start began w.memory j due
+  pub after : AfterPar m j due
+  pub pending : Pending m role.own p start began w.memory j due after
   pub starter : (task : Task) (here : slice_get w.tasks p ≡ Some task)
-      → StartsHere (table.each p task here).meets pending.par j pending.act
+      → StartsHere (table.each p task here).meets after.par j after.act
   pub members : (q : ℕ) (branch : Role) (first : Began) → slice_get w.roles q ≡ Some branch → branch.opener ≡ Some p
-      → (IsGone w.tasks branch q → ⊥) → slice_get began q ≡ Some first
-      → IsMember m role.own start began w.memory j due pending first
-  pub channels : (n : ℕ) (row : ChannelRow) → slice_get pending.par.channels n ≡ Some row
-      → (c : Channel) × (slice_get w.channels (cell_of (channel_address pending.act.layout (FrameWord row.word)))
+      → (IsGone w.tasks branch q → ⊥) → slice_get began q ≡ Some first → IsMember m after.par after.act.layout first
+  pub channels : (n : ℕ) (row : ChannelRow) → slice_get after.par.channels n ≡ Some row
+      → (c : Channel) × (slice_get w.channels (cell_of (channel_address after.act.layout (FrameWord row.word)))
       ≡ Some (Some c)) × (c.length ≡ row.length)
 
 -- ---- all of it
@@ -88,10 +88,17 @@ abbrev pub total : List ℕ → ℕ
 total [] = 0
 total (n ∷ ns) = n + total ns
 
+-- for each process what it began with, what it owes, and what waits for its PAR
+pub record AreCounted (tasks : List Task) (began : List Began) (dues pending_dues : List ℕ) : Type 0 where
+  pub begun : length began ≡ length tasks
+  pub owing : length dues ≡ length tasks
+  pub pending : length pending_dues ≡ length tasks
+
 pub record Holds (m : Contents) (w : World) : Type 0 where
   pub dues : List ℕ
   pub pending_dues : List ℕ
   pub began : List Began
+  pub counted : AreCounted w.tasks began dues pending_dues
   pub table : Table m w began dues
   pub pending : (p : ℕ) (role : Role) (j : Join) → slice_get w.roles p ≡ Some role → role.opened ≡ Some j
       → Opener m w began dues pending_dues table p role j

@@ -4,6 +4,7 @@ pub mod Judging
 pub mod Point
 pub mod Lives
 pub mod Pending
+pub mod ParLabels
 pub mod Alternating
 pub mod Invariant
 pub mod Headline

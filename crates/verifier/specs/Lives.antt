@@ -11,7 +11,7 @@ use Rattle.machine_state.specs.Holding.{Holding, may_write, may_read}
 use Rattle.machine_state.specs.World.{input_word}
 use Rattle.rulings.specs.Buffers.{message_place, is_filled, IsByte, Fills}
 use Rattle.rulings.specs.Regions.{scope_in, HoldsNamed, Keeps}
-use Rattle.verifier.specs.Point.{Began, Point, MeetsPoint, owed_at}
+use Rattle.verifier.specs.Point.{Began, Point, MeetsPoint, BehindIn, owed_at}
 
 -- the place is filled before a waiting process goes on
 abbrev pub awaits : Condition → ℕ → Bool
@@ -29,7 +29,8 @@ IsExchanging condition e = (condition ≡ Sending e) ⊎ (condition ≡ Receivin
 
 -- Whatever the awaited bytes are, and whatever happens to bytes that the process may not read, it is at its point when
 -- it goes on. It may write what it waits for, and that changes nothing else of what its activation has; what it sends
--- are bytes that it may read; a message has the length that who began with its channel knows.
+-- are bytes that it may read; a message has the length that who began with its channel knows. What its activation has,
+-- and what waits for its return, is so now, not only once all bytes are there.
 pub record Lives (m : Contents) (h : Holding) (began : Began) (memory : Memory) (t : Task) (due : ℕ) : Type 0 where
   pub point : Point m t
   pub claim : (later : Memory) → length later ≡ length memory
@@ -43,6 +44,7 @@ pub record Lives (m : Contents) (h : Holding) (began : Began) (memory : Memory) 
   pub fills : (old new : Memory) → Fills h (awaits t.condition) old new
       → Keeps m h (scope_in m point.state point.act.layout) old new
   pub named : HoldsNamed m h (scope_in m point.state point.act.layout) memory
+  pub behind : BehindIn m h began point.state.mode point.state.context point.act.layout memory point.callers
   pub known_length : (e : Exchange) → IsExchanging t.condition e → e.length ≡ began.layout.lengths e.channel
   pub paid : due + point.taken ≡ owed_at point.state.mode point.state point.act point.callers
 
