@@ -1,7 +1,7 @@
 -- After a start the branch is at its label: what the starter knows of the branch's words says what the label does.
-use Rattle.std.proofs.Common.{◌≡◌, ℕ, zero, suc, ◌+◌, ◌*◌, ◌≤◌, ◌<◌, ◌&&◌, not, Bool, true, false, cond, ℤ, pos}
-use Rattle.std.proofs.Common.{negsuc, ◌+ℤ◌, neg_ℤ, List, Option, Some, None, Result, Ok, Err, refl, sym, ap, ◌∙◌}
-use Rattle.std.proofs.Common.{subst, arith, if◌then◌else◌, ltb, length}
+use Rattle.std.proofs.Common.{◌≡◌, ℕ, zero, suc, ◌*◌, ◌≤◌, ◌&&◌, not, Bool, true, false, ℤ, pos}
+use Rattle.std.proofs.Common.{◌+ℤ◌, neg_ℤ, Some, Ok, Err, refl, sym, ap, ◌∙◌}
+use Rattle.std.proofs.Common.{arith, if◌then◌else◌}
 use Rattle.std.proofs.lemmas.Bool.{le-ltb}
 use Rattle.std.proofs.lemmas.Int.{ints}
 use Rattle.std.specs.Prelude.{int_le, int_lt}
@@ -14,15 +14,13 @@ use Rattle.machine_state.specs.Holding.{Holding}
 use Rattle.machine_state.specs.JoinLookups.{Found}
 use Rattle.machine_state.specs.Memory.{Memory}
 use Rattle.machine_state.proofs.SpanLaws.{both_true}
-use Rattle.states.specs.declared.rule.Rule.{Rule}
 use Rattle.states.specs.declared.rule.Rule.TheVariants as rules
-use Rattle.states.specs.declared.known.WordFact.{WordFact}
 use Rattle.states.specs.declared.known.WordFact.TheVariants.{Alone}
-use Rattle.states.specs.State.{State, Facts, begun, plain, entry_fact}
-use Rattle.states.specs.Below.{View, cost, agrees, below, view}
+use Rattle.states.specs.State.{State, Facts, begun, plain}
+use Rattle.states.specs.Below.{cost, agrees, below, view}
 use Rattle.states.proofs.RowFacts.{le-yes, lt-yes}
 use Rattle.rulings.specs.Meaning.{Activation, MeansWord, is_fact, nothing_known, frame_word, IsWellFormed, loop_due}
-use Rattle.rulings.specs.Meaning.{dues_from, dues, farthest_word, label_turns, with_turns}
+use Rattle.rulings.specs.Meaning.{dues_from, dues, farthest_word, label_turns}
 use Rattle.rulings.proofs.Dues.{label_owed}
 use Rattle.rulings.proofs.Entering.{below_tells, label_after}
 use Rattle.rulings.proofs.Words.{plain_means}

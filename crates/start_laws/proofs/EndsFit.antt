@@ -1,9 +1,8 @@
 -- The rule of `endp` and its step fit each other.
-use Rattle.std.proofs.Common.{◌≡◌, ℕ, ◌≤◌, ◌==◌, ◌&&◌, ◌||◌, not, Bool, true, false, cond, inl, inr, ℤ, List, length}
+use Rattle.std.proofs.Common.{◌≡◌, ℕ, ◌≤◌, ◌==◌, ◌||◌, not, Bool, true, false, ℤ, length}
 use Rattle.std.proofs.Common.{Option, Some, None, refl, sym, ap, ◌∙◌, subst, eqb-true, if◌then◌else◌}
 use Rattle.std.specs.Prelude.{IsTrue, slice_get, option_map}
 use Rattle.module_format.specs.Order.{is_stepped}
-use Rattle.module_format.specs.Rows.{Fact}
 use Rattle.module_format.specs.declared.fact.Fact.TheVariants.{Unknown}
 use Rattle.module_format.specs.declared.rows.EndKind.TheVariants.{FrameWord}
 use Rattle.module_format.specs.Contents.{Contents, Par, Branch, Label, label_at}
@@ -14,27 +13,26 @@ use Rattle.machine_state.specs.declared.process.Mode as machine
 use Rattle.machine_state.specs.declared.process.Mode.TheVariants as machine_modes
 use Rattle.machine_state.specs.LocalStep as step
 use Rattle.machine_state.specs.Site.{Outcome, Local, joins}
-use Rattle.machine_state.proofs.SpanLaws.{or_true}
 use Rattle.states.specs.declared.known.Mode as states
 use Rattle.states.specs.declared.known.Mode.TheVariants.{Plain, Enabling, Disabling, Starting}
 use Rattle.states.specs.declared.known.WordFact.{WordFact}
 use Rattle.states.specs.declared.known.WordFact.TheVariants.{Alone, Index, Count}
 use Rattle.states.specs.declared.rule.Rule.TheVariants as rules
-use Rattle.states.specs.State.{State, Facts, entry_fact, is_alone, by_itself}
+use Rattle.states.specs.State.{State, entry_fact, is_alone, by_itself}
 use Rattle.states.specs.Below.{is_plain, says}
 use Rattle.states.proofs.RowFacts.{and-parts}
 use Rattle.rulings.specs.Fitting.{Described, After, Here, rule_site, step_site}
 use Rattle.rulings.specs.Meaning.{Layout, Activation, MeansWord, is_fact, frame_word, SameMode, both_plain}
 use Rattle.rulings.specs.Meaning.{both_enabling, both_disabling, both_starting}
 use Rattle.rulings.specs.Regions.{Scope, scope_of, scope_left, scope_among, channel_address}
-use Rattle.rulings.specs.Rulings.{Ruling, Site, ends, breaks, wants, outside_alternation, pays}
+use Rattle.rulings.specs.Rulings.{Ruling, Site, ends, breaks, wants, pays}
 use Rattle.rulings.proofs.Combining.{written_readable}
 use Rattle.rulings.proofs.Entering.{implies_means}
 use Rattle.rulings.proofs.Words.{itself_means, means_same}
 use Rattle.par_rules.specs.Comparisons.{keeps, is_kept, ends_below}
 use Rattle.par_rules.specs.ParRules.{endp_rule, ended_par, is_at_word, is_near_pointer, leaves_agreed}
 use Rattle.share_laws.specs.Climbing.{LieAlike}
-use Rattle.start_laws.specs.Ending.{StartedAll, LeavesAgreed, EndFits, to_end_own, to_end_branch, end_breaks}
+use Rattle.start_laws.specs.Ending.{StartedAll, EndFits, to_end_own, to_end_branch, end_breaks}
 use Rattle.start_laws.specs.Ending.{EndFitsStep}
 use Rattle.start_laws.proofs.Alike.{means_alike}
 use Rattle.start_laws.proofs.Judged.{Judged, broken, passed, IsSettled, is_plain as settled_plain, is_among}

@@ -1,21 +1,19 @@
 -- The first start of a PAR: what the rule has tested is what it wants, and the label after the PAR stands where the
 -- opener goes on.
-use Rattle.std.proofs.Common.{◌≡◌, ℕ, ◌+◌, ◌-◌, ◌≤◌, ◌<◌, ◌==◌, ◌&&◌, not, Bool, true, false, ℤ, pos, List, [], ◌∷◌}
+use Rattle.std.proofs.Common.{◌≡◌, ℕ, ◌+◌, ◌-◌, ◌≤◌, ◌==◌, not, Bool, true, false, ℤ, [], ◌∷◌}
 use Rattle.std.proofs.Common.{length, Option, Some, None, Ok, refl, sym, ap, ◌∙◌, subst, arith}
-use Rattle.std.specs.Prelude.{slice_get, sum_by}
+use Rattle.std.specs.Prelude.{sum_by}
 use Rattle.std.specs.List.{list_any, list_all}
 use Rattle.module_format.specs.Rows.{Fact}
 use Rattle.module_format.specs.declared.fact.Fact.TheVariants.{Unknown}
 use Rattle.module_format.specs.declared.stack.Stack.{Stack}
 use Rattle.module_format.specs.Order.{least_word}
-use Rattle.module_format.specs.Contents.{Contents, Par, Branch, Label, label_at}
+use Rattle.module_format.specs.Contents.{Contents, Par, Label, label_at}
 use Rattle.module_format.specs.Contexts.{context_at}
 use Rattle.module_format.specs.Keeping.{Keeps}
-use Rattle.certificate.specs.Rights.{may_write_word, may_read_word, has_word}
+use Rattle.certificate.specs.Rights.{may_read_word, has_word}
 use Rattle.machine_state.specs.BranchContexts.{context_of}
-use Rattle.machine_state.specs.Holding.{Holding}
 use Rattle.machine_state.specs.JoinLookups.{Found}
-use Rattle.machine_state.specs.Memory.{Memory}
 use Rattle.machine_state.specs.Site.{Local}
 use Rattle.machine_state.proofs.Shares.{number_itself}
 use Rattle.machine_state.proofs.SpanLaws.{both_true}
@@ -23,29 +21,28 @@ use Rattle.states.specs.declared.known.Mode as states
 use Rattle.states.specs.declared.known.Mode.TheVariants.{Plain}
 use Rattle.states.specs.declared.known.WordFact.{WordFact}
 use Rattle.states.specs.declared.known.WordFact.TheVariants.{Alone, Index, Count}
-use Rattle.states.specs.State.{State, Facts, begun, entry_fact, is_word}
+use Rattle.states.specs.State.{State, Facts, begun, is_word}
 use Rattle.states.specs.Below.{agrees, below, cost, view, implies, entries_hold, is_whole, price}
 use Rattle.states.proofs.RowFacts.{and-parts}
 use Rattle.rulings.specs.Fitting.{Described, After, Here}
 use Rattle.rulings.specs.Meaning.{Activation, MeansWord, is_fact, is_index, is_count, words_left, frame_word}
 use Rattle.rulings.specs.Meaning.{IsWellFormed, dues, owed, label_turns}
 use Rattle.rulings.specs.Regions.{Scope, scope_of, scope_among}
-use Rattle.rulings.specs.Remaining.{word_given_to_write}
 use Rattle.rulings.proofs.Dues.{label_owed}
 use Rattle.rulings.proofs.Words.{means_same}
 use Rattle.par_rules.specs.Comparisons.{branch_view, words_pass, is_left, is_after, is_written_loop, is_written}
 use Rattle.par_rules.specs.Comparisons.{agrees_after, cost_after}
 use Rattle.par_rules.specs.Openings.{is_prepared}
 use Rattle.par_rules.specs.ParRules.{leaves_loops, may_open, label_after, labels_of_start, offset_after, after_start}
-use Rattle.par_rules.specs.ParRules.{cost_of_start, start_agrees}
+use Rattle.par_rules.specs.ParRules.{cost_of_start}
 use Rattle.share_laws.specs.GoingOn.{act_with}
 use Rattle.share_laws.specs.Opening.{layout_with, held_by_opener, CanOpen, HasNoEndsInside}
 use Rattle.share_laws.specs.Shares.{IsBranch}
-use Rattle.share_laws.specs.Taking.{after_opening, OpeningTakes}
+use Rattle.share_laws.specs.Taking.{after_opening}
 use Rattle.share_laws.proofs.HiddenWords.{is_itself}
 use Rattle.share_laws.proofs.LeftBytes.{was_false}
 use Rattle.share_laws.proofs.TakenWords.{openings_take_their_words}
-use Rattle.start_laws.specs.BranchLabels.{LabelAfter, owed_at_label, BeginsAtLabel}
+use Rattle.start_laws.specs.BranchLabels.{LabelAfter, owed_at_label}
 use Rattle.start_laws.specs.Starting.{LiesInside, IsBase, StartsFirst}
 use Rattle.start_laws.proofs.Alike.{means_alike}
 use Rattle.start_laws.proofs.AfterPars.{IsAfter, after_tells, says_nothing_hidden, given_is_written, written_alone}

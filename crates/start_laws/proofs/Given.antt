@@ -1,8 +1,7 @@
 -- What a branch is given that passes the tests of its start is left.
-use Rattle.std.proofs.Common.{◌≡◌, ℕ, zero, suc, ◌+◌, ◌<◌, ◌&&◌, ◌||◌, not, Bool, true, false, cond, inl, inr, ℤ, pos}
+use Rattle.std.proofs.Common.{◌≡◌, ℕ, zero, suc, ◌<◌, ◌&&◌, ◌||◌, not, Bool, true, false, inl, inr, ℤ, pos}
 use Rattle.std.proofs.Common.{negsuc, ◌+ℤ◌, ◌-ℤ◌, List, [], ◌∷◌, take, Option, Some, None, refl, sym, ap, ◌∙◌, subst}
 use Rattle.std.proofs.Common.{arith, eqb-true, if◌then◌else◌}
-use Rattle.std.proofs.lemmas.Bool.{cases_Bool}
 use Rattle.std.proofs.lemmas.Int.{ints}
 use Rattle.std.specs.Prelude.{slice_get, ◌==◌, is_some}
 use Rattle.std.specs.List.{list_any, list_all}
@@ -20,14 +19,14 @@ use Rattle.certificate.specs.Branches.{numbered_branch}
 use Rattle.certificate.specs.Rights.{may_write_word, may_read_word, has_word, is_among, is_same_end, has_end}
 use Rattle.certificate.specs.Rights.{gives_link, gives_parameter}
 use Rattle.machine_state.specs.BranchContexts.{context_of}
-use Rattle.machine_state.specs.JoinLookups.{Found, found_in_row}
+use Rattle.machine_state.specs.JoinLookups.{Found}
 use Rattle.machine_state.specs.Ownership.{IsAmong}
 use Rattle.machine_state.proofs.Among.{all_among, any_among}
 use Rattle.machine_state.proofs.SpanLaws.{both_true, or_true, or_left, or_right}
 use Rattle.states.specs.State.{State, is_word}
 use Rattle.states.proofs.RowFacts.{and-parts}
 use Rattle.rulings.specs.Reach.{is_listed, may_write_parameter, may_read_parameter, writable_size, readable_size}
-use Rattle.rulings.specs.Remaining.{is_hidden, is_channel_word, is_own_end}
+use Rattle.rulings.specs.Remaining.{is_hidden, is_channel_word}
 use Rattle.rulings.proofs.Words.{same_word_by}
 use Rattle.par_rules.specs.Gifts.{started_in, is_beside, has_other_ends, share_what_is_written, have_common_number}
 use Rattle.par_rules.specs.Gifts.{have_common_word, has_end_to_give, has_scheduling_words, may_give_words}

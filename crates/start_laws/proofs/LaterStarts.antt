@@ -1,9 +1,7 @@
 -- A start among the starts of its row: what the rule has tested is what a later start wants.
-use Rattle.std.proofs.Common.{◌≡◌, ℕ, ◌+◌, ◌-◌, ◌≤◌, ◌<◌, ◌==◌, ◌&&◌, ◌||◌, not, Bool, true, false, inl, inr, ℤ, pos}
-use Rattle.std.proofs.Common.{List, [], ◌∷◌, length, take, Option, Some, None, refl, sym, ap, ◌∙◌, subst, arith}
-use Rattle.std.proofs.Common.{eqb-true, if◌then◌else◌}
+use Rattle.std.proofs.Common.{◌≡◌, ℕ, ◌+◌, ◌-◌, ◌≤◌, ◌<◌, ◌||◌, not, Bool, true, false, inl, inr, ℤ}
+use Rattle.std.proofs.Common.{List, [], ◌∷◌, take, Option, Some, None, refl, sym, ap, ◌∙◌, subst, arith}
 use Rattle.std.specs.Prelude.{slice_get}
-use Rattle.module_format.specs.Stack.{of_empty}
 use Rattle.module_format.specs.Contents.{Contents, Par, Branch, Label, label_at}
 use Rattle.module_format.specs.Contexts.{context_at}
 use Rattle.module_format.specs.Keeping.{Keeps}
@@ -11,38 +9,34 @@ use Rattle.certificate.specs.Rights.{may_write_word, may_read_word, is_among, ha
 use Rattle.machine_state.specs.BranchContexts.{context_of}
 use Rattle.machine_state.specs.declared.process.Mode as machine
 use Rattle.machine_state.specs.declared.process.Mode.TheVariants as machine_modes
-use Rattle.machine_state.specs.Holding.{Holding, may_read}
 use Rattle.machine_state.specs.JoinLookups.{Found}
-use Rattle.machine_state.specs.Memory.{Memory}
 use Rattle.machine_state.specs.Ownership.{IsAmong}
 use Rattle.machine_state.specs.Site.{Local}
 use Rattle.machine_state.proofs.SpanLaws.{both_true, or_true}
 use Rattle.states.specs.declared.known.Mode as states
-use Rattle.states.specs.declared.known.Mode.TheVariants.{Plain, Enabling, Disabling, Starting}
-use Rattle.states.specs.State.{State, is_word}
+use Rattle.states.specs.declared.known.Mode.TheVariants.{Starting}
+use Rattle.states.specs.State.{State}
 use Rattle.states.specs.Below.{agrees}
 use Rattle.states.proofs.RowFacts.{and-parts}
-use Rattle.rulings.specs.Fitting.{Described, After, Here, rule_site}
-use Rattle.rulings.specs.Meaning.{Layout, Activation, MeansWord, HasFrame, SameMode, both_plain, both_enabling}
+use Rattle.rulings.specs.Fitting.{Described, After, Here}
+use Rattle.rulings.specs.Meaning.{MeansWord, SameMode, both_plain, both_enabling}
 use Rattle.rulings.specs.Meaning.{both_disabling, both_starting, words_left, frame_word, IsWellFormed}
-use Rattle.rulings.specs.Regions.{Scope, scope_of, scope_left, scope_among, scope_in, HoldsNamed}
-use Rattle.rulings.specs.Remaining.{is_hidden, word_given_to_write, word_given_to_read}
+use Rattle.rulings.specs.Regions.{Scope, scope_of, scope_left, scope_among, scope_in}
+use Rattle.rulings.specs.Remaining.{word_given_to_write, word_given_to_read}
 use Rattle.rulings.proofs.Combining.{written_readable}
-use Rattle.rulings.proofs.Words.{same_word_by}
-use Rattle.par_rules.specs.Comparisons.{branch_view, agrees_after, cost_after}
+use Rattle.par_rules.specs.Comparisons.{branch_view, cost_after}
 use Rattle.par_rules.specs.Gifts.{started_in}
-use Rattle.par_rules.specs.ParRules.{is_next, is_workspace, label_after, labels_of_start, offset_after, after_start}
+use Rattle.par_rules.specs.ParRules.{label_after, labels_of_start, offset_after, after_start}
 use Rattle.par_rules.specs.ParRules.{cost_of_start}
 use Rattle.share_laws.specs.GoingOn.{GoesOnAs}
 use Rattle.share_laws.specs.Shares.{IsBranch, IsLaidOut}
 use Rattle.share_laws.specs.Starts.{CanStart, IsLeft}
-use Rattle.share_laws.proofs.LeftBytes.{is_false, not_true, was_false}
+use Rattle.share_laws.proofs.LeftBytes.{not_true, was_false}
 use Rattle.share_laws.proofs.LeftParameters.{one_more}
-use Rattle.start_laws.specs.BranchLabels.{BranchLabel, owed_at_label}
+use Rattle.start_laws.specs.BranchLabels.{owed_at_label}
 use Rattle.start_laws.specs.Starting.{LiesInside, StartsNext}
-use Rattle.start_laws.proofs.AtLabels.{branch_label, label_paid, begins_at_label, label_cost}
+use Rattle.start_laws.proofs.AtLabels.{branch_label, label_paid, begins_at_label}
 use Rattle.start_laws.proofs.Given.{IsTested, is_left, among_first, reads_is}
-use Rattle.start_laws.proofs.Judged.{HasPassed}
 
 -- ---- words that are left
 

@@ -1,16 +1,14 @@
 -- Where a first start breaks no rule, the words that its PAR wants are prepared, and are the starter's own.
-use Rattle.std.proofs.Common.{◌≡◌, ℕ, zero, suc, ◌+◌, ◌-◌, ◌==◌, ◌&&◌, ◌||◌, Bool, true, false, inl, inr, ℤ, pos}
-use Rattle.std.proofs.Common.{negsuc, ◌+ℤ◌, ◌≤ℤ◌, List, [], ◌∷◌, length, Option, Some, None, refl, sym, ap, ◌∙◌, subst}
-use Rattle.std.proofs.Common.{arith, eqb, eqb-true, nat_abs}
+use Rattle.std.proofs.Common.{◌≡◌, ℕ, ◌+◌, ◌-◌, ◌==◌, ◌&&◌, Bool, true, false, inl, inr, ℤ, pos}
+use Rattle.std.proofs.Common.{negsuc, ◌+ℤ◌, List, length, Option, Some, None, refl, sym, ap, ◌∙◌}
+use Rattle.std.proofs.Common.{arith, eqb, eqb-true}
 use Rattle.std.proofs.lemmas.Bool.Decides.{nat_tests}
 use Rattle.std.proofs.lemmas.Int.{ints}
 use Rattle.std.specs.Prelude.{slice_get}
 use Rattle.std.specs.List.{list_any, list_all}
 use Rattle.word_arithmetic.specs.Word.{least_word}
-use Rattle.module_format.specs.Rows.{Fact}
 use Rattle.module_format.specs.declared.fact.Fact.TheVariants.{Unknown, Number, Pointer, CodeAddress, Loop}
 use Rattle.module_format.specs.declared.fact.Fact.TheVariants.{ReturnAddress}
-use Rattle.module_format.specs.declared.fact.Step.{Step}
 use Rattle.module_format.specs.declared.fact.Step.TheVariants.{Byte, Word}
 use Rattle.module_format.specs.declared.rows.ChannelRow.{ChannelRow}
 use Rattle.module_format.specs.declared.rows.EndKind.{EndKind}
@@ -20,8 +18,8 @@ use Rattle.module_format.specs.declared.rows.Parameter.{Parameter}
 use Rattle.module_format.specs.Contents.{Contents, Par, Branch}
 use Rattle.module_format.specs.Contexts.{parameters_at}
 use Rattle.certificate.specs.Rights.{may_write_word, may_read_word}
-use Rattle.machine_state.specs.JoinLookups.{branch_names, names_end, row_names}
-use Rattle.machine_state.specs.Memory.{Memory, data_start}
+use Rattle.machine_state.specs.JoinLookups.{branch_names, names_end}
+use Rattle.machine_state.specs.Memory.{Memory}
 use Rattle.machine_state.specs.Ownership.{IsAmong}
 use Rattle.machine_state.proofs.Among.{all_among, any_all}
 use Rattle.machine_state.proofs.SpanLaws.{or_true}
@@ -30,7 +28,7 @@ use Rattle.states.specs.declared.known.WordFact.TheVariants.{Alone, Index, Count
 use Rattle.states.specs.State.{State, is_word}
 use Rattle.states.specs.Below.{holds_constant}
 use Rattle.states.proofs.RowFacts.{and-parts}
-use Rattle.rulings.specs.Meaning.{Layout, Activation, Means, is_number, is_pointer, is_code_address, MeansWord, is_fact}
+use Rattle.rulings.specs.Meaning.{Layout, Activation, is_pointer, is_code_address, MeansWord, is_fact}
 use Rattle.rulings.specs.Meaning.{frame_word, word_of, code_address, region_start}
 use Rattle.rulings.specs.Remaining.{is_hidden, is_channel_word}
 use Rattle.rulings.proofs.Combining.{written_readable}

@@ -1,19 +1,16 @@
 -- The rule of `startp` and its step fit each other.
-use Rattle.std.proofs.Common.{◌≡◌, ℕ, ◌+◌, ◌-◌, ◌<◌, ◌==◌, ◌&&◌, Bool, true, false, ℤ, pos, List, [], ◌∷◌, length}
-use Rattle.std.proofs.Common.{Option, Some, None, refl, sym, ap, ◌∙◌, subst, eqb-true, arith}
+use Rattle.std.proofs.Common.{◌≡◌, ℕ, ◌+◌, ◌-◌, ◌<◌, ◌==◌, ◌&&◌, true, ℤ, List, [], ◌∷◌}
+use Rattle.std.proofs.Common.{Some, refl, sym, ap, ◌∙◌, subst, eqb-true, arith}
 use Rattle.std.specs.Prelude.{IsTrue, slice_get}
 use Rattle.module_format.specs.Order.{is_stepped}
-use Rattle.module_format.specs.declared.rows.EndKind.TheVariants.{FrameWord}
 use Rattle.module_format.specs.Contents.{Branch}
 use Rattle.module_format.specs.Keeping.{Keeps}
 use Rattle.machine_state.specs.declared.op.Op.TheVariants.{StartProcess}
-use Rattle.machine_state.specs.declared.process.Mode as machine
 use Rattle.machine_state.specs.BranchContexts.{context_of}
 use Rattle.machine_state.specs.LocalStep as step
 use Rattle.machine_state.specs.LocalStep.{target}
 use Rattle.machine_state.specs.Ownership.{IsAmong}
 use Rattle.machine_state.specs.Site.{Outcome, Local, starts}
-use Rattle.machine_state.proofs.SpanLaws.{both_true}
 use Rattle.states.specs.declared.known.Mode as states
 use Rattle.states.specs.declared.known.Mode.TheVariants.{Plain, Enabling, Disabling, Starting}
 use Rattle.states.specs.State.{State, is_word}
@@ -24,9 +21,9 @@ use Rattle.rulings.specs.Meaning.{Layout, IsWellFormed, MeansWord, words_left, f
 use Rattle.rulings.specs.Rulings as rule
 use Rattle.rulings.specs.Rulings.{Ruling, breaks, falling}
 use Rattle.rulings.proofs.Words.{same_word_by}
-use Rattle.par_rules.specs.Comparisons.{branch_view, agrees_after}
+use Rattle.par_rules.specs.Comparisons.{branch_view}
 use Rattle.par_rules.specs.Gifts.{started_in}
-use Rattle.par_rules.specs.ParRules.{startp_rule, is_next, is_workspace, after_start, cost_of_start, label_after}
+use Rattle.par_rules.specs.ParRules.{startp_rule, is_next, is_workspace, after_start, cost_of_start}
 use Rattle.par_rules.specs.ParRules.{leaves_loops, may_open, at_first}
 use Rattle.share_laws.proofs.Rows.{workspace_fits}
 use Rattle.share_laws.proofs.ShareBytes.{frame_channel}

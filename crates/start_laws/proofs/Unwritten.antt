@@ -1,8 +1,8 @@
 -- Where what is known says what the label after a PAR does of the words that no branch writes, it would say all of it,
 -- if the branches left their words as the label has them.
-use Rattle.std.proofs.Common.{◌≡◌, ◌⊎◌, ℕ, zero, suc, ◌+◌, ◌-◌, ◌*◌, ◌≤◌, ◌<◌, ◌==◌, ◌&&◌, ◌||◌, Bool, true, false}
+use Rattle.std.proofs.Common.{◌≡◌, ◌⊎◌, ℕ, zero, suc, ◌-◌, ◌*◌, ◌≤◌, ◌&&◌, ◌||◌, Bool, true, false}
 use Rattle.std.proofs.Common.{inl, inr, ℤ}
-use Rattle.std.proofs.Common.{pos, ◌+ℤ◌, ◌≤ℤ◌, ◌<ℤ◌, neg_ℤ, List, [], ◌∷◌, refl, sym, ap, ◌∙◌, subst, arith, eqb}
+use Rattle.std.proofs.Common.{pos, ◌+ℤ◌, ◌≤ℤ◌, neg_ℤ, List, [], ◌∷◌, refl, sym, ap, ◌∙◌, arith, eqb}
 use Rattle.std.proofs.Common.{if◌then◌else◌}
 use Rattle.std.proofs.lemmas.Int.{ints}
 use Rattle.std.specs.Prelude.{int_le, sum_by}
@@ -16,10 +16,10 @@ use Rattle.module_format.specs.declared.fact.Step.TheVariants.{Byte, Word}
 use Rattle.module_format.specs.Facts.{end_of}
 use Rattle.module_format.specs.Contents.{Par}
 use Rattle.machine_state.proofs.Shares.{number_itself}
-use Rattle.machine_state.proofs.SpanLaws.{both_true, or_left, or_right}
+use Rattle.machine_state.proofs.SpanLaws.{both_true}
 use Rattle.states.specs.declared.known.WordFact.{WordFact}
 use Rattle.states.specs.declared.known.WordFact.TheVariants.{Alone, Index, Count}
-use Rattle.states.specs.State.{Facts, is_word, is_about, is_alone, said_of, entry_fact}
+use Rattle.states.specs.State.{Facts, is_about, is_alone, said_of, entry_fact}
 use Rattle.states.specs.Below.{implies, step_implies, says, words_say, entries_hold, are_alike, is_whole, price}
 use Rattle.states.specs.Below.{holds_constant}
 use Rattle.states.specs.Rows.{rise_from}

@@ -1,6 +1,5 @@
 -- In a state that holds of a process, the rule of `startp` and its step fit each other.
-use Rattle.std.specs.Prelude.{◌≡◌, ℕ, ◌+◌, ◌≤◌, ◌<◌, ℤ, pos, ◌+ℤ◌, true, List, [], ◌∷◌, length, Option, Some}
-use Rattle.module_format.specs.Contents.{Contents}
+use Rattle.std.specs.Prelude.{◌≡◌, ℕ, ◌+◌, ◌≤◌, ◌<◌, pos, ◌+ℤ◌, true, List, [], ◌∷◌, length, Option, Some}
 use Rattle.module_format.specs.Keeping.{Keeps}
 use Rattle.machine_state.specs.declared.op.Op.TheVariants.{StartProcess}
 use Rattle.machine_state.specs.declared.process.Mode.TheVariants as machine
