@@ -200,7 +200,8 @@ module _ (x : Here) (s : State) (l : Local) (wf : IsWellFormed x.m) (keeps : Kee
           → (words_left x.m found.par found.par.context 0).reads k ≡ true
       left_first k may = subst (λ (n : ℕ). (words_left x.m found.par found.par.context n).reads k ≡ true) first
           (left_to_read x.m found (left_of x.m s found tested) k
-          (and-parts (has_word (context_at x.m (context_of x.m found)) k) _ (sym (reads_is x.m s found tested k) ∙ may)).1)
+          (and-parts (has_word (context_at x.m (context_of x.m found)) k) _
+          (sym (reads_is x.m s found tested k) ∙ may)).1)
 
       -- what is known of the branch's words once the PAR is open
       words : (base : ℕ)
@@ -212,7 +213,8 @@ module _ (x : Here) (s : State) (l : Local) (wf : IsWellFormed x.m) (keeps : Kee
           let left = left_first k may in
           let opened = openings_take_their_words x.m found.row found.par x.act.layout base x.h l.memory s.depth
           l.registers.workspace can in
-          word_with x.m x.act found k (s.frame k) _ (means_same (all_here.knows.words k (and-parts _ _ (and-parts _ _ left).0).0) refl
+          word_with x.m x.act found k (s.frame k) _
+          (means_same (all_here.knows.words k (and-parts _ _ (and-parts _ _ left).0).0) refl
           (sym (opened.words k left)))
 
       pub starts_first : StartsFirst x s (after_start found (cost_of_start x.m s found label)

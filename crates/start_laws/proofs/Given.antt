@@ -247,9 +247,9 @@ module _ (m : Contents) (s : State) (found : Found) (t : IsTested m s found) whe
       not_shared : share_what_is_written found.branch other ≡ false
       not_shared = elim (or_true (other.entry == found.branch.entry) _
           (all_among (is_beside found.branch) (started_in m s.mode) other t.apart (t.started n other low there))) [
-        | inl same ↦ absurd (clash _ same (t.differs n other low there))
-        | inr apart ↦ was_false _ apart
-      ]
+            | inl same ↦ absurd (clash _ same (t.differs n other low there))
+            | inr apart ↦ was_false _ apart
+          ]
 
       -- neither has what the other one writes
       record AreApart : Type 0 where

@@ -60,7 +60,8 @@ module _ (P : Ruling → Type 0) where
       on (Loop base count weight) = go
       on ReturnAddress = go
 
-  pub settled_judged : (mode : Mode) (r : Ruling) → (IsSettled mode → Judged P r) → Judged P (outside_alternation mode r)
+  pub settled_judged : (mode : Mode) (r : Ruling) → (IsSettled mode → Judged P r)
+      → Judged P (outside_alternation mode r)
   unfolding outside_alternation
   settled_judged Plain r go = go is_plain
   settled_judged Enabling r go = broken rules.Alternation
@@ -68,7 +69,8 @@ module _ (P : Ruling → Type 0) where
   settled_judged (Starting row started) r go = go (is_among row started)
 
   pub pays_judged : (site : Site) (s : State) (k : State → Ruling)
-      → (site.length ≤ s.number → Judged P (k (record s { number = s.number - site.length }))) → Judged P (pays site s k)
+      → (site.length ≤ s.number → Judged P (k (record s { number = s.number - site.length })))
+      → Judged P (pays site s k)
   unfolding pays
   pays_judged site s k go = on (ltb s.number site.length) refl
     where

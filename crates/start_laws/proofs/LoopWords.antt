@@ -24,8 +24,8 @@ use Rattle.rulings.proofs.Entering.{implies_means, same_loop, entries_said, entr
 use Rattle.rulings.proofs.Words.{bool_cases, means_same, word_test, same_word_by, int_le_tells, itself_means}
 
 -- a number that is exactly this one
-pub constant_means : (m : Contents) (layout : Layout) (f : Fact) (v : Option ℤ) (number : ℤ) → is_constant f number ≡ true
-    → Means m layout f v → (FitsSigned w32 number) × (v ≡ Some number)
+pub constant_means : (m : Contents) (layout : Layout) (f : Fact) (v : Option ℤ) (number : ℤ)
+    → is_constant f number ≡ true → Means m layout f v → (FitsSigned w32 number) × (v ≡ Some number)
 constant_means m layout (Number lo hi) None number t means = elim means [ ]
 constant_means m layout (Number lo hi) (Some x) number t (is_number low high fits) =
     let both = and-parts (is_word lo number) (is_word hi number) t in

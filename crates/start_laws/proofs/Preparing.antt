@@ -48,8 +48,8 @@ constant_value m act k (Index loop) number v t means = absurd (cc)
 constant_value m act k (Count loop) number v t means = absurd (cc)
 
 -- the address of a code offset
-code_value : (m : Contents) (act : Activation) (k : ℤ) (fact : WordFact) (to : ℕ) (v : Option ℤ) → is_code fact to ≡ true
-    → MeansWord m act k fact v → v ≡ Some (word_of (pos (code_address m to)))
+code_value : (m : Contents) (act : Activation) (k : ℤ) (fact : WordFact) (to : ℕ) (v : Option ℤ)
+    → is_code fact to ≡ true → MeansWord m act k fact v → v ≡ Some (word_of (pos (code_address m to)))
 code_value m act k (Alone (CodeAddress offset)) to None t (is_fact means) = elim means [ ]
 code_value m act k (Alone (CodeAddress offset)) to (Some x) t (is_fact (is_code_address is)) =
     ap (λ (z : ℤ). Some z) (is ∙ ap (λ (o : ℕ). word_of (pos (code_address m o))) (eqb-true offset to t))

@@ -102,7 +102,8 @@ module _ (x : Here) (s : State) (l : Local) (wf : IsWellFormed x.m) (keeps : Kee
       is = first.is;
       left = is_left x.m s p.found tests;
       workspace_is = λ base at. place.address
-          ∙ sym (frame_channel x.act.layout base p.found.branch.workspace at (workspace_fits x.m p.found keeps first.is));
+          ∙ sym (frame_channel x.act.layout base p.found.branch.workspace at
+          (workspace_fits x.m p.found keeps first.is));
       context = turn.1;
       depth = turn.2;
       low = next after (ap falling p.is);

@@ -85,9 +85,9 @@ same_by : (fact : Fact) (a b c d : WordFact) → (is_loop fact ≡ true → (a �
 same_by (Loop base count weight) a b c d same =
     let e = same refl in (
       ap (λ (f : WordFact). whole_by (Loop base count weight) f b) e.0
-      ∙ ap (λ (f : WordFact). whole_by (Loop base count weight) c f) e.1,
+          ∙ ap (λ (f : WordFact). whole_by (Loop base count weight) c f) e.1,
       ap (λ (f : WordFact). price_by (Loop base count weight) f b) e.0
-      ∙ ap (λ (f : WordFact). price_by (Loop base count weight) c f) e.1,
+          ∙ ap (λ (f : WordFact). price_by (Loop base count weight) c f) e.1,
     )
 same_by Unknown a b c d same = (refl, refl)
 same_by (Number lo hi) a b c d same = (refl, refl)
@@ -113,7 +113,8 @@ module _ (par : Par) (facts : Facts) where
     written : (k : ℤ) → low ≤ℤ k → is_written par k ≡ true → given k ≡ entry_fact entries k
     others : (k : ℤ) → is_written par k ≡ false → given k ≡ facts k
 
-  pub of_written : (entries : List Entry) (k : ℤ) → is_written par k ≡ true → facts_after entries k ≡ entry_fact entries k
+  pub of_written : (entries : List Entry) (k : ℤ) → is_written par k ≡ true
+      → facts_after entries k ≡ entry_fact entries k
   of_written entries k e = ap (λ (b : Bool). if b then entry_fact entries k else facts k) e
 
   pub of_others : (entries : List Entry) (k : ℤ) → is_written par k ≡ false → facts_after entries k ≡ facts k
