@@ -95,9 +95,6 @@ module _ (x : Here) (s : State) (l : Local) (wf : IsWellFormed x.m) (keeps : Kee
       let parts = and-parts (is_prepared x.m s found.par) _ opens in
       (parts.0, has_label x.m found.par (label_at x.m found.par.successor) refl parts.1)
 
-  t : Label
-  t = both.1.label
-
   can_open : (base : ℕ) → IsBase x base → LiesInside x l.memory → HasNoEndsInside x.h
       → CanOpen x.m found.row found.par x.act.layout base x.h l.memory s.depth l.registers.workspace
   can_open base at inside free = record {

@@ -101,9 +101,6 @@ pub record IsTested (m : Contents) (s : State) (found : Found) : Type 0 where
       → (other.entry == found.branch.entry) ≡ false
 
 module _ (m : Contents) (s : State) (found : Found) (t : IsTested m s found) where
-  abbrev here : ℕ
-  here = context_of m found
-
   numbered : numbered_branch m (context_of m found) ≡ Some (found.par, found.branch)
   numbered = (has_context m found t.keeps t.is).numbered
 

@@ -130,9 +130,6 @@ module _ (par : Par) (facts : Facts) where
       both_true _ _ (on both.0 (bool_cases (is_written par (entry.word +ℤ pos more))))
       (words_hold given entry entries more these (omega (arith, low)) both.1)
     where
-      k : ℤ
-      k = entry.word +ℤ pos more
-
       about : is_about entry (entry.word +ℤ pos more) ≡ true
       about = about-within entry (entry.word +ℤ pos more) (omega (arith, ints)) (omega (arith, ints, low))
 
