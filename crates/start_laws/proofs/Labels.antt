@@ -1,0 +1,63 @@
+-- What a test of each word of a label says of one word.
+use Rattle.std.proofs.Common.{◌≡◌, ℕ, zero, suc, Bool, true, false, inl, inr, ℤ, pos, ◌+ℤ◌, ◌≤ℤ◌, ◌<ℤ◌}
+use Rattle.std.proofs.Common.{List, [], ◌∷◌, sym, ap, ◌∙◌, arith, eqb}
+use Rattle.std.proofs.lemmas.Bool.Decides.{nat_tests}
+use Rattle.std.proofs.lemmas.Int.{ints}
+use Rattle.std.specs.Prelude.{int_le, int_lt}
+use Rattle.std.specs.List.{list_all}
+use Rattle.module_format.specs.Rows.{Entry}
+use Rattle.module_format.specs.declared.fact.Fact.TheVariants.{Unknown}
+use Rattle.states.specs.declared.known.WordFact.{WordFact}
+use Rattle.states.specs.declared.known.WordFact.TheVariants.{Alone}
+use Rattle.states.specs.State.{is_word, is_about, said_of, entry_fact}
+use Rattle.states.proofs.RowFacts.{and-parts, le-from, lt-from}
+use Rattle.rulings.proofs.Entering.{entry_here, entry_later}
+use Rattle.rulings.proofs.Words.{bool_cases, word_test, int_le_tells}
+use Rattle.par_rules.specs.Comparisons.{words_pass}
+
+-- the first word of an entry
+pub first_word : (word k : ℤ) (more : ℕ) → k ≡ word +ℤ pos more → eqb more 0 ≡ is_word word k
+first_word word k zero e = elim (word_test word k) [ inl p ↦ sym p.0 | inr p ↦ absurd (p.1 (omega (arith, ints, e))) ]
+first_word word k (suc more) e =
+    let later : eqb (suc more) 0 ≡ false = grind (arith, nat_tests) in
+    elim (word_test word k) [
+      | inl p ↦ let same : word ≡ k = p.1 in absurd (omega (arith, ints, e, same))
+      | inr p ↦ later ∙ sym p.0
+    ]
+
+below_last : (k word : ℤ) (more : ℕ) → k <ℤ (word +ℤ pos (suc more)) → (k ≡ word +ℤ pos more → ⊥)
+    → k <ℤ (word +ℤ pos more)
+below_last k word more high differ = elim (int_le_tells (word +ℤ pos more) k) [
+  | inl p ↦ absurd (differ (omega (arith, ints, p.1, high)))
+  | inr p ↦ p.1
+]
+
+module _ (test : ℤ → WordFact → Bool) where
+  -- a word that an entry is about passes, with what the entry says of it
+  pub entry_passes : (entry : Entry) (k : ℤ) (span : ℕ) → words_pass test entry span ≡ true → entry.word ≤ℤ k
+      → k <ℤ (entry.word +ℤ pos span) → test k (said_of entry.fact (is_word entry.word k)) ≡ true
+  entry_passes entry k zero t low high = absurd (omega (arith, ints, low, high))
+  entry_passes entry k (suc more) t low high =
+      let both = and-parts _ _ t in
+      elim (word_test k (entry.word +ℤ pos more)) [
+        | inl e ↦
+            ap (λ (j : ℤ). test j (said_of entry.fact (is_word entry.word k))) e.1
+            ∙ ap (λ (b : Bool). test (entry.word +ℤ pos more) (said_of entry.fact b))
+            (sym (first_word entry.word k more e.1)) ∙ both.0
+        | inr e ↦ entry_passes entry k more both.1 low (below_last k entry.word more high e.1)
+      ]
+
+  -- a word passes with what a label says of it, if all do, and each does of which it says nothing
+  pub label_said : ((k : ℤ) → test k (Alone Unknown) ≡ true) → (entries : List Entry) (k : ℤ)
+      → list_all (λ entry. words_pass test entry entry.span) entries ≡ true → test k (entry_fact entries k) ≡ true
+  label_said silent [] k t = silent k
+  label_said silent (entry ∷ entries) k t =
+      let both = and-parts (words_pass test entry entry.span) _ t in
+      elim (bool_cases (is_about entry k)) [
+        | inl e ↦
+            let place = and-parts (int_le entry.word k) (int_lt k (entry.word +ℤ pos entry.span)) e in
+            ap (test k) (entry_here entry entries k e)
+            ∙ entry_passes entry k entry.span both.0 (le-from entry.word k place.0)
+            (lt-from k (entry.word +ℤ pos entry.span) place.1)
+        | inr e ↦ ap (test k) (entry_later entry entries k e) ∙ label_said silent entries k both.1
+      ]

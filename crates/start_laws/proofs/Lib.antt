@@ -1,0 +1,15 @@
+pub mod Alike
+pub mod Judged
+pub mod Given
+pub mod FirstInRow
+pub mod Workspaces
+pub mod AtLabels
+pub mod LaterStarts
+pub mod Labels
+pub mod EndsFit
+pub mod LoopWords
+pub mod Preparing
+pub mod AfterPars
+pub mod Unwritten
+pub mod FirstStarts
+pub mod StartsFit

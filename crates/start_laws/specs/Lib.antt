@@ -1,0 +1,3 @@
+pub mod BranchLabels
+pub mod Ending
+pub mod Starting
