@@ -78,7 +78,7 @@ module _ (x y z : EndKey) where
       (λ a b. let c = less b in grind (arith, nat_tests)) (λ a b. grind (arith, nat_tests))
       (λ a b. let c = less b in grind (arith, nat_tests)) (λ a b. grind (arith, nat_tests))
 
-  below_behind : is_below x y ≡ true → is_below y z ≡ true → is_below x z ≡ true
+  pub below_behind : is_below x y ≡ true → is_below y z ≡ true → is_below x z ≡ true
   below_behind =
       by_kind _ _ _ (ltb y.kind z.kind) (ltb-true y.kind z.kind)
       (by_number _ _ _ (int_lt y.number z.number) (λ e. grind (arith, ints))
@@ -96,8 +96,15 @@ module _ (x y z : EndKey) where
       (all_four (eqb y.kind z.kind) (int_le y.number z.number && int_le z.number y.number) (eqb y.element z.element)
       (eqb y.direction z.direction) same)
 
-below_differs : (x y : EndKey) → is_below x y ≡ true → is_same_end x y ≡ false
+pub below_differs : (x y : EndKey) → is_below x y ≡ true → is_same_end x y ≡ false
 below_differs x y a = grind (arith, nat_tests, ints)
+
+pub above_differs : (x y : EndKey) → is_below y x ≡ true → is_same_end x y ≡ false
+above_differs x y a = grind (arith, nat_tests, ints)
+
+-- two keys of which neither is below the other are the same
+pub neither_below : (x y : EndKey) → is_below x y ≡ false → is_below y x ≡ false → is_same_end x y ≡ true
+neither_below x y a b = grind (arith, nat_tests, ints)
 
 -- what `==` answers at two numbers, and at two keys
 same_number : (a b : ℤ) → int_eq a b ≡ (int_le a b && int_le b a)

@@ -5,3 +5,4 @@ pub mod EndOrder
 pub mod RunLaws
 pub mod BranchRunLaws
 pub mod AroundLaws
+pub mod SiblingLaws

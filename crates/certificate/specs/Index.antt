@@ -6,6 +6,7 @@ use Rattle.certificate.specs.Starts.{AreStarts}
 use Rattle.module_format.specs.Places.{ArePlaces}
 use Rattle.certificate.specs.Branches.{AreNumbers}
 use Rattle.certificate.specs.BranchRuns.{AreBranchRuns}
+use Rattle.certificate.specs.Judged.{AreJudged}
 
 -- the index of these contents
 pub record IsIndex (c : Contents) (index : Index) : Type 0 where
@@ -13,3 +14,4 @@ pub record IsIndex (c : Contents) (index : Index) : Type 0 where
   pub places : ArePlaces c (branch_count c.pars) index.places.items
   pub numbers : AreNumbers c index.numbers.items
   pub runs : AreBranchRuns c index.runs.items
+  pub judged : AreJudged c index.judged.items

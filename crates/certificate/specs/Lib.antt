@@ -5,3 +5,5 @@ pub mod Rights
 pub mod Runs
 pub mod Around
 pub mod BranchRuns
+pub mod Siblings
+pub mod Judged

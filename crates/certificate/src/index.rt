@@ -8,6 +8,7 @@ ghost use Rattle.module_format.specs.Places.{ArePlaces};
 ghost use Rattle.certificate.specs.Index.{IsIndex};
 
 use crate::branch_runs::branch_runs_of;
+use crate::judged::Judged;
 use crate::marks::Marks;
 use crate::numbers::numbers_of;
 use crate::runs::ChannelRun;
@@ -26,10 +27,12 @@ pub(crate) struct Index {
     pub numbers: Vec<u32>,
     /// For each branch and each end of a frame word that it has, the run of channels from that word on.
     pub runs: Vec<Vec<ChannelRun>>,
+    /// What was judged of branches, in the order of their contexts.
+    pub judged: Vec<Judged>,
 }
 
 impl Index {
-    /// The index of tables, of which the places of the branches are known. It takes memory in
+    /// The index of tables, of which the places of the branches are known, with no branch judged. It takes memory in
     /// proportion to the code and the rows, and time that is n log n in them.
     pub(crate) fn new(
         alloc: Global,
@@ -48,6 +51,7 @@ impl Index {
             places,
             numbers,
             runs,
+            judged: Vec::new(alloc),
         })
     }
 }

@@ -6,11 +6,13 @@ mod around;
 mod branch_runs;
 mod branches;
 mod index;
+mod judged;
 mod marks;
 mod modules;
 mod numbers;
 mod rights;
 mod runs;
+mod siblings;
 mod starts;
 
 pub use module_format::{

@@ -2,13 +2,14 @@
 
 use crate::branches::numbered_branch;
 use crate::index::Index;
+use crate::judged::Judged;
 use crate::numbers::number_at;
 use crate::runs::ChannelRun;
 use module_format::{
     BranchRow, Context, Contexts, FormatFault, LabelRow, ParRow, Parameter, ProcedureRow, Tables,
     read, row_at,
 };
-use std::alloc::Global;
+use std::alloc::{AllocError, Global};
 use std::marker::Model;
 
 /// What a file says, with the file. A `Module` is made by `read` alone, so that each is one that a file
@@ -42,6 +43,7 @@ impl<'a> Module<'a> {
     ghost use Rattle.certificate.specs.Starts.{procedure_at, is_start};
     ghost use Rattle.certificate.specs.Branches.{numbered_branch, branch_at};
     ghost use Rattle.certificate.specs.BranchRuns.{AreRunsAt};
+    ghost use Rattle.certificate.specs.Judged.{IsJudged};
     ghost use Rattle.module_format.specs.Order.{InOrder, least_word};
     ghost use Rattle.module_format.specs.Pars.{GiftsKeep, ChannelKeeps, behind_channel};
     ghost use Rattle.module_format.specs.Keeping.{Format, Keeps};
@@ -65,11 +67,22 @@ impl<'a> Module<'a> {
     {
         let (tables, places) = read(alloc, bytes)?;
         let index = Index::new(alloc, &tables, places)?;
-        Ok(Module {
+        let mut module = Module {
             bytes,
             tables,
             index,
-        })
+        };
+        module.judge_branches(alloc)?;
+        Ok(module)
+    }
+
+    /// Judges all branches.
+    fn judge_branches(&mut self, alloc: Global) -> Result<(), AllocError>
+        ensures { self.new ≡ self.old }
+    {
+        let judged = self.judge_all(alloc, &self.index.places)?;
+        self.index.judged = judged;
+        Ok(())
     }
 
     /// What the file says. It keeps the format.
@@ -157,6 +170,14 @@ impl<'a> Module<'a> {
         let number = (context as usize).checked_sub(self.tables.first_branch())?;
         let runs = self.index.runs.get(number)?;
         Some(runs)
+    }
+
+    /// What was judged of a branch.
+    pub(crate) fn judged(&self, context: u32) -> Option<Judged>
+        ensures { IfSome result (IsJudged self.now context) }
+    {
+        let number = (context as usize).checked_sub(self.tables.first_branch())?;
+        self.index.judged.get(number).copied()
     }
 
     /// The branch that begins at a code offset, with the number of its context and its PAR row, found in

@@ -29,7 +29,7 @@ fn is_among(intervals: &[Interval], word: i64) -> bool
 }
 
 /// The length that channels, which rise, give the one in a word.
-fn listed_length(channels: &[ChannelRow], word: i32) -> Option<u32>
+pub(crate) fn listed_length(channels: &[ChannelRow], word: i32) -> Option<u32>
     requires { InOrder ChannelKeeps behind_channel least_word channels.now }
     ensures { result ≡ listed_length channels.now word }
 {

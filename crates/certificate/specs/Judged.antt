@@ -1,0 +1,17 @@
+-- What is judged of each branch once, when its module is read.
+use Rattle.std.specs.Prelude.{◌≡◌, ℕ, ◌+◌, ◌<◌, List, length, get_or}
+use Rattle.module_format.specs.Contents.{Contents}
+use Rattle.module_format.specs.Contexts.{first_branch}
+use Rattle.certificate.specs.declared.judged.Judged.{Judged}
+use Rattle.certificate.specs.Siblings.{is_beside_first, has_other_ends_than_first, has_ends_of, leaves_own_hidden_words}
+
+-- this was judged of the branch that is context n
+pub record IsJudged (c : Contents) (n : ℕ) (judged : Judged) : Type 0 where
+  pub beside : judged.is_beside ≡ is_beside_first c n judged.row judged.number
+  pub other_ends : judged.has_other_ends ≡ has_other_ends_than_first c n judged.row judged.number
+  pub ends : judged.has_ends ≡ has_ends_of c judged.giver n
+  pub hidden : judged.leaves_hidden_words ≡ leaves_own_hidden_words c n
+
+-- this was judged of so many branches, the first ones
+pub record AreJudged (c : Contents) (judged : List Judged) : Type 0 where
+  pub each : (i : ℕ) (d : Judged) → i < length judged → IsJudged c (first_branch c + i) (get_or judged i d)
