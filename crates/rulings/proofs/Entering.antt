@@ -93,7 +93,7 @@ same_loop loop other t =
     )
 
 -- a number that is exactly this one
-constant_means : (m : Contents) (layout : Layout) (f : Fact) (v : Option ℤ) (number : ℤ) → is_constant f number ≡ true
+pub constant_means : (m : Contents) (layout : Layout) (f : Fact) (v : Option ℤ) (number : ℤ) → is_constant f number ≡ true
     → Means m layout f v → (FitsSigned w32 number) × (v ≡ Some number)
 constant_means m layout (Number lo hi) None number t means = elim means [ ]
 constant_means m layout (Number lo hi) (Some x) number t (is_number low high fits) =
@@ -151,7 +151,7 @@ module _ (m : Contents) (act : Activation) (turns : ℤ → ℕ) (k : ℤ) where
 -- ---- entries
 
 -- the first word of an entry
-first_word : (word k : ℤ) (more : ℕ) → k ≡ word +ℤ pos more → (more == 0) ≡ is_word word k
+pub first_word : (word k : ℤ) (more : ℕ) → k ≡ word +ℤ pos more → (more == 0) ≡ is_word word k
 first_word word k zero e = elim (word_test word k) [ inl p ↦ sym p.0 | inr p ↦ absurd (p.1 (omega (arith, ints))) ]
 first_word word k (suc more) e =
     let later : eqb (suc more) 0 ≡ false = grind (arith, nat_tests) in
@@ -160,6 +160,13 @@ first_word word k (suc more) e =
       | inr p ↦ later
           ∙ sym p.0
     ]
+
+pub below_last : (k word : ℤ) (more : ℕ) → k <ℤ (word +ℤ pos (suc more)) → (k ≡ word +ℤ pos more → ⊥)
+    → k <ℤ (word +ℤ pos more)
+below_last k word more high differ = elim (int_le_tells (word +ℤ pos more) k) [
+  | inl p ↦ absurd (differ (omega (arith, ints, p.1)))
+  | inr p ↦ p.1
+]
 
 -- each word that an entry is about
 words_said : (facts : Facts) (entry : Entry) (k : ℤ) (span : ℕ) → words_say facts entry span ≡ true → entry.word ≤ℤ k
@@ -173,13 +180,6 @@ words_said facts entry k (suc more) t low high =
           ∙ ap (λ (b : Bool). says (facts (entry.word +ℤ pos more)) (said_of entry.fact b))
           (sym (first_word entry.word k more e.1)) ∙ both.0
       | inr e ↦ words_said facts entry k more both.1 low (below_last k entry.word more high e.1)
-    ]
-  where
-    below_last : (k word : ℤ) (more : ℕ) → k <ℤ (word +ℤ pos (suc more)) → (k ≡ word +ℤ pos more → ⊥)
-        → k <ℤ (word +ℤ pos more)
-    below_last k word more high differ = elim (int_le_tells (word +ℤ pos more) k) [
-      | inl p ↦ absurd (differ (omega (arith, ints, p.1)))
-      | inr p ↦ p.1
     ]
 
 pub entry_here : (entry : Entry) (entries : List Entry) (k : ℤ) → is_about entry k ≡ true
@@ -306,7 +306,7 @@ count_behind_index facts low (entry ∷ entries) k loop rise pairs whole h =
 -- ---- labels
 
 -- each word as the label has it, where its loops have the turns that the label leaves
-label_words : (m : Contents) (act : Activation) (facts : Facts) (t : Label) (k : ℤ) (v : Option ℤ) → IsRowOf m t
+pub label_words : (m : Contents) (act : Activation) (facts : Facts) (t : Label) (k : ℤ) (v : Option ℤ) → IsRowOf m t
     → ArePairs t.entries → entries_hold facts t.entries ≡ true → list_all (is_whole facts) t.entries ≡ true
     → MeansWord m act k (facts k) v → MeansWord m (with_turns (label_turns facts t.entries act.turns) act) k
     (entry_fact t.entries k) v

@@ -25,7 +25,7 @@ use Rattle.rulings.proofs.Addresses.{stepped_quotient}
 use Rattle.rulings.proofs.Reaching.{address_of}
 
 -- a multiple of 4 is one modulo 2^32
-even_rest : (z q : ℤ) → z ≡ pos 4 *ℤ q → unsigned_abs (int_rem_euclid z (pos 4294967296)) % 4 ≡ 0
+pub even_rest : (z q : ℤ) → z ≡ pos 4 *ℤ q → unsigned_abs (int_rem_euclid z (pos 4294967296)) % 4 ≡ 0
 even_rest (pos a) q is = omega (arith, ints)
 even_rest (negsuc a) q is = omega (arith, ints)
 

@@ -54,7 +54,7 @@ means_with par {f = Loop base count weight} means = elim means [ ]
 means_with par {f = ReturnAddress} (is_return_address is) = is_return_address is
 
 -- nor does what is known of a word
-word_with : {m : Contents} {act : Activation} (found : Found) {k : ℤ} {f : WordFact} {v : Option ℤ}
+pub word_with : {m : Contents} {act : Activation} (found : Found) {k : ℤ} {f : WordFact} {v : Option ℤ}
     → MeansWord m act k f v → MeansWord m (act_with act found) k f v
 word_with found {f = Alone fact} (is_fact means) = is_fact (means_with found.par means)
 word_with found {f = Index loop} (is_index some few is fits) = is_index some few is fits

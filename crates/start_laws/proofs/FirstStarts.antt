@@ -19,16 +19,15 @@ use Rattle.machine_state.proofs.Shares.{number_itself}
 use Rattle.machine_state.proofs.SpanLaws.{both_true}
 use Rattle.states.specs.declared.known.Mode as states
 use Rattle.states.specs.declared.known.Mode.TheVariants.{Plain}
-use Rattle.states.specs.declared.known.WordFact.{WordFact}
-use Rattle.states.specs.declared.known.WordFact.TheVariants.{Alone, Index, Count}
 use Rattle.states.specs.State.{State, Facts, begun, is_word}
 use Rattle.states.specs.Below.{agrees, below, cost, view, implies, entries_hold, is_whole, price}
 use Rattle.states.proofs.RowFacts.{and-parts}
 use Rattle.rulings.specs.Fitting.{Described, After, Here}
-use Rattle.rulings.specs.Meaning.{Activation, MeansWord, is_fact, is_index, is_count, words_left, frame_word}
+use Rattle.rulings.specs.Meaning.{MeansWord, words_left, frame_word}
 use Rattle.rulings.specs.Meaning.{IsWellFormed, dues, owed, label_turns}
 use Rattle.rulings.specs.Regions.{Scope, scope_of, scope_among}
 use Rattle.rulings.proofs.Dues.{label_owed}
+use Rattle.rulings.proofs.Entering.{label_words}
 use Rattle.rulings.proofs.Words.{means_same}
 use Rattle.par_rules.specs.Comparisons.{branch_view, words_pass, is_left, is_after, is_written_loop, is_written}
 use Rattle.par_rules.specs.Comparisons.{agrees_after, cost_after}
@@ -36,36 +35,22 @@ use Rattle.par_rules.specs.Openings.{is_prepared}
 use Rattle.par_rules.specs.ParRules.{leaves_loops, may_open, label_after, labels_of_start, offset_after, after_start}
 use Rattle.par_rules.specs.ParRules.{cost_of_start}
 use Rattle.share_laws.specs.GoingOn.{act_with}
-use Rattle.share_laws.specs.Opening.{layout_with, held_by_opener, CanOpen, HasNoEndsInside}
+use Rattle.share_laws.specs.Opening.{held_by_opener, CanOpen, HasNoEndsInside}
 use Rattle.share_laws.specs.Shares.{IsBranch}
 use Rattle.share_laws.specs.Taking.{after_opening}
+use Rattle.share_laws.proofs.GoingOn.{word_with}
 use Rattle.share_laws.proofs.HiddenWords.{is_itself}
 use Rattle.share_laws.proofs.LeftBytes.{was_false}
 use Rattle.share_laws.proofs.TakenWords.{openings_take_their_words}
 use Rattle.start_laws.specs.BranchLabels.{LabelAfter, owed_at_label}
 use Rattle.start_laws.specs.Starting.{LiesInside, IsBase, StartsFirst}
-use Rattle.start_laws.proofs.Alike.{means_alike}
 use Rattle.start_laws.proofs.AfterPars.{IsAfter, after_tells, says_nothing_hidden, given_is_written, written_alone}
 use Rattle.start_laws.proofs.AtLabels.{is_below, branch_label, label_paid, begins_at_label}
 use Rattle.start_laws.proofs.EndsFit.{plain_mode}
 use Rattle.start_laws.proofs.Given.{IsTested, is_left as left_of, reads_is}
 use Rattle.start_laws.proofs.LaterStarts.{left_to_read}
-use Rattle.start_laws.proofs.LoopWords.{label_words}
 use Rattle.start_laws.proofs.Preparing.{prepared, hidden_own}
 use Rattle.start_laws.proofs.Unwritten.{facts_after, of_others, holds_after, whole_after, price_after, dues_after}
-
--- ---- other lengths
-
--- what is known of a word does not read how long messages are
-word_with : (m : Contents) (act : Activation) (found : Found) (k : ℤ) (f : WordFact) (v : Option ℤ)
-    → MeansWord m act k f v → MeansWord m (act_with act found) k f v
-word_with m act found k (Alone fact) v (is_fact means) =
-    is_fact (means_alike m act.layout (layout_with act.layout found.par) (record { origin = refl; starts = λ j. refl })
-    refl fact v means)
-word_with m act found k (Index loop) None means = elim means [ ]
-word_with m act found k (Index loop) (Some x) (is_index some few is fits) = is_index some few is fits
-word_with m act found k (Count loop) None means = elim means [ ]
-word_with m act found k (Count loop) (Some x) (is_count some few is fits) = is_count some few is fits
 
 -- ---- the label after the PAR
 
@@ -210,7 +195,7 @@ module _ (x : Here) (s : State) (l : Local) (wf : IsWellFormed x.m) (keeps : Kee
           let left = left_first k may in
           let opened = openings_take_their_words x.m found.row found.par x.act.layout base x.h l.memory s.depth
           l.registers.workspace can in
-          word_with x.m x.act found k (s.frame k) _
+          word_with found
           (means_same (all_here.knows.words k (and-parts _ _ (and-parts _ _ left).0).0) refl
           (sym (opened.words k left)))
 

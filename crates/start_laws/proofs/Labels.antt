@@ -1,7 +1,6 @@
 -- What a test of each word of a label says of one word.
-use Rattle.std.proofs.Common.{◌≡◌, ℕ, zero, suc, Bool, true, false, inl, inr, ℤ, pos, ◌+ℤ◌, ◌≤ℤ◌, ◌<ℤ◌}
-use Rattle.std.proofs.Common.{List, [], ◌∷◌, sym, ap, ◌∙◌, arith, eqb}
-use Rattle.std.proofs.lemmas.Bool.Decides.{nat_tests}
+use Rattle.std.proofs.Common.{◌≡◌, ℕ, zero, suc, Bool, true, inl, inr, ℤ, pos, ◌+ℤ◌, ◌≤ℤ◌, ◌<ℤ◌}
+use Rattle.std.proofs.Common.{List, [], ◌∷◌, sym, ap, ◌∙◌, arith}
 use Rattle.std.proofs.lemmas.Int.{ints}
 use Rattle.std.specs.Prelude.{int_le, int_lt}
 use Rattle.std.specs.List.{list_all}
@@ -11,26 +10,9 @@ use Rattle.states.specs.declared.known.WordFact.{WordFact}
 use Rattle.states.specs.declared.known.WordFact.TheVariants.{Alone}
 use Rattle.states.specs.State.{is_word, is_about, said_of, entry_fact}
 use Rattle.states.proofs.RowFacts.{and-parts, le-from, lt-from}
-use Rattle.rulings.proofs.Entering.{entry_here, entry_later}
-use Rattle.rulings.proofs.Words.{bool_cases, word_test, int_le_tells}
+use Rattle.rulings.proofs.Entering.{first_word, below_last, entry_here, entry_later}
+use Rattle.rulings.proofs.Words.{bool_cases, word_test}
 use Rattle.par_rules.specs.Comparisons.{words_pass}
-
--- the first word of an entry
-pub first_word : (word k : ℤ) (more : ℕ) → k ≡ word +ℤ pos more → eqb more 0 ≡ is_word word k
-first_word word k zero e = elim (word_test word k) [ inl p ↦ sym p.0 | inr p ↦ absurd (p.1 (omega (arith, ints, e))) ]
-first_word word k (suc more) e =
-    let later : eqb (suc more) 0 ≡ false = grind (arith, nat_tests) in
-    elim (word_test word k) [
-      | inl p ↦ let same : word ≡ k = p.1 in absurd (omega (arith, ints, e, same))
-      | inr p ↦ later ∙ sym p.0
-    ]
-
-below_last : (k word : ℤ) (more : ℕ) → k <ℤ (word +ℤ pos (suc more)) → (k ≡ word +ℤ pos more → ⊥)
-    → k <ℤ (word +ℤ pos more)
-below_last k word more high differ = elim (int_le_tells (word +ℤ pos more) k) [
-  | inl p ↦ absurd (differ (omega (arith, ints, p.1, high)))
-  | inr p ↦ p.1
-]
 
 module _ (test : ℤ → WordFact → Bool) where
   -- a word that an entry is about passes, with what the entry says of it

@@ -7,7 +7,6 @@ pub mod AtLabels
 pub mod LaterStarts
 pub mod Labels
 pub mod EndsFit
-pub mod LoopWords
 pub mod Preparing
 pub mod AfterPars
 pub mod Unwritten

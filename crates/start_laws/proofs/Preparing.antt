@@ -32,11 +32,11 @@ use Rattle.rulings.specs.Meaning.{Layout, Activation, is_pointer, is_code_addres
 use Rattle.rulings.specs.Meaning.{frame_word, word_of, code_address, region_start}
 use Rattle.rulings.specs.Remaining.{is_hidden, is_channel_word}
 use Rattle.rulings.proofs.Combining.{written_readable}
+use Rattle.rulings.proofs.Entering.{constant_means}
 use Rattle.rulings.proofs.Words.{same_word_by}
 use Rattle.par_rules.specs.Openings.{is_prepared, block_is_prepared, channel_is_empty, named_are_as_given, is_as_given}
 use Rattle.par_rules.specs.Openings.{end_is_as_given, is_start_of, is_code_address as is_code}
 use Rattle.share_laws.specs.Prepared.{IsPrepared, SaysWhere}
-use Rattle.start_laws.proofs.LoopWords.{constant_means}
 
 -- ---- what facts say of values
 

@@ -25,14 +25,13 @@ use Rattle.states.specs.Below.{holds_constant}
 use Rattle.states.specs.Rows.{rise_from}
 use Rattle.states.proofs.RowFacts.{and-parts, le-yes, rise-parts, about-within, about-behind}
 use Rattle.rulings.specs.Meaning.{ArePairs, loop_due, dues_from, dues, farthest_word}
-use Rattle.rulings.proofs.Entering.{entry_here, entry_later}
+use Rattle.rulings.proofs.Entering.{first_word, entry_here, entry_later}
 use Rattle.rulings.proofs.Words.{bool_cases}
 use Rattle.par_rules.specs.Comparisons.{words_pass, is_written, is_loop, is_written_loop, is_left}
 use Rattle.share_laws.proofs.HiddenWords.{is_itself}
 use Rattle.share_laws.proofs.LeftBytes.{is_false}
 use Rattle.start_laws.proofs.AfterPars.{written_alone}
 use Rattle.start_laws.proofs.Given.{neither}
-use Rattle.start_laws.proofs.Labels.{first_word}
 
 -- ---- what is said says itself
 

@@ -3,8 +3,7 @@ use Rattle.std.proofs.Common.{◌≡◌, ℕ, ◌+◌, ◌%◌, ◌==◌, ℤ, p
 use Rattle.std.proofs.Common.{Option, Some, None, refl, ap, ◌∙◌, subst, arith, eqb-true, if◌then◌else◌}
 use Rattle.std.proofs.lemmas.Bool.{eq-eqb}
 use Rattle.std.proofs.lemmas.Int.{ints}
-use Rattle.std.specs.Prelude.{IsTrue, unsigned_abs}
-use Rattle.std.specs.Int.{int_rem_euclid}
+use Rattle.std.specs.Prelude.{IsTrue}
 use Rattle.module_format.specs.Order.{is_stepped}
 use Rattle.module_format.specs.Rows.{Fact}
 use Rattle.module_format.specs.declared.fact.Fact.TheVariants.{Unknown, Number, Pointer, CodeAddress, Loop}
@@ -27,6 +26,7 @@ use Rattle.rulings.specs.Meaning.{Layout, Means, is_number, is_pointer, region_s
 use Rattle.rulings.specs.Regions.{channel_address}
 use Rattle.rulings.specs.Rulings.{Site}
 use Rattle.rulings.proofs.Addresses.{stepped_quotient}
+use Rattle.rulings.proofs.EvenChannels.{even_rest}
 use Rattle.rulings.proofs.Reaching.{address_of}
 use Rattle.rulings.proofs.Words.{same_word_by}
 use Rattle.par_rules.specs.ParRules.{is_at_word, is_workspace, named_branch}
@@ -78,11 +78,6 @@ workspace_address m layout (Number lo hi) k v t means = absurd (cc)
 workspace_address m layout (CodeAddress offset) k v t means = absurd (cc)
 workspace_address m layout (Loop base count weight) k v t means = absurd (cc)
 workspace_address m layout ReturnAddress k v t means = absurd (cc)
-
--- a multiple of 4 is one modulo 2^32
-even_rest : (z q : ℤ) → z ≡ pos 4 *ℤ q → unsigned_abs (int_rem_euclid z (pos 4294967296)) % 4 ≡ 0
-even_rest (pos a) q is = omega (arith, ints)
-even_rest (negsuc a) q is = omega (arith, ints)
 
 -- the address of a word is a multiple of 4
 pub even_address : (layout : Layout) (k x : ℤ) → IsTrue (is_stepped layout.origin)
