@@ -485,7 +485,12 @@ module _ (site : Site) (original : Local) (state : PlainState) (start : agree.Fi
     record { plain = p; stack = refl; words = words },
   ))))
   operation ops.Output = alone _ (λ p. exchanges Out _ (λ words. test _ NotOwn _ (λ own.
-      test _ Undefined _ (λ defined. asks _ (asks_none flow.Send, is_message)))))
+      test _ Undefined _ (λ defined. asks _ (
+        asks_none flow.Send,
+        is_message,
+        record { plain = p; stack = refl; words = words },
+        defined,
+      )))))
   operation ops.StartProcess = outside _ (two _ (aligned found.a _
       (asks _ (asked flow.Start _ (of_empty None) memory (none found), refl, refl))))
   operation ops.EndProcess = outside _ (one _ (aligned found.a _

@@ -1,8 +1,10 @@
 //! Memory, and the ready processes that are kept in it.
 
-ghost use Rattle.std.specs.Prelude.{◌≡◌, ◌<◌, ◌^◌, [], ◌∷◌, ◌++◌, ◌==◌, length, slice_index, Some};
+ghost use Rattle.std.specs.Prelude.{◌≡◌, ◌<◌, ◌^◌, [], ◌∷◌, ◌++◌, ◌==◌, length, slice_index, Some, IsTrue};
 ghost use Rattle.std.specs.List.{remove};
 ghost use Rattle.prefix_decoder.specs.Operand.{IsRegister};
+ghost use Rattle.machine_state.specs.Exchanges.{bytes_at};
+ghost use Rattle.machine_state.specs.LocalStep.{are_defined};
 ghost use Rattle.machine_state.specs.Memory.{place_of, scheduling_word, with_byte};
 ghost use Rattle.process_queue.specs.Keeping.{AgreesOnKept, ChangesKept};
 ghost use Rattle.process_queue.specs.Picking.{place_of_pick};
@@ -17,6 +19,7 @@ use crate::flow::PlainFlow;
 use crate::plain_store::PlainStore;
 use crate::registers::PlainRegisters;
 use crate::workspace_queue::WorkspaceQueue;
+use machine_state::LoadStore;
 use process_queue::ReadyQueue;
 use std::marker::Model;
 
@@ -108,6 +111,14 @@ impl Workspaces {
         ensures ready { self.new.ready ≡ self.old.ready }
     {
         self.store.set_byte(address, byte);
+    }
+
+    /// So many bytes from the address on, all of which lie in memory.
+    pub fn lend(&self, address: u32, count: u32) -> &[u8]
+        requires { IsTrue (are_defined self.now.memory address count) }
+        ensures { result.now ≡ bytes_at self.now.memory (place_of address) count }
+    {
+        self.store.lend(address, count)
     }
 
     /// The process with this workspace is ready, after all that are. Of memory only links change.

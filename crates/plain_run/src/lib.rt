@@ -1,7 +1,7 @@
 //! The plain machine runs a module, and agrees with the worlds that the machine's definitions say.
 #![tactic(auto)]
 
-mod inputs;
+mod link_words;
 mod machine;
 
 pub use machine::Machine;
