@@ -1,3 +1,6 @@
 pub mod ChainCode
+pub mod NamesTold
 pub mod OperandsBelow
+pub mod RowsSay
+pub mod SpreadOut
 pub mod WorkedCode

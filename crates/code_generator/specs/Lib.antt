@@ -11,3 +11,4 @@ pub mod SmallCode
 pub mod PieceViews
 pub mod SettingViews
 pub mod TargetViews
+pub mod FrameViews

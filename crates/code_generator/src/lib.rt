@@ -2,7 +2,10 @@
 #![tactic(auto)]
 
 mod acting;
+mod declaring;
 mod expressions;
+mod facts;
+mod frame;
 mod home;
 mod laws;
 mod listing;
@@ -11,6 +14,7 @@ mod piece;
 mod setting;
 mod targets;
 mod writing;
+mod zeroing;
 
 pub use home::Home;
 pub use laws::small_programs_have_code;
