@@ -1,4 +1,5 @@
 pub mod ChainCode
+pub mod DeclarationsWritten
 pub mod NamesTold
 pub mod OperandsBelow
 pub mod RowsSay
