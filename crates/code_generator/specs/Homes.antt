@@ -1,6 +1,6 @@
 -- Where what names stand for is while a program runs, and what is known of it there.
 use Rattle.std.specs.Prelude.{ℕ, ◌+◌, ◌/◌, ℤ, pos, ◌-ℤ◌, ◌+ℤ◌, unsigned_abs, List, [], ◌∷◌, ◌++◌, reverse}
-use Rattle.std.specs.Prelude.{Option, Some, option_and_then, slice_get}
+use Rattle.std.specs.Prelude.{Option, Some, None, option_and_then, slice_get}
 use Rattle.occam_parser.specs.declared.tree.ValueType.{ValueType}
 use Rattle.occam_parser.specs.declared.tree.ValueType.TheVariants as value_type
 use Rattle.word_arithmetic.specs.Range.{Ends, full}
@@ -45,6 +45,11 @@ facts_at (Word w) (Array kind type (Some size) range) = is_in w (words_for type 
 facts_at (Block w head) (Scalar kind type range) =
     record { word = w; span = 2; fact = Turning head range.lo (count_in range) } ∷ []
 facts_at h m = []
+
+-- of a name that may not be in the scope
+abbrev pub facts_here : Home → Option Entry → List RowEntry
+facts_here h None = []
+facts_here h (Some e) = facts_at h e.meaning
 
 abbrev pub facts_from : List Home → List Entry → List RowEntry
 facts_from [] es = []

@@ -11,3 +11,5 @@ pub mod SmallCode
 pub mod PieceViews
 pub mod SettingViews
 pub mod TargetViews
+pub mod FrameViews
+pub mod Written

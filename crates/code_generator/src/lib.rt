@@ -2,18 +2,24 @@
 #![tactic(auto)]
 
 mod acting;
+mod declaring;
 mod expressions;
+mod facts;
+mod frame;
 mod home;
 mod laws;
 mod listing;
 mod operations;
 mod piece;
+mod processes;
 mod setting;
 mod targets;
 mod writing;
+mod zeroing;
 
 pub use home::Home;
 pub use laws::small_programs_have_code;
 pub use listing::Listing;
 pub use piece::{Piece, RowEntry, WordFact};
+pub use processes::ProcessWriter;
 pub use setting::Setting;

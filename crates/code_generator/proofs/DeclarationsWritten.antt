@@ -1,0 +1,60 @@
+-- Declarations are gone over one after the other.
+use Rattle.std.proofs.Common.{◌≡◌, ℕ, ◌+◌, ◌<◌, ◌≤◌, List, [], ◌∷◌, ◌++◌, length, map, drop, get_or, sym, ap, ◌∙◌}
+use Rattle.std.proofs.lemmas.List.{append_assoc, append-nil, at_drop_more, at_drop_all}
+use Rattle.occam_parser.specs.declared.tree.Declaration as code_declaration
+use Rattle.occam_parser.specs.LineViews.{declaration_of}
+use Rattle.program_uses.specs.InTurn.{in_turn}
+use Rattle.code_generator.specs.declared.processes.ProcessWriter.{ProcessWriter}
+use Rattle.code_generator.specs.Pieces.{Piece}
+use Rattle.code_generator.specs.Declarations.{declaration_code}
+use Rattle.code_generator.specs.Processes.{Site, with_declaration}
+use Rattle.code_generator.specs.Written.{site_of, Declares, DeclaresAll, declarations_code}
+
+pub declared_next : (ds : List code_declaration.Declaration) (i : ℕ) (x : code_declaration.Declaration)
+    (s t : ProcessWriter) (start : List Piece) → i < length ds → x ≡ get_or ds i x
+    → s.listing ++ declarations_code (map declaration_of (drop i ds)) (site_of s) ≡ start
+    → Declares s t (declaration_of x)
+    → t.listing ++ declarations_code (map declaration_of (drop (i + 1) ds)) (site_of t) ≡ start
+declared_next ds i x s t start h is b d =
+    let rest = map declaration_of (drop (i + 1) ds) in
+    let step : declarations_code (map declaration_of (drop i ds)) (site_of s)
+    ≡ declaration_code (site_of s).known.entries (declaration_of x) s.frame.top
+    ++ declarations_code rest (with_declaration (declaration_of x) (site_of s)) =
+    at_drop_more (λ (xs : List code_declaration.Declaration). declarations_code (map declaration_of xs) (site_of s))
+    ds i x h
+    ∙ ap (λ y. declarations_code (declaration_of y ∷ rest) (site_of s)) (sym is) in
+    (λ j. d.code j ++ declarations_code rest (d.site j))
+    ∙ append_assoc s.listing (declaration_code (site_of s).known.entries (declaration_of x) s.frame.top)
+    (declarations_code rest (with_declaration (declaration_of x) (site_of s)))
+    ∙ ap (λ l. s.listing ++ l) (sym step) ∙ b
+
+pub placed_next : (ds : List code_declaration.Declaration) (i : ℕ) (x : code_declaration.Declaration)
+    (s t : ProcessWriter) (final : Site) → i < length ds → x ≡ get_or ds i x
+    → in_turn with_declaration (map declaration_of (drop i ds)) (site_of s) ≡ final
+    → Declares s t (declaration_of x)
+    → in_turn with_declaration (map declaration_of (drop (i + 1) ds)) (site_of t) ≡ final
+placed_next ds i x s t final h is b d =
+    let rest = map declaration_of (drop (i + 1) ds) in
+    let step : in_turn with_declaration (map declaration_of (drop i ds)) (site_of s)
+    ≡ in_turn with_declaration rest (with_declaration (declaration_of x) (site_of s)) =
+    at_drop_more
+    (λ (xs : List code_declaration.Declaration). in_turn with_declaration (map declaration_of xs) (site_of s)) ds i x h
+    ∙ ap (λ y. in_turn with_declaration (declaration_of y ∷ rest) (site_of s)) (sym is) in
+    ap (in_turn with_declaration rest) d.site ∙ sym step ∙ b
+
+pub declared_done : (ds : List code_declaration.Declaration) (i : ℕ) (s t : ProcessWriter) → length ds ≤ i
+    → t.listing ++ declarations_code (map declaration_of (drop i ds)) (site_of t)
+    ≡ s.listing ++ declarations_code (map declaration_of ds) (site_of s)
+    → in_turn with_declaration (map declaration_of (drop i ds)) (site_of t)
+    ≡ in_turn with_declaration (map declaration_of ds) (site_of s) → DeclaresAll s t (map declaration_of ds)
+declared_done ds i s t h a b =
+    let none : declarations_code (map declaration_of (drop i ds)) (site_of t) ≡ [] =
+    at_drop_all (λ (xs : List code_declaration.Declaration). declarations_code (map declaration_of xs) (site_of t))
+    ds i h in
+    let still : in_turn with_declaration (map declaration_of (drop i ds)) (site_of t) ≡ site_of t =
+    at_drop_all
+    (λ (xs : List code_declaration.Declaration). in_turn with_declaration (map declaration_of xs) (site_of t)) ds i h in
+    record {
+      code = sym (ap (λ l. t.listing ++ l) none ∙ append-nil t.listing) ∙ a;
+      site = sym still ∙ b;
+    }

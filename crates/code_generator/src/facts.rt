@@ -1,0 +1,120 @@
+//! What rows say: what a scope knows of words.
+
+ghost use Rattle.std.specs.Prelude.{◌≡◌, ◌++◌, ◌∷◌, [], IfOk, option_map, option_to_list};
+ghost use Rattle.word_arithmetic.specs.Range.{ends_of};
+ghost use Rattle.scalar_ranges.specs.Scopes.{entries_of, entry_of, meaning_of};
+ghost use Rattle.code_generator.specs.Pieces.{Row};
+ghost use Rattle.code_generator.specs.PieceViews.{home_seen, homes_seen};
+ghost use Rattle.code_generator.specs.Homes.{count_in, is_in, facts_at, facts_here, facts_of};
+ghost use Rattle.code_generator.specs.SettingViews.{entries_in, homes_in};
+
+use crate::declaring::words_for;
+use crate::home::Home;
+use crate::listing::Listing;
+use crate::piece::{Piece, RowEntry, WordFact};
+use crate::setting::Setting;
+use module_builder::GenFault;
+use scalar_ranges::{Entry, Meaning, Scope};
+use std::alloc::Global;
+use word_arithmetic::Range;
+
+/// How many numbers a range has.
+fn count_in(range: Range) -> Result<u32, GenFault>
+    ensures { IfOk result (λ n. n ≡ count_in (ends_of range)) }
+{
+    let count = i64::from(range.hi) - i64::from(range.lo) + 1;
+    u32::try_from(count.unsigned_abs()).map_err(|_| GenFault::Limit)
+}
+
+/// Some words have numbers in this range.
+fn is_in(word: u32, span: u32, range: Range) -> RowEntry
+    ensures { result ≡ is_in word span (ends_of range) }
+{
+    RowEntry {
+        word,
+        span,
+        fact: WordFact::Between {
+            lo: range.lo,
+            hi: range.hi,
+        },
+    }
+}
+
+/// What is known of the words of a name that is there and means this, if it has words.
+fn fact_at(home: &Home, meaning: Meaning) -> Result<Option<RowEntry>, GenFault>
+    ensures { IfOk result (λ entry. option_to_list entry ≡ facts_at (home_seen home.now) (meaning_of meaning)) }
+{
+    match (home, meaning) {
+        (Home::Word(word), Meaning::Scalar { range, .. }) => Ok(Some(is_in(*word, 1, range))),
+        (
+            Home::Word(word),
+            Meaning::Array {
+                value_type,
+                size: Some(size),
+                ..
+            },
+        ) => {
+            let span = words_for(value_type, size)?;
+            Ok(Some(is_in(*word, span, Range::full())))
+        }
+        (Home::Block { word, head }, Meaning::Scalar { range, .. }) => Ok(Some(RowEntry {
+            word: *word,
+            span: 2,
+            fact: WordFact::Turning {
+                head: *head,
+                base: range.lo,
+                count: count_in(range)?,
+            },
+        })),
+        _ => Ok(None),
+    }
+}
+
+/// What is known of the words of a name that is there, if it is in the scope and has words.
+fn fact_here(home: &Home, declared: Option<Entry>) -> Result<Option<RowEntry>, GenFault>
+    ensures { IfOk result (λ entry. option_to_list entry
+        ≡ facts_here (home_seen home.now) (option_map entry_of declared.entry)) }
+{
+    match declared {
+        Some(declared) => fact_at(home, declared.meaning),
+        None => Ok(None),
+    }
+}
+
+/// One entry more, if there is one.
+fn push_any(entries: &mut Vec<RowEntry>, entry: Option<RowEntry>) -> Result<(), GenFault>
+    ensures { IfOk result (λ _. entries.new.items ≡ entries.old.items ++ option_to_list entry) }
+{
+    if let Some(entry) = entry {
+        entries.push(entry)?;
+    }
+    Ok(())
+}
+
+/// What a scope knows of words, those of the outermost names first.
+fn facts_of(alloc: Global, scope: &Scope, homes: &[Home]) -> Result<Vec<RowEntry>, GenFault>
+    ensures { IfOk result (λ entries. entries.items ≡ facts_of (homes_seen homes.now) (entries_of scope.now)) }
+{
+    let mut entries = Vec::new(alloc);
+    for (number, home) in homes.iter().enumerate() {
+        let entry = fact_here(home, scope.entry(number))?;
+        push_any(&mut entries, entry)?;
+    }
+    Ok(entries)
+}
+
+impl Listing {
+    /// A label, and what is known at it.
+    pub(crate) fn write_row(
+        &mut self,
+        alloc: Global,
+        setting: Setting,
+        label: usize,
+    ) -> Result<(), GenFault>
+        ensures { IfOk result (λ _. self.new
+            ≡ self.old ++ Row label (facts_of (homes_in setting.entry) (entries_in setting.entry)) ∷ []) }
+    {
+        let entries = facts_of(alloc, setting.scope, setting.homes)?;
+        self.push(Piece::Row { label, entries })
+    }
+}

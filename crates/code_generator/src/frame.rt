@@ -1,0 +1,61 @@
+//! Which words names take.
+
+ghost use Rattle.std.specs.Prelude.{◌≡◌, IfOk, take};
+ghost use Rattle.occam_parser.specs.OneOrMore.{as_list, one_or_more_of};
+ghost use Rattle.occam_parser.specs.LineViews.{spelling_of};
+ghost use Rattle.code_generator.specs.PieceViews.{home_seen, homes_seen};
+ghost use Rattle.code_generator.specs.Declarations.{with_home, with_words, with_names};
+ghost use Rattle.code_generator.specs.FrameViews.{frame_seen};
+
+use crate::home::Home;
+use crate::setting::word_after;
+use module_builder::GenFault;
+use occam_parser::OneOrMore;
+
+/// Where what names stand for is, by the numbers of their declarations, and the first word that is free.
+#[derive(Drop)]
+pub(crate) struct Frame {
+    pub(crate) homes: Vec<Home>,
+    pub(crate) top: u32,
+}
+
+impl Frame {
+    /// One name more, which takes no words.
+    pub(crate) fn add_home(&mut self, home: Home) -> Result<(), GenFault>
+        ensures { IfOk result (λ _. frame_seen self.new ≡ with_home (home_seen home) (frame_seen self.old)) }
+    {
+        self.homes.push(home)?;
+        Ok(())
+    }
+
+    /// One name more, which takes so many words.
+    pub(crate) fn add_words(&mut self, count: u32) -> Result<(), GenFault>
+        ensures { IfOk result (λ _. frame_seen self.new ≡ with_words count (frame_seen self.old)) }
+    {
+        let next = word_after(self.top, count)?;
+        self.homes.push(Home::Word(self.top))?;
+        self.top = next;
+        Ok(())
+    }
+
+    /// These names more, each of which takes so many words.
+    pub(crate) fn add_names(&mut self, count: u32, names: &OneOrMore<&[u8]>) -> Result<(), GenFault>
+        ensures { IfOk result (λ _. frame_seen self.new
+            ≡ with_names count (as_list (one_or_more_of spelling_of names.now)) (frame_seen self.old)) }
+    {
+        self.add_words(count)?;
+        for _name in &names.others {
+            self.add_words(count)?;
+        }
+        Ok(())
+    }
+
+    /// The names are left that came since there were so many, and their words are free again.
+    pub(crate) fn leave(&mut self, count: usize, top: u32)
+        ensures homes { homes_seen self.new.homes.items ≡ take count (homes_seen self.old.homes.items) }
+        ensures top { self.new.top ≡ top }
+    {
+        self.homes.truncate(count);
+        self.top = top;
+    }
+}
