@@ -1,6 +1,5 @@
 -- How often what is 0 is moved until all words of an array are.
-use Rattle.std.proofs.Common.{◌≡◌, ℕ, zero, suc, ◌+◌, ◌-◌, ◌≤◌, ◌<◌, min, nat_lt, false, true, List, [], ◌++◌, refl}
-use Rattle.std.proofs.Common.{sym}
+use Rattle.std.proofs.Common.{◌≡◌, ℕ, zero, suc, ◌+◌, ◌-◌, ◌≤◌, ◌<◌, min, nat_lt, false, true, List, [], ◌++◌, refl, sym}
 use Rattle.std.proofs.Common.{ap, arith, if◌then◌else◌, ◌∙◌}
 use Rattle.std.proofs.lemmas.Bool.Decides.{nat_tests}
 use Rattle.std.proofs.lemmas.List.{append_assoc, append-nil}
@@ -38,8 +37,7 @@ spread_more word count done more start before after h some is b e =
     let m = min done (count - done) in
     let f = count - done - 1 in
     let left : count - done ≡ suc f = omega arith in
-    let whole : spread (count - done) word count done
-    ≡ moves more word (word + done) ++ spread f word count (done + more) =
+    let whole : spread (count - done) word count done ≡ moves more word (word + done) ++ spread f word count (done + more) =
     ap (λ n. spread n word count done) left
     ∙ ap (λ t. if t then moves m word (word + done) ++ spread f word count (done + m) else []) (below done count h)
     ∙ ap (λ n. moves n word (word + done) ++ spread f word count (done + n)) (sym is) in

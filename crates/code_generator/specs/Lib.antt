@@ -12,3 +12,4 @@ pub mod PieceViews
 pub mod SettingViews
 pub mod TargetViews
 pub mod FrameViews
+pub mod Written

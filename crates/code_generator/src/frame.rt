@@ -39,7 +39,11 @@ impl Frame {
     }
 
     /// These names more, each of which takes so many words.
-    pub(crate) fn add_names(&mut self, count: u32, names: &OneOrMore<&[u8]>) -> Result<(), GenFault>
+    pub(crate) fn add_names(
+        &mut self,
+        count: u32,
+        names: &OneOrMore<&[u8]>,
+    ) -> Result<(), GenFault>
         ensures { IfOk result (λ _. frame_seen self.new
             ≡ with_names count (as_list (one_or_more_of spelling_of names.now)) (frame_seen self.old)) }
     {

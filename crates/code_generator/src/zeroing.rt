@@ -1,13 +1,14 @@
 //! Writing the code that sets to 0 what is declared.
 
 ghost use Rattle.std.specs.Prelude.{◌≡◌, ◌++◌, ◌-◌, IfOk};
-ghost use Rattle.occam_parser.specs.LineViews.{any_of};
-ghost use Rattle.code_generator.specs.Declarations.{spread, zero_array, zero_code};
+ghost use Rattle.occam_parser.specs.OneOrMore.{as_list, one_or_more_of};
+ghost use Rattle.occam_parser.specs.LineViews.{any_of, spelling_of};
+ghost use Rattle.code_generator.specs.Declarations.{spread, zero_array, zero_scalar, zero_code, zero_names};
 
 use crate::listing::Listing;
 use crate::setting::word_after;
 use module_builder::GenFault;
-use occam_parser::Expr;
+use occam_parser::{Expr, OneOrMore};
 
 impl Listing {
     /// The first of some words is 0. It is moved to those behind it until all of them are.
@@ -35,12 +36,7 @@ impl Listing {
     }
 
     /// What one name stands for, by its first word.
-    pub(crate) fn write_zero(
-        &mut self,
-        size: &Option<Expr>,
-        word: u32,
-        count: u32,
-    ) -> Result<(), GenFault>
+    fn write_zero(&mut self, size: &Option<Expr>, word: u32, count: u32) -> Result<(), GenFault>
         ensures { IfOk result (λ _. self.new ≡ self.old ++ zero_code (any_of size.now) word count) }
     {
         match size {
@@ -50,5 +46,25 @@ impl Listing {
             }
             Some(_) => self.write_zero_array(word, count),
         }
+    }
+
+    /// What these names stand for, each of which takes so many words, from this word on.
+    pub(crate) fn write_zeros(
+        &mut self,
+        size: &Option<Expr>,
+        count: u32,
+        names: &OneOrMore<&[u8]>,
+        word: u32,
+    ) -> Result<(), GenFault>
+        ensures { IfOk result (λ _. self.new ≡ self.old
+            ++ zero_names (any_of size.now) count (as_list (one_or_more_of spelling_of names.now)) word) }
+    {
+        self.write_zero(size, word, count)?;
+        let mut next = word_after(word, count)?;
+        for _name in &names.others {
+            self.write_zero(size, next, count)?;
+            next = word_after(next, count)?;
+        }
+        Ok(())
     }
 }

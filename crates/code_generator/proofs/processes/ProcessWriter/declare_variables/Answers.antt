@@ -1,0 +1,27 @@
+use Rattle.std.proofs.Common.{◌++◌, ap, ◌∙◌}
+use Rattle.occam_parser.specs.OneOrMore.{as_list, one_or_more_of}
+use Rattle.occam_parser.specs.LineViews.{any_of, spelling_of}
+use Rattle.scalar_ranges.specs.Scopes.{entries_of}
+use Rattle.program_uses.specs.Declaring.{add_all}
+use Rattle.code_generator.specs.Declarations.{with_names, zero_names}
+use Rattle.code_generator.specs.FrameViews.{frame_seen}
+use Rattle.code_generator.proofs.processes.ProcessWriter.declare_variables.Goals as goal
+
+pub returns : goal.returns
+returns c =
+    let s = c.args.self.now in
+    let size = any_of c.args.names.now.size in
+    let names = as_list (one_or_more_of spelling_of c.args.names.now.names) in
+    record {
+      code = c.in_ok-write_zeros.ensures
+          ∙ ap (λ n. s.listing ++ zero_names size n names s.frame.top) c.in_ok-count.ensures;
+      site = λ i. record {
+        frame = (c.in_ok-add_names.ensures ∙ ap (λ n. with_names n names (frame_seen s.frame)) c.in_ok-count.ensures) i;
+        known = record {
+          entries = (c.in_ok-declare_names.ensures.entries
+              ∙ ap (λ m. add_all names m (entries_of s.scope)) c.variable_meaning-meaning.ensures) i;
+          blocks = c.in_ok-declare_names.ensures.blocks i;
+        };
+        label = s.label;
+      };
+    }
