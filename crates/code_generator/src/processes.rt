@@ -1,8 +1,6 @@
 //! Writing the code of processes. If a function fails, some pieces more may have come.
 
-ghost use Rattle.std.specs.Prelude.{◌≡◌, ◌++◌, ◌∷◌, [], IfOk, map, ◌+◌, length};
-ghost use Rattle.occam_layout.specs.declared.mark.Mark.TheVariants as mark;
-ghost use Rattle.occam_parser.specs.Terminals.{Mark};
+ghost use Rattle.std.specs.Prelude.{◌≡◌, ◌++◌, ◌∷◌, [], IfOk, map, ◌+◌};
 ghost use Rattle.occam_parser.specs.Expressions.{Alone};
 ghost use Rattle.occam_parser.specs.Views.{expression_of, term_of};
 ghost use Rattle.occam_parser.specs.Lines.{Constants, Variables, Channels, Stop};
@@ -11,9 +9,7 @@ ghost use Rattle.occam_parser.specs.LineViews.{action_of, constant_of, declarati
 ghost use Rattle.occam_parser.specs.BlockViews.{process_of, construct_of, choice_of, plain_component};
 ghost use Rattle.occam_parser.specs.BlockViews.{all_processes, all_choices};
 ghost use Rattle.scalar_ranges.specs.Scopes.{entries_of, known_of};
-ghost use Rattle.program_uses.specs.ActionViews.{around_of};
 ghost use Rattle.code_generator.specs.Actions.{action_code, test_code};
-ghost use Rattle.code_generator.specs.Declarations.{declared};
 ghost use Rattle.code_generator.specs.FrameViews.{frame_seen};
 ghost use Rattle.code_generator.specs.Processes.{is_true, row_of};
 ghost use Rattle.code_generator.specs.Written.{site_of, Appends, Declares, DeclaresAll, WritesConstruct, WritesProcess};
