@@ -1,7 +1,6 @@
 -- What a row says, name by name from the outermost one on.
-use Rattle.std.proofs.Common.{◌≡◌, ℕ, ◌+◌, ◌<◌, ◌≤◌, List, [], ◌∷◌, ◌++◌, length, map, take, get_or, reverse, Option}
-use Rattle.std.proofs.Common.{Some}
-use Rattle.std.proofs.Common.{None, option_map, refl, sym, ap, arith, ◌∙◌}
+use Rattle.std.proofs.Common.{◌≡◌, ℕ, ◌+◌, ◌<◌, ◌≤◌, List, [], ◌∷◌, ◌++◌, length, take, get_or, reverse, Option}
+use Rattle.std.proofs.Common.{refl, sym, ap, arith, ◌∙◌}
 use Rattle.std.proofs.lemmas.List.{append_assoc, append-nil, length-take, length-map, map_push, reverse-reverse}
 use Rattle.std.proofs.lemmas.List.{take_all}
 use Rattle.scalar_ranges.specs.Entries.{Entry, entry_at}

@@ -1,18 +1,22 @@
--- What it is to write the code of declarations and of a construct.
-use Rattle.std.specs.Prelude.{◌≡◌, ℕ, List, [], ◌∷◌, ◌++◌, Option, Some, None}
+-- What it is to write the code of a process or of a part of one.
+use Rattle.std.specs.Prelude.{◌≡◌, ℕ, ◌+◌, Bool, true, false, List, [], ◌∷◌, ◌++◌, Option, Some, None}
+use Rattle.occam_layout.specs.declared.mark.Mark.TheVariants as mark
+use Rattle.occam_parser.specs.Terminals.{Mark}
 use Rattle.occam_parser.specs.Lines.{Declaration}
-use Rattle.occam_parser.specs.Blocks.{Construct}
-use Rattle.scalar_ranges.specs.Moves.{Known}
+use Rattle.occam_parser.specs.Blocks.{Process, Construct, Part, Components, Component, Plain, Chosen, Guarded}
+use Rattle.scalar_ranges.specs.Moves.{Known, begin, end}
 use Rattle.scalar_ranges.specs.Scopes.{known_of}
 use Rattle.program_uses.specs.declared.actions.Around as code_around
 use Rattle.program_uses.specs.ActionViews.{around_of}
+use Rattle.program_uses.specs.Actions.{Around}
 use Rattle.program_uses.specs.InTurn.{in_turn}
-use Rattle.usage_checks.specs.AfterProcesses.{after_construct}
+use Rattle.usage_checks.specs.AfterProcesses.{inside, after_construct, after_components, after_component, chosen}
 use Rattle.code_generator.specs.declared.processes.ProcessWriter.{ProcessWriter}
-use Rattle.code_generator.specs.Pieces.{Piece, Code}
+use Rattle.code_generator.specs.Pieces.{Piece, Code, closed_by}
 use Rattle.code_generator.specs.Declarations.{declaration_code}
 use Rattle.code_generator.specs.FrameViews.{frame_seen}
-use Rattle.code_generator.specs.Processes.{Site, with_declaration, construct_code}
+use Rattle.code_generator.specs.Processes.{Site, with_declaration, at_place, row_of, process_code, construct_code}
+use Rattle.code_generator.specs.Processes.{components_code, component_code, choices_code, choice_code, last_code}
 use Rattle.code_generator.specs.Programs.{first_word}
 use Rattle.usage_checks.specs.ItemRules.{outermost}
 
@@ -50,9 +54,65 @@ pub record DeclaresAll (s t : ProcessWriter) (ds : List Declaration) : Type 0 wh
   pub code : t.listing ≡ s.listing ++ declarations_code ds (site_of s)
   pub site : site_of t ≡ in_turn with_declaration ds (site_of s)
 
--- ---- constructs
+-- ---- processes
+
+abbrev pub WritesProcess : (s t : ProcessWriter) → code_around.Around → Process → Type 0
+WritesProcess s t a p =
+    Writes s t (process_code (around_of a) p (site_of s)) (inside (around_of a) p (known_of s.scope))
 
 abbrev pub WritesConstruct : (s t : ProcessWriter) → code_around.Around → ℕ → Construct → Type 0
 WritesConstruct s t a line c =
     Writes s t (construct_code (around_of a) line c (site_of s))
     (after_construct (around_of a) line c (known_of s.scope))
+
+abbrev pub WritesSeq : {part : Part} → (s t : ProcessWriter) → code_around.Around → Components part → Type 0
+WritesSeq s t a cs =
+    Writes s t (components_code (around_of a) cs (site_of s))
+    (after_components (around_of a) (Mark mark.Seq) cs (known_of s.scope))
+
+abbrev pub WritesOne : {part : Part} → (s t : ProcessWriter) → code_around.Around → Component part → Type 0
+WritesOne s t a c =
+    Writes s t (component_code (around_of a) c (site_of s))
+    (after_component (around_of a) (Mark mark.Seq) c (known_of s.scope))
+
+-- ---- choices
+
+-- an IF, whose end is at the label that is free
+abbrev pub if_code : {part : Part} → Around → Components part → Site → Option Code
+if_code a cs s =
+    closed_by (row_of s.label s.frame (end (after_components a (Mark mark.If) cs (begin s.known))) ∷ [])
+    (choices_code a s.label cs (at_place (begin s.known) (s.label + 1) s))
+
+abbrev pub WritesIf : {part : Part} → (s t : ProcessWriter) → code_around.Around → Components part → Type 0
+WritesIf s t a cs =
+    Writes s t (if_code (around_of a) cs (site_of s))
+    (end (after_components (around_of a) (Mark mark.If) cs (begin (known_of s.scope))))
+
+-- the code of a choice, by what it is in its place
+abbrev pub WritesAs : {part : Part} → (s t : ProcessWriter) → code_around.Around → Option Code → Component part → Type 0
+WritesAs s t a code c = Writes s t code (after_component (around_of a) (Mark mark.If) c (known_of s.scope))
+
+abbrev pub WritesChoices : {part : Part} → (s t : ProcessWriter) → code_around.Around → ℕ → Components part → Type 0
+WritesChoices s t a end cs =
+    Writes s t (choices_code (around_of a) end cs (site_of s))
+    (after_components (around_of a) (Mark mark.If) cs (known_of s.scope))
+
+abbrev pub WritesChoice : {part : Part} → (s t : ProcessWriter) → code_around.Around → ℕ → Component part → Type 0
+WritesChoice s t a end c = WritesAs s t a (choice_code (around_of a) end c (site_of s)) c
+
+-- one of several choices, the last one or another one
+abbrev pub part_code : {part : Part} → Around → ℕ → Bool → Component part → Site → Option Code
+part_code a end true c s = last_code a end c s
+part_code a end false c s = choice_code a end c s
+
+abbrev pub WritesPart : {part : Part} → (s t : ProcessWriter) → code_around.Around → ℕ → Bool → Component part → Type 0
+WritesPart s t a end is_last c = WritesAs s t a (part_code (around_of a) end is_last c (site_of s)) c
+
+-- a choice without its test
+abbrev pub chosen_code : {part : Part} → Around → Component part → Site → Option Code
+chosen_code a (Plain p) s = None
+chosen_code a (Chosen line e p) s = process_code a p (at_place (chosen e s.known) s.label s)
+chosen_code a (Guarded line g p) s = None
+
+abbrev pub WritesChosen : {part : Part} → (s t : ProcessWriter) → code_around.Around → Component part → Type 0
+WritesChosen s t a c = WritesAs s t a (chosen_code (around_of a) c (site_of s)) c

@@ -1,25 +1,33 @@
-//! Writing the code of declarations and actions, with what is known after them. If a function fails, some pieces more
-//! may have come.
+//! Writing the code of processes. If a function fails, some pieces more may have come.
 
 ghost use Rattle.std.specs.Prelude.{◌≡◌, ◌++◌, ◌∷◌, [], IfOk, map, ◌+◌};
+ghost use Rattle.occam_parser.specs.Expressions.{Alone};
+ghost use Rattle.occam_parser.specs.Views.{expression_of, term_of};
 ghost use Rattle.occam_parser.specs.Lines.{Constants, Variables, Channels, Stop};
 ghost use Rattle.occam_parser.specs.Blocks.{Act};
 ghost use Rattle.occam_parser.specs.LineViews.{action_of, constant_of, declaration_of, names_of};
+ghost use Rattle.occam_parser.specs.BlockViews.{process_of, construct_of, choice_of, plain_component};
+ghost use Rattle.occam_parser.specs.BlockViews.{all_processes, all_choices};
 ghost use Rattle.scalar_ranges.specs.Scopes.{entries_of, known_of};
-ghost use Rattle.code_generator.specs.Actions.{action_code};
+ghost use Rattle.code_generator.specs.Actions.{action_code, test_code};
 ghost use Rattle.code_generator.specs.FrameViews.{frame_seen};
-ghost use Rattle.code_generator.specs.Processes.{row_of};
-ghost use Rattle.code_generator.specs.Written.{first_site, site_of, Appends, Declares, DeclaresAll, WritesConstruct};
+ghost use Rattle.code_generator.specs.Processes.{is_true, row_of};
+ghost use Rattle.code_generator.specs.Written.{site_of, Appends, Declares, DeclaresAll, WritesConstruct, WritesProcess};
+ghost use Rattle.code_generator.specs.Written.{WritesSeq, WritesOne, WritesIf, WritesChoices, WritesChoice};
+ghost use Rattle.code_generator.specs.Written.{WritesPart, WritesChosen, first_site};
 
 use crate::declaring::{channels_in, declare_names, home_for, words_in};
 use crate::frame::Frame;
 use crate::listing::Listing;
 use crate::operations;
+use crate::piece::Piece;
 use crate::setting::Setting;
 use module_builder::GenFault;
-use occam_parser::{Action, Constant, Declaration, Names};
+use occam_parser::{
+    Action, Choice, Constant, Construct, Declaration, Expr, Names, Operand, Operation, Process,
+};
 use program_uses::{Around, add_name, channel_meaning, constant_meaning, variable_meaning};
-use scalar_ranges::Scope;
+use scalar_ranges::{Scope, narrow_by};
 use std::alloc::Global;
 use usage_checks::after_action;
 
@@ -39,6 +47,35 @@ fn label_after(label: usize) -> Result<usize, GenFault>
     ensures { IfOk result (λ n. n ≡ label + 1) }
 {
     label.checked_add(1).ok_or(GenFault::Limit)
+}
+
+/// Whether a condition is the operand TRUE, in any brackets.
+#[cycle(truth)]
+fn is_true(condition: &Expr) -> bool
+    ensures { result ≡ is_true (expression_of condition.now) }
+{
+    match &*condition.operation {
+        Operation::Operand(operand) => is_true_operand(operand),
+        Operation::Prefix { .. } | Operation::Pair { .. } | Operation::Chain { .. } => false,
+    }
+}
+
+/// Whether an operand is TRUE, in any brackets.
+#[cycle(truth)]
+fn is_true_operand(operand: &Operand) -> bool
+    ensures { result ≡ is_true (Alone (term_of operand.now)) }
+{
+    match operand {
+        Operand::Truth(holds) => *holds,
+        Operand::Bracketed(inner) => is_true(inner),
+        Operand::Integer(_)
+        | Operand::Character(_)
+        | Operand::MostPos
+        | Operand::MostNeg
+        | Operand::Name(_)
+        | Operand::Element { .. }
+        | Operand::Converted { .. } => false,
+    }
 }
 
 /// The first word that a process has for its names: those before it are for the selection of an alternation and the
@@ -115,7 +152,7 @@ impl<'a> ProcessWriter<'a> {
     }
 
     /// The declarations before a construct.
-    pub fn declare_all(&mut self, declarations: &[Declaration<'a>]) -> Result<(), GenFault>
+    fn declare_all(&mut self, declarations: &[Declaration<'a>]) -> Result<(), GenFault>
         ensures { IfOk result (λ _. DeclaresAll self.old self.new (map declaration_of declarations.now)) }
     {
         for declaration in declarations {
@@ -178,11 +215,167 @@ impl<'a> ProcessWriter<'a> {
     }
 
     /// An action. The error is [`GenFault::Invalid`] for an instance, which has no code.
-    pub fn act(&mut self, around: Around, line: u32, action: &Action) -> Result<(), GenFault>
+    fn act(&mut self, around: Around, line: u32, action: &Action) -> Result<(), GenFault>
         ensures { IfOk result (λ _. WritesConstruct self.old self.new around.entry line (Act (action_of action.now))) }
     {
         self.write_action(action)?;
         after_action(&mut self.scope, around.signatures, action);
+        Ok(())
+    }
+
+    /// A condition, and a jump to a label where it does not hold.
+    fn write_test(&mut self, condition: &Expr, label: usize) -> Result<(), GenFault>
+        ensures code { IfOk result (λ _. self.new.listing
+            ≡ self.old.listing ++ test_code (frame_seen self.old.frame).homes (entries_of self.old.scope)
+            self.old.frame.top (expression_of condition.now) label) }
+        ensures site { IfOk result (λ _. site_of self.new ≡ site_of self.old) }
+    {
+        let setting = Setting {
+            scope: &self.scope,
+            homes: &self.frame.homes,
+            top: self.frame.top,
+        };
+        self.listing.write_test(setting, condition, label)
+    }
+
+    /// A process, with what it declares.
+    #[cycle(processes)]
+    pub fn write(&mut self, around: Around, process: &Process<'a>) -> Result<(), GenFault>
+        ensures { IfOk result (λ _. WritesProcess self.old self.new around.entry (process_of process.now)) }
+    {
+        let count = self.frame.homes.len();
+        let top = self.frame.top;
+        self.declare_all(&process.declarations)?;
+        self.write_construct(around, process.line, &process.construct)?;
+        self.frame.leave(count, top);
+        Ok(())
+    }
+
+    /// A construct that begins on this line. The error is [`GenFault::Invalid`] for one that has no code.
+    #[cycle(processes)]
+    fn write_construct(
+        &mut self,
+        around: Around,
+        line: u32,
+        construct: &Construct<'a>,
+    ) -> Result<(), GenFault>
+        ensures { IfOk result (λ _. WritesConstruct self.old self.new around.entry line (construct_of construct.now)) }
+    {
+        match construct {
+            Construct::Action(action) => self.act(around, line, action),
+            Construct::Seq(processes) => self.write_seq(around, processes),
+            Construct::If(choices) => self.write_if(around, choices),
+            Construct::Par(_) | Construct::Alt(_) | Construct::Replicated { .. } => {
+                Err(GenFault::Invalid)
+            }
+        }
+    }
+
+    /// The processes of a `SEQ`.
+    #[cycle(processes)]
+    fn write_seq(&mut self, around: Around, processes: &[Process<'a>]) -> Result<(), GenFault>
+        ensures { IfOk result (λ _. WritesSeq self.old self.new around.entry (all_processes processes.now)) }
+    {
+        for process in processes {
+            self.write_one(around, process)?;
+        }
+        Ok(())
+    }
+
+    /// A process of a `SEQ`.
+    #[cycle(processes)]
+    fn write_one(&mut self, around: Around, process: &Process<'a>) -> Result<(), GenFault>
+        ensures { IfOk result (λ _. WritesOne self.old self.new around.entry (plain_component process.now)) }
+    {
+        let count = self.scope.len();
+        self.write(around, process)?;
+        self.scope.leave(count);
+        Ok(())
+    }
+
+    /// An `IF`.
+    #[cycle(processes)]
+    fn write_if(&mut self, around: Around, choices: &[Choice<'a>]) -> Result<(), GenFault>
+        ensures { IfOk result (λ _. WritesIf self.old self.new around.entry (all_choices choices.now)) }
+    {
+        let end = self.label;
+        self.label = label_after(end)?;
+        self.scope.begin()?;
+        self.write_choices(around, end, choices)?;
+        self.scope.end();
+        self.write_row(end)?;
+        Ok(())
+    }
+
+    /// The choices of an `IF` that ends at a label. One without a choice stops.
+    #[cycle(processes)]
+    fn write_choices(
+        &mut self,
+        around: Around,
+        end: usize,
+        choices: &[Choice<'a>],
+    ) -> Result<(), GenFault>
+        ensures { IfOk result (λ _. WritesChoices self.old self.new around.entry end (all_choices choices.now)) }
+    {
+        if choices.is_empty() {
+            return self.listing.operate(operations::STOP_PROCESS);
+        }
+        for (place, choice) in choices.iter().enumerate() {
+            self.write_part(around, end, place + 1 == choices.len(), choice)?;
+        }
+        Ok(())
+    }
+
+    /// A choice of an `IF` that ends at a label, and whether it is the last one.
+    #[cycle(processes)]
+    fn write_part(
+        &mut self,
+        around: Around,
+        end: usize,
+        is_last: bool,
+        choice: &Choice<'a>,
+    ) -> Result<(), GenFault>
+        ensures { IfOk result (λ _. WritesPart self.old self.new around.entry end is_last (choice_of choice.now)) }
+    {
+        if !is_last {
+            return self.write_choice(around, end, choice);
+        }
+        if is_true(&choice.condition) {
+            return self.write_chosen(around, choice);
+        }
+        self.write_choice(around, end, choice)?;
+        self.listing.operate(operations::STOP_PROCESS)?;
+        Ok(())
+    }
+
+    /// A choice with its test.
+    #[cycle(processes)]
+    fn write_choice(
+        &mut self,
+        around: Around,
+        end: usize,
+        choice: &Choice<'a>,
+    ) -> Result<(), GenFault>
+        ensures { IfOk result (λ _. WritesChoice self.old self.new around.entry end (choice_of choice.now)) }
+    {
+        let other = self.label;
+        self.label = label_after(other)?;
+        self.write_test(&choice.condition, other)?;
+        self.write_chosen(around, choice)?;
+        self.listing.push(Piece::Jump { to: end })?;
+        self.write_row(other)?;
+        Ok(())
+    }
+
+    /// A choice without its test.
+    #[cycle(processes)]
+    fn write_chosen(&mut self, around: Around, choice: &Choice<'a>) -> Result<(), GenFault>
+        ensures { IfOk result (λ _. WritesChosen self.old self.new around.entry (choice_of choice.now)) }
+    {
+        self.scope.exclude(&choice.condition);
+        narrow_by(&mut self.scope, &choice.condition, true);
+        self.write(around, &choice.process)?;
+        self.scope.next();
         Ok(())
     }
 }

@@ -1,4 +1,4 @@
-use Rattle.std.proofs.Common.{◌≡◌, ◌≤◌, ◌++◌, length, option_map, arith, ap, ◌∙◌}
+use Rattle.std.proofs.Common.{◌≤◌, ◌++◌, length, option_map, arith, ap, ◌∙◌}
 use Rattle.scalar_ranges.specs.Scopes.{entries_of, entry_of}
 use Rattle.code_generator.proofs.RowsSay.{facts_next, facts_done}
 use Rattle.code_generator.proofs.facts.facts_of.Goals as goal

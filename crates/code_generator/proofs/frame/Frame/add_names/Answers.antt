@@ -1,4 +1,4 @@
-use Rattle.std.proofs.Common.{◌≤◌, length, map, arith, ap, ◌∙◌}
+use Rattle.std.proofs.Common.{◌≤◌, length, map, arith, ◌∙◌}
 use Rattle.occam_parser.specs.LineViews.{spelling_of}
 use Rattle.code_generator.specs.Declarations.{with_names}
 use Rattle.code_generator.specs.FrameViews.{frame_seen}

@@ -1,7 +1,6 @@
-use Rattle.std.proofs.Common.{◌≡◌, ◌-◌, ◌≤◌, ◌++◌, min, arith, ap, sym, ◌∙◌}
-use Rattle.std.proofs.lemmas.List.{append-nil}
+use Rattle.std.proofs.Common.{◌≡◌, ◌-◌, ◌++◌, min, arith, ap, ◌∙◌}
 use Rattle.code_generator.specs.Pieces.{moves}
-use Rattle.code_generator.proofs.SpreadOut.{spread_more, spread_done}
+use Rattle.code_generator.proofs.SpreadOut.{spread_more}
 use Rattle.code_generator.proofs.listing.Listing.write_spread.Goals as goal
 
 pub loop-done-preserved : goal.loop-done-preserved

@@ -1,0 +1,175 @@
+use Rattle.std.proofs.Common.{◌≡◌, ◌+◌, ◌<◌, ◌≤◌, length, map, IfOk, arith, refl, ap, sym, subst, ◌∙◌, rules, nat_eq}
+use Rattle.std.proofs.Common.{true, Some}
+use Rattle.std.proofs.lemmas.Bool.{eqb-true, eqb-false}
+use Rattle.occam_parser.specs.declared.tree.Body.{the_lemmas}
+use Rattle.occam_parser.specs.Views.{expression_of}
+use Rattle.occam_parser.specs.LineViews.{declaration_of}
+use Rattle.occam_parser.specs.Blocks.{Does, Chosen}
+use Rattle.occam_parser.specs.BlockReading.{with_declarations}
+use Rattle.occam_parser.specs.BlockViews.{process_of, construct_of, choice_of, plain_component, all_processes}
+use Rattle.occam_parser.specs.BlockViews.{all_choices}
+use Rattle.occam_parser.proofs.SeenBlocks.{view-Seq, view-If}
+use Rattle.scalar_ranges.specs.Scopes.{known_of}
+use Rattle.usage_checks.specs.AfterProcesses.{left_to}
+use Rattle.usage_checks.specs.Following.{where_holds}
+use Rattle.usage_checks.specs.NameRules.{with_entries}
+use Rattle.code_generator.specs.FrameViews.{frame_seen}
+use Rattle.code_generator.specs.Processes.{at_place}
+use Rattle.code_generator.specs.Written.{site_of, WritesConstruct, WritesSeq, WritesIf, WritesPart, WritesChoice}
+use Rattle.code_generator.specs.Written.{WritesChosen}
+use Rattle.code_generator.proofs.PartsWritten.{writes_none, writes_moved, writes_behind, seq_next, seq_done}
+use Rattle.code_generator.proofs.ChoicesWritten.{choices_start, choices_next, choices_done, no_choices}
+use Rattle.code_generator.proofs.ChoicesWritten.{writes_if, writes_chosen, writes_tested, always_written}
+use Rattle.code_generator.proofs.ChoicesWritten.{writes_stopped}
+use Rattle.code_generator.proofs.processes.ProcessWriter.+processes.Goals as goal
+
+pub write-returns : goal.write-returns
+write-returns t c =
+    let p = c.args.process.now in
+    let view : with_declarations (map declaration_of p.declarations.items)
+    (Does p.line (construct_of p.construct.value)) ≡ process_of p = search (rules, the_lemmas) in
+    let long : c.len-count.result ≡ length c.args.self.now.frame.homes.items = omega arith in
+    writes_behind c.args.around (map declaration_of c.deref.result.now) p.line (construct_of c.deref-2.result.now)
+    (process_of p) c.leave.new.self c.len-count.result
+    ((λ i. with_declarations (map declaration_of (c.deref.ensures.value i))
+    (Does p.line (construct_of (c.deref-2.ensures i)))) ∙ view) c.in_ok-declare_all.ensures
+    c.in_ok-write_construct.ensures long c.leave.ensures.homes c.leave.ensures.top
+
+pub write_construct-returns-in-Seq : goal.write_construct-returns-in-Seq
+write_construct-returns-in-Seq t c =
+    let v = c.in-Seq.processes in
+    let s = c.args.self.now in
+    let end = c.write_seq.new.self in
+    subst (λ x. IfOk c.write_seq.result (λ _. WritesConstruct s end c.args.around c.args.line x))
+    (sym (view-Seq v) ∙ ap construct_of (sym c.in-Seq.is))
+    (subst (λ cs. IfOk c.write_seq.result (λ _. WritesSeq s end c.args.around cs))
+    (ap all_processes c.deref.ensures.value) c.write_seq.ensures)
+
+pub write_construct-returns-in-If : goal.write_construct-returns-in-If
+write_construct-returns-in-If t c =
+    let v = c.in-If.choices in
+    let s = c.args.self.now in
+    let end = c.write_if.new.self in
+    subst (λ x. IfOk c.write_if.result (λ _. WritesConstruct s end c.args.around c.args.line x))
+    (sym (view-If v) ∙ ap construct_of (sym c.in-If.is))
+    (subst (λ cs. IfOk c.write_if.result (λ _. WritesIf s end c.args.around cs))
+    (ap all_choices c.deref-in-If.ensures.value) c.write_if.ensures)
+
+pub write_seq-loop-process-init : goal.write_seq-loop-process-init
+write_seq-loop-process-init t c = writes_none c.args.self.now
+
+pub write_seq-loop-process-preserved : goal.write_seq-loop-process-preserved
+write_seq-loop-process-preserved t c =
+    seq_next c.args.around plain_component c.args.processes.now c.loop-process.process-index c.process-item.result
+    (omega arith) c.process-item.is c.loop-process.invariant c.in_ok-write_one.ensures
+
+pub write_seq-returns : goal.write_seq-returns
+write_seq-returns t c =
+    let done : length c.args.processes.now ≤ c.loop-process.process-index = omega arith in
+    seq_done c.args.around plain_component c.args.processes.now c.loop-process.process-index done
+    c.loop-process.invariant
+
+pub write_one-returns : goal.write_one-returns
+write_one-returns t c =
+    let left = (λ i. record { entries = c.leave.ensures.entries i; blocks = c.leave.ensures.blocks i })
+    ∙ ap (λ n. left_to n (known_of c.write.new.self.scope)) c.len-count.ensures in
+    writes_moved c.leave.new.self (left_to (length (known_of c.args.self.now.scope).entries)) left
+    c.in_ok-write.ensures
+
+pub write_if-returns : goal.write_if-returns
+write_if-returns t c =
+    let s = c.args.self.now in
+    let begun = record s { label = c.in_ok-self.field-0; scope = c.begin.new.self } in
+    writes_if c.args.around (all_choices c.args.choices.now) s begun c.write_choices.new.self c.write_row.new.self
+    c.end.new.self refl
+    (λ i. record {
+      frame = frame_seen s.frame;
+      known = c.in_ok-begin.ensures.ok i;
+      label = c.in_ok-self.ensures i;
+    })
+    c.in_ok-write_choices.ensures c.end.ensures c.in_ok-write_row.ensures.row c.in_ok-write_row.ensures.site
+
+pub write_choices-returns-then-is_empty : goal.write_choices-returns-then-is_empty
+write_choices-returns-then-is_empty t c =
+    no_choices c.args.around c.args.end choice_of c.args.choices.now c.args.self.now c.operate.new.self c.operate.result
+    (eqb-true _ _ (sym c.is_empty.ensures ∙ c.if-is_empty.true)) c.operate.ensures
+
+pub write_choices-loop-place-init : goal.write_choices-loop-place-init
+write_choices-loop-place-init t c =
+    let differs = eqb-false _ _ (sym c.is_empty.ensures ∙ c.if-is_empty.false) in
+    let some : 0 < length c.args.choices.now = omega arith in
+    choices_start c.args.around c.args.end (length c.args.choices.now) _ c.args.self.now some
+
+pub write_choices-loop-place-preserved : goal.write_choices-loop-place-preserved
+write_choices-loop-place-preserved t c =
+    choices_next c.args.around c.args.end choice_of c.args.choices.now c.loop-place.place c.index-choices-place.result
+    (nat_eq (c.loop-place.place + 1) (length c.args.choices.now)) (omega arith) c.index-choices-place.is refl
+    c.loop-place.invariant c.in_ok-write_part.ensures
+
+pub write_choices-returns : goal.write_choices-returns
+write_choices-returns t c =
+    let done : c.loop-place.place ≡ length c.args.choices.now = omega arith in
+    choices_done c.args.around c.args.end choice_of c.args.choices.now c.loop-place.place done c.loop-place.invariant
+
+pub write_part-returns-then-is_true : goal.write_part-returns-then-is_true
+write_part-returns-then-is_true t c =
+    let x = c.args.choice.now in
+    let s = c.args.self.now in
+    let after = c.write_chosen.new.self in
+    let view : Chosen x.line (expression_of x.condition) (process_of x.process) ≡ choice_of x =
+    search (rules, the_lemmas) in
+    let last : c.args.is_last ≡ true = search rules in
+    subst (λ b. IfOk c.write_chosen.result (λ _. WritesPart s after c.args.around c.args.end b (choice_of x)))
+    (sym last)
+    (always_written c.args.around c.args.end x.line (expression_of x.condition) (process_of x.process) (choice_of x) s
+    after c.write_chosen.result view (sym c.is_true.ensures ∙ c.if-is_true.true) c.write_chosen.ensures)
+
+pub write_part-returns : goal.write_part-returns
+write_part-returns t c =
+    let x = c.args.choice.now in
+    let s = c.args.self.now in
+    let within = c.write_choice-2.new.self in
+    let view : Chosen x.line (expression_of x.condition) (process_of x.process) ≡ choice_of x =
+    search (rules, the_lemmas) in
+    let last : c.args.is_last ≡ true = search rules in
+    let tested = subst (λ y. WritesChoice s within c.args.around c.args.end y) (sym view)
+    c.in_ok-write_choice.ensures in
+    let stopped = writes_stopped c.args.around c.args.end x.line (expression_of x.condition) (process_of x.process)
+    c.operate.new.self (sym c.is_true.ensures ∙ c.if-is_true.false) tested c.in_ok-operate.ensures in
+    let final = record within { listing = c.operate.new.self } in
+    subst (λ b. WritesPart s final c.args.around c.args.end b (choice_of x)) (sym last)
+    (subst (λ y. WritesPart s final c.args.around c.args.end true y) view stopped)
+
+pub write_chosen-returns : goal.write_chosen-returns
+write_chosen-returns t c =
+    let x = c.args.choice.now in
+    let s = c.args.self.now in
+    let view : Chosen x.line (expression_of x.condition) (process_of x.process) ≡ choice_of x =
+    search (rules, the_lemmas) in
+    let narrowed = (λ i. record { entries = c.narrow_by.ensures.entries i; blocks = c.narrow_by.ensures.blocks i })
+    ∙ ap (with_entries (where_holds (Some (expression_of x.condition)))) c.exclude.ensures in
+    subst (λ y. WritesChosen s (record c.write.new.self { scope = c.next.new.self }) c.args.around y) view
+    (writes_chosen c.args.around x.line (expression_of x.condition) (process_of x.process) s c.write.new.self
+    c.narrow_by.new.scope c.next.new.self narrowed c.in_ok-write.ensures c.next.ensures)
+
+pub write_choice-returns : goal.write_choice-returns
+write_choice-returns t c =
+    let x = c.args.choice.now in
+    let s = c.args.self.now in
+    let line = x.line in
+    let e = expression_of x.condition in
+    let p = process_of x.process in
+    let after = c.write_row.new.self in
+    let view : Chosen line e p ≡ choice_of x = search (rules, the_lemmas) in
+    let place : site_of c.write_test.new.self ≡ at_place (known_of s.scope) (s.label + 1) (site_of s) =
+    c.in_ok-write_test.ensures.site ∙ (λ i. record {
+      frame = frame_seen s.frame;
+      known = known_of s.scope;
+      label = c.in_ok-self.ensures i;
+    }) in
+    let chosen = subst (λ y. WritesChosen c.write_test.new.self c.write_chosen.new.self c.args.around y) (sym view)
+    c.in_ok-write_chosen.ensures in
+    subst (λ y. WritesChoice s after c.args.around c.args.end y) view
+    (writes_tested c.args.around c.args.end line e p s c.write_test.new.self c.write_chosen.new.self after
+    c.push.new.self c.in_ok-write_test.ensures.code place chosen c.in_ok-push.ensures c.in_ok-write_row.ensures.row
+    c.in_ok-write_row.ensures.site)
