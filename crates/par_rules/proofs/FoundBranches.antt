@@ -12,9 +12,9 @@ use Rattle.module_format.specs.Keeping.{Keeps}
 use Rattle.module_format.specs.Pars.{ParKeeps, behind_par, no_branches}
 use Rattle.module_format.proofs.OrderLaws.{each}
 use Rattle.module_format.proofs.PlaceLaws.{count_cons}
-use Rattle.certificate.specs.Branches.{Forked, branch_at}
+use Rattle.certificate.specs.Branches.{Forked, branch_at, numbered_branch}
 use Rattle.machine_state.specs.BranchContexts.{context_of, AreFoundAlike, neither, both}
-use Rattle.machine_state.specs.BranchContexts.{BranchesAreFoundAlike}
+use Rattle.machine_state.specs.BranchContexts.{BranchesAreFoundAlike, BranchesAreContexts}
 use Rattle.machine_state.specs.JoinLookups.{Found, found_at}
 use Rattle.par_rules.specs.declared.found.InRow.{InRow}
 use Rattle.par_rules.specs.Finding.{place_from}
@@ -78,6 +78,8 @@ pub record IsFound (m : Contents) (target : ℕ) (f : Forked) (before : ℕ) : T
   pub branch : found.branch ≡ f.branch
   pub place : place_from 0 m.pars before ≡ Some (record { row = found.row; number = found.number })
   pub small : (found.row < 2 ^ 32) × (found.number + 1 < 2 ^ 32)
+  pub by_context : BranchesAreContexts
+      → numbered_branch m (context_of m found) ≡ Some (found.par, found.branch)
 
 abbrev forked_or : Forked → Option Forked → Forked
 forked_or f o = elim o as (λ x. Forked) [ None ↦ f | Some g ↦ g ]
@@ -105,6 +107,7 @@ branch_is_found m target f before keeps alike is at = on (branch_at m target) (f
               (slice_get_within found.par.branches found.number found.branch branch) before here
               ∙ ap (λ (n : ℕ). Some (record { row = n; number = found.number })) row_is;
           small = small m found keeps row branch;
+          by_context = λ law. (law m found keeps row branch).numbered;
         }
 
 -- the context of a branch is after those of the root and the procedures
@@ -136,6 +139,7 @@ pub record IsHere (m : Contents) (target context : ℕ) (par : Par) (branch : Br
   pub numbered : context
       ≡ context_of m (record { row = place.row; par = par; number = place.number; branch = branch })
   pub small : (place.row < 2 ^ 32) × (place.number + 1 < 2 ^ 32)
+  pub by_context : BranchesAreContexts → numbered_branch m context ≡ Some (par, branch)
 
 abbrev pub Answered : Contents → ℕ → ℕ → Par → Branch → Option InRow → Type 0
 Answered m target context par branch None = ⊥
@@ -165,4 +169,6 @@ branch_is_answered m target context par branch p q alike keeps is place same =
           is = found.is ∙ ap (λ (y : Found). Some y) there;
           numbered = found.context ∙ ap (λ (y : Found). context_of m y) there;
           small = found.small;
+          by_context = λ law. ap (numbered_branch m) found.context ∙ found.by_context law
+              ∙ ap (λ (y : Par). Some (y, x.branch)) found.par ∙ ap (λ (y : Branch). Some (par, y)) found.branch;
         })

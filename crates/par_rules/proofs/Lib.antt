@@ -1,4 +1,4 @@
-pub mod FirstBranches
+pub mod EndsToGive
 pub mod FoundBranches
 pub mod Mapped
 pub mod PairJudged

@@ -1,12 +1,17 @@
 -- A branch that was found, as the definitions have it.
-use Rattle.std.specs.Prelude.{ℕ, ◌+◌, ◌-◌, nat_lt, if◌then◌else◌, List, [], ◌∷◌, length, Option, Some, None}
-use Rattle.module_format.specs.Contents.{branch_of, par_of, Par}
+use Rattle.std.specs.Prelude.{◌≡◌, ℕ, ◌+◌, ◌-◌, nat_lt, if◌then◌else◌, List, [], ◌∷◌, length, Option, Some, None}
+use Rattle.module_format.specs.Contents.{branch_of, par_of, Par, Contents}
+use Rattle.certificate.specs.Branches.{numbered_branch}
 use Rattle.machine_state.specs.JoinLookups.{Found}
 use Rattle.par_rules.specs.declared.found.Found as kept
 use Rattle.par_rules.specs.declared.found.InRow.{InRow}
 
 abbrev pub found_view : kept.Found → Found
 found_view f = record { row = f.row; par = par_of f.par.now; number = f.number; branch = branch_of f.branch.now }
+
+-- the branch that was found is the one of its context
+abbrev pub IsNumbered : Contents → kept.Found → Type 0
+IsNumbered m f = numbered_branch m f.context ≡ Some (par_of f.par.now, branch_of f.branch.now)
 
 -- where the branch is that has so many before it, in rows of which the first has number r
 abbrev pub place_from : ℕ → List Par → ℕ → Option InRow

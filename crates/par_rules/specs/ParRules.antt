@@ -8,6 +8,7 @@ use Rattle.module_format.specs.declared.fact.Fact.TheVariants.{Number, Pointer}
 use Rattle.module_format.specs.declared.fact.Step.TheVariants.{Word}
 use Rattle.module_format.specs.Contents.{Contents, Par, Label, label_at}
 use Rattle.certificate.specs.Branches.{numbered_branch}
+use Rattle.certificate.specs.Siblings.{is_beside, has_other_ends, leaves_hidden_words}
 use Rattle.machine_state.specs.BranchContexts.{context_of}
 use Rattle.machine_state.specs.JoinLookups.{Found, found_at}
 use Rattle.machine_state.specs.LocalStep.{target}
@@ -18,18 +19,13 @@ use Rattle.states.specs.State.{State, is_word}
 use Rattle.states.specs.Below.{is_plain, step_implies, cost, agrees}
 use Rattle.rulings.specs.Rulings.{Ruling, Site, starts, ends, breaks, uses, wants, outside_alternation, pays}
 use Rattle.rulings.specs.Rulings.{without_registers}
-use Rattle.rulings.specs.Pointers.{are_near}
-use Rattle.par_rules.specs.Gifts.{started_in, is_beside, has_end_to_give, has_other_ends, may_give_words}
-use Rattle.par_rules.specs.Gifts.{may_give_parameters, leaves_hidden_words, has_scheduling_words}
+use Rattle.rulings.specs.Pointers.{is_near_pointer}
+use Rattle.par_rules.specs.Gifts.{started_in, has_end_to_give, may_give_words, may_give_parameters}
+use Rattle.par_rules.specs.Gifts.{has_scheduling_words}
 use Rattle.par_rules.specs.Openings.{is_prepared}
 use Rattle.par_rules.specs.Comparisons.{branch_view, is_written_loop, is_after, agrees_after, cost_after, ends_below}
 
 -- ---- what registers name
-
--- a pointer is near
-abbrev pub is_near_pointer : Fact → Bool
-is_near_pointer (Pointer region lo hi step) = are_near lo hi
-is_near_pointer fact = true
 
 -- the exact pointer to word k of the frame
 abbrev pub is_at_word : ℤ → Fact → Bool

@@ -9,10 +9,11 @@ ghost use Rattle.rulings.specs.Telling.{Advances};
 ghost use Rattle.par_rules.specs.ParRules.{ended_par, leaves_agreed, endp_rule};
 
 use crate::gifts::par_at;
-use crate::pointers::{is_at_word, is_near_pointer};
+use crate::pointers::is_at_word;
 use crate::sights::Asked;
 use certificate::{Module, ParRow};
 use rulings::combinators::{outside_alternation, uses, wants};
+use rulings::pointers::is_near_pointer;
 use rulings::{Continuation, Place};
 use states::{Mode, Rule, State};
 

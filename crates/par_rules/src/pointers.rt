@@ -2,20 +2,9 @@
 
 ghost use Rattle.std.specs.Prelude.{◌≡◌, ◌*ℤ◌, pos};
 ghost use Rattle.states.specs.State.{is_word};
-ghost use Rattle.par_rules.specs.ParRules.{is_near_pointer, is_at_word, is_workspace};
+ghost use Rattle.par_rules.specs.ParRules.{is_at_word, is_workspace};
 
 use certificate::{Fact, Step};
-use rulings::pointers::are_near;
-
-/// Whether a pointer is near; what is no pointer is.
-pub(crate) fn is_near_pointer(fact: Fact) -> bool
-    ensures { result ≡ is_near_pointer fact }
-{
-    match fact {
-        Fact::Pointer { lo, hi, .. } => are_near(i64::from(lo), i64::from(hi)),
-        _ => true,
-    }
-}
 
 /// Whether an offset in the frame is that of a word.
 fn is_offset_of(word: i32, offset: i32) -> bool

@@ -3,12 +3,14 @@
 ghost use Rattle.std.specs.Prelude.{◌≡◌, ◌∷◌, ◌&&◌, ◌+◌, ◌-◌, ◌≤◌, ◌<◌, ◌^◌, ℕ, Some, SomeIff};
 ghost use Rattle.std.specs.List.{list_all};
 ghost use Rattle.module_format.specs.Contents.{Contents, label_of, par_of};
+ghost use Rattle.certificate.specs.Siblings.{has_other_ends, leaves_hidden_words};
 ghost use Rattle.machine_state.specs.BranchContexts.{context_of};
 ghost use Rattle.states.specs.Below.{cost, agrees, entries_hold, is_whole};
 ghost use Rattle.states.specs.Views.{state_of, BelongsTo};
 ghost use Rattle.rulings.specs.Places.{site_of};
 ghost use Rattle.rulings.specs.Telling.{Gives};
-ghost use Rattle.par_rules.specs.Finding.{found_view};
+ghost use Rattle.par_rules.specs.Finding.{found_view, IsNumbered};
+ghost use Rattle.par_rules.specs.Gifts.{started_in, has_end_to_give};
 ghost use Rattle.par_rules.specs.Sights.{begins_there, facts_in};
 ghost use Rattle.par_rules.specs.ParRules.{is_apart, ends_are_free, is_next, is_in_turn, may_give, at_first};
 ghost use Rattle.par_rules.specs.ParRules.{leaves_loops, may_open, label_after, cost_of_start, start_agrees};
@@ -18,17 +20,15 @@ ghost use Rattle.par_rules.specs.Comparisons.{branch_facts, branch_view, cost_af
 ghost use Rattle.par_rules.specs.Telling.{Starts, label_view, labels_of};
 
 use crate::found::{Found, named_branch};
-use crate::gifts::{
-    has_ends_to_give, has_other_ends_than, has_scheduling_words, is_beside_all,
-    leaves_hidden_words, may_give_parameters, may_give_words, started_in,
-};
+use crate::gifts::{has_scheduling_words, may_give_parameters, may_give_words};
 use crate::labels::{is_after, leaves_loops};
 use crate::openings::is_prepared;
-use crate::pointers::{is_near_pointer, is_workspace};
+use crate::pointers::is_workspace;
 use crate::sights::{Asked, Sight};
 use certificate::{Fact, LabelRow, Module, ParRow, Stack};
 use rulings::Place;
 use rulings::combinators::{outside_alternation, uses, wants};
+use rulings::pointers::is_near_pointer;
 use states::{Known, Mode, Rule, State, implies};
 
 /// A branch of a PAR that is started.
@@ -40,21 +40,53 @@ pub struct Started {
     pub successor: Option<u32>,
 }
 
-/// Whether the branch is beside those that the process has started.
+/// Whether the branch is beside those that the process has started. In its turn it takes constant time.
 fn is_apart(place: &Place, state: &State, found: &Found) -> bool
+    requires { IsNumbered place.now.module.now found.now }
     ensures { result ≡ is_apart place.now.module.now (state_of state.now) (found_view found.now) }
 {
-    is_beside_all(found.branch, started_in(place.module.tables(), state.mode))
+    match state.mode {
+        Mode::Starting { row, started } => {
+            let module = place.module;
+            module.is_beside_first(found.context, row as usize, started as usize)
+        }
+        _ => true,
+    }
+}
+
+/// Whether each end of the branch is there to be given. Where its PAR is, it takes constant time.
+fn has_ends_to_give(place: &Place, state: &State, found: &Found) -> bool
+    requires { IsNumbered place.now.module.now found.now }
+    ensures { let f = found_view found.now in
+        let context = (state_of state.now).context in
+        result ≡ list_all (has_end_to_give place.now.module.now context f.par) f.branch.ends }
+{
+    place.module.has_ends_of(state.context, found.context)
+}
+
+/// Whether no end of the branch was given to one that the process has started. In its turn it takes constant time.
+fn has_other_ends(place: &Place, state: &State, found: &Found) -> bool
+    requires { found.now.context ≡ context_of place.now.module.now (found_view found.now) }
+    ensures { let m = place.now.module.now in
+        let context = context_of m (found_view found.now) in
+        result ≡ list_all (has_other_ends m context) (started_in m (state_of state.now).mode) }
+{
+    match state.mode {
+        Mode::Starting { row, started } => {
+            let module = place.module;
+            module.has_other_ends_than_first(found.context, row as usize, started as usize)
+        }
+        _ => true,
+    }
 }
 
 /// Whether each end of the branch is there to be given, and was not given to one that the process has started.
 fn ends_are_free(place: &Place, state: &State, found: &Found) -> bool
-    requires { found.now.context ≡ context_of place.now.module.now (found_view found.now) }
+    requires context { found.now.context ≡ context_of place.now.module.now (found_view found.now) }
+    requires numbered { IsNumbered place.now.module.now found.now }
     ensures { result ≡ ends_are_free place.now.module.now (state_of state.now) (found_view found.now) }
 {
-    let started = started_in(place.module.tables(), state.mode);
-    has_ends_to_give(place.module, state.context, found.par, &found.branch.ends)
-        && has_other_ends_than(place.module, found.context, started)
+    has_ends_to_give(place, state, found) && has_other_ends(place, state, found)
 }
 
 /// Whether the branch is the first of its PAR, or the one after those that a process in this mode has started.
@@ -80,15 +112,27 @@ fn is_in_turn(state: &State, a: Fact, found: &Found) -> bool
         && is_workspace(found.branch.workspace, a)
 }
 
+/// Whether the branch has no word of the block of its PAR, and none that is a channel of it. It takes constant time.
+fn leaves_hidden_words(place: &Place, found: &Found) -> bool
+    requires context { found.now.context ≡ context_of place.now.module.now (found_view found.now) }
+    requires numbered { IsNumbered place.now.module.now found.now }
+    ensures { let m = place.now.module.now in
+        let f = found_view found.now in
+        result ≡ leaves_hidden_words m (context_of m f) f.par }
+{
+    place.module.leaves_own_hidden_words(found.context)
+}
+
 /// Whether the context has the words and the parameters that the branch is given, and none of them is hidden.
 fn may_give(place: &Place, state: &State, found: &Found) -> bool
     requires belongs { BelongsTo place.now.module.now state.now }
     requires context { found.now.context ≡ context_of place.now.module.now (found_view found.now) }
+    requires numbered { IsNumbered place.now.module.now found.now }
     ensures { result ≡ may_give place.now.module.now (state_of state.now) (found_view found.now) }
 {
     may_give_words(place, state, found.branch)
         && may_give_parameters(place, state.context, found.branch)
-        && leaves_hidden_words(place.module, found.context, found.par)
+        && leaves_hidden_words(place, found)
 }
 
 /// Whether all is prepared that the PAR wants, and there is a label after it.
@@ -354,6 +398,7 @@ fn may_open_at_first(module: &Module, state: &State, par: &ParRow) -> bool
 fn starts_branch(place: &Place, state: &mut State, a: Fact, found: &Found) -> Result<Started, Rule>
     requires belongs { BelongsTo place.now.module.now state.old }
     requires context { found.now.context ≡ context_of place.now.module.now (found_view found.now) }
+    requires numbered { IsNumbered place.now.module.now found.now }
     requires small { (found.now.row < 2 ^ 32) × (found.now.number + 1 < 2 ^ 32) }
     ensures ruling { let ruling = starts_branch (site_of place.now) (state_of state.old) a (found_view found.now) in
         Starts result (state_of state.new) ruling }

@@ -25,12 +25,13 @@ use Rattle.rulings.specs.Fitting.{Described, After, Here, rule_site, step_site}
 use Rattle.rulings.specs.Meaning.{Layout, Activation, MeansWord, is_fact, frame_word, SameMode, both_plain}
 use Rattle.rulings.specs.Meaning.{both_enabling, both_disabling, both_starting}
 use Rattle.rulings.specs.Regions.{Scope, scope_of, scope_left, scope_among, channel_address}
+use Rattle.rulings.specs.Pointers.{is_near_pointer}
 use Rattle.rulings.specs.Rulings.{Ruling, Site, ends, breaks, wants, pays}
 use Rattle.rulings.proofs.Combining.{written_readable}
 use Rattle.rulings.proofs.Entering.{implies_means}
 use Rattle.rulings.proofs.Words.{itself_means, means_same}
 use Rattle.par_rules.specs.Comparisons.{keeps, is_kept, ends_below}
-use Rattle.par_rules.specs.ParRules.{endp_rule, ended_par, is_at_word, is_near_pointer, leaves_agreed}
+use Rattle.par_rules.specs.ParRules.{endp_rule, ended_par, is_at_word, leaves_agreed}
 use Rattle.share_laws.specs.Climbing.{LieAlike}
 use Rattle.start_laws.specs.Ending.{StartedAll, EndFits, to_end_own, to_end_branch, end_breaks}
 use Rattle.start_laws.specs.Ending.{EndFitsStep}

@@ -18,6 +18,8 @@ use Rattle.module_format.specs.Pars.{key_of}
 use Rattle.certificate.specs.Branches.{numbered_branch}
 use Rattle.certificate.specs.Rights.{may_write_word, may_read_word, has_word, is_among, is_same_end, has_end}
 use Rattle.certificate.specs.Rights.{gives_link, gives_parameter}
+use Rattle.certificate.specs.Siblings.{is_beside, has_other_ends, share_what_is_written, have_common_number}
+use Rattle.certificate.specs.Siblings.{have_common_word, leaves_hidden_words}
 use Rattle.machine_state.specs.BranchContexts.{context_of}
 use Rattle.machine_state.specs.JoinLookups.{Found}
 use Rattle.machine_state.specs.Ownership.{IsAmong}
@@ -28,9 +30,8 @@ use Rattle.states.proofs.RowFacts.{and-parts}
 use Rattle.rulings.specs.Reach.{is_listed, may_write_parameter, may_read_parameter, writable_size, readable_size}
 use Rattle.rulings.specs.Remaining.{is_hidden, is_channel_word}
 use Rattle.rulings.proofs.Words.{same_word_by}
-use Rattle.par_rules.specs.Gifts.{started_in, is_beside, has_other_ends, share_what_is_written, have_common_number}
-use Rattle.par_rules.specs.Gifts.{have_common_word, has_end_to_give, has_scheduling_words, may_give_words}
-use Rattle.par_rules.specs.Gifts.{may_give_parameters, leaves_hidden_words}
+use Rattle.par_rules.specs.Gifts.{started_in, has_end_to_give, has_scheduling_words, may_give_words}
+use Rattle.par_rules.specs.Gifts.{may_give_parameters}
 use Rattle.par_rules.specs.ParRules.{is_apart, ends_are_free, may_give}
 use Rattle.share_laws.specs.GivenOnce.{IsBeside, IsWritable, IsGivenOnce}
 use Rattle.share_laws.specs.Shares.{IsBranch}

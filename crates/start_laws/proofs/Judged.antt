@@ -14,9 +14,10 @@ use Rattle.states.specs.declared.known.Known.{Known}
 use Rattle.states.specs.declared.known.Mode.{Mode}
 use Rattle.states.specs.declared.known.Mode.TheVariants.{Plain, Enabling, Disabling, Starting}
 use Rattle.states.specs.State.{State}
+use Rattle.rulings.specs.Pointers.{is_near_pointer}
 use Rattle.rulings.specs.Rulings.{Ruling, Site, starts, breaks, uses, wants, outside_alternation, pays}
 use Rattle.par_rules.specs.Gifts.{has_scheduling_words}
-use Rattle.par_rules.specs.ParRules.{startp_rule, starts_branch, with_label, pays_labels, named_branch, is_near_pointer}
+use Rattle.par_rules.specs.ParRules.{startp_rule, starts_branch, with_label, pays_labels, named_branch}
 use Rattle.par_rules.specs.ParRules.{is_apart, ends_are_free, at_first, leaves_loops, is_in_turn, may_give, may_open}
 use Rattle.par_rules.specs.ParRules.{cost_of_start, start_agrees, after_start, labels_of_start}
 

@@ -25,3 +25,9 @@ returns-clause-small c =
     (branch_is_answered c.args.module.now c.args.target c.in_ok-context.context _ _ c.place_in.result
     (Some c.in_ok-row.field-0) c.branches_are_contexts.ensures.found c.tables-tables.ensures.kept
     c.in_ok-context.ensures c.place_in.ensures c.in_ok-row.was).small
+
+pub returns-clause-numbered : goal.returns-clause-numbered
+returns-clause-numbered c =
+    (branch_is_answered c.args.module.now c.args.target c.in_ok-context.context _ _ c.place_in.result
+    (Some c.in_ok-row.field-0) c.branches_are_contexts.ensures.found c.tables-tables.ensures.kept
+    c.in_ok-context.ensures c.place_in.ensures c.in_ok-row.was).by_context c.branches_are_contexts.ensures.contexts
