@@ -1,6 +1,7 @@
 //! A reader of the bytes of a case.
 
-ghost use Rattle.std.specs.Prelude.{◌≡◌, None, false, IfSome};
+ghost use Rattle.std.specs.Prelude.{◌≡◌, None, false};
+ghost use Rattle.link_runner.specs.Readers.{flag_at};
 
 use crate::calls::Calls;
 use crate::links::given;
@@ -17,7 +18,7 @@ pub(crate) struct CaseReader<'c> {
 
 /// The reader of this link, if the case gives it one.
 pub(crate) fn reader<'c>(links: &'c str, name: &'c str, calls: &'c Calls) -> Option<CaseReader<'c>>
-    ensures { IfSome result (λ reader. reader.has_failed ≡ false) }
+    ensures { flag_at (λ r. r.has_failed) result ≡ false }
 {
     let digits = given(links, name)?;
     Some(CaseReader {

@@ -1,6 +1,7 @@
 //! A writer that takes as many bytes a call as a case says.
 
-ghost use Rattle.std.specs.Prelude.{◌≡◌, None, false, IfSome};
+ghost use Rattle.std.specs.Prelude.{◌≡◌, ◌≤◌, None, false, IfSome};
+ghost use Rattle.link_runner.specs.Readers.{flag_at};
 
 use crate::calls::{Calls, Failure, put_bytes};
 use crate::links::given;
@@ -25,7 +26,7 @@ pub(crate) fn writer<'c>(
     name: &'c str,
     calls: &'c Calls,
 ) -> Option<CaseWriter<'c>>
-    ensures { IfSome result (λ writer. writer.has_failed ≡ false) }
+    ensures { flag_at (λ w. w.has_failed) result ≡ false }
 {
     let most = given(links, name)?;
     Some(CaseWriter {
@@ -52,20 +53,27 @@ impl<'c> CaseWriter<'c> {
     }
 }
 
+/// How many of so many bytes a call takes, if it does not fail with an error.
+fn accepted(failure: Option<Failure>, length: usize, most: usize) -> Option<usize>
+    ensures { IfSome result (λ count. count ≤ length) }
+{
+    match failure {
+        None => Some(length.min(most)),
+        Some(Failure::TakesNone) => Some(0),
+        Some(Failure::Error) => None,
+    }
+}
+
 impl<'c> LinkWriter for CaseWriter<'c> {
     ghost written = { λ _. None };
 
     ghost failed = { λ w. w.has_failed };
 
     fn write_some(&mut self, bytes: &[u8]) -> Result<usize, Failed> {
-        let count = match self.calls.begin() {
-            None => bytes.len().min(self.most),
-            Some(Failure::TakesNone) => 0,
-            Some(Failure::Error) => {
-                self.has_failed = true;
-                self.calls.put_written(self.name, bytes, None);
-                return Err(Failed);
-            }
+        let Some(count) = accepted(self.calls.begin(), bytes.len(), self.most) else {
+            self.has_failed = true;
+            self.calls.put_written(self.name, bytes, None);
+            return Err(Failed);
         };
         if count == 0 && !bytes.is_empty() {
             self.has_failed = true;
