@@ -9,7 +9,7 @@ IN, OUT = 1, 2
 FUNCTIONS = "j ldlp pfix ldnl ldc ldnlp nfix ldl adc call cj ajw eqc stl stnl opr".split()
 OPERATIONS = {"in": 0x07, "out": 0x0B, "ret": 0x20, "mint": 0x42, "alt": 0x43, "altwt": 0x44, "altend": 0x45}
 OPERATIONS |= {"enbs": 0x49, "diss": 0x30, "startp": 0x0D, "endp": 0x03, "ldpi": 0x1B, "stopp": 0x15}
-OPERATIONS |= {"lb": 0x01, "sb": 0x3B, "move": 0x4A}
+OPERATIONS |= {"lb": 0x01, "sb": 0x3B, "move": 0x4A, "lend": 0x21, "sum": 0x52}
 
 # A branch of a PAR: the block of its code, its workspace, and what it is given. That are the frame words from a first
 # one up to another, which is not included, and ends, each a kind, a number, an element and a direction.
@@ -103,10 +103,11 @@ def row_of(par, offsets):
 
 
 def module(
-    code, data_words=BASE, constants=b"", version=1, procedures=(), labels=(), pars=(), tables=(), lengths=(0,) * 8
+    code, data_words=BASE, constants=b"", version=1, procedures=(), labels=(), pars=(), tables=(), lengths=(0,) * 8,
+    budget=None,
 ):
-    """The file of a module whose budget is the length of its code, and which ends at the code's end."""
-    sizes = (len(code), len(constants), data_words, BASE, len(code), len(code))
+    """The file of a module which ends at the code's end, and whose budget is the code's length unless one is given."""
+    sizes = (len(code), len(constants), data_words, BASE, budget or len(code), len(code))
     head = b"TPM%d" % version + struct.pack("<IIIIQI", *sizes)
     counts = struct.pack("<III", len(procedures), len(labels), len(pars))
     if version == 2:

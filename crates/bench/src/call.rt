@@ -34,10 +34,15 @@ pub(crate) enum ModuleCall {
     /// `Checked::apply` on one machine, so that the number of repetitions is the number of events. Its steps are this
     /// event once a message has gone out on a link, and until then they are no slices.
     Apply(Event),
+    /// `run` with a reader and a writer in memory on link 0, which has as many bytes to give as are asked for.
+    Run,
+    /// `replay` of the events of that run.
+    Replay,
 }
 
 /// The names, as they are listed if another one is given.
-pub(crate) const NAMES: &str = "read, write, verify, apply, slice, pick, lines, parse, check";
+pub(crate) const NAMES: &str =
+    "read, write, verify, apply, slice, pick, run, replay, lines, parse, check";
 
 /// One byte of the running process, which then goes on.
 pub(crate) const STEP: Event = Event::Step {
@@ -66,6 +71,8 @@ pub(crate) fn call_named(name: &str) -> Option<Call> {
         "apply" => Some(Call::OfModule(ModuleCall::Apply(STEP))),
         "slice" => Some(Call::OfModule(ModuleCall::Apply(SLICE))),
         "pick" => Some(Call::OfModule(ModuleCall::Apply(PICK))),
+        "run" => Some(Call::OfModule(ModuleCall::Run)),
+        "replay" => Some(Call::OfModule(ModuleCall::Replay)),
         "lines" => Some(Call::Lines),
         "parse" => Some(Call::OfLines(LinesCall::Parse)),
         "check" => Some(Call::OfLines(LinesCall::Check)),

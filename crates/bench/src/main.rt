@@ -9,6 +9,7 @@
 mod call;
 mod failure;
 mod repeating;
+mod running;
 
 use call::{Call, NAMES, call_named};
 use failure::Failure;

@@ -2,6 +2,7 @@
 
 use crate::call::{Call, LinesCall, ModuleCall, STEP};
 use crate::failure::{Failure, refusal};
+use crate::running::{replay_repeatedly, run_repeatedly};
 use certificate::{Module, write};
 use machine::Checked;
 use machine_state::{Effect, Event, Link};
@@ -12,7 +13,7 @@ use usage_checks::check;
 use verifier::verify;
 
 /// A checksum with one more number in it.
-fn mixed(checksum: u64, number: u64) -> u64 {
+pub(crate) fn mixed(checksum: u64, number: u64) -> u64 {
     checksum.wrapping_mul(31).wrapping_add(number)
 }
 
@@ -102,6 +103,8 @@ fn of_module(alloc: Global, call: ModuleCall, module: &Module, times: u64) -> Re
             Ok(mut machine) => apply_repeatedly(&mut machine, later, times),
             Err(_) => Err(Failure::Memory),
         },
+        ModuleCall::Run => run_repeatedly(alloc, module, times),
+        ModuleCall::Replay => replay_repeatedly(alloc, module, times),
     }
 }
 

@@ -1,0 +1,103 @@
+//! Runs the module of a case, and asks what came of it.
+
+use crate::course::{Course, course_of};
+use crate::failing::put_failing;
+use crate::setting::{Setting, failure};
+use certificate::Module;
+use conformance::{Answer, Outcome, Statement, Subject, judged};
+use std::alloc::Global;
+use verifier::{Verified, verify};
+
+/// A question and the answer that is expected: `QUESTION = ANSWER`.
+fn question(rest: &str) -> (&str, &str) {
+    rest.split_once(" = ").unwrap_or((rest, ""))
+}
+
+/// What each call that fails in turn leads to.
+fn ask_failing(
+    alloc: Global,
+    verified: &Verified,
+    setting: &Setting,
+    rest: &str,
+    out: &mut Answer,
+) -> Outcome {
+    let (word, expected) = question(rest);
+    match failure(word) {
+        Some(how) => {
+            put_failing(alloc, verified, setting.links.as_str(), how, out);
+            judged(out, expected)
+        }
+        None => Outcome::Unreadable,
+    }
+}
+
+/// One of the texts on a run.
+fn judge_text(text: &Answer, course: &Course, expected: &str, out: &mut Answer) -> Outcome {
+    out.put(text.as_str());
+    if course.is_out_of_memory() {
+        out.fail();
+    }
+    judged(out, expected)
+}
+
+/// What is asked of an accepted module.
+fn ask_verified(
+    alloc: Global,
+    verified: &Verified,
+    setting: &Setting,
+    statement: Statement,
+    out: &mut Answer,
+) -> Outcome {
+    let rest = statement.rest;
+    if statement.word == "failing" {
+        return ask_failing(alloc, verified, setting, rest, out);
+    }
+    let course = course_of(alloc, verified, setting.links.as_str(), setting.failing);
+    match statement.word {
+        "run" => judge_text(&course.outcome, &course, rest, out),
+        "wrote" => judge_text(&course.wrote, &course, rest, out),
+        "calls" => judge_text(&course.calls, &course, rest, out),
+        _ => Outcome::Unreadable,
+    }
+}
+
+/// What is asked of a module. One that is refused answers the rule and the offset.
+fn ask_module(
+    alloc: Global,
+    module: &Module,
+    setting: &Setting,
+    statement: Statement,
+    out: &mut Answer,
+) -> Outcome {
+    match verify(alloc, module) {
+        Ok(verified) => ask_verified(alloc, &verified, setting, statement, out),
+        Err(refusal) => {
+            out.fault("V", refusal.number, u64::from(refusal.offset));
+            judged(out, statement.rest)
+        }
+    }
+}
+
+/// What is asked of the module that a file is.
+fn ask(alloc: Global, setting: &Setting, statement: Statement, out: &mut Answer) -> Outcome {
+    match Module::read(alloc, &setting.file) {
+        Ok(module) => ask_module(alloc, &module, setting, statement, out),
+        Err(fault) => {
+            out.fault("C", fault.number, fault.offset as u64);
+            Outcome::Differs
+        }
+    }
+}
+
+impl Subject for Setting {
+    fn begin(alloc: Global) -> Self {
+        Setting::new(alloc)
+    }
+
+    fn perform(&mut self, statement: Statement, out: &mut Answer) -> Outcome {
+        match self.take(statement) {
+            Some(outcome) => outcome,
+            None => ask(self.alloc, self, statement, out),
+        }
+    }
+}

@@ -1,0 +1,23 @@
+//! Runs modules with readers and writers on their links as cases in text say, and prints each case that differs.
+//!
+//! The arguments name files of cases; without any, the cases are read from standard input. The last line has the
+//! counts. The status is 1 if a case differs or cannot be read.
+#![tactic(auto)]
+
+mod asking;
+mod calls;
+mod course;
+mod failing;
+mod links;
+mod reader;
+mod setting;
+mod writer;
+
+use conformance::try_cases;
+use setting::Setting;
+use std::io;
+use std::process::ExitCode;
+
+fn main(rt: HostRuntime) -> io::Result<ExitCode> {
+    try_cases::<Setting, HostRuntime>(&rt)
+}
