@@ -10,7 +10,7 @@ use Rattle.occam_parser.specs.Views.{term_of, with_others}
 use Rattle.scalar_ranges.specs.Fronts.{Front, count_of}
 use Rattle.scalar_ranges.proofs.Chains.{taken_one}
 use Rattle.code_generator.specs.declared.setting.Setting.{Setting}
-use Rattle.code_generator.specs.Pieces.{Piece, constant}
+use Rattle.code_pieces.specs.Pieces.{Piece, constant}
 use Rattle.code_generator.specs.Expressions.{covered, constant_or}
 use Rattle.code_generator.specs.SettingViews.{expression_in, term_in, terms_in, joined_in, others_in, value_in}
 use Rattle.code_generator.specs.SettingViews.{front_at}

@@ -17,9 +17,9 @@ use Rattle.program_uses.specs.ActionViews.{around_of}
 use Rattle.program_uses.specs.Actions.{Around}
 use Rattle.program_uses.proofs.Adding.{taken_one}
 use Rattle.usage_checks.specs.AfterProcesses.{inside, after_components, after_component, chosen}
-use Rattle.code_generator.specs.declared.operations.TheConstants.{STOP_PROCESS}
+use Rattle.code_pieces.specs.declared.operations.TheConstants.{STOP_PROCESS}
 use Rattle.code_generator.specs.declared.processes.ProcessWriter.{ProcessWriter}
-use Rattle.code_generator.specs.Pieces.{Piece, Jump, operates, Code, closed_by}
+use Rattle.code_pieces.specs.Pieces.{Piece, Jump, operates, Code, closed_by}
 use Rattle.code_generator.specs.FrameViews.{frame_seen}
 use Rattle.code_generator.specs.Actions.{test_code}
 use Rattle.code_generator.specs.Processes.{Site, at_place, row_of, is_true, in_choice, tested_choice, last_choice}

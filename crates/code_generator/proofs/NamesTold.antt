@@ -6,7 +6,7 @@ use Rattle.std.proofs.lemmas.List.{append_assoc, append-nil, map_push, at_drop_m
 use Rattle.occam_parser.specs.Expressions.{Expression}
 use Rattle.occam_parser.specs.LineViews.{spelling_of}
 use Rattle.program_uses.proofs.Adding.{taken_one}
-use Rattle.code_generator.specs.Pieces.{Piece}
+use Rattle.code_pieces.specs.Pieces.{Piece}
 use Rattle.code_generator.specs.Declarations.{Frame, with_words, with_names, zero_code, zero_names}
 
 abbrev pub Names : Type 0

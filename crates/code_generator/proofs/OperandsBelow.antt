@@ -4,8 +4,8 @@ use Rattle.std.proofs.lemmas.List.{append_assoc}
 use Rattle.occam_parser.specs.Expressions.{Term}
 use Rattle.scalar_ranges.specs.Scopes.{entries_of}
 use Rattle.code_generator.specs.declared.setting.Setting.{Setting}
-use Rattle.code_generator.specs.Pieces.{Piece, stores, below}
-use Rattle.code_generator.specs.PieceViews.{homes_seen}
+use Rattle.code_pieces.specs.Pieces.{Piece, stores, below}
+use Rattle.code_generator.specs.HomeViews.{homes_seen}
 use Rattle.code_generator.specs.Expressions.{term_code, is_leaf_term, onto}
 use Rattle.code_generator.specs.SettingViews.{entries_in, term_in, term_above, onto_in}
 

@@ -22,9 +22,9 @@ use Rattle.program_uses.proofs.Adding.{taken_one}
 use Rattle.usage_checks.specs.AfterProcesses.{inside, after_construct, after_components, after_component}
 use Rattle.code_generator.specs.declared.frame.Frame as code_frame
 use Rattle.code_generator.specs.declared.processes.ProcessWriter.{ProcessWriter}
-use Rattle.code_generator.specs.Pieces.{Piece, Code, no_code, before, then_code, closed_by}
+use Rattle.code_pieces.specs.Pieces.{Piece, Code, no_code, before, then_code, closed_by}
 use Rattle.code_generator.specs.Homes.{Home, Word}
-use Rattle.code_generator.specs.PieceViews.{homes_seen, home_seen}
+use Rattle.code_generator.specs.HomeViews.{homes_seen, home_seen}
 use Rattle.code_generator.specs.Declarations.{Frame, with_words, with_names, declared, words_in, channels_in, home_for}
 use Rattle.code_generator.specs.Declarations.{declaration_code}
 use Rattle.code_generator.specs.Processes.{Site, with_declaration, at_place, process_code, construct_code}

@@ -8,8 +8,8 @@ use Rattle.scalar_ranges.specs.Environments.{item_at}
 use Rattle.scalar_ranges.proofs.Numbered.{reverse_entry}
 use Rattle.program_uses.proofs.Adding.{taken_one}
 use Rattle.code_generator.specs.declared.home.Home as code_home
-use Rattle.code_generator.specs.declared.piece.RowEntry.{RowEntry}
-use Rattle.code_generator.specs.PieceViews.{home_seen, homes_seen}
+use Rattle.code_pieces.specs.declared.piece.RowEntry.{RowEntry}
+use Rattle.code_generator.specs.HomeViews.{home_seen, homes_seen}
 use Rattle.code_generator.specs.Homes.{Home, facts_at, facts_here, facts_from}
 
 facts_push : (hs : List Home) (h : Home) (es : List Entry)

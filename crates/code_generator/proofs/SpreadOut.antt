@@ -4,7 +4,7 @@ use Rattle.std.proofs.Common.{sym}
 use Rattle.std.proofs.Common.{ap, arith, if◌then◌else◌, ◌∙◌}
 use Rattle.std.proofs.lemmas.Bool.Decides.{nat_tests}
 use Rattle.std.proofs.lemmas.List.{append_assoc}
-use Rattle.code_generator.specs.Pieces.{Piece, moves}
+use Rattle.code_pieces.specs.Pieces.{Piece, moves}
 use Rattle.code_generator.specs.Declarations.{spread}
 
 not_below : (a b : ℕ) → b ≤ a → nat_lt a b ≡ false

@@ -10,10 +10,10 @@ use Rattle.scalar_ranges.specs.declared.scope.ScalarKind.TheVariants as kinds
 use Rattle.scalar_ranges.specs.Entries.{Meaning, Scalar, Array, Channel, Channels, Entry, meaning_in}
 use Rattle.scalar_ranges.specs.Bounds.{bound_of, range_found}
 use Rattle.scalar_ranges.specs.Narrowing.{Tested, test_of}
-use Rattle.code_generator.specs.declared.operations.TheConstants.{LOAD_BYTE, INPUT, OUTPUT, STORE_BYTE, STOP_PROCESS}
-use Rattle.code_generator.specs.declared.operations.TheConstants.{MINIMUM_INTEGER}
-use Rattle.code_generator.specs.Pieces.{Piece, Direct, JumpUnless, Row, operates, stores, points, constant}
-use Rattle.code_generator.specs.Pieces.{moves, below, Code, written}
+use Rattle.code_pieces.specs.declared.operations.TheConstants.{LOAD_BYTE, INPUT, OUTPUT, STORE_BYTE, STOP_PROCESS}
+use Rattle.code_pieces.specs.declared.operations.TheConstants.{MINIMUM_INTEGER}
+use Rattle.code_pieces.specs.Pieces.{Piece, Direct, JumpUnless, Row, operates, stores, points, constant}
+use Rattle.code_pieces.specs.Pieces.{moves, below, Code, written}
 use Rattle.code_generator.specs.Homes.{Home, Word, Link, home_of, facts_of}
 use Rattle.code_generator.specs.Declarations.{Frame}
 use Rattle.code_generator.specs.Expressions.{expression_code, known_address, subscript_code, single}

@@ -8,7 +8,7 @@ use Rattle.occam_parser.specs.Lines.{Value, Scalar, Table, Bytes, Declaration, C
 use Rattle.scalar_ranges.specs.Entries.{Entry}
 use Rattle.scalar_ranges.specs.Types.{type_of_values}
 use Rattle.program_uses.specs.Constants.{value_as, size_in}
-use Rattle.code_generator.specs.Pieces.{Piece, constant, stores, moves}
+use Rattle.code_pieces.specs.Pieces.{Piece, constant, stores, moves}
 use Rattle.code_generator.specs.Homes as home
 use Rattle.code_generator.specs.Homes.{Home, Nowhere, Word, words_for}
 

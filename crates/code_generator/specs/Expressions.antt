@@ -25,13 +25,13 @@ use Rattle.scalar_ranges.specs.declared.scope.ScalarKind.TheVariants as kinds
 use Rattle.scalar_ranges.specs.Entries.{Meaning, Scalar, Array, Entry, meaning_in}
 use Rattle.scalar_ranges.specs.Bounds.{bound_of, bound_of_term, exact_value, range_found}
 use Rattle.scalar_ranges.specs.Fronts.{Front, count_of, front_in}
-use Rattle.code_generator.specs.declared.operations.TheConstants.{LOAD_BYTE, BYTE_SUBSCRIPT, DIFFERENCE, ADD}
-use Rattle.code_generator.specs.declared.operations.TheConstants.{PRODUCT, GREATER, WORD_SUBSCRIPT, SUBTRACT}
-use Rattle.code_generator.specs.declared.operations.TheConstants.{REMAINDER, DIVIDE, NOT, EXCLUSIVE_OR, SHIFT_RIGHT}
-use Rattle.code_generator.specs.declared.operations.TheConstants.{SHIFT_LEFT, AND, OR, SUM, MULTIPLY}
+use Rattle.code_pieces.specs.declared.operations.TheConstants.{LOAD_BYTE, BYTE_SUBSCRIPT, DIFFERENCE, ADD}
+use Rattle.code_pieces.specs.declared.operations.TheConstants.{PRODUCT, GREATER, WORD_SUBSCRIPT, SUBTRACT}
+use Rattle.code_pieces.specs.declared.operations.TheConstants.{REMAINDER, DIVIDE, NOT, EXCLUSIVE_OR, SHIFT_RIGHT}
+use Rattle.code_pieces.specs.declared.operations.TheConstants.{SHIFT_LEFT, AND, OR, SUM, MULTIPLY}
 use Rattle.code_generator.specs.declared.expressions.Pushes.{Pushes}
 use Rattle.code_generator.specs.declared.expressions.Pushes.TheVariants as pushes
-use Rattle.code_generator.specs.Pieces.{Piece, Direct, TableAddress, operates, loads, stores, points, constant, below}
+use Rattle.code_pieces.specs.Pieces.{Piece, Direct, TableAddress, operates, loads, stores, points, constant, below}
 use Rattle.code_generator.specs.Homes.{Home, Word, Block, Table, home_of}
 
 -- ---- operations

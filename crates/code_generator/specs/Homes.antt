@@ -5,8 +5,8 @@ use Rattle.occam_parser.specs.declared.tree.ValueType.{ValueType}
 use Rattle.occam_parser.specs.declared.tree.ValueType.TheVariants as value_type
 use Rattle.word_arithmetic.specs.Range.{Ends, full}
 use Rattle.scalar_ranges.specs.Entries.{Meaning, Scalar, Array, Entry, number_in}
-use Rattle.code_generator.specs.declared.piece.WordFact.TheVariants.{Between, Turning}
-use Rattle.code_generator.specs.declared.piece.RowEntry.{RowEntry}
+use Rattle.code_pieces.specs.declared.piece.WordFact.TheVariants.{Between, Turning}
+use Rattle.code_pieces.specs.declared.piece.RowEntry.{RowEntry}
 
 -- Words have numbers in the frame, from 0 on. A name of a scope is at the place of its number, from the outermost on.
 pub data Home : Type 0 where

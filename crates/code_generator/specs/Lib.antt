@@ -1,14 +1,11 @@
-pub mod Pieces
 pub mod Homes
 pub mod Expressions
 pub mod Declarations
 pub mod Actions
 pub mod Processes
 pub mod Programs
-pub mod Numbers
-pub mod Laying
 pub mod SmallCode
-pub mod PieceViews
+pub mod HomeViews
 pub mod SettingViews
 pub mod TargetViews
 pub mod FrameViews

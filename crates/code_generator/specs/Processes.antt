@@ -19,9 +19,9 @@ use Rattle.program_uses.specs.Indices.{Repeats, repeats_of, index_in, is_seq, tu
 use Rattle.usage_checks.specs.NameRules.{with_entries}
 use Rattle.usage_checks.specs.AfterProcesses.{begun, ended, begun_body, chosen, after_components}
 use Rattle.usage_checks.specs.AfterProcesses.{after_component, after_body}
-use Rattle.code_generator.specs.declared.operations.TheConstants.{STOP_PROCESS}
-use Rattle.code_generator.specs.Pieces.{Piece, Jump, LoopBack, Row, operates, stores, points, constant, Code, no_code}
-use Rattle.code_generator.specs.Pieces.{written, before, then_code, closed_by}
+use Rattle.code_pieces.specs.declared.operations.TheConstants.{STOP_PROCESS}
+use Rattle.code_pieces.specs.Pieces.{Piece, Jump, LoopBack, Row, operates, stores, points, constant, Code, no_code}
+use Rattle.code_pieces.specs.Pieces.{written, before, then_code, closed_by}
 use Rattle.code_generator.specs.Homes.{Nowhere, Block, facts_of}
 use Rattle.code_generator.specs.Declarations.{Frame, with_home, declared, declaration_code}
 use Rattle.code_generator.specs.Actions.{action_code, test_code}

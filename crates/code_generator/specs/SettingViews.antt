@@ -8,9 +8,9 @@ use Rattle.scalar_ranges.specs.Scopes.{entries_of}
 use Rattle.scalar_ranges.specs.Bounds.{bound_of, exact_value}
 use Rattle.scalar_ranges.specs.Fronts.{Front, front_of}
 use Rattle.code_generator.specs.declared.setting.Setting.{Setting}
-use Rattle.code_generator.specs.Pieces.{Piece, operates}
+use Rattle.code_pieces.specs.Pieces.{Piece, operates}
 use Rattle.code_generator.specs.Homes.{Home}
-use Rattle.code_generator.specs.PieceViews.{homes_seen}
+use Rattle.code_generator.specs.HomeViews.{homes_seen}
 use Rattle.code_generator.specs.Expressions.{expression_code, term_code, terms_code, onto, pushed, beside}
 use Rattle.code_generator.specs.Expressions.{is_leaf_term, unless, is_known, covered, chain_operation}
 

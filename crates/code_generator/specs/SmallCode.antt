@@ -8,15 +8,15 @@ use Rattle.module_builder.specs.Spelling.{spelled}
 use Rattle.occam_parser.specs.declared.tree.ValueType.TheVariants as value_type
 use Rattle.occam_parser.specs.declared.tree.ArithmeticPair.TheVariants as arithmetic_pair
 use Rattle.program_meaning.specs.SmallPrograms.{sums, or_adds, echoes, skip, sets_element, computes, sends_a}
-use Rattle.code_generator.specs.declared.piece.WordFact.TheVariants.{Between, Turning}
-use Rattle.code_generator.specs.declared.piece.RowEntry.{RowEntry}
-use Rattle.code_generator.specs.declared.operations.TheConstants.{MINIMUM_INTEGER, INPUT, OUTPUT, GREATER, SUM}
-use Rattle.code_generator.specs.declared.operations.TheConstants.{STOP_PROCESS, LOAD_BYTE, MOVE}
-use Rattle.code_generator.specs.Pieces.{Piece, Direct, Jump, JumpUnless, LoopBack, Row, operates, loads, stores, points}
-use Rattle.code_generator.specs.Pieces.{constant}
+use Rattle.code_pieces.specs.declared.piece.WordFact.TheVariants.{Between, Turning}
+use Rattle.code_pieces.specs.declared.piece.RowEntry.{RowEntry}
+use Rattle.code_pieces.specs.declared.operations.TheConstants.{MINIMUM_INTEGER, INPUT, OUTPUT, GREATER, SUM}
+use Rattle.code_pieces.specs.declared.operations.TheConstants.{STOP_PROCESS, LOAD_BYTE, MOVE}
+use Rattle.code_pieces.specs.Pieces.{Piece, Direct, Jump, JumpUnless, LoopBack, Row, operates, loads, stores, points}
+use Rattle.code_pieces.specs.Pieces.{constant}
 use Rattle.code_generator.specs.Programs.{code_of}
-use Rattle.code_generator.specs.Numbers.{Needs, needs_of}
-use Rattle.code_generator.specs.Laying.{apart, draft_code, sizes_of, Said, SaidRow, said_rows, words_taken}
+use Rattle.code_pieces.specs.Numbers.{Needs, needs_of}
+use Rattle.code_pieces.specs.Laying.{apart, draft_code, sizes_of, Said, SaidRow, said_rows, words_taken}
 
 -- ---- four numbers are added up
 

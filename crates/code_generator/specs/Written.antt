@@ -12,7 +12,7 @@ use Rattle.program_uses.specs.Actions.{Around}
 use Rattle.program_uses.specs.InTurn.{in_turn}
 use Rattle.usage_checks.specs.AfterProcesses.{inside, after_construct, after_components, after_component, chosen}
 use Rattle.code_generator.specs.declared.processes.ProcessWriter.{ProcessWriter}
-use Rattle.code_generator.specs.Pieces.{Piece, Code, closed_by}
+use Rattle.code_pieces.specs.Pieces.{Piece, Code, closed_by}
 use Rattle.code_generator.specs.Declarations.{declaration_code}
 use Rattle.code_generator.specs.FrameViews.{frame_seen}
 use Rattle.code_generator.specs.Processes.{Site, with_declaration, at_place, row_of, process_code, construct_code}

@@ -11,7 +11,7 @@ ghost use Rattle.program_uses.specs.Constants.{value_as};
 ghost use Rattle.program_uses.specs.Declaring.{add_all};
 ghost use Rattle.code_generator.specs.Homes.{words_for};
 ghost use Rattle.code_generator.specs.Declarations.{words_in, channels_in, item_values, home_for};
-ghost use Rattle.code_generator.specs.PieceViews.{home_seen};
+ghost use Rattle.code_generator.specs.HomeViews.{home_seen};
 
 use crate::home::Home;
 use crate::setting::word_after;

@@ -6,8 +6,8 @@ ghost use Rattle.occam_parser.specs.Views.{expression_of, term_of};
 ghost use Rattle.scalar_ranges.specs.Scopes.{entries_of, meaning_of};
 ghost use Rattle.scalar_ranges.specs.Bounds.{bound_of, bound_of_term, exact_value, range_found};
 ghost use Rattle.scalar_ranges.specs.BoundViews.{all_ends};
-ghost use Rattle.code_generator.specs.Pieces.{Direct};
-ghost use Rattle.code_generator.specs.PieceViews.{home_seen, homes_seen};
+ghost use Rattle.code_pieces.specs.Pieces.{Direct};
+ghost use Rattle.code_generator.specs.HomeViews.{home_seen, homes_seen};
 ghost use Rattle.code_generator.specs.Homes.{home_of};
 ghost use Rattle.scalar_ranges.specs.FrontViews.{seen_front};
 ghost use Rattle.code_generator.specs.Expressions.{covered, pair_operation, chain_operation, prefix_code, single};
@@ -18,7 +18,7 @@ ghost use Rattle.code_generator.specs.Expressions.{subscript_code, pushes_of, pa
 
 use crate::home::Home;
 use crate::listing::Listing;
-use crate::operations;
+use code_pieces::operations;
 use crate::setting::word_after;
 use module_builder::GenFault;
 use occam_parser::{

@@ -3,15 +3,15 @@
 ghost use Rattle.std.specs.Prelude.{◌≡◌, ◌++◌, ◌∷◌, [], IfOk, option_map, option_to_list};
 ghost use Rattle.word_arithmetic.specs.Range.{ends_of};
 ghost use Rattle.scalar_ranges.specs.Scopes.{entries_of, entry_of, meaning_of};
-ghost use Rattle.code_generator.specs.Pieces.{Row};
-ghost use Rattle.code_generator.specs.PieceViews.{home_seen, homes_seen};
+ghost use Rattle.code_pieces.specs.Pieces.{Row};
+ghost use Rattle.code_generator.specs.HomeViews.{home_seen, homes_seen};
 ghost use Rattle.code_generator.specs.Homes.{count_in, is_in, facts_at, facts_here, facts_of};
 ghost use Rattle.code_generator.specs.SettingViews.{entries_in, homes_in};
 
 use crate::declaring::words_for;
 use crate::home::Home;
 use crate::listing::Listing;
-use crate::piece::{Piece, RowEntry, WordFact};
+use code_pieces::{Piece, RowEntry, WordFact};
 use crate::setting::Setting;
 use module_builder::GenFault;
 use scalar_ranges::{Entry, Meaning, Scope};

@@ -3,7 +3,7 @@
 ghost use Rattle.std.specs.Prelude.{◌≡◌, IfOk, take};
 ghost use Rattle.occam_parser.specs.OneOrMore.{as_list, one_or_more_of};
 ghost use Rattle.occam_parser.specs.LineViews.{spelling_of};
-ghost use Rattle.code_generator.specs.PieceViews.{home_seen, homes_seen};
+ghost use Rattle.code_generator.specs.HomeViews.{home_seen, homes_seen};
 ghost use Rattle.code_generator.specs.Declarations.{with_home, with_words, with_names};
 ghost use Rattle.code_generator.specs.FrameViews.{frame_seen};
 

@@ -2,11 +2,11 @@
 
 ghost use Rattle.std.specs.Prelude.{◌≡◌, ◌++◌, ◌∷◌, [], IfOk, ℤ, pos};
 ghost use Rattle.prefix_decoder.specs.declared.function.Fun.TheVariants as fun;
-ghost use Rattle.code_generator.specs.Pieces.{Direct, TableAddress, operates, loads, stores, points, constant, below};
-ghost use Rattle.code_generator.specs.PieceViews.{pieces_of, piece_of};
+ghost use Rattle.code_pieces.specs.Pieces.{Direct, TableAddress, operates, loads, stores, points, constant, below};
+ghost use Rattle.code_pieces.specs.PieceViews.{pieces_of, piece_of};
 
-use crate::operations::{MINIMUM_INTEGER, REVERSE};
-use crate::piece::Piece;
+use code_pieces::operations::{MINIMUM_INTEGER, REVERSE};
+use code_pieces::Piece;
 use module_builder::GenFault;
 use prefix_decoder::Fun;
 use std::alloc::Global;
@@ -21,8 +21,8 @@ pub struct Listing {
 
 impl Model for Listing {
     ghost use Rattle.std.specs.Prelude.{List};
-    ghost use Rattle.code_generator.specs.Pieces.{Piece};
-    ghost use Rattle.code_generator.specs.PieceViews.{pieces_of};
+    ghost use Rattle.code_pieces.specs.Pieces.{Piece};
+    ghost use Rattle.code_pieces.specs.PieceViews.{pieces_of};
 
     ghost Value = { List Piece };
 

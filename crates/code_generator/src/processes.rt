@@ -19,8 +19,8 @@ ghost use Rattle.code_generator.specs.Written.{WritesPart, WritesChosen, first_s
 use crate::declaring::{channels_in, declare_names, home_for, words_in};
 use crate::frame::Frame;
 use crate::listing::Listing;
-use crate::operations;
-use crate::piece::Piece;
+use code_pieces::operations;
+use code_pieces::Piece;
 use crate::setting::Setting;
 use module_builder::GenFault;
 use occam_parser::{

@@ -1,7 +1,7 @@
 //! What is around an expression.
 
 ghost use Rattle.std.specs.Prelude.{◌≡◌, ◌+◌, IfOk, option_map};
-ghost use Rattle.code_generator.specs.PieceViews.{home_seen};
+ghost use Rattle.code_generator.specs.HomeViews.{home_seen};
 ghost use Rattle.code_generator.specs.Homes.{home_of};
 ghost use Rattle.code_generator.specs.SettingViews.{entries_in, homes_in};
 

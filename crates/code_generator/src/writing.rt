@@ -17,7 +17,7 @@ use crate::expressions::{
 };
 use crate::home::Home;
 use crate::listing::Listing;
-use crate::operations;
+use code_pieces::operations;
 use crate::setting::{Setting, word_after};
 use module_builder::GenFault;
 use occam_parser::{ChainOperator, Expr, Operand, Operation, ValueType};

@@ -10,7 +10,8 @@ use Rattle.module_format.specs.ReadingFile.{read_contents}
 use Rattle.link_runs.specs.ByLink.{ByLink}
 use Rattle.link_runner.specs.declared.report.Report.{Report as RunReport}
 use Rattle.verifier.specs.declared.Refusal.{Refusal}
-use Rattle.verifier.specs.Certified.{IsCertified, Reports}
+use Rattle.certified_worlds.specs.Certified.{IsCertified}
+use Rattle.verifier.specs.Reports.{Reports}
 use Rattle.tpm.specs.declared.files.FileFault.{FileFault}
 use Rattle.tpm.specs.declared.files.FileFault.TheVariants as file_faults
 use Rattle.tpm.specs.declared.report.Report.TheVariants.{Accepted}

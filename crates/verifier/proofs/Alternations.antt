@@ -56,20 +56,20 @@ use Rattle.rulings.specs.Regions.{Scope, scope_of, channel_address, HoldsNamed}
 use Rattle.rulings.specs.Guarding.{guard_value, first_left, HasSelected}
 use Rattle.rulings.specs.Fitting.{Here, Begins, Enables, AwaitsGuards, Disables}
 use Rattle.rulings.proofs.Within.{scope_still}
-use Rattle.verifier.specs.Alternating.{IsTrueGuard, IsTrueSkip, EnablesAt, a_channel, a_link, AlternatesHere}
-use Rattle.verifier.specs.Lives.{it_lives}
-use Rattle.verifier.specs.Point.{MeetsPoint}
-use Rattle.verifier.proofs.Carrying.{MustBeReady, SameEnabled, enabled_as_before, alternates_on, ready_on}
+use Rattle.certified_worlds.specs.Alternating.{IsTrueGuard, IsTrueSkip, EnablesAt, a_channel, a_link, AlternatesHere}
+use Rattle.certified_worlds.specs.Lives.{it_lives}
+use Rattle.certified_worlds.specs.Point.{MeetsPoint}
+use Rattle.certified_worlds.proofs.Carrying.{MustBeReady, SameEnabled, enabled_as_before, alternates_on, ready_on}
 use Rattle.verifier.proofs.Enabled.{ready_is_enabled, Sets, enables_somewhere, source_enables, source_is_by}
 use Rattle.verifier.proofs.Enabled.{sets_channel}
 use Rattle.verifier.proofs.Enabled.{sets_link}
 use Rattle.verifier.proofs.Guards.{fresh_guards, grown_guards, IsGoneAt, less_guards}
 use Rattle.verifier.proofs.LawfulWorlds.{IsLawful}
-use Rattle.verifier.proofs.LivesAs.{LivesAs}
+use Rattle.certified_worlds.proofs.LivesAs.{LivesAs}
 use Rattle.verifier.proofs.Sources.{AtEnd, an_input, an_output, a_channel as a_channel_there, at_end, held_is}
 use Rattle.verifier.proofs.Sources.{holding_is}
 use Rattle.verifier.proofs.Sources.{input_found}
-use Rattle.verifier.proofs.Steps.{still_state, plain_process, plain_state, behind_in, task_at, AltersTo, HoldsChannel}
+use Rattle.certified_worlds.proofs.Steps.{still_state, plain_process, plain_state, behind_in, task_at, AltersTo, HoldsChannel}
 use Rattle.verifier.proofs.Tables.{AreApart, AreBytes, IsSound, Living, SameLengths, equal_lengths, length_set}
 use Rattle.verifier.proofs.Tables.{holds_put}
 use Rattle.verifier.proofs.Tables.{holds_put_alternating, no_alternation}

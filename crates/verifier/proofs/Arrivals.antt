@@ -19,15 +19,15 @@ use Rattle.machine_state.specs.Moves.{dispatch, enqueue, wake, with_condition, w
 use Rattle.machine_state.specs.Moves.{fill_condition, rouse}
 use Rattle.machine_state.proofs.Moving.{at_some, on_task_is}
 use Rattle.rulings.specs.Buffers.{is_filled, message_place}
-use Rattle.verifier.specs.Lives.{awaits, IsExchanging, Lives, it_lives}
+use Rattle.certified_worlds.specs.Lives.{awaits, IsExchanging, Lives, it_lives}
 use Rattle.verifier.proofs.Coming.{input_awaits, output_awaits, more_filled, ready_is_quiet, link_is_quiet, byte_changes}
 use Rattle.verifier.proofs.Coming.{byte_lives}
 use Rattle.verifier.proofs.LawfulWorlds.{IsLawful}
 use Rattle.machine_state.proofs.Lines.{got_set, got_other, set_either}
 use Rattle.verifier.proofs.Tables.{IsSound, AreBytes, equal_lengths, Puts, Living, living, lives_whatever, holds_put}
 use Rattle.verifier.proofs.Tables.{holds_aside, plain_of}
-use Rattle.verifier.specs.Alternating.{EnablesAt, a_channel, a_link}
-use Rattle.verifier.proofs.Carrying.{alternates_on}
+use Rattle.certified_worlds.specs.Alternating.{EnablesAt, a_channel, a_link}
+use Rattle.certified_worlds.proofs.Carrying.{alternates_on}
 use Rattle.machine_state.specs.EnabledLaws.{HasReady, a_sender, a_byte}
 use Rattle.machine_state.specs.declared.process.Mode.TheVariants as modes
 use Rattle.machine_state.proofs.Claims.{only_one}

@@ -6,8 +6,8 @@ use Rattle.machine_state.specs.declared.event.Event.{Event}
 use Rattle.machine_state.specs.World.{loaded}
 use Rattle.machine_state.specs.Happens.{happens, world_after}
 use Rattle.machine_state.proofs.EveryWorld.{run_further}
-use Rattle.verifier.specs.Certified.{IsCertified}
-use Rattle.verifier.specs.Invariant.{Holds}
+use Rattle.certified_worlds.specs.Certified.{IsCertified}
+use Rattle.certified_worlds.specs.Invariant.{Holds}
 use Rattle.verifier.specs.Headline.{IsEvent, AreEvents, RunsWell}
 use Rattle.verifier.proofs.Kept.{decodes, well_formed}
 use Rattle.verifier.proofs.LawfulWorlds.{lawful}

@@ -20,9 +20,9 @@ use Rattle.rulings.proofs.Moving.{copied-inside, length-copied}
 use Rattle.rulings.proofs.Reaching.{inside_memory}
 use Rattle.rulings.proofs.Words.{bool_cases}
 use Rattle.rulings.specs.Buffers.{message_place, is_filled, IsByte}
-use Rattle.verifier.specs.Lives.{awaits, IsExchanging, Lives}
-use Rattle.verifier.specs.Point.{Began}
-use Rattle.verifier.proofs.Given.{or_left}
+use Rattle.certified_worlds.specs.Lives.{awaits, IsExchanging, Lives}
+use Rattle.certified_worlds.specs.Point.{Began}
+use Rattle.certified_worlds.proofs.Given.{or_left}
 use Rattle.verifier.proofs.Tables.{lives_on, lives_whatever}
 
 -- ---- what is awaited

@@ -23,7 +23,7 @@ use Rattle.machine_state.proofs.EnabledIsHeld.{word_of}
 use Rattle.machine_state.proofs.Lines.{got_set, got_other, set_either}
 use Rattle.machine_state.proofs.Waiting.{link_found}
 use Rattle.rulings.specs.Meaning.{IsWellFormed}
-use Rattle.verifier.specs.Alternating.{EnablesAt, a_channel, a_link}
+use Rattle.certified_worlds.specs.Alternating.{EnablesAt, a_channel, a_link}
 use Rattle.verifier.proofs.LawfulWorlds.{IsLawful}
 use Rattle.verifier.proofs.Sources.{same_address, no_cell}
 use Rattle.verifier.proofs.Tables.{IsSound}

@@ -13,8 +13,8 @@ use Rattle.machine_state.specs.Endings.{Happened, was_at_fault, it_rests, is_out
 use Rattle.machine_state.specs.Endings.{is_kept, is_acknowledged}
 use Rattle.machine_state.proofs.Turns.{turn_happens}
 use Rattle.rulings.specs.Meaning.{IsWellFormed}
-use Rattle.verifier.specs.Certified.{IsCertified}
-use Rattle.verifier.specs.Point.{Decodes}
+use Rattle.certified_worlds.specs.Certified.{IsCertified}
+use Rattle.certified_worlds.specs.Point.{Decodes}
 use Rattle.verifier.specs.Headline.{IsEvent}
 use Rattle.verifier.proofs.LawfulWorlds.{IsLawful, runs_ready}
 use Rattle.verifier.proofs.Tables.{IsSound, Living, living}

@@ -25,8 +25,8 @@ use Rattle.rulings.specs.Regions.{scope_of, channel_address, HoldsNamed}
 use Rattle.rulings.specs.Guarding.{guard_value, first_left, GuardsFit}
 use Rattle.rulings.specs.Fitting.{Here, Enables, Disables}
 use Rattle.rulings.proofs.Words.{bool_cases}
-use Rattle.verifier.specs.Alternating.{IsTrueGuard, IsTrueSkip, EnablesAt, AlternatesHere}
-use Rattle.verifier.proofs.Carrying.{MustBeReady}
+use Rattle.certified_worlds.specs.Alternating.{IsTrueGuard, IsTrueSkip, EnablesAt, AlternatesHere}
+use Rattle.certified_worlds.proofs.Carrying.{MustBeReady}
 
 -- two values of one word
 same_value : {o : Option ℤ} {v u : ℤ} → o ≡ Some v → o ≡ Some u → v ≡ u

@@ -24,22 +24,22 @@ use Rattle.machine_state.specs.Endings.{Ends, at_fault, has_run, has_emitted, it
 use Rattle.machine_state.specs.Endings.{it_lands, it_stops, Refused, no_code_follows, local_here, IsOutsideCode}
 use Rattle.machine_state.specs.Endings.{no_byte, no_byte_follows}
 use Rattle.rulings.specs.Meaning.{IsWellFormed}
-use Rattle.verifier.specs.Certified.{IsCertified}
+use Rattle.certified_worlds.specs.Certified.{IsCertified}
 use Rattle.rulings.proofs.Combining.{elsewhere}
-use Rattle.verifier.specs.Point.{Point, MeetsPoint, Decodes}
-use Rattle.verifier.specs.Lives.{awaits, Meets, it_lives, it_stopped}
+use Rattle.certified_worlds.specs.Point.{Point, MeetsPoint, Decodes}
+use Rattle.certified_worlds.specs.Lives.{awaits, Meets, it_lives, it_stopped}
 use Rattle.machine_state.specs.declared.process.Mode.TheVariants as modes
-use Rattle.verifier.proofs.Steps.{site_in, here_of, task_at, byte_here, owes, prefixed_point, GoesOnAs, Comes, comes_on}
-use Rattle.verifier.proofs.Steps.{comes_to, comes_straight, comes_down, comes_in, comes_out, comes_to_begin}
-use Rattle.verifier.proofs.Steps.{comes_to_enable, comes_to_enable_skip, comes_to_wait, comes_to_disable}
-use Rattle.verifier.proofs.Steps.{comes_to_disable_skip, comes_to_end, comes_last}
+use Rattle.certified_worlds.proofs.Steps.{site_in, here_of, task_at, byte_here, owes, prefixed_point, GoesOnAs, Comes, comes_on}
+use Rattle.certified_worlds.proofs.Steps.{comes_to, comes_straight, comes_down, comes_in, comes_out, comes_to_begin}
+use Rattle.certified_worlds.proofs.Steps.{comes_to_enable, comes_to_enable_skip, comes_to_wait, comes_to_disable}
+use Rattle.certified_worlds.proofs.Steps.{comes_to_disable_skip, comes_to_end, comes_last}
 use Rattle.verifier.proofs.Alternations.{calm, has_selected, begins_holds, enables_holds, enables_skip_holds}
 use Rattle.verifier.proofs.Alternations.{waits_holds}
 use Rattle.verifier.proofs.Alternations.{disables_holds, disables_skip_holds, ends_holds, never_enabling}
 use Rattle.verifier.proofs.Alternations.{never_disabling, never_ending}
-use Rattle.verifier.proofs.Carrying.{MustBeReady, enabled_as_before, alternates_on, ready_on}
-use Rattle.verifier.proofs.LivesAs.{LivesAs}
-use Rattle.verifier.specs.Alternating.{AlternatesHere}
+use Rattle.certified_worlds.proofs.Carrying.{MustBeReady, enabled_as_before, alternates_on, ready_on}
+use Rattle.certified_worlds.proofs.LivesAs.{LivesAs}
+use Rattle.certified_worlds.specs.Alternating.{AlternatesHere}
 use Rattle.machine_state.specs.EnabledLaws.{Alternates, HasReady}
 use Rattle.machine_state.specs.declared.process.Condition.{Condition}
 use Rattle.states.specs.declared.known.Guard.{Guard}

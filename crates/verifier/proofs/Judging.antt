@@ -21,10 +21,10 @@ use Rattle.rulings.specs.Rulings.{falling}
 use Rattle.facts.specs.Rules.{rule_at, has_rule}
 use Rattle.facts.proofs.Unruled.{unruled as breaks_one}
 use Rattle.verifier.specs.declared.stop.Breach.{Breach}
-use Rattle.verifier.specs.Certified.{given, state_at, entering, Reaches, begins, follows, HoldsAt, HoldsBelow}
-use Rattle.verifier.specs.Certified.{IsCertified, IsRefused, IsBroken, misspelled, unruled, hidden, unreached}
-use Rattle.verifier.specs.Certified.{fallen_off, entered, broken}
-use Rattle.verifier.proofs.Given.{nothing_given, is_given}
+use Rattle.certified_worlds.specs.Certified.{given, state_at, entering, Reaches, begins, follows, HoldsAt, HoldsBelow}
+use Rattle.certified_worlds.specs.Certified.{IsCertified, IsRefused, IsBroken, misspelled, unruled, hidden, unreached}
+use Rattle.certified_worlds.specs.Certified.{fallen_off, entered, broken}
+use Rattle.certified_worlds.proofs.Given.{nothing_given, is_given}
 use Rattle.verifier.specs.Judge.{Verdict, lower, past_starts, past_rule, past_spelling, both, judged_in, judged_at}
 use Rattle.verifier.specs.Judge.{first_start, refused, at_the_end, judge, verdict}
 

@@ -29,7 +29,7 @@ use Rattle.module_format.specs.declared.contexts.Context.{Context}
 use Rattle.module_format.specs.Contexts.{context_at}
 use Rattle.std.proofs.lemmas.Int.{ints}
 use Rattle.rulings.proofs.LabelRows.{label_pairs}
-use Rattle.verifier.specs.Point.{Decodes}
+use Rattle.certified_worlds.specs.Point.{Decodes}
 use Rattle.verifier.proofs.Judging.{Spans}
 
 -- ---- the decoder

@@ -1,12 +1,7 @@
-pub mod Given
 pub mod Judging
 pub mod Reporting
 pub mod RowsLeft
 pub mod Passing
-pub mod LivesAs
-pub mod BehindKeeps
-pub mod Steps
-pub mod Carrying
 pub mod Tables
 pub mod LawfulWorlds
 pub mod Rousing
@@ -24,13 +19,6 @@ pub mod RootHolds
 pub mod RootEnds
 pub mod Start
 pub mod Kept
-pub mod BranchChanges
-pub mod ParsStay
-pub mod StartsKeepPars
-pub mod OpeningsMakePars
-pub mod EndsKeepPars
-pub mod EndsAreInOrder
-pub mod JoinedOpeners
 pub mod CertifiedRuns
 pub mod Examples
 pub mod EchoIsCertified

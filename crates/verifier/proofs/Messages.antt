@@ -30,10 +30,10 @@ use Rattle.machine_state.proofs.Roles.{set_twice}
 use Rattle.machine_state.proofs.Waiting.{link_found, link_low}
 use Rattle.rulings.specs.Buffers.{message_place, IsByte}
 use Rattle.rulings.specs.Meaning.{IsWellFormed}
-use Rattle.verifier.specs.Invariant.{Process}
-use Rattle.verifier.specs.Lives.{awaits, Lives, it_lives}
+use Rattle.certified_worlds.specs.Invariant.{Process}
+use Rattle.certified_worlds.specs.Lives.{awaits, Lives, it_lives}
 use Rattle.verifier.proofs.LawfulWorlds.{IsLawful}
-use Rattle.verifier.proofs.Steps.{Talks}
+use Rattle.certified_worlds.proofs.Steps.{Talks}
 use Rattle.verifier.proofs.Tables.{AreApart, AreBytes, IsSound, Living, living, plain_of, Puts, equal_lengths}
 use Rattle.verifier.proofs.Tables.{length_set}
 use Rattle.verifier.proofs.Tables.{holds_put}

@@ -4,7 +4,7 @@ use Rattle.module_format.specs.Contents.{Contents}
 use Rattle.module_format.specs.Keeping.{Keeps}
 use Rattle.verifier.specs.declared.stop.Stop.{Stop}
 use Rattle.verifier.specs.declared.stop.Stop.TheVariants as stops
-use Rattle.verifier.specs.Certified.{Reports}
+use Rattle.verifier.specs.Reports.{Reports}
 use Rattle.verifier.specs.Judging.{StopsBy, refusal_of}
 use Rattle.verifier.proofs.Judging.{refused_is_refused}
 use Rattle.verifier.proofs.Kept.{spans}

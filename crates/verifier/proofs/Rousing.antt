@@ -17,8 +17,8 @@ use Rattle.rulings.specs.Meaning.{SameMode, both_plain, both_enabling, both_disa
 use Rattle.rulings.specs.Guarding.{guard_value}
 use Rattle.verifier.proofs.Tables.{AreApart, equal_lengths, IsSound, Puts, living, roused_lives, lives_in_mode}
 use Rattle.verifier.proofs.Tables.{holds_aside, holds_put, holds_put_alternating, lives_whatever, IsCalm}
-use Rattle.verifier.proofs.Carrying.{alternates_on, alternates_still, enabled_as_before, ready_on}
-use Rattle.verifier.specs.Lives.{awaits, it_lives}
+use Rattle.certified_worlds.proofs.Carrying.{alternates_on, alternates_still, enabled_as_before, ready_on}
+use Rattle.certified_worlds.specs.Lives.{awaits, it_lives}
 
 -- the state of a process that enables fits whether something is ready or not
 still_enabling : {p : states.Mode} {q : machine.Mode} (is_ready : Bool) → Enables q → SameMode p q

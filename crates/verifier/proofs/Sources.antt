@@ -23,9 +23,9 @@ use Rattle.machine_state.specs.Roles.{own_in}
 use Rattle.machine_state.specs.ChannelLaws.{WaitsTo}
 use Rattle.machine_state.proofs.Claims.{only_one}
 use Rattle.rulings.specs.Meaning.{IsWellFormed}
-use Rattle.verifier.specs.Lives.{IsExchanging}
-use Rattle.verifier.specs.Point.{Began}
-use Rattle.verifier.specs.Invariant.{LengthAgrees, at_link, at_channel}
+use Rattle.certified_worlds.specs.Lives.{IsExchanging}
+use Rattle.certified_worlds.specs.Point.{Began}
+use Rattle.certified_worlds.specs.Invariant.{LengthAgrees, at_link, at_channel}
 use Rattle.verifier.proofs.LawfulWorlds.{IsLawful}
 use Rattle.verifier.proofs.Tables.{IsSound, Living, living}
 

@@ -18,11 +18,11 @@ use Rattle.machine_state.specs.World.{padding, loaded_memory, root_holding, root
 use Rattle.machine_state.specs.World.{link_words, quiet_links}
 use Rattle.machine_state.specs.Site.{Local}
 use Rattle.states.specs.State.{unknown, root_state}
-use Rattle.verifier.specs.Certified.{begins, IsCertified}
+use Rattle.certified_worlds.specs.Certified.{begins, IsCertified}
 use Rattle.rulings.specs.Meaning.{owed, Activation, means_unknown, nothing_known, place_in, IsOwnWord, words_in}
 use Rattle.rulings.specs.Meaning.{HasFrame, frame_lo, frame_hi, from_nowhere, MeansKnown, both_plain, IsWellFormed}
-use Rattle.verifier.specs.Point.{Began, Behind, nobody_waits, owed_behind, Decodes}
-use Rattle.verifier.specs.Lives.{Meets, it_lives}
+use Rattle.certified_worlds.specs.Point.{Began, Behind, nobody_waits, owed_behind, Decodes}
+use Rattle.certified_worlds.specs.Lives.{Meets, it_lives}
 use Rattle.rulings.proofs.Within.{is_starting}
 use Rattle.verifier.proofs.Tables.{IsSound, AreBytes, no_alternation, quietly}
 use Rattle.rulings.specs.Regions.{kind_used, parameter_used}
@@ -30,7 +30,7 @@ use Rattle.machine_state.specs.declared.holding.End.{End}
 use Rattle.machine_state.specs.declared.process.Task.{Task}
 use Rattle.machine_state.specs.declared.link.InputLink.{InputLink}
 use Rattle.module_format.specs.declared.rows.Parameter.{Parameter}
-use Rattle.verifier.specs.Invariant.{LengthsAgree, at_link}
+use Rattle.certified_worlds.specs.Invariant.{LengthsAgree, at_link}
 use Rattle.verifier.proofs.RootHolds.{root_constants, root_bytes}
 use Rattle.verifier.proofs.RootEnds.{root_ends, root_lengths, root_differ, held_link}
 use Rattle.rulings.specs.Fitting.{After}
@@ -38,7 +38,7 @@ use Rattle.rulings.proofs.Addresses.{stepped}
 use Rattle.rulings.proofs.Dues.{nothing_due}
 use Rattle.rulings.proofs.Combining.{readable}
 use Rattle.states.proofs.RowFacts.{and-parts, le-from, lt-from}
-use Rattle.verifier.proofs.Steps.{enter, entered_behind, lives_at}
+use Rattle.certified_worlds.proofs.Steps.{enter, entered_behind, lives_at}
 
 -- no branch comes before the root
 owner_of_root : (first : ℕ) (rows : List Par) → 0 < first → owner first rows 0 ≡ 0

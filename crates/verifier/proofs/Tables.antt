@@ -25,19 +25,19 @@ use Rattle.rulings.proofs.Combining.{readable_byte}
 use Rattle.rulings.specs.Regions.{scope_in, Keeps}
 use Rattle.states.specs.State.{State}
 use Rattle.rulings.specs.Meaning.{Activation}
-use Rattle.verifier.specs.Alternating.{AlternatesHere}
+use Rattle.certified_worlds.specs.Alternating.{AlternatesHere}
 use Rattle.rulings.specs.Meaning.{SameMode}
 use Rattle.rulings.specs.Fitting.{After}
 use Rattle.machine_state.specs.Site.{Local}
 use Rattle.machine_state.specs.declared.process.Mode as machine
-use Rattle.verifier.proofs.Carrying.{alternates_still}
-use Rattle.verifier.proofs.BehindKeeps.{behind_in_keeps}
-use Rattle.verifier.proofs.LivesAs.{LivesAs}
-use Rattle.verifier.specs.Point.{Began, Point}
+use Rattle.certified_worlds.proofs.Carrying.{alternates_still}
+use Rattle.certified_worlds.proofs.BehindKeeps.{behind_in_keeps}
+use Rattle.certified_worlds.proofs.LivesAs.{LivesAs}
+use Rattle.certified_worlds.specs.Point.{Began, Point}
 use Rattle.rulings.specs.Buffers.{message_place, IsByte}
-use Rattle.verifier.specs.Lives.{awaits, IsExchanging, Lives, Meets, it_lives, it_stopped, it_ended}
-use Rattle.verifier.specs.Invariant.{AlternatesIn, Process, Table, LengthAgrees, at_link, at_channel, LengthsAgree}
-use Rattle.verifier.specs.Invariant.{total, AreCounted, Holds}
+use Rattle.certified_worlds.specs.Lives.{awaits, IsExchanging, Lives, Meets, it_lives, it_stopped, it_ended}
+use Rattle.certified_worlds.specs.Invariant.{AlternatesIn, Process, Table, LengthAgrees, at_link, at_channel, LengthsAgree}
+use Rattle.certified_worlds.specs.Invariant.{total, AreCounted, Holds}
 use Rattle.rulings.proofs.Agreeing.{agree_keeps}
 
 -- ---- one process

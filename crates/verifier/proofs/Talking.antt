@@ -29,7 +29,7 @@ use Rattle.machine_state.proofs.Waiting.{link_found, link_low}
 use Rattle.machine_state.proofs.WhoWaitsOnLinks.{one_holds}
 use Rattle.rulings.specs.Meaning.{IsWellFormed}
 use Rattle.verifier.proofs.LawfulWorlds.{IsLawful}
-use Rattle.verifier.proofs.Steps.{Talks}
+use Rattle.certified_worlds.proofs.Steps.{Talks}
 use Rattle.verifier.proofs.Tables.{IsSound, Living}
 use Rattle.verifier.proofs.Sources.{AtEnd, an_input, an_output, a_channel, Partner, partner, no_cell, at_end, held_is}
 use Rattle.verifier.proofs.Sources.{holding_is, same_address, input_found, output_found}

@@ -13,7 +13,7 @@ use Rattle.states.specs.State.{State, root_state}
 use Rattle.rulings.specs.Rulings.{Ruling, breaks, falling}
 use Rattle.facts.specs.Rules.{rule_at, has_rule}
 use Rattle.verifier.specs.declared.stop.Breach.{Breach}
-use Rattle.verifier.specs.Certified.{state_at, entering}
+use Rattle.certified_worlds.specs.Certified.{state_at, entering}
 
 -- of two rules the one with the lower number
 abbrev pub lower : Rule → Rule → Rule

@@ -13,7 +13,7 @@ use Rattle.states.specs.State.{State}
 use Rattle.verifier.specs.declared.Refusal.{Refusal}
 use Rattle.verifier.specs.declared.stop.Stop.{Stop}
 use Rattle.verifier.specs.declared.stop.Stop.TheVariants as stops
-use Rattle.verifier.specs.Certified.{out_of_memory}
+use Rattle.verifier.specs.Reports.{out_of_memory}
 use Rattle.verifier.specs.Judge.{verdict}
 use Rattle.verifier.specs.declared.rows.Given.{Given}
 use Rattle.verifier.specs.declared.rows.Given.TheVariants as given_variants

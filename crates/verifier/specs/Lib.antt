@@ -1,11 +1,5 @@
-pub mod Certified
+pub mod Reports
 pub mod Judge
 pub mod Judging
-pub mod Point
-pub mod Lives
-pub mod Pending
-pub mod ParLabels
-pub mod Alternating
-pub mod Invariant
 pub mod Headline
 pub mod SmallAlternation

@@ -10,7 +10,7 @@ ghost use Rattle.rulings.specs.Rulings.{Ruling};
 ghost use Rattle.facts.specs.Rules.{has_rule};
 ghost use Rattle.rulings.specs.Telling.{Advances};
 ghost use Rattle.alternation_rules.specs.Telling.{Selects};
-ghost use Rattle.verifier.specs.Certified.{entering};
+ghost use Rattle.certified_worlds.specs.Certified.{entering};
 ghost use Rattle.verifier.specs.Judge.{lower, both, judged_at};
 ghost use Rattle.verifier.specs.Judging.{falling_state, Judges, IsComparable, IsGiven};
 

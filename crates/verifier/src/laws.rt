@@ -5,9 +5,9 @@ ghost use Rattle.module_format.specs.Keeping.{Keeps};
 ghost use Rattle.machine_state.specs.declared.event.Event.{Event};
 ghost use Rattle.machine_state.specs.Happens.{world_after};
 ghost use Rattle.states.specs.declared.rule.Rule.{Rule};
-ghost use Rattle.verifier.specs.Certified.{IsCertified, IsRefused};
+ghost use Rattle.certified_worlds.specs.Certified.{IsCertified, IsRefused};
 ghost use Rattle.verifier.specs.Judge.{verdict, refused};
-ghost use Rattle.verifier.specs.Invariant.{Holds};
+ghost use Rattle.certified_worlds.specs.Invariant.{Holds};
 ghost use Rattle.verifier.specs.Headline.{AreEvents, RunsWell};
 ghost use Rattle.verifier.specs.SmallAlternation.{AlternationIsJudged};
 

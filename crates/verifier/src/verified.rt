@@ -16,7 +16,7 @@ pub struct Verified<'a> {
 impl<'a> Model for Verified<'a> {
     ghost use Rattle.module_format.specs.Contents.{Contents};
     ghost use Rattle.module_format.specs.Keeping.{Keeps};
-    ghost use Rattle.verifier.specs.Certified.{IsCertified};
+    ghost use Rattle.certified_worlds.specs.Certified.{IsCertified};
 
     ghost Value = { Contents };
 
@@ -27,7 +27,7 @@ impl<'a> Model for Verified<'a> {
 
 impl<'a> Verified<'a> {
     ghost use Rattle.std.specs.Prelude.{◌≡◌};
-    ghost use Rattle.verifier.specs.Certified.{IsCertified};
+    ghost use Rattle.certified_worlds.specs.Certified.{IsCertified};
     ghost use Rattle.verifier.specs.Headline.{RunsWell};
 
     /// The module. It is certified, and so it runs well.
@@ -42,7 +42,8 @@ impl<'a> Verified<'a> {
 }
 
 ghost use Rattle.std.specs.Prelude.{◌≡◌, OnOk, IfOk, IfErr};
-ghost use Rattle.verifier.specs.Certified.{IsCertified, Reports};
+ghost use Rattle.certified_worlds.specs.Certified.{IsCertified};
+ghost use Rattle.verifier.specs.Reports.{Reports};
 ghost use Rattle.verifier.specs.Headline.{RunsWell};
 
 /// Whether a module is certified, or else a rule that is broken at the lowest offset where one is. Running out of

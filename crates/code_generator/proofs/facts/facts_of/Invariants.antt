@@ -1,6 +1,6 @@
 use Rattle.std.proofs.Common.{◌≡◌, take, reverse}
 use Rattle.scalar_ranges.specs.Scopes.{entries_of}
-use Rattle.code_generator.specs.PieceViews.{homes_seen}
+use Rattle.code_generator.specs.HomeViews.{homes_seen}
 use Rattle.code_generator.specs.Homes.{facts_from}
 use Rattle.code_generator.proofs.facts.facts_of.Given as goal
 

@@ -1,6 +1,6 @@
 use Rattle.std.proofs.Common.{ap, sym, ◌∙◌}
 use Rattle.std.proofs.lemmas.List.{take-map}
-use Rattle.code_generator.specs.PieceViews.{home_seen, homes_seen}
+use Rattle.code_generator.specs.HomeViews.{home_seen, homes_seen}
 use Rattle.code_generator.proofs.frame.Frame.leave.Goals as goal
 
 pub returns-clause-homes : goal.returns-clause-homes

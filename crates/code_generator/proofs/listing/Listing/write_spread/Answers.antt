@@ -1,5 +1,5 @@
 use Rattle.std.proofs.Common.{◌≡◌, ◌-◌, ◌++◌, min, arith, ap, ◌∙◌}
-use Rattle.code_generator.specs.Pieces.{moves}
+use Rattle.code_pieces.specs.Pieces.{moves}
 use Rattle.code_generator.proofs.SpreadOut.{spread_more}
 use Rattle.code_generator.proofs.listing.Listing.write_spread.Goals as goal
 

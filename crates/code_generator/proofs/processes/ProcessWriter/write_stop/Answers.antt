@@ -1,8 +1,8 @@
 use Rattle.std.proofs.Common.{List, [], ◌∷◌, ◌++◌, ap, ◌∙◌}
 use Rattle.std.proofs.lemmas.List.{append_assoc}
 use Rattle.scalar_ranges.specs.Scopes.{known_of}
-use Rattle.code_generator.specs.declared.operations.TheConstants.{STOP_PROCESS}
-use Rattle.code_generator.specs.Pieces.{Piece, operates}
+use Rattle.code_pieces.specs.declared.operations.TheConstants.{STOP_PROCESS}
+use Rattle.code_pieces.specs.Pieces.{Piece, operates}
 use Rattle.code_generator.specs.FrameViews.{frame_seen}
 use Rattle.code_generator.specs.Processes.{Site, row_of}
 use Rattle.code_generator.proofs.processes.ProcessWriter.write_stop.Goals as goal

@@ -6,8 +6,8 @@ use Rattle.machine_state.specs.Memory.{Memory}
 use Rattle.machine_state.specs.Holding.{Holding}
 use Rattle.states.specs.State.{State}
 use Rattle.rulings.specs.Meaning.{Activation}
-use Rattle.verifier.specs.Point.{Began}
-use Rattle.verifier.specs.Lives.{Lives}
+use Rattle.certified_worlds.specs.Point.{Began}
+use Rattle.certified_worlds.specs.Lives.{Lives}
 
 -- A process that lives in a state and an activation.
 pub record LivesAs (m : Contents) (h : Holding) (began : Began) (memory : Memory) (t : Task) (due : ℕ) (s : State)

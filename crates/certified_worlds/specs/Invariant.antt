@@ -17,10 +17,10 @@ use Rattle.machine_state.specs.Moves.{cell_of}
 use Rattle.machine_state.specs.Waiting.{IsGone}
 use Rattle.machine_state.specs.World.{World, Role, Join, held, link_word}
 use Rattle.rulings.specs.Regions.{channel_address}
-use Rattle.verifier.specs.Point.{Began}
-use Rattle.verifier.specs.Lives.{Meets, it_lives, it_stopped, it_ended}
-use Rattle.verifier.specs.Pending.{AfterPar, Pending, IsMember, StartsHere}
-use Rattle.verifier.specs.Alternating.{AlternatesHere}
+use Rattle.certified_worlds.specs.Point.{Began}
+use Rattle.certified_worlds.specs.Lives.{Meets, it_lives, it_stopped, it_ended}
+use Rattle.certified_worlds.specs.Pending.{AfterPar, Pending, IsMember, StartsHere}
+use Rattle.certified_worlds.specs.Alternating.{AlternatesHere}
 
 -- ---- processes
 

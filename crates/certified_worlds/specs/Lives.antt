@@ -11,7 +11,7 @@ use Rattle.machine_state.specs.Holding.{Holding, may_write, may_read}
 use Rattle.machine_state.specs.World.{input_word}
 use Rattle.rulings.specs.Buffers.{message_place, is_filled, IsByte, Fills}
 use Rattle.rulings.specs.Regions.{scope_in, HoldsNamed, Keeps}
-use Rattle.verifier.specs.Point.{Began, Point, MeetsPoint, BehindIn, owed_at}
+use Rattle.certified_worlds.specs.Point.{Began, Point, MeetsPoint, BehindIn, owed_at}
 
 -- the place is filled before a waiting process goes on
 abbrev pub awaits : Condition → ℕ → Bool

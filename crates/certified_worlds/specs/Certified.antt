@@ -1,5 +1,5 @@
 -- When a module is certified, and when it is refused.
-use Rattle.std.specs.Prelude.{◌≡◌, ◌≢◌, ◌⊎◌, ℕ, ◌+◌, ◌<◌, true, false, if◌then◌else◌, is_some, length, Option, Some}
+use Rattle.std.specs.Prelude.{◌≡◌, ◌≢◌, ℕ, ◌+◌, ◌<◌, true, false, if◌then◌else◌, is_some, length, Option, Some}
 use Rattle.std.specs.Prelude.{None, Result, Ok, Err}
 use Rattle.prefix_decoder.specs.declared.decoding.Instr.{Instr}
 use Rattle.prefix_decoder.specs.declared.decoding.DecodeFault.{DecodeFault}
@@ -8,13 +8,10 @@ use Rattle.module_format.specs.Contents.{Contents, label_at}
 use Rattle.certificate.specs.Starts.{Entered, procedure_at, is_start}
 use Rattle.states.specs.declared.rule.Rule.{Rule}
 use Rattle.states.specs.declared.rule.Rule.TheVariants as rules
-use Rattle.states.specs.declared.rule.TheConstants.{MEMORY}
-use Rattle.states.specs.Numbers.{number_of}
 use Rattle.states.specs.State.{State, root_state, label_state, procedure_state}
 use Rattle.states.specs.Below.{below}
 use Rattle.rulings.specs.Rulings.{breaks, falling}
 use Rattle.facts.specs.Rules.{rule_at, has_rule}
-use Rattle.verifier.specs.declared.Refusal.{Refusal}
 
 -- the state in which the procedure begins that was found
 abbrev pub first_state : Option Entered → Option State
@@ -100,12 +97,3 @@ pub record IsRefused (m : Contents) (rule : Rule) (at : ℕ) : Type 0 where
   pub states : ℕ → Option State
   pub holds : HoldsBelow m states at
   pub broken : IsBroken m rule at
-
--- no rule is reported by this number
-abbrev pub out_of_memory : Refusal
-out_of_memory = record { number = MEMORY; offset = 0 }
-
--- What a refusal reports: the rule for which the module is refused, by its number, and where; or that memory ran out.
-abbrev pub Reports : Contents → Refusal → Type 0
-Reports m refusal =
-    (refusal ≡ out_of_memory) ⊎ ((rule : Rule) × (refusal.number ≡ number_of rule) × IsRefused m rule refusal.offset)

@@ -34,16 +34,16 @@ use Rattle.states.specs.State.{State, label_state, unknown, procedure_state}
 use Rattle.states.specs.Below.{below}
 use Rattle.rulings.specs.Rulings.{Ruling, breaks, falling}
 use Rattle.facts.specs.Rules.{rule_at}
-use Rattle.verifier.specs.Certified.{state_at, Reaches, follows, IsCertified}
+use Rattle.certified_worlds.specs.Certified.{state_at, Reaches, follows, IsCertified}
 use Rattle.rulings.specs.Meaning.{owed, Layout, Activation, with_turns, at_label, words_in, MeansKnown, IsWellFormed}
 use Rattle.rulings.specs.Meaning.{HasFrame, place_in, SameMode, both_plain, both_enabling, both_disabling}
 use Rattle.rulings.specs.Meaning.{both_starting}
 use Rattle.machine_state.specs.Frame.{ChangesOwn}
-use Rattle.verifier.specs.Point.{IsReading, Began, Behind, nobody_waits, one_waits, owed_behind, Point}
-use Rattle.verifier.specs.Point.{owed_at, MeetsPoint, Decodes}
-use Rattle.verifier.specs.Lives.{awaits, IsExchanging, Lives}
-use Rattle.verifier.proofs.LivesAs.{LivesAs}
-use Rattle.verifier.proofs.BehindKeeps.{behind_as, behind_keeps, behind_lengths, behind_of}
+use Rattle.certified_worlds.specs.Point.{IsReading, Began, Behind, nobody_waits, one_waits, owed_behind, Point}
+use Rattle.certified_worlds.specs.Point.{owed_at, MeetsPoint, Decodes}
+use Rattle.certified_worlds.specs.Lives.{awaits, IsExchanging, Lives}
+use Rattle.certified_worlds.proofs.LivesAs.{LivesAs}
+use Rattle.certified_worlds.proofs.BehindKeeps.{behind_as, behind_keeps, behind_lengths, behind_of}
 use Rattle.rulings.specs.Guarding.{HasSelected}
 use Rattle.states.specs.Below.{is_plain}
 use Rattle.states.specs.declared.known.Guard.{Guard}
@@ -68,8 +68,8 @@ use Rattle.rulings.proofs.Dues.{label_owed}
 use Rattle.rulings.proofs.Regions.{keeps_all}
 use Rattle.rulings.specs.Regions.{Scope, scope_of, scope_in, scope_among, Keeps, HoldsNamed}
 use Rattle.rulings.proofs.Lending.{lift}
-use Rattle.verifier.proofs.Given.{nothing_given, is_given, given_label, given_none, label_is_start, given_procedure}
-use Rattle.verifier.proofs.Given.{procedure_is_start}
+use Rattle.certified_worlds.proofs.Given.{nothing_given, is_given, given_label, given_none, label_is_start, given_procedure}
+use Rattle.certified_worlds.proofs.Given.{procedure_is_start}
 use Rattle.std.proofs.lemmas.Int.{ints}
 use Rattle.module_format.specs.Stack.{of_empty, AreRelated}
 use Rattle.machine_state.specs.declared.process.Mode.TheVariants as machine_modes

@@ -24,10 +24,10 @@ use Rattle.rulings.proofs.Within.{is_starting, scope_still}
 use Rattle.rulings.proofs.Words.{bool_cases, means_same, frame_word_is}
 use Rattle.share_laws.specs.Climbing.{ChangesWithin, IsRung}
 use Rattle.share_laws.proofs.Climbing.{changes_climb, other_words_stay}
-use Rattle.verifier.specs.Point.{Began, Behind}
-use Rattle.verifier.specs.Lives.{awaits, Lives}
-use Rattle.verifier.specs.Pending.{AfterPar, IsOut, Pending, IsMember}
-use Rattle.verifier.proofs.BehindKeeps.{behind_keeps, behind_lifts, behind_named, behind_of}
+use Rattle.certified_worlds.specs.Point.{Began, Behind}
+use Rattle.certified_worlds.specs.Lives.{awaits, Lives}
+use Rattle.certified_worlds.specs.Pending.{AfterPar, IsOut, Pending, IsMember}
+use Rattle.certified_worlds.proofs.BehindKeeps.{behind_keeps, behind_lifts, behind_named, behind_of}
 
 -- ---- one process
 

@@ -21,13 +21,13 @@ use Rattle.rulings.specs.Regions.{scope_of, Keeps, HoldsNamed}
 use Rattle.rulings.proofs.Within.{is_starting}
 use Rattle.rulings.proofs.Words.{bool_cases}
 use Rattle.share_laws.specs.Climbing.{ChangesWithin}
-use Rattle.verifier.specs.Point.{Began}
-use Rattle.verifier.specs.Lives.{awaits, Lives}
-use Rattle.verifier.specs.Pending.{Pending, IsMember}
-use Rattle.verifier.specs.Invariant.{Opener, Holds}
-use Rattle.verifier.proofs.BehindKeeps.{behind_named}
-use Rattle.verifier.proofs.BranchChanges.{scope_began, within_began, has_began, step_within, filled_within, climbs}
-use Rattle.verifier.proofs.BranchChanges.{member_leaves, pending_elsewhere}
+use Rattle.certified_worlds.specs.Point.{Began}
+use Rattle.certified_worlds.specs.Lives.{awaits, Lives}
+use Rattle.certified_worlds.specs.Pending.{Pending, IsMember}
+use Rattle.certified_worlds.specs.Invariant.{Opener, Holds}
+use Rattle.certified_worlds.proofs.BehindKeeps.{behind_named}
+use Rattle.certified_worlds.proofs.BranchChanges.{scope_began, within_began, has_began, step_within, filled_within, climbs}
+use Rattle.certified_worlds.proofs.BranchChanges.{member_leaves, pending_elsewhere}
 
 -- ---- who is under whom
 

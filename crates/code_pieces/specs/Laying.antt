@@ -11,12 +11,12 @@ use Rattle.module_builder.specs.declared.item.Operand.TheVariants as operands
 use Rattle.module_builder.specs.declared.item.Item.{Item}
 use Rattle.module_builder.specs.declared.item.Item.TheVariants as items
 use Rattle.module_builder.specs.Drafts as drafts
-use Rattle.code_generator.specs.declared.piece.WordFact.{WordFact}
-use Rattle.code_generator.specs.declared.piece.WordFact.TheVariants.{Between, Turning}
-use Rattle.code_generator.specs.declared.piece.RowEntry.{RowEntry}
-use Rattle.code_generator.specs.declared.operations.TheConstants.{LOOP_END}
-use Rattle.code_generator.specs.Pieces.{Piece, Direct, Jump, JumpUnless, LoopBack, TableAddress, Row, constant}
-use Rattle.code_generator.specs.Numbers.{Numbered, number_at, with_number, Needs}
+use Rattle.code_pieces.specs.declared.piece.WordFact.{WordFact}
+use Rattle.code_pieces.specs.declared.piece.WordFact.TheVariants.{Between, Turning}
+use Rattle.code_pieces.specs.declared.piece.RowEntry.{RowEntry}
+use Rattle.code_pieces.specs.declared.operations.TheConstants.{LOOP_END}
+use Rattle.code_pieces.specs.Pieces.{Piece, Direct, Jump, JumpUnless, LoopBack, TableAddress, Row, constant}
+use Rattle.code_pieces.specs.Numbers.{Numbered, number_at, with_number, Needs}
 
 -- ---- rows stand apart
 

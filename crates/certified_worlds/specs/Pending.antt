@@ -22,8 +22,8 @@ use Rattle.rulings.specs.Remaining.{is_hidden, word_given_to_write}
 use Rattle.rulings.specs.Fitting.{Caller}
 use Rattle.share_laws.specs.Climbing.{IsLentBy}
 use Rattle.share_laws.specs.Shares.{IsLaidOut}
-use Rattle.verifier.specs.Point.{Began, Behind, owed_behind, Point}
-use Rattle.verifier.specs.Lives.{Meets, it_lives, it_stopped, it_ended}
+use Rattle.certified_worlds.specs.Point.{Began, Behind, owed_behind, Point}
+use Rattle.certified_worlds.specs.Lives.{Meets, it_lives, it_stopped, it_ended}
 
 -- a process is branch b of a PAR
 abbrev pub IsBranch : Contents → Began → Par → Branch → Type 0

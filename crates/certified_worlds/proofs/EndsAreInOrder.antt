@@ -32,15 +32,15 @@ use Rattle.rulings.specs.Fitting.{Caller}
 use Rattle.rulings.specs.Meaning.{Layout, Activation, SameMode, both_plain, both_enabling, both_disabling}
 use Rattle.rulings.specs.Meaning.{both_starting, word_of, place_in}
 use Rattle.rulings.specs.Regions.{channel_address}
-use Rattle.verifier.specs.Point.{Began, Behind, nobody_waits, one_waits}
-use Rattle.verifier.specs.Lives.{awaits, Lives, Meets, it_lives, it_stopped, it_ended}
-use Rattle.verifier.specs.ParLabels.{EndsAPar, has_started, is_branch}
-use Rattle.verifier.specs.Pending.{StartsHere}
-use Rattle.verifier.specs.Invariant.{Process, Opener, Holds}
+use Rattle.certified_worlds.specs.Point.{Began, Behind, nobody_waits, one_waits}
+use Rattle.certified_worlds.specs.Lives.{awaits, Lives, Meets, it_lives, it_stopped, it_ended}
+use Rattle.certified_worlds.specs.ParLabels.{EndsAPar, has_started, is_branch}
+use Rattle.certified_worlds.specs.Pending.{StartsHere}
+use Rattle.certified_worlds.specs.Invariant.{Process, Opener, Holds}
 use Rattle.rulings.proofs.Within.{is_starting}
-use Rattle.verifier.proofs.BehindKeeps.{behind_of}
-use Rattle.verifier.proofs.ParsStay.{opener_is, opened_is}
-use Rattle.verifier.proofs.Steps.{plain_process}
+use Rattle.certified_worlds.proofs.BehindKeeps.{behind_of}
+use Rattle.certified_worlds.proofs.ParsStay.{opener_is, opened_is}
+use Rattle.certified_worlds.proofs.Steps.{plain_process}
 
 -- ---- contexts of branches
 

@@ -38,11 +38,11 @@ use Rattle.share_laws.proofs.LeftBytes.{not_true}
 use Rattle.share_laws.proofs.OpenerHolds.{none_started}
 use Rattle.share_laws.proofs.ShareBytes.{frame_channel}
 use Rattle.share_laws.proofs.TakenWords.{openings_take_their_words, starts_keep_openers}
-use Rattle.verifier.specs.Point.{Began, Behind, owed_behind}
-use Rattle.verifier.specs.ParLabels.{LabelStands}
-use Rattle.verifier.specs.Pending.{HasMember, IsOut, AfterPar, Pending}
-use Rattle.verifier.proofs.BehindKeeps.{behind_keeps}
-use Rattle.verifier.proofs.StartsKeepPars.{member_last}
+use Rattle.certified_worlds.specs.Point.{Began, Behind, owed_behind}
+use Rattle.certified_worlds.specs.ParLabels.{LabelStands}
+use Rattle.certified_worlds.specs.Pending.{HasMember, IsOut, AfterPar, Pending}
+use Rattle.certified_worlds.proofs.BehindKeeps.{behind_keeps}
+use Rattle.certified_worlds.proofs.StartsKeepPars.{member_last}
 
 -- ---- the join after the start
 

@@ -11,13 +11,13 @@ use Rattle.machine_state.specs.Memory.{Memory}
 use Rattle.machine_state.specs.World.{Join}
 use Rattle.states.specs.State.{label_state}
 use Rattle.rulings.specs.Meaning.{IsWellFormed}
-use Rattle.verifier.specs.Certified.{IsCertified, state_at}
-use Rattle.verifier.specs.Pending.{AfterPar, Pending}
-use Rattle.verifier.specs.Point.{Began, Behind, Decodes}
-use Rattle.verifier.proofs.EndsKeepPars.{opener_after}
-use Rattle.verifier.proofs.Given.{is_given, given_label, label_is_start}
-use Rattle.verifier.proofs.LivesAs.{LivesAs}
-use Rattle.verifier.proofs.Steps.{lives_at}
+use Rattle.certified_worlds.specs.Certified.{IsCertified, state_at}
+use Rattle.certified_worlds.specs.Pending.{AfterPar, Pending}
+use Rattle.certified_worlds.specs.Point.{Began, Behind, Decodes}
+use Rattle.certified_worlds.proofs.EndsKeepPars.{opener_after}
+use Rattle.certified_worlds.proofs.Given.{is_given, given_label, label_is_start}
+use Rattle.certified_worlds.proofs.LivesAs.{LivesAs}
+use Rattle.certified_worlds.proofs.Steps.{lives_at}
 
 module _ (m : Contents) (d : Decodes m) (wf : IsWellFormed m) (c : IsCertified m) {own : Holding} {o : ℕ}
     {began : Began} {all : List Began} {memory : Memory} {j : Join} {due : ℕ} {after : AfterPar m j due}

@@ -11,7 +11,7 @@ use Rattle.rulings.specs.Regions.{scope_of, scope_among, Keeps, HoldsNamed}
 use Rattle.rulings.proofs.Lending.{lift}
 use Rattle.rulings.proofs.Regions.{keeps_all, keeps_more}
 use Rattle.rulings.proofs.Within.{is_starting}
-use Rattle.verifier.specs.Point.{Began, Behind, nobody_waits, one_waits, BehindIn}
+use Rattle.certified_worlds.specs.Point.{Began, Behind, nobody_waits, one_waits, BehindIn}
 
 pub behind_keeps : {m : Contents} {h : Holding} {began : Began} {context : ℕ} {layout : Layout} {old new : Memory}
     {callers : List Caller} → Keeps m h (scope_of m context layout) old new

@@ -19,8 +19,8 @@ use Rattle.states.specs.declared.known.Guard.{Guard}
 use Rattle.states.specs.State.{State}
 use Rattle.rulings.specs.Meaning.{Activation}
 use Rattle.rulings.specs.Guarding.{guard_value, first_left, GuardsFit}
-use Rattle.verifier.specs.Alternating.{IsTrueGuard, IsTrueSkip, EnablesAt, a_channel, a_link}
-use Rattle.verifier.specs.Alternating.{AlternatesHere}
+use Rattle.certified_worlds.specs.Alternating.{IsTrueGuard, IsTrueSkip, EnablesAt, a_channel, a_link}
+use Rattle.certified_worlds.specs.Alternating.{AlternatesHere}
 
 -- a process has enabled the same in both worlds
 pub record SameEnabled (w after : World) (p : ℕ) : Type 0 where

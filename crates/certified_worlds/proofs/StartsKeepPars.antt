@@ -34,9 +34,9 @@ use Rattle.share_laws.specs.Starts.{IsLeft}
 use Rattle.share_laws.specs.Taking.{IsScheduling, OpenerKeeps, after_start}
 use Rattle.share_laws.proofs.BranchLent.{branches_are_lent}
 use Rattle.share_laws.proofs.TakenWords.{starts_keep_openers}
-use Rattle.verifier.specs.Point.{Began, Point}
-use Rattle.verifier.specs.Pending.{IsStarter, HasMember, IsOut, AfterPar, Pending, IsMember}
-use Rattle.verifier.proofs.BehindKeeps.{behind_keeps}
+use Rattle.certified_worlds.specs.Point.{Began, Point}
+use Rattle.certified_worlds.specs.Pending.{IsStarter, HasMember, IsOut, AfterPar, Pending, IsMember}
+use Rattle.certified_worlds.proofs.BehindKeeps.{behind_keeps}
 
 -- ---- members
 

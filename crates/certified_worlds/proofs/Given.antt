@@ -3,7 +3,7 @@ use Rattle.std.proofs.Common.{◌≡◌, ℕ, Bool, true, false, ◌||◌, is_so
 use Rattle.module_format.specs.Contents.{Contents, Label, label_at}
 use Rattle.certificate.specs.Starts.{Entered, procedure_at, is_start}
 use Rattle.states.specs.State.{State, label_state, procedure_state}
-use Rattle.verifier.specs.Certified.{first_state, given, state_at}
+use Rattle.certified_worlds.specs.Certified.{first_state, given, state_at}
 
 pub nothing_given : (m : Contents) (at : ℕ) (before : Option State) → given m at ≡ None → state_at m at before ≡ before
 nothing_given m at before g = ap (λ (o : Option State). elim o [ None ↦ before | Some s ↦ Some s ]) g

@@ -5,12 +5,12 @@ use Rattle.std.specs.Prelude.{Some, None}
 use Rattle.prefix_decoder.specs.declared.function.Fun.{Fun}
 use Rattle.prefix_decoder.specs.declared.function.Fun.TheVariants as fun
 use Rattle.std.specs.Ordering.{int_eq}
-use Rattle.code_generator.specs.declared.operations.TheConstants.{STOP_PROCESS}
-use Rattle.code_generator.specs.declared.piece.WordFact.{WordFact}
-use Rattle.code_generator.specs.declared.piece.WordFact.TheVariants.{Between, Turning}
-use Rattle.code_generator.specs.declared.piece.RowEntry.{RowEntry}
-use Rattle.code_generator.specs.Pieces.{Piece, Direct, Jump, JumpUnless, LoopBack}
-use Rattle.code_generator.specs.Pieces.{TableAddress, Row}
+use Rattle.code_pieces.specs.declared.operations.TheConstants.{STOP_PROCESS}
+use Rattle.code_pieces.specs.declared.piece.WordFact.{WordFact}
+use Rattle.code_pieces.specs.declared.piece.WordFact.TheVariants.{Between, Turning}
+use Rattle.code_pieces.specs.declared.piece.RowEntry.{RowEntry}
+use Rattle.code_pieces.specs.Pieces.{Piece, Direct, Jump, JumpUnless, LoopBack}
+use Rattle.code_pieces.specs.Pieces.{TableAddress, Row}
 
 -- a number for a label
 pub record Numbered : Type 0 where

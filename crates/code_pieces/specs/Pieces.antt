@@ -4,8 +4,8 @@ use Rattle.std.specs.Ordering.{int_eq}
 use Rattle.word_arithmetic.specs.Word.{least_word}
 use Rattle.prefix_decoder.specs.declared.function.Fun.{Fun}
 use Rattle.prefix_decoder.specs.declared.function.Fun.TheVariants as fun
-use Rattle.code_generator.specs.declared.piece.RowEntry.{RowEntry}
-use Rattle.code_generator.specs.declared.operations.TheConstants.{REVERSE, MOVE, MINIMUM_INTEGER}
+use Rattle.code_pieces.specs.declared.piece.RowEntry.{RowEntry}
+use Rattle.code_pieces.specs.declared.operations.TheConstants.{REVERSE, MOVE, MINIMUM_INTEGER}
 
 pub data Piece : Type 0 where
   -- an instruction, by its function and its operand

@@ -41,9 +41,9 @@ use Rattle.rulings.specs.Remaining.{is_hidden}
 use Rattle.rulings.proofs.Combining.{unknown_means}
 use Rattle.rulings.proofs.Words.{bool_cases}
 use Rattle.share_laws.specs.Climbing.{LieAlike}
-use Rattle.verifier.specs.Point.{Began}
-use Rattle.verifier.specs.ParLabels.{LeavesSaid}
-use Rattle.verifier.specs.Pending.{HasMember, IsOut, AfterPar, Pending, IsMember}
+use Rattle.certified_worlds.specs.Point.{Began}
+use Rattle.certified_worlds.specs.ParLabels.{LeavesSaid}
+use Rattle.certified_worlds.specs.Pending.{HasMember, IsOut, AfterPar, Pending, IsMember}
 
 -- ---- facts in layouts that lie alike
 

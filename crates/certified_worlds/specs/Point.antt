@@ -16,7 +16,7 @@ use Rattle.rulings.specs.Meaning.{Layout, Activation, owed}
 use Rattle.rulings.specs.Regions.{scope_of, Keeps}
 use Rattle.rulings.specs.Lends.{Lends}
 use Rattle.rulings.specs.Fitting.{After, Caller, Resumes, GoesOn}
-use Rattle.verifier.specs.Certified.{Reaches, state_at}
+use Rattle.certified_worlds.specs.Certified.{Reaches, state_at}
 
 -- The bytes from here on, with the operand so far, are the rest of the instruction that began.
 pub record IsReading (m : Contents) (r : Registers) (i : Instr) (taken : ℕ) : Type 0 where

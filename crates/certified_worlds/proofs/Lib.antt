@@ -1,0 +1,12 @@
+pub mod Given
+pub mod LivesAs
+pub mod BehindKeeps
+pub mod Steps
+pub mod Carrying
+pub mod BranchChanges
+pub mod ParsStay
+pub mod StartsKeepPars
+pub mod OpeningsMakePars
+pub mod EndsKeepPars
+pub mod EndsAreInOrder
+pub mod JoinedOpeners

@@ -1,0 +1,4 @@
+pub mod Pieces
+pub mod PieceViews
+pub mod Numbers
+pub mod Laying
