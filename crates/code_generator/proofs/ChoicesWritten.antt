@@ -68,10 +68,10 @@ choices_more false around end cs c {s} {t} {w} first one =
       frame = one.frame ∙ first.frame;
     }
 
-other_number : (a b : ℕ) → a < b → nat_eq a b ≡ false
+pub other_number : (a b : ℕ) → a < b → nat_eq a b ≡ false
 other_number a b h = grind (arith, nat_tests)
 
-same_number : (a b : ℕ) → a ≡ b → nat_eq a b ≡ true
+pub same_number : (a b : ℕ) → a ≡ b → nat_eq a b ≡ true
 same_number a b h = grind (arith, nat_tests)
 
 -- nothing is written yet

@@ -1,9 +1,13 @@
 pub mod ChainCode
 pub mod ChoicesWritten
 pub mod DeclarationsWritten
+pub mod ItemsPassed
+pub mod LinksNumbered
+pub mod LoopsWritten
 pub mod NamesTold
 pub mod OperandsBelow
 pub mod PartsWritten
 pub mod RowsSay
 pub mod SpreadOut
+pub mod TurnsWritten
 pub mod WorkedCode

@@ -1,7 +1,8 @@
 -- Code is appended part by part.
 use Rattle.std.proofs.Common.{◌≡◌, ℕ, ◌+◌, ◌<◌, ◌≤◌, List, [], ◌∷◌, ◌++◌, length, map, take}
-use Rattle.std.proofs.Common.{get_or, Option, Some, None, refl, sym, ap, subst, ◌∙◌, arith}
-use Rattle.std.proofs.lemmas.List.{append_assoc, append-nil, take_all, take-append-le, length-map}
+use Rattle.std.proofs.Common.{get_or, Option, Some, None, refl, sym, ap, subst, ◌∙◌}
+use Rattle.std.proofs.Math.Seq.{take-append_seam}
+use Rattle.std.proofs.lemmas.List.{append_assoc, append-nil, take_all, length-map}
 use Rattle.occam_layout.specs.declared.mark.Mark.TheVariants as mark
 use Rattle.occam_parser.specs.Terminals.{Mark}
 use Rattle.occam_parser.specs.Lines.{Declaration, Constants, Variables, Channels}
@@ -90,15 +91,11 @@ grows_all (d ∷ ds) s =
     let q = grows_declared s.known.entries d s.frame in
     (q.0 ++ r.0, r.1 ∙ ap (λ hs. hs ++ r.0) q.1 ∙ append_assoc s.frame.homes q.0 r.0)
 
-first_ones : (xs more : List Home) → take (length xs) (xs ++ more) ≡ xs
-first_ones xs more =
-    take-append-le (length xs) xs more (omega arith) ∙ take_all (length xs) xs (omega arith)
-
 homes_left : (ds : List Declaration) (s : Site)
     → take (length s.frame.homes) (in_turn with_declaration ds s).frame.homes ≡ s.frame.homes
 homes_left ds s =
     let r = grows_all ds s in
-    ap (take (length s.frame.homes)) r.1 ∙ first_ones s.frame.homes r.0
+    ap (take (length s.frame.homes)) r.1 ∙ take-append_seam s.frame.homes r.0
 
 -- ---- declarations, and then a construct
 

@@ -10,7 +10,7 @@ use Rattle.scalar_ranges.specs.Types.{type_of_values}
 use Rattle.program_uses.specs.Constants.{value_as, size_in}
 use Rattle.code_pieces.specs.Pieces.{Piece, constant, stores, moves}
 use Rattle.code_generator.specs.Homes as home
-use Rattle.code_generator.specs.Homes.{Home, Nowhere, Word, words_for}
+use Rattle.code_generator.specs.Homes.{Home, Nowhere, Word, Block, words_for}
 
 -- what names stand for, from the outermost one on, and the first word that is free
 pub record Frame : Type 0 where
@@ -23,6 +23,10 @@ with_words count f = record { homes = f.homes ++ Word f.top ∷ []; top = f.top 
 
 abbrev pub with_home : Home → Frame → Frame
 with_home h f = record { homes = f.homes ++ h ∷ []; top = f.top }
+
+-- the index of a loop with its head at this label, in two words
+abbrev pub with_block : ℕ → Frame → Frame
+with_block head f = record { homes = f.homes ++ Block f.top head ∷ []; top = f.top + 2 }
 
 abbrev pub with_names : ℕ → List (List ℕ) → Frame → Frame
 with_names count [] f = f

@@ -2,6 +2,7 @@ pub mod Homes
 pub mod Expressions
 pub mod Declarations
 pub mod Actions
+pub mod MainWritten
 pub mod Processes
 pub mod Programs
 pub mod SmallCode

@@ -1,13 +1,15 @@
 -- The code of processes: a definition over the tree, with what is known at each place. A PAR, an ALT and an instance
 -- have none here.
-use Rattle.std.specs.Prelude.{ℕ, zero, suc, ◌+◌, ◌-◌, ℤ, pos, Bool, true, false, List, [], ◌∷◌, ◌++◌}
+use Rattle.std.specs.Prelude.{ℕ, zero, suc, ◌+◌, ℤ, pos, Bool, true, false, List, [], ◌∷◌, ◌++◌}
 use Rattle.std.specs.Prelude.{if◌then◌else◌, Option, Some, None, unwrap_or, option_map}
+use Rattle.std.specs.List.{list_any}
 use Rattle.occam_layout.specs.declared.mark.Mark.TheVariants as mark
 use Rattle.occam_parser.specs.Terminals.{Terminal, Mark}
 use Rattle.occam_parser.specs.Expressions.{Expression, Alone, Truth, Bracketed}
 use Rattle.occam_parser.specs.Lines.{Declaration, Replicator, block_word}
+use Rattle.occam_parser.specs.Constructs.{in_if}
 use Rattle.occam_parser.specs.Blocks.{Process, Declared, Does, Construct, Act, Block, Replicated, Body, One, Part}
-use Rattle.occam_parser.specs.Blocks.{Components, NoComponent, Further, Component, Plain, Chosen, Guarded}
+use Rattle.occam_parser.specs.Blocks.{Choices, Components, NoComponent, Further, Component, Plain, Chosen, Guarded}
 use Rattle.scalar_ranges.specs.declared.types.ExprType.TheVariants as types
 use Rattle.scalar_ranges.specs.Entries.{Meaning, Scalar, Entry, entry_at}
 use Rattle.scalar_ranges.specs.Moves.{Known}
@@ -22,8 +24,8 @@ use Rattle.usage_checks.specs.AfterProcesses.{after_component, after_body}
 use Rattle.code_pieces.specs.declared.operations.TheConstants.{STOP_PROCESS}
 use Rattle.code_pieces.specs.Pieces.{Piece, Jump, LoopBack, Row, operates, stores, points, constant, Code, no_code}
 use Rattle.code_pieces.specs.Pieces.{written, before, then_code, closed_by}
-use Rattle.code_generator.specs.Homes.{Nowhere, Block, facts_of}
-use Rattle.code_generator.specs.Declarations.{Frame, with_home, declared, declaration_code}
+use Rattle.code_generator.specs.Homes.{Nowhere, facts_of}
+use Rattle.code_generator.specs.Declarations.{Frame, with_home, with_block, declared, declaration_code}
 use Rattle.code_generator.specs.Actions.{action_code, test_code}
 
 -- ---- places
@@ -79,10 +81,14 @@ last_choice false always tested = closed_by (operates STOP_PROCESS ∷ []) teste
 -- the site of a loop's body, whose block is at the first words that are free
 abbrev pub in_loop : Site → Known → List ℕ → Meaning → Site
 in_loop s begun name index = record {
-  frame = record { homes = s.frame.homes ++ Block s.frame.top s.label ∷ []; top = s.frame.top + 2 };
+  frame = with_block s.label s.frame;
   known = with_entries (add name index) begun;
-  label = suc (s.label + 1);
+  label = s.label + 2;
 }
+
+-- what the base or the count of a loop is; what has no value is 0
+abbrev pub value_or_zero : List Entry → Expression → ℤ
+value_or_zero es e = unwrap_or (value_as es types.Int e) (pos 0)
 
 -- before the head: the base and the count
 abbrev pub loop_start : ℕ → ℤ → ℤ → List Piece
@@ -104,10 +110,8 @@ is_scalar (Some (Scalar kind type range)) = true
 is_scalar m = false
 
 -- whether one of these numbers is that of a scalar
-
 abbrev pub has_scalar : List ℕ → List Entry → Bool
-has_scalar [] es = false
-has_scalar (n ∷ ns) es = if is_scalar (option_map (λ e. e.meaning) (entry_at n es)) then true else has_scalar ns es
+has_scalar ns es = list_any (λ n. is_scalar (option_map (λ e. e.meaning) (entry_at n es))) ns
 
 -- A loop without turns has no code. If its body changes a scalar, a row says that less is known of it.
 abbrev pub no_loop : Bool → Site → Known → Option Code
@@ -130,21 +134,43 @@ by_block word all choices = None
 abbrev pub stopped : ℕ → Option Code
 stopped label = written (operates STOP_PROCESS ∷ []) label
 
--- where a turn of a choice under a replicator begins
-abbrev pub turn_site : {part : Part} → Around → Terminal → List ℕ → Component part → Repeats → Known → Site
+-- how often a choice under a replicator happens
+abbrev pub times : Repeats → ℕ
+times repeats = if repeats.happens then repeats.turns.count else 0
+
+-- The site of the turns of a choice under a replicator, whose index has no place. The IF ends at the site's label.
+abbrev pub before_turns : Site → Known → Site
+before_turns s start = record { frame = with_home Nowhere s.frame; known = start; label = s.label + 1 }
+
+-- what is known after a turn
+abbrev pub turned : {part : Part} → Around → Terminal → List ℕ → Component part → Repeats → ℕ → Known → Known
+turned a word name c repeats n k = after_component a word c (with_entries (add name (index_in repeats n)) k)
+
+-- where a turn begins, if the turns begin at this site
+abbrev pub turn_site : {part : Part} → Around → Terminal → List ℕ → Component part → Repeats → Site
     → (turn label : ℕ) → Site
-turn_site a word name c repeats start s n label = record {
-  frame = with_home Nowhere s.frame;
-  known = with_entries (add name (index_in repeats n))
-      (turn_by_turn (λ m l. after_component a word c (with_entries (add name (index_in repeats m)) l)) n start);
+turn_site a word name c repeats s n label = record {
+  frame = s.frame;
+  known = with_entries (add name (index_in repeats n)) (turn_by_turn (turned a word name c repeats) n s.known);
   label = label;
 }
 
+-- a choice in some turns, with others behind them
+abbrev pub tested_turns : ℕ → ℕ → (choice : ℕ → ℕ → Option Code) → Option Code
+tested_turns count label choice = turn_by_turn (λ n code. then_code code (choice n)) count (no_code label)
+
 -- a choice under a replicator, once for each turn, of which the last one is apart
-abbrev pub turns_code : Bool → ℕ → ℕ → (choice last : ℕ → ℕ → Option Code) → Option Code
-turns_code false count label choice last = stopped label
-turns_code true count label choice last =
-    then_code (turn_by_turn (λ n code. then_code code (choice n)) (count - 1) (no_code label)) (last (count - 1))
+abbrev pub turns_code : ℕ → ℕ → (choice last : ℕ → ℕ → Option Code) → Option Code
+turns_code zero label choice last = stopped label
+turns_code (suc n) label choice last = then_code (tested_turns n label choice) (last n)
+
+-- IF and a replicator, over this choice. The kinds of blocks have no names here, so it takes that of an IF.
+abbrev pub repeated_block : Replicator → Construct → Construct
+repeated_block r (Block kind (Further cs c)) = Replicated r (One kind c)
+repeated_block r c = c
+
+abbrev pub under_if : Replicator → Component Choices → Construct
+under_if r c = repeated_block r (in_if (Further NoComponent c))
 
 abbrev mutual
   pub process_code : Around → Process → Site → Option Code
@@ -169,14 +195,15 @@ abbrev mutual
       let repeats = repeats_of (is_before line a.uncounted) s.known.entries (is_seq word) r in
       let start = begun_body word changed repeats.happens s.known in
       let after = after_body a line r (One kind c) s.known in
-      let base = unwrap_or (value_as s.known.entries types.Int r.base) (pos 0) in
-      let count = unwrap_or (value_as s.known.entries types.Int r.count) (pos 0) in
+      let base = value_or_zero s.known.entries r.base in
+      let count = value_or_zero s.known.entries r.count in
       let inner = in_loop s start r.name (index_in repeats 0) in
+      let turns = before_turns s start in
       by_block word
       (repeated_seq s changed after base (loop_code s inner after base count (component_code a c inner)) count)
-      (closed_by (row_of s.label s.frame after ∷ []) (turns_code repeats.happens repeats.turns.count (s.label + 1)
-      (λ n label. choice_code a s.label c (turn_site a word r.name c repeats start s n label))
-      (λ n label. last_code a s.label c (turn_site a word r.name c repeats start s n label))))
+      (closed_by (row_of s.label s.frame after ∷ []) (turns_code (times repeats) turns.label
+      (λ n label. choice_code a s.label c (turn_site a word r.name c repeats turns n label))
+      (λ n label. last_code a s.label c (turn_site a word r.name c repeats turns n label))))
 
   -- one after the other
   pub components_code : {part : Part} → Around → Components part → Site → Option Code

@@ -2,7 +2,6 @@
 use Rattle.std.specs.Prelude.{ℕ, ◌+◌, List, [], ◌∷◌, ◌++◌, map, Option, None, Some}
 use Rattle.occam_parser.specs.Lines.{Constants, Formal}
 use Rattle.occam_parser.specs.Blocks.{Procedure, ProgramItem, GlobalConstant, GlobalProcedure}
-use Rattle.scalar_ranges.specs.Moves.{Known}
 use Rattle.program_uses.specs.Actions.{Around}
 use Rattle.program_uses.specs.declared.uses.Direction.TheVariants as direction
 use Rattle.program_meaning.specs.Links.{Port}
@@ -12,7 +11,7 @@ use Rattle.code_pieces.specs.declared.operations.TheConstants.{STOP_PROCESS}
 use Rattle.code_pieces.specs.Pieces.{operates, Code, closed_by}
 use Rattle.code_generator.specs.Homes.{Home, Nowhere, Link}
 use Rattle.code_generator.specs.Declarations.{Frame, with_home, declared}
-use Rattle.code_generator.specs.Processes.{process_code}
+use Rattle.code_generator.specs.Processes.{Site, process_code}
 
 -- the words that a process has to itself: 0 and 1 are for the selection of an alternation and the block of a PAR
 abbrev pub first_word : ℕ
@@ -36,15 +35,19 @@ abbrev pub framed : ProgramItem → Outside → Frame → Frame
 framed (GlobalConstant c) o f = declared o.known.entries (Constants c) f
 framed (GlobalProcedure p) o f = with_home Nowhere f
 
+-- where the body of main begins
+abbrev pub in_main : Procedure → Site → Site
+in_main p s =
+    record { frame = with_links p.head.formals s.frame; known = in_body p s.known; label = s.label }
+
 -- behind main the process stops
-abbrev pub main_code : Around → Procedure → Known → Frame → Option Code
-main_code a p k f =
-    closed_by (operates STOP_PROCESS ∷ [])
-    (process_code a p.body (record { frame = with_links p.head.formals f; known = in_body p k; label = 0 }))
+abbrev pub main_code : Around → Procedure → Site → Option Code
+main_code a p s = closed_by (operates STOP_PROCESS ∷ []) (process_code a p.body (in_main p s))
 
 abbrev pub last_item_code : ProgramItem → Outside → Frame → Option Code
 last_item_code (GlobalConstant c) o f = None
-last_item_code (GlobalProcedure p) o f = main_code (around_in o) p o.known f
+last_item_code (GlobalProcedure p) o f =
+    main_code (around_in o) p (record { frame = f; known = o.known; label = 0 })
 
 abbrev pub items_code : ProgramItem → List ProgramItem → Outside → Frame → Option Code
 items_code item [] o f = last_item_code item (weighed item o) f

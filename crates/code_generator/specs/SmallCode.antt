@@ -2,18 +2,24 @@
 use Rattle.std.specs.Prelude.{◌≡◌, ℕ, pos, negsuc, List, [], ◌∷◌, Some}
 use Rattle.prefix_decoder.specs.declared.function.Fun.TheVariants as fun
 use Rattle.word_arithmetic.specs.Word.{least_word, greatest_word}
+use Rattle.word_arithmetic.specs.declared.compare.Comparison.TheVariants as comparison
 use Rattle.module_format.specs.declared.fact.Fact.TheVariants as facts
 use Rattle.module_builder.specs.Layouts.{needed}
 use Rattle.module_builder.specs.Spelling.{spelled}
 use Rattle.occam_parser.specs.declared.tree.ValueType.TheVariants as value_type
 use Rattle.occam_parser.specs.declared.tree.ArithmeticPair.TheVariants as arithmetic_pair
-use Rattle.program_meaning.specs.SmallPrograms.{sums, or_adds, echoes, skip, sets_element, computes, sends_a}
+use Rattle.occam_parser.specs.declared.tree.PairOperator.TheVariants as pair
+use Rattle.occam_parser.specs.Expressions.{Paired, Named}
+use Rattle.occam_parser.specs.Blocks.{Process, Does, Chosen}
+use Rattle.program_meaning.specs.SmallPrograms.{x, i, number, assigns, sums, or_adds, echoes, skip, sets_element}
+use Rattle.program_meaning.specs.SmallPrograms.{computes, sends_a}
 use Rattle.code_pieces.specs.declared.piece.WordFact.TheVariants.{Between, Turning}
 use Rattle.code_pieces.specs.declared.piece.RowEntry.{RowEntry}
 use Rattle.code_pieces.specs.declared.operations.TheConstants.{MINIMUM_INTEGER, INPUT, OUTPUT, GREATER, SUM}
 use Rattle.code_pieces.specs.declared.operations.TheConstants.{STOP_PROCESS, LOAD_BYTE, MOVE}
 use Rattle.code_pieces.specs.Pieces.{Piece, Direct, Jump, JumpUnless, LoopBack, Row, operates, loads, stores, points}
 use Rattle.code_pieces.specs.Pieces.{constant}
+use Rattle.code_generator.specs.Processes.{under_if}
 use Rattle.code_generator.specs.Programs.{code_of}
 use Rattle.code_pieces.specs.Numbers.{Needs, needs_of}
 use Rattle.code_pieces.specs.Laying.{apart, draft_code, sizes_of, Said, SaidRow, said_rows, words_taken}
@@ -117,8 +123,30 @@ element_pieces =
     ∷ loads 2 ∷ stores 3 ∷ points 3 ∷ operates MINIMUM_INTEGER ∷ constant (pos 4) ∷ operates OUTPUT
     ∷ operates STOP_PROCESS ∷ []
 
--- A byte is received and sent; an array is set to 0 and stored into by moves; (-7) / 2 is one constant; and a loop
--- without turns has no code.
+-- ---- a choice under a replicator
+
+-- IF i = 5 FOR 2
+--   x = i
+--     x := 1
+abbrev pub picks : Process
+picks = Does 0 (under_if (record { name = i; base = number (pos 5); count = number (pos 2) })
+    (Chosen 0 (Paired (pair.Comparison comparison.Equal) (Named x) (Named i)) (assigns x (number (pos 1)))))
+
+-- x is compared with 5 and with 6. If it is neither, the process stops; so behind that x is 1.
+abbrev pub picks_pieces : List Piece
+picks_pieces =
+    constant (pos 0) ∷ stores 2
+    ∷ points 2 ∷ operates MINIMUM_INTEGER ∷ Direct fun.LoadNonLocalPointer (pos 4) ∷ constant (pos 4) ∷ operates INPUT
+    ∷ loads 2 ∷ Direct fun.EqualsConstant (pos 5) ∷ JumpUnless 1
+    ∷ constant (pos 1) ∷ stores 2 ∷ Jump 0 ∷ Row 1 (unknown_word 2 ∷ [])
+    ∷ loads 2 ∷ Direct fun.EqualsConstant (pos 6) ∷ JumpUnless 2
+    ∷ constant (pos 1) ∷ stores 2 ∷ Jump 0 ∷ Row 2 (unknown_word 2 ∷ []) ∷ operates STOP_PROCESS
+    ∷ Row 0 (record { word = 2; span = 1; fact = Between (pos 1) (pos 1) } ∷ [])
+    ∷ loads 2 ∷ stores 3 ∷ points 3 ∷ operates MINIMUM_INTEGER ∷ constant (pos 4) ∷ operates OUTPUT
+    ∷ operates STOP_PROCESS ∷ []
+
+-- A byte is received and sent; an array is set to 0 and stored into by moves; (-7) / 2 is one constant; a choice
+-- under a replicator is there once for each index; and a loop without turns has no code.
 pub record PiecesFollow : Type 0 where
   pub echo : code_of (echoes value_type.Byte skip) ≡ Some (record { pieces = echo_pieces; labels = 0 })
   pub element :
@@ -129,4 +157,5 @@ pub record PiecesFollow : Type 0 where
         ∷ operates STOP_PROCESS ∷ [];
     labels = 0;
   })
+  pub picked : code_of (echoes value_type.Int picks) ≡ Some (record { pieces = picks_pieces; labels = 3 })
   pub no_turn : code_of (sends_a 0) ≡ Some (record { pieces = operates STOP_PROCESS ∷ []; labels = 0 })

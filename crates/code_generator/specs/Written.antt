@@ -1,22 +1,27 @@
 -- What it is to write the code of a process or of a part of one.
-use Rattle.std.specs.Prelude.{◌≡◌, ℕ, ◌+◌, Bool, true, false, List, [], ◌∷◌, ◌++◌, Option, Some, None}
+use Rattle.std.specs.Prelude.{◌≡◌, ℕ, ◌+◌, Bool, true, false, List, [], ◌∷◌, ◌++◌, take, Option, Some, None}
 use Rattle.occam_layout.specs.declared.mark.Mark.TheVariants as mark
 use Rattle.occam_parser.specs.Terminals.{Mark}
-use Rattle.occam_parser.specs.Lines.{Declaration}
-use Rattle.occam_parser.specs.Blocks.{Process, Construct, Part, Components, Component, Plain, Chosen, Guarded}
-use Rattle.scalar_ranges.specs.Moves.{Known, begin, end}
-use Rattle.scalar_ranges.specs.Scopes.{known_of}
+use Rattle.occam_parser.specs.Lines.{Declaration, Replicator}
+use Rattle.occam_parser.specs.Blocks.{Process, Construct, Part, Choices, Components, Component, Plain, Chosen, Guarded}
+use Rattle.scalar_ranges.specs.Moves.{Known, begin, end, begin_loop, widen}
+use Rattle.scalar_ranges.specs.Scopes.{known_of, meaning_of}
 use Rattle.program_uses.specs.declared.actions.Around as code_around
 use Rattle.program_uses.specs.ActionViews.{around_of}
-use Rattle.program_uses.specs.Actions.{Around}
+use Rattle.program_uses.specs.Actions.{Around, is_before}
+use Rattle.program_uses.specs.Indices.{Repeats, repeats_of, index_in, turn_by_turn}
 use Rattle.program_uses.specs.InTurn.{in_turn}
 use Rattle.usage_checks.specs.AfterProcesses.{inside, after_construct, after_components, after_component, chosen}
+use Rattle.usage_checks.specs.NameRules.{with_entries}
+use Rattle.code_generator.specs.declared.loops.Turning.{Turning}
 use Rattle.code_generator.specs.declared.processes.ProcessWriter.{ProcessWriter}
 use Rattle.code_pieces.specs.Pieces.{Piece, Code, closed_by}
 use Rattle.code_generator.specs.Declarations.{declaration_code}
 use Rattle.code_generator.specs.FrameViews.{frame_seen}
 use Rattle.code_generator.specs.Processes.{Site, with_declaration, at_place, row_of, process_code, construct_code}
 use Rattle.code_generator.specs.Processes.{components_code, component_code, choices_code, choice_code, last_code}
+use Rattle.code_generator.specs.Processes.{in_loop, value_or_zero, loop_start, loop_end, loop_code, repeated_seq}
+use Rattle.code_generator.specs.Processes.{no_loop, has_scalar, turned, turn_site, turns_code}
 use Rattle.code_generator.specs.Programs.{first_word}
 use Rattle.usage_checks.specs.ItemRules.{outermost}
 
@@ -116,3 +121,68 @@ chosen_code a (Guarded line g p) s = None
 
 abbrev pub WritesChosen : {part : Part} → (s t : ProcessWriter) → code_around.Around → Component part → Type 0
 WritesChosen s t a c = WritesAs s t a (chosen_code (around_of a) c (site_of s)) c
+
+-- ---- loops
+
+-- what is known after a loop whose body changes these variables
+abbrev pub after_loop : List ℕ → Known → Known
+after_loop changed k = with_entries (widen changed) k
+
+-- where the body of a loop begins
+abbrev pub in_turning : Site → Turning → List ℕ → Site
+in_turning s l changed = in_loop s (begin_loop changed s.known) l.name.now (meaning_of l.index)
+
+-- All is written as far as the row at the head, where the body begins.
+pub record EntersLoop (s t : ProcessWriter) (l : Turning) (changed : List ℕ) : Type 0 where
+  pub code : t.listing ≡ s.listing
+      ++ (loop_start s.frame.top l.base l.count
+      ++ row_of s.label (in_turning (site_of s) l changed).frame (in_turning (site_of s) l changed).known ∷ [])
+  pub site : site_of t ≡ in_turning (site_of s) l changed
+
+-- where the names are left that a loop's body has, with so many before them
+abbrev pub behind_loop : ℕ → ℕ → Site → Site
+behind_loop names word s = record {
+  frame = record { homes = take names s.frame.homes; top = word };
+  known = end s.known;
+  label = s.label;
+}
+
+-- What is behind the body is written, and the names of the body are left.
+pub record LeavesLoop (s t : ProcessWriter) (names word head : ℕ) : Type 0 where
+  pub code : t.listing ≡ s.listing
+      ++ loop_end word head
+      (row_of (head + 1) (behind_loop names word (site_of s)).frame (behind_loop names word (site_of s)).known)
+  pub site : site_of t ≡ behind_loop names word (site_of s)
+
+-- a loop of a process, which changes these variables
+abbrev pub looped_code : Around → ℕ → Replicator → List ℕ → Process → Site → Option Code
+looped_code a line r changed p s =
+    let repeats = repeats_of (is_before line a.uncounted) s.known.entries true r in
+    let inner = in_loop s (begin_loop changed s.known) r.name (index_in repeats 0) in
+    let base = value_or_zero s.known.entries r.base in
+    let count = value_or_zero s.known.entries r.count in
+    let after = after_loop changed s.known in
+    repeated_seq s changed after base (loop_code s inner after base count (process_code a p inner)) count
+
+abbrev pub WritesLoop : (s t : ProcessWriter) → code_around.Around → ℕ → Replicator → List ℕ → Process → Type 0
+WritesLoop s t a line r changed p =
+    Writes s t (looped_code (around_of a) line r changed p (site_of s)) (after_loop changed (known_of s.scope))
+
+abbrev pub WritesNoLoop : (s t : ProcessWriter) → List ℕ → Type 0
+WritesNoLoop s t changed =
+    let after = after_loop changed (known_of s.scope) in
+    Writes s t (no_loop (has_scalar changed (known_of s.scope).entries) (site_of s) after) after
+
+-- ---- choices under a replicator
+
+-- a choice in so many turns, of which the first one begins at this site
+abbrev pub turns_written : Around → ℕ → List ℕ → Component Choices → Repeats → ℕ → Site → Option Code
+turns_written a end name c repeats count s =
+    turns_code count s.label (λ n label. choice_code a end c (turn_site a (Mark mark.If) name c repeats s n label))
+    (λ n label. last_code a end c (turn_site a (Mark mark.If) name c repeats s n label))
+
+abbrev pub WritesTurns : (s t : ProcessWriter) → code_around.Around → ℕ → List ℕ → Repeats → ℕ → Component Choices
+    → Type 0
+WritesTurns s t a end name repeats count c =
+    Writes s t (turns_written (around_of a) end name c repeats count (site_of s))
+    (turn_by_turn (turned (around_of a) (Mark mark.If) name c repeats) count (known_of s.scope))

@@ -18,8 +18,8 @@ ghost use Rattle.code_generator.specs.Expressions.{subscript_code, pushes_of, pa
 
 use crate::home::Home;
 use crate::listing::Listing;
-use code_pieces::operations;
 use crate::setting::word_after;
+use code_pieces::operations;
 use module_builder::GenFault;
 use occam_parser::{
     ArithmeticChain, ArithmeticPair, ChainOperator, Comparison, Expr, Logic, Operand, Operation,

@@ -4,7 +4,7 @@ ghost use Rattle.std.specs.Prelude.{◌≡◌, IfOk, take};
 ghost use Rattle.occam_parser.specs.OneOrMore.{as_list, one_or_more_of};
 ghost use Rattle.occam_parser.specs.LineViews.{spelling_of};
 ghost use Rattle.code_generator.specs.HomeViews.{home_seen, homes_seen};
-ghost use Rattle.code_generator.specs.Declarations.{with_home, with_words, with_names};
+ghost use Rattle.code_generator.specs.Declarations.{with_home, with_words, with_block, with_names};
 ghost use Rattle.code_generator.specs.FrameViews.{frame_seen};
 
 use crate::home::Home;
@@ -34,6 +34,19 @@ impl Frame {
     {
         let next = word_after(self.top, count)?;
         self.homes.push(Home::Word(self.top))?;
+        self.top = next;
+        Ok(())
+    }
+
+    /// The index of a loop more, which takes two words. The head of the loop is at this label.
+    pub(crate) fn add_block(&mut self, head: usize) -> Result<(), GenFault>
+        ensures { IfOk result (λ _. frame_seen self.new ≡ with_block head (frame_seen self.old)) }
+    {
+        let next = word_after(self.top, 2)?;
+        self.homes.push(Home::Block {
+            word: self.top,
+            head,
+        })?;
         self.top = next;
         Ok(())
     }

@@ -5,8 +5,8 @@ ghost use Rattle.prefix_decoder.specs.declared.function.Fun.TheVariants as fun;
 ghost use Rattle.code_pieces.specs.Pieces.{Direct, TableAddress, operates, loads, stores, points, constant, below};
 ghost use Rattle.code_pieces.specs.PieceViews.{pieces_of, piece_of};
 
-use code_pieces::operations::{MINIMUM_INTEGER, REVERSE};
 use code_pieces::Piece;
+use code_pieces::operations::{MINIMUM_INTEGER, REVERSE};
 use module_builder::GenFault;
 use prefix_decoder::Fun;
 use std::alloc::Global;

@@ -4,29 +4,36 @@ ghost use Rattle.std.specs.Prelude.{◌≡◌, ◌++◌, ◌∷◌, [], IfOk, ma
 ghost use Rattle.occam_parser.specs.Expressions.{Alone};
 ghost use Rattle.occam_parser.specs.Views.{expression_of, term_of};
 ghost use Rattle.occam_parser.specs.Lines.{Constants, Variables, Channels, Stop};
-ghost use Rattle.occam_parser.specs.Blocks.{Act};
-ghost use Rattle.occam_parser.specs.LineViews.{action_of, constant_of, declaration_of, names_of};
-ghost use Rattle.occam_parser.specs.BlockViews.{process_of, construct_of, choice_of, plain_component};
+ghost use Rattle.occam_parser.specs.Blocks.{Act, Replicated};
+ghost use Rattle.occam_parser.specs.LineViews.{action_of, constant_of, declaration_of, names_of, replicator_of};
+ghost use Rattle.occam_parser.specs.BlockViews.{process_of, construct_of, choice_of, body_of, plain_component};
 ghost use Rattle.occam_parser.specs.BlockViews.{all_processes, all_choices};
 ghost use Rattle.scalar_ranges.specs.Scopes.{entries_of, known_of};
+ghost use Rattle.program_uses.specs.Indices.{seen_repeats};
 ghost use Rattle.code_generator.specs.Actions.{action_code, test_code};
 ghost use Rattle.code_generator.specs.FrameViews.{frame_seen};
-ghost use Rattle.code_generator.specs.Processes.{is_true, row_of};
+ghost use Rattle.code_generator.specs.Processes.{is_true, row_of, times, under_if};
 ghost use Rattle.code_generator.specs.Written.{site_of, Appends, Declares, DeclaresAll, WritesConstruct, WritesProcess};
 ghost use Rattle.code_generator.specs.Written.{WritesSeq, WritesOne, WritesIf, WritesChoices, WritesChoice};
-ghost use Rattle.code_generator.specs.Written.{WritesPart, WritesChosen, first_site};
+ghost use Rattle.code_generator.specs.Written.{WritesPart, WritesChosen, WritesLoop, WritesTurns};
+ghost use Rattle.code_generator.specs.Written.{first_site};
 
 use crate::declaring::{channels_in, declare_names, home_for, words_in};
 use crate::frame::Frame;
+use crate::home::Home;
 use crate::listing::Listing;
-use code_pieces::operations;
-use code_pieces::Piece;
+use crate::loops::{Turning, value_or_zero};
 use crate::setting::Setting;
+use code_pieces::{Piece, operations};
 use module_builder::GenFault;
 use occam_parser::{
-    Action, Choice, Constant, Construct, Declaration, Expr, Names, Operand, Operation, Process,
+    Action, Body, Choice, Constant, Construct, Declaration, Expr, Names, Operand, Operation,
+    Process, Replicator,
 };
-use program_uses::{Around, add_name, channel_meaning, constant_meaning, variable_meaning};
+use program_uses::{
+    Around, Repeats, add_name, channel_meaning, constant_meaning, is_before, repeats_of,
+    variable_meaning, variables_changed_in,
+};
 use scalar_ranges::{Scope, narrow_by};
 use std::alloc::Global;
 use usage_checks::after_action;
@@ -43,10 +50,21 @@ pub struct ProcessWriter<'a> {
 }
 
 /// The label after another one. The error is [`GenFault::Limit`] if it has no number.
-fn label_after(label: usize) -> Result<usize, GenFault>
+pub(crate) fn label_after(label: usize) -> Result<usize, GenFault>
     ensures { IfOk result (λ n. n ≡ label + 1) }
 {
     label.checked_add(1).ok_or(GenFault::Limit)
+}
+
+/// How often a choice under a replicator happens.
+fn times(repeats: Repeats) -> u32
+    ensures { result ≡ times (seen_repeats repeats) }
+{
+    if repeats.happens {
+        repeats.turns.count
+    } else {
+        0
+    }
 }
 
 /// Whether a condition is the operand TRUE, in any brackets.
@@ -101,7 +119,7 @@ impl<'a> ProcessWriter<'a> {
     }
 
     /// A constant. It takes no words.
-    fn declare_constant(&mut self, constant: &Constant<'a>) -> Result<(), GenFault>
+    pub(crate) fn declare_constant(&mut self, constant: &Constant<'a>) -> Result<(), GenFault>
         ensures { IfOk result (λ _. Declares self.old self.new (Constants (constant_of constant.now))) }
     {
         let home = home_for(
@@ -162,7 +180,7 @@ impl<'a> ProcessWriter<'a> {
     }
 
     /// A label, and what is known here.
-    fn write_row(&mut self, label: usize) -> Result<(), GenFault>
+    pub(crate) fn write_row(&mut self, label: usize) -> Result<(), GenFault>
         ensures row { IfOk result (λ _. self.new.listing
             ≡ self.old.listing ++ row_of label (frame_seen self.old.frame) (known_of self.old.scope) ∷ []) }
         ensures site { IfOk result (λ _. site_of self.new ≡ site_of self.old) }
@@ -265,9 +283,10 @@ impl<'a> ProcessWriter<'a> {
             Construct::Action(action) => self.act(around, line, action),
             Construct::Seq(processes) => self.write_seq(around, processes),
             Construct::If(choices) => self.write_if(around, choices),
-            Construct::Par(_) | Construct::Alt(_) | Construct::Replicated { .. } => {
-                Err(GenFault::Invalid)
+            Construct::Replicated { replicator, body } => {
+                self.write_replicated(around, line, replicator, body)
             }
+            Construct::Par(_) | Construct::Alt(_) => Err(GenFault::Invalid),
         }
     }
 
@@ -376,6 +395,127 @@ impl<'a> ProcessWriter<'a> {
         narrow_by(&mut self.scope, &choice.condition, true);
         self.write(around, &choice.process)?;
         self.scope.next();
+        Ok(())
+    }
+
+    /// A construct under a replicator on this line. The error is [`GenFault::Invalid`] for a `PAR` and an `ALT`.
+    #[cycle(processes)]
+    fn write_replicated(
+        &mut self,
+        around: Around,
+        line: u32,
+        replicator: &Replicator<'a>,
+        body: &Body<'a>,
+    ) -> Result<(), GenFault>
+        ensures { IfOk result (λ _. WritesConstruct self.old self.new around.entry line
+            (Replicated (replicator_of replicator.now) (body_of body.now))) }
+    {
+        match body {
+            Body::Seq(process) => {
+                let changed = variables_changed_in(
+                    self.alloc,
+                    around.signatures,
+                    &mut self.scope,
+                    replicator,
+                    body,
+                )?;
+                self.write_loop(around, line, replicator, &changed, process)?;
+                Ok(())
+            }
+            Body::If(choice) => self.write_repeated_if(around, line, replicator, choice),
+            Body::Par(_) | Body::Alt(_) => Err(GenFault::Invalid),
+        }
+    }
+
+    /// A loop: a process under a replicator, which changes the variables with these numbers.
+    #[cycle(processes)]
+    fn write_loop(
+        &mut self,
+        around: Around,
+        line: u32,
+        replicator: &Replicator<'a>,
+        changed: &[usize],
+        process: &Process<'a>,
+    ) -> Result<(), GenFault>
+        ensures { IfOk result (λ _. WritesLoop self.old self.new around.entry line (replicator_of replicator.now)
+            changed.now (process_of process.now)) }
+    {
+        let count = value_or_zero(&self.scope, &replicator.count);
+        if count == 0 {
+            return self.write_no_loop(changed);
+        }
+        let head = self.label;
+        let names = self.frame.homes.len();
+        let word = self.frame.top;
+        let counted = is_before(line, around.uncounted);
+        let repeats = repeats_of(counted, &self.scope, true, replicator);
+        let turning = Turning {
+            name: replicator.name,
+            index: repeats.index_in(0),
+            base: value_or_zero(&self.scope, &replicator.base),
+            count,
+        };
+        self.enter_loop(turning, changed)?;
+        self.write_one(around, process)?;
+        self.leave_loop(names, word, head)?;
+        Ok(())
+    }
+
+    /// An `IF` of a choice under a replicator.
+    #[cycle(processes)]
+    fn write_repeated_if(
+        &mut self,
+        around: Around,
+        line: u32,
+        replicator: &Replicator<'a>,
+        choice: &Choice<'a>,
+    ) -> Result<(), GenFault>
+        ensures { IfOk result (λ _. WritesConstruct self.old self.new around.entry line
+            (under_if (replicator_of replicator.now) (choice_of choice.now))) }
+    {
+        let end = self.label;
+        self.label = label_after(end)?;
+        let names = self.frame.homes.len();
+        let top = self.frame.top;
+        let counted = is_before(line, around.uncounted);
+        let repeats = repeats_of(counted, &self.scope, false, replicator);
+        self.scope.begin()?;
+        self.frame.add_home(Home::Nowhere)?;
+        self.write_turns(
+            around,
+            end,
+            replicator.name,
+            repeats,
+            times(repeats),
+            choice,
+        )?;
+        self.frame.leave(names, top);
+        self.scope.end();
+        self.write_row(end)?;
+        Ok(())
+    }
+
+    /// A choice in so many turns, of an `IF` that ends at a label. One without a turn stops.
+    #[cycle(processes)]
+    fn write_turns(
+        &mut self,
+        around: Around,
+        end: usize,
+        name: &'a [u8],
+        repeats: Repeats,
+        count: u32,
+        choice: &Choice<'a>,
+    ) -> Result<(), GenFault>
+        ensures { IfOk result (λ _. WritesTurns self.old self.new around.entry end name.now (seen_repeats repeats)
+            count (choice_of choice.now)) }
+    {
+        if count == 0 {
+            return self.listing.operate(operations::STOP_PROCESS);
+        }
+        for turn in 0..count {
+            add_name(&mut self.scope, name, repeats.index_in(turn))?;
+            self.write_part(around, end, turn + 1 == count, choice)?;
+        }
         Ok(())
     }
 }

@@ -17,8 +17,8 @@ use crate::expressions::{
 };
 use crate::home::Home;
 use crate::listing::Listing;
-use code_pieces::operations;
 use crate::setting::{Setting, word_after};
+use code_pieces::operations;
 use module_builder::GenFault;
 use occam_parser::{ChainOperator, Expr, Operand, Operation, ValueType};
 use prefix_decoder::Fun;

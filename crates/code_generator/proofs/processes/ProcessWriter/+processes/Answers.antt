@@ -1,26 +1,32 @@
 use Rattle.std.proofs.Common.{◌≡◌, ◌+◌, ◌<◌, ◌≤◌, length, map, IfOk, arith, refl, ap, sym, subst, ◌∙◌, rules, nat_eq}
-use Rattle.std.proofs.Common.{true, Some}
+use Rattle.std.proofs.Common.{true, false, Some, w32, of_z}
 use Rattle.std.proofs.lemmas.Bool.{eqb-true, eqb-false}
+use Rattle.std.proofs.lemmas.Int.{to_z-of_z}
 use Rattle.occam_parser.specs.declared.tree.Body.{the_lemmas}
 use Rattle.occam_parser.specs.Views.{expression_of}
-use Rattle.occam_parser.specs.LineViews.{declaration_of}
-use Rattle.occam_parser.specs.Blocks.{Does, Chosen}
+use Rattle.occam_parser.specs.LineViews.{declaration_of, replicator_of}
+use Rattle.occam_parser.specs.Blocks.{Does, Chosen, Replicated}
 use Rattle.occam_parser.specs.BlockReading.{with_declarations}
 use Rattle.occam_parser.specs.BlockViews.{process_of, construct_of, choice_of, plain_component, all_processes}
-use Rattle.occam_parser.specs.BlockViews.{all_choices}
-use Rattle.occam_parser.proofs.SeenBlocks.{view-Seq, view-If}
-use Rattle.scalar_ranges.specs.Scopes.{known_of}
+use Rattle.occam_parser.specs.BlockViews.{all_choices, body_of}
+use Rattle.occam_parser.proofs.SeenBlocks.{view-Seq, view-If, view-Body-Seq}
+use Rattle.scalar_ranges.specs.Moves.{begin}
+use Rattle.scalar_ranges.specs.Scopes.{known_of, meaning_of}
+use Rattle.program_uses.specs.Indices.{repeats_of, seen_repeats, index_in}
 use Rattle.usage_checks.specs.AfterProcesses.{left_to}
 use Rattle.usage_checks.specs.Following.{where_holds}
 use Rattle.usage_checks.specs.NameRules.{with_entries}
+use Rattle.code_generator.specs.declared.loops.Turning.{Turning}
 use Rattle.code_generator.specs.FrameViews.{frame_seen}
-use Rattle.code_generator.specs.Processes.{at_place}
+use Rattle.code_generator.specs.Processes.{at_place, before_turns}
 use Rattle.code_generator.specs.Written.{site_of, WritesConstruct, WritesSeq, WritesIf, WritesPart, WritesChoice}
-use Rattle.code_generator.specs.Written.{WritesChosen}
+use Rattle.code_generator.specs.Written.{WritesChosen, WritesTurns, EntersLoop}
 use Rattle.code_generator.proofs.PartsWritten.{writes_none, writes_moved, writes_behind, seq_next, seq_done}
 use Rattle.code_generator.proofs.ChoicesWritten.{choices_start, choices_next, choices_done, no_choices}
 use Rattle.code_generator.proofs.ChoicesWritten.{writes_if, writes_chosen, writes_tested, always_written}
 use Rattle.code_generator.proofs.ChoicesWritten.{writes_stopped}
+use Rattle.code_generator.proofs.LoopsWritten.{writes_turning, writes_loop, writes_replicated}
+use Rattle.code_generator.proofs.TurnsWritten.{turns_start, turns_next, turns_done, writes_repeated_if}
 use Rattle.code_generator.proofs.processes.ProcessWriter.+processes.Goals as goal
 
 pub write-returns : goal.write-returns
@@ -173,3 +179,85 @@ write_choice-returns t c =
     (writes_tested c.args.around c.args.end line e p s c.write_test.new.self c.write_chosen.new.self after
     c.push.new.self c.in_ok-write_test.ensures.code place chosen c.in_ok-push.ensures c.in_ok-write_row.ensures.row
     c.in_ok-write_row.ensures.site)
+
+-- ---- replicators
+
+pub write_turns-loop-turn-init : goal.write_turns-loop-turn-init
+write_turns-loop-turn-init t c =
+    let differs = c.if-count-eq0.false in
+    let some : 0 < c.args.count = omega arith in
+    turns_start c.args.around c.args.end c.args.name.now (seen_repeats c.args.repeats) (choice_of c.args.choice.now)
+    c.args.count c.args.self.now some
+
+pub write_turns-loop-turn-preserved : goal.write_turns-loop-turn-preserved
+write_turns-loop-turn-preserved t c =
+    let named = c.in_ok-add_name.ensures in
+    turns_next c.args.around c.args.end c.args.name.now (seen_repeats c.args.repeats) (choice_of c.args.choice.now)
+    c.args.count c.loop-turn.turn (meaning_of c.index_in.result) c.add_name.new.scope (omega arith)
+    c.index_in.ensures (λ i. record { entries = named.ok i; blocks = named.extends.blocks i })
+    c.loop-turn.invariant c.in_ok-write_part.ensures
+
+pub write_turns-returns : goal.write_turns-returns
+write_turns-returns t c =
+    let done : c.loop-turn.turn ≡ c.args.count = omega arith in
+    turns_done c.args.around c.args.end c.args.name.now (seen_repeats c.args.repeats) (choice_of c.args.choice.now)
+    c.args.count c.loop-turn.turn done c.loop-turn.invariant
+
+pub write_repeated_if-returns : goal.write_repeated_if-returns
+write_repeated_if-returns t c =
+    let s = c.args.self.now in
+    let r = replicator_of c.args.replicator.now in
+    let repeats = seen_repeats c.repeats_of-repeats.result in
+    let begun = record s {
+      label = c.in_ok-self.field-0;
+      scope = c.begin.new.self;
+      frame = c.add_home.new.self;
+    } in
+    let place : site_of begun ≡ before_turns (site_of s) (begin (known_of s.scope)) = λ i. record {
+      frame = c.in_ok-add_home.ensures i;
+      known = c.in_ok-begin.ensures.ok i;
+      label = c.in_ok-self.ensures i;
+    } in
+    let counted = c.repeats_of-repeats.ensures
+    ∙ (λ i. repeats_of (c.is_before-counted.ensures i) (known_of s.scope).entries false r) in
+    let written = subst (λ n. WritesTurns begun c.write_turns.new.self c.args.around s.label r.name repeats n
+    (choice_of c.args.choice.now)) c.times.ensures c.in_ok-write_turns.ensures in
+    let long : c.len-names.result ≡ length s.frame.homes.items = omega arith in
+    writes_repeated_if c.args.around c.args.line c.len-names.result r (choice_of c.args.choice.now) repeats s begun
+    c.write_turns.new.self c.write_row.new.self c.leave.new.self c.end.new.self counted refl place written long
+    c.leave.ensures.homes c.leave.ensures.top c.end.ensures c.in_ok-write_row.ensures.row
+    c.in_ok-write_row.ensures.site
+
+pub write_loop-returns : goal.write_loop-returns
+write_loop-returns t c =
+    let s = c.args.self.now in
+    let r = replicator_of c.args.replicator.now in
+    let es = (known_of s.scope).entries in
+    let l : Turning = record {
+      name = c.args.replicator.now.name;
+      index = c.index_in.result;
+      base = c.value_or_zero.result;
+      count = c.value_or_zero-count.result;
+    } in
+    let base = to_z-of_z w32 c.value_or_zero.result (search rules) in
+    let count = to_z-of_z w32 c.value_or_zero-count.result (search rules) in
+    let enters = subst (λ (l : Turning). EntersLoop s c.enter_loop.new.self l c.args.changed.now)
+    (λ i. record { name = l.name; index = l.index; base = base i; count = count i }) c.in_ok-enter_loop.ensures in
+    let long : c.len-names.result ≡ length s.frame.homes.items = omega arith in
+    let repeats = c.repeats_of-repeats.ensures
+    ∙ (λ i. repeats_of (c.is_before-counted.ensures i) es true r) in
+    let index = c.index_in.ensures ∙ ap (λ x. index_in x 0) repeats in
+    writes_loop c.args.around c.args.line r (process_of c.args.process.now) l c.args.changed.now s
+    c.leave_loop.new.self refl index c.value_or_zero.ensures c.value_or_zero-count.ensures
+    (λ none. c.if-count-eq0.false (ap (of_z w32) none))
+    (writes_turning c.args.around (process_of c.args.process.now) l c.args.changed.now c.len-names.result
+    s.frame.top s.label enters c.in_ok-write_one.ensures c.in_ok-leave_loop.ensures long refl refl)
+
+pub write_replicated-returns-in_ok-write_loop-in-Seq : goal.write_replicated-returns-in_ok-write_loop-in-Seq
+write_replicated-returns-in_ok-write_loop-in-Seq t c =
+    let r = replicator_of c.args.replicator.now in
+    let p = c.in-Seq.process in
+    let is = ap (Replicated r) (sym (view-Body-Seq p) ∙ ap body_of (sym c.in-Seq.is)) in
+    writes_replicated c.args.around c.args.line r (process_of p) (Replicated r (body_of c.args.body.now))
+    c.deref.result.now c.variables_changed_in.new.scope is c.variables_changed_in.ensures.scope
+    (c.deref.ensures.value ∙ c.in_ok-changed-in-Seq.ensures.numbers) c.in_ok-write_loop-in-Seq.ensures

@@ -1,0 +1,128 @@
+//! Writing what is around the body of a loop. If a function fails, some pieces more may have come.
+
+ghost use Rattle.std.specs.Prelude.{◌≡◌, ◌++◌, ◌∷◌, [], IfOk, option_map};
+ghost use Rattle.occam_parser.specs.Views.{expression_of};
+ghost use Rattle.scalar_ranges.specs.Scopes.{entries_of, meaning_of};
+ghost use Rattle.code_pieces.specs.Pieces.{LoopBack, points};
+ghost use Rattle.code_generator.specs.Processes.{is_scalar, has_scalar, value_or_zero, loop_start};
+ghost use Rattle.code_generator.specs.Written.{EntersLoop, LeavesLoop, WritesNoLoop};
+
+use crate::listing::Listing;
+use crate::processes::{ProcessWriter, label_after};
+use crate::setting::word_after;
+use code_pieces::Piece;
+use module_builder::GenFault;
+use occam_parser::Expr;
+use program_uses::{add_name, value_as};
+use scalar_ranges::{ExprType, Meaning, Scope};
+
+/// The turns of a loop: its index, from the base on, and how many there are.
+#[derive(Clone, Copy)]
+pub(crate) struct Turning<'a> {
+    pub(crate) name: &'a [u8],
+    pub(crate) index: Meaning,
+    pub(crate) base: i32,
+    pub(crate) count: i32,
+}
+
+/// Whether this is a scalar.
+fn is_scalar(meaning: Option<Meaning>) -> bool
+    ensures { result ≡ is_scalar (option_map meaning_of meaning) }
+{
+    matches!(meaning, Some(Meaning::Scalar { .. }))
+}
+
+/// Whether the declaration with this number is that of a scalar.
+fn is_scalar_at(scope: &Scope, number: usize) -> bool
+    ensures { result ≡ has_scalar (number ∷ []) (entries_of scope.now) }
+{
+    is_scalar(scope.entry(number).map(|entry| entry.meaning))
+}
+
+/// Whether one of these numbers is that of a scalar.
+fn has_scalar(scope: &Scope, numbers: &[usize]) -> bool
+    ensures { result ≡ has_scalar numbers.now (entries_of scope.now) }
+{
+    numbers.iter().any(|number| is_scalar_at(scope, *number))
+}
+
+/// The base or the count of a loop: 0 if it has no value.
+pub(crate) fn value_or_zero(scope: &Scope, expr: &Expr) -> i32
+    ensures { result ≡ value_or_zero (entries_of scope.now) (expression_of expr.now) }
+{
+    value_as(scope, ExprType::Int, expr).unwrap_or(0)
+}
+
+impl Listing {
+    /// Before the head of a loop: its base and its count, each in its word.
+    fn write_loop_start(&mut self, word: u32, base: i32, count: i32) -> Result<(), GenFault>
+        ensures { IfOk result (λ _. self.new ≡ self.old ++ loop_start word base count) }
+    {
+        self.constant(base)?;
+        self.store(word)?;
+        self.constant(count)?;
+        self.store(word_after(word, 1)?)
+    }
+
+    /// Behind the body of a loop: back to its head, or on behind it.
+    fn write_loop_end(&mut self, word: u32, head: usize, behind: usize) -> Result<(), GenFault>
+        ensures { IfOk result (λ _. self.new ≡ self.old ++ points word ∷ LoopBack head behind ∷ []) }
+    {
+        self.point(word)?;
+        self.push(Piece::LoopBack { head, behind })
+    }
+}
+
+impl<'a> ProcessWriter<'a> {
+    /// The head of a loop, whose body changes the variables with these numbers.
+    pub(crate) fn enter_loop(
+        &mut self,
+        turning: Turning<'a>,
+        changed: &[usize],
+    ) -> Result<(), GenFault>
+        ensures { IfOk result (λ _. EntersLoop self.old self.new turning.entry changed.now) }
+    {
+        let head = self.label;
+        let behind = label_after(head)?;
+        self.label = label_after(behind)?;
+        self.listing
+            .write_loop_start(self.frame.top, turning.base, turning.count)?;
+        self.frame.add_block(head)?;
+        self.scope.begin_loop(changed)?;
+        add_name(&mut self.scope, turning.name, turning.index)?;
+        self.write_row(head)?;
+        Ok(())
+    }
+
+    /// The end of a loop with its head at this label and its block at this word. There were so many names before it.
+    pub(crate) fn leave_loop(
+        &mut self,
+        names: usize,
+        word: u32,
+        head: usize,
+    ) -> Result<(), GenFault>
+        ensures { IfOk result (λ _. LeavesLoop self.old self.new names word head) }
+    {
+        let behind = label_after(head)?;
+        self.scope.end();
+        self.frame.leave(names, word);
+        self.listing.write_loop_end(word, head, behind)?;
+        self.write_row(behind)?;
+        Ok(())
+    }
+
+    /// A loop without turns, whose body changes the variables with these numbers.
+    pub(crate) fn write_no_loop(&mut self, changed: &[usize]) -> Result<(), GenFault>
+        ensures { IfOk result (λ _. WritesNoLoop self.old self.new changed.now) }
+    {
+        let is_less_known = has_scalar(&self.scope, changed);
+        self.scope.widen(changed);
+        if !is_less_known {
+            return Ok(());
+        }
+        let label = self.label;
+        self.label = label_after(label)?;
+        self.write_row(label)?;
+        Ok(())
+    }
+}

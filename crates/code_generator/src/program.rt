@@ -1,0 +1,158 @@
+//! The code of a program.
+
+ghost use Rattle.std.specs.Prelude.{◌≡◌, ◌≤◌, Some, map, IfOk};
+ghost use Rattle.occam_parser.specs.LineViews.{formal_of};
+ghost use Rattle.occam_parser.specs.Blocks.{GlobalProcedure};
+ghost use Rattle.occam_parser.specs.BlockViews.{item_of, procedure_of};
+ghost use Rattle.program_meaning.specs.Meaning.{link_number, port_for};
+ghost use Rattle.code_generator.specs.HomeViews.{home_seen};
+ghost use Rattle.code_generator.specs.FrameViews.{frame_seen};
+ghost use Rattle.code_generator.specs.MainWritten.{behind_item, procedures_behind, Precedes, WritesMain};
+ghost use Rattle.code_generator.specs.Programs.{home_of_port, with_links, code_of};
+ghost use Rattle.code_generator.specs.Written.{site_of};
+
+use crate::frame::Frame;
+use crate::home::Home;
+use crate::listing::Listing;
+use crate::processes::ProcessWriter;
+use code_pieces::operations;
+use module_builder::GenFault;
+use occam_parser::{Formal, Item, Proc};
+use program_uses::{Around, Direction, Signature, add_name, link_way};
+use scalar_ranges::Meaning;
+use std::alloc::Global;
+use std::marker::Model;
+use usage_checks::{CheckedProgram, add_formals};
+
+/// The code of a program, with rows among its pieces.
+#[derive(Drop)]
+pub struct Code {
+    pub listing: Listing,
+    /// The labels of the pieces are numbered below this.
+    pub labels: usize,
+}
+
+impl Model for Code {
+    ghost use Rattle.code_pieces.specs.Pieces as pieces;
+
+    ghost Value = { pieces.Code };
+
+    ghost view = { λ c. record { pieces = c.listing; labels = c.labels } };
+}
+
+/// The number of a link, by the last character of its name.
+#[tactic(auto, using(crate::proofs::LinksNumbered::numbered))]
+fn link_number(name: &[u8]) -> u8
+    ensures number { result ≡ link_number name.now }
+    ensures small { result ≤ 207 }
+{
+    match name.last() {
+        Some(digit) => digit.saturating_sub(b'0'),
+        None => 0,
+    }
+}
+
+/// Where a parameter of `main` is.
+fn home_of_formal(formal: &Formal) -> Home
+    ensures { home_seen result ≡ home_of_port (port_for (formal_of formal.now)) }
+{
+    match link_way(formal.name) {
+        Some(Direction::Output) => Home::Link(link_number(formal.name)),
+        Some(Direction::Input) => Home::Link(link_number(formal.name) + 4),
+        None => Home::Nowhere,
+    }
+}
+
+impl Frame {
+    /// The parameters of `main` more, which are links.
+    fn add_links(&mut self, formals: &[Formal]) -> Result<(), GenFault>
+        ensures { IfOk result (λ _. frame_seen self.new
+            ≡ with_links (map formal_of formals.now) (frame_seen self.old)) }
+    {
+        for formal in formals {
+            self.add_home(home_of_formal(formal))?;
+        }
+        Ok(())
+    }
+}
+
+impl<'a> ProcessWriter<'a> {
+    /// A procedure before `main`, which has no code of its own. So many were before it.
+    fn declare_procedure(&mut self, proc: &Proc<'a>, number: u32) -> Result<(), GenFault>
+        ensures listing { IfOk result (λ _. self.new.listing ≡ self.old.listing) }
+        ensures site { IfOk result (λ _. site_of self.new
+            ≡ behind_item (GlobalProcedure (procedure_of proc.now)) number (site_of self.old)) }
+    {
+        self.frame.add_home(Home::Nowhere)?;
+        add_name(&mut self.scope, proc.name, Meaning::Proc(number))?;
+        Ok(())
+    }
+
+    /// An item before `main`, before which there were so many procedures. Returns how many there are then.
+    fn declare_item(&mut self, item: &Item<'a>, procedures: u32) -> Result<u32, GenFault>
+        ensures listing { IfOk result (λ _. self.new.listing ≡ self.old.listing) }
+        ensures site { IfOk result (λ _. site_of self.new
+            ≡ behind_item (item_of item.now) procedures (site_of self.old)) }
+        ensures procedures { IfOk result (λ n. n ≡ procedures_behind (item_of item.now) procedures) }
+    {
+        match item {
+            Item::Constant(constant) => {
+                self.declare_constant(constant)?;
+                Ok(procedures)
+            }
+            Item::Proc(proc) => {
+                self.declare_procedure(proc, procedures)?;
+                procedures.checked_add(1).ok_or(GenFault::Limit)
+            }
+        }
+    }
+
+    /// Some items are known, and no code is written.
+    fn behind_items(alloc: Global, items: &[Item<'a>]) -> Result<ProcessWriter<'a>, GenFault>
+        ensures { IfOk result (λ writer. Precedes writer (map item_of items.now)) }
+    {
+        let mut writer = ProcessWriter::new(alloc);
+        let mut procedures: u32 = 0;
+        for item in items {
+            procedures = writer.declare_item(item, procedures)?;
+        }
+        Ok(writer)
+    }
+
+    /// The code of `main`, behind which the process stops.
+    fn write_main(&mut self, around: Around, main: &Proc<'a>) -> Result<(), GenFault>
+        ensures { IfOk result (λ _. WritesMain self.old self.new around.entry (procedure_of main.now)) }
+    {
+        self.frame.add_links(&main.formals)?;
+        add_formals(self.alloc, &mut self.scope, &main.formals)?;
+        self.write(around, &main.body)?;
+        self.listing.operate(operations::STOP_PROCESS)?;
+        Ok(())
+    }
+}
+
+/// The code of a program. The error is [`GenFault::Invalid`] if its `main` has a `PAR`, an `ALT` or an instance, which
+/// have no code here, but for those in a loop or a choice that never happens.
+pub fn code_of(alloc: Global, program: &CheckedProgram) -> Result<Code, GenFault>
+    ensures { IfOk result (λ code. code_of (map item_of program.now.program.items.items) ≡ Some code) }
+{
+    let Some((last, before)) = program.program().items().split_last() else {
+        return Err(GenFault::Invalid);
+    };
+    let Item::Proc(main) = last else {
+        return Err(GenFault::Invalid);
+    };
+    let Some((_, signatures)) = program.signatures().split_last() else {
+        return Err(GenFault::Invalid);
+    };
+    let around = Around {
+        signatures,
+        uncounted: None,
+    };
+    let mut writer = ProcessWriter::behind_items(alloc, before)?;
+    writer.write_main(around, main)?;
+    Ok(Code {
+        listing: writer.listing,
+        labels: writer.label,
+    })
+}
