@@ -14,6 +14,7 @@ use Rattle.module_builder.specs.Drafts as drafts
 use Rattle.code_pieces.specs.declared.piece.WordFact.{WordFact}
 use Rattle.code_pieces.specs.declared.piece.WordFact.TheVariants.{Between, Turning}
 use Rattle.code_pieces.specs.declared.piece.RowEntry.{RowEntry}
+use Rattle.code_pieces.specs.declared.saying.Said as saying
 use Rattle.code_pieces.specs.declared.operations.TheConstants.{LOOP_END}
 use Rattle.code_pieces.specs.Pieces.{Piece, Direct, Jump, JumpUnless, LoopBack, TableAddress, Row, constant}
 use Rattle.code_pieces.specs.Numbers.{Numbered, number_at, with_number, Needs}
@@ -29,6 +30,14 @@ apart_from at_row (p ∷ ps) = p ∷ apart_from false ps
 
 abbrev pub apart : List Piece → List Piece
 apart ps = apart_from true ps
+
+abbrev pub is_row : Piece → Bool
+is_row (Row l entries) = true
+is_row p = false
+
+-- a piece with what is put before it, where a row may have been right before
+abbrev pub apart_piece : Bool → Piece → List Piece
+apart_piece at_row p = if at_row && is_row p then constant (pos 0) ∷ p ∷ [] else p ∷ []
 
 -- ---- tables
 
@@ -114,13 +123,22 @@ sizes_of (Row l entries ∷ ps) lengths = 0 ∷ sizes_of ps lengths
 sizes_of (LoopBack head behind ∷ ps) lengths = first_two lengths ∷ sizes_of ps (without_two lengths)
 sizes_of (p ∷ ps) lengths = first_one lengths ∷ sizes_of ps (without_one lengths)
 
+-- the bytes of a piece, whose items have the first of these lengths, and the lengths of the items behind it
+abbrev pub size_of : Piece → List ℕ → ℕ
+size_of (Row l entries) lengths = 0
+size_of (LoopBack head behind) lengths = first_two lengths
+size_of p lengths = first_one lengths
+
+abbrev pub lengths_behind : Piece → List ℕ → List ℕ
+lengths_behind (Row l entries) lengths = lengths
+lengths_behind (LoopBack head behind) lengths = without_two lengths
+lengths_behind p lengths = without_one lengths
+
 -- ---- rows
 
 -- what a certificate says of some words
-pub record Said : Type 0 where
-  pub word : ℕ
-  pub span : ℕ
-  pub fact : Fact ℕ
+abbrev pub Said : Type 0
+Said = saying.Said
 
 abbrev pub said_fact : List Numbered → WordFact → Fact ℕ
 said_fact weights (Between lo hi) = facts.Number lo hi

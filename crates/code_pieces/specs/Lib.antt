@@ -2,3 +2,9 @@ pub mod Pieces
 pub mod PieceViews
 pub mod Numbers
 pub mod Laying
+pub mod Needed
+pub mod Tables
+pub mod Placing
+pub mod DraftedRows
+pub mod Laid
+pub mod LaidModule

@@ -1,0 +1,9 @@
+use Rattle.std.proofs.Common.{◌≡◌, drop, reverse}
+use Rattle.code_pieces.specs.Numbers.{Needs}
+use Rattle.code_pieces.specs.Needed.{IsKnown}
+use Rattle.code_pieces.specs.Laying.{said}
+use Rattle.code_pieces.proofs.saying.said_words.Given as goal
+
+abbrev pub invariant-loop-number : goal.invariant-loop-number
+invariant-loop-number l =
+    (n : Needs) → IsKnown l.needs n → reverse l.words.items ≡ said n.weights (drop l.number l.entries)

@@ -1,0 +1,233 @@
+//! What rows say, with numbers.
+
+ghost use Rattle.std.specs.Prelude.{◌≡◌, ◌≢◌, map, reverse, IfOk, IfErr, Err, ◌+◌};
+ghost use Rattle.code_pieces.specs.PieceViews.{pieces_of};
+ghost use Rattle.code_pieces.specs.Numbers as numbers;
+ghost use Rattle.code_pieces.specs.Needed.{IsKnown};
+ghost use Rattle.code_pieces.specs.Laying.{said_fact, is_same_range, joins, with_said, said, said_rows};
+ghost use Rattle.code_pieces.specs.DraftedRows.{drafted_fact, drafted_entry, shown_row, row_with};
+ghost use Rattle.code_pieces.specs.DraftedRows.{drafted_row, said_row};
+
+use crate::drafting::made;
+use crate::needs::Needs;
+use crate::piece::{Piece, RowEntry, WordFact};
+use module_builder::{ContextName, GenFault, Instructions, Label};
+use module_format::{Entry, Fact, LabelRow, Stack};
+use std::alloc::Global;
+
+/// What a certificate says of each of `span` words from `word` on.
+#[derive(Clone, Copy)]
+pub struct Said {
+    pub word: u32,
+    pub span: u32,
+    pub fact: Fact,
+}
+
+/// What a certificate says of a word.
+fn said_fact(needs: &Needs, fact: WordFact) -> Result<Fact, GenFault>
+    ensures ok { IfOk result (λ f. (n : numbers.Needs) → IsKnown needs.now n → f ≡ said_fact n.weights fact) }
+    ensures limit { result ≢ Err GenFault.Limit }
+{
+    match fact {
+        WordFact::Between { lo, hi } => Ok(Fact::Number { lo, hi }),
+        WordFact::Turning { head, base, count } => {
+            let weight = needs.weight(head)?;
+            Ok(Fact::Loop {
+                base,
+                count,
+                weight,
+            })
+        }
+    }
+}
+
+/// Whether two facts are the same range.
+fn is_same_range(fact: &Fact, other: &Fact) -> bool
+    ensures { result ≡ is_same_range fact.now other.now }
+{
+    match (*fact, *other) {
+        (Fact::Number { lo: a, hi: b }, Fact::Number { lo: c, hi: d }) => a == c && b == d,
+        _ => false,
+    }
+}
+
+/// Whether neighbours have one range.
+fn joins(said: &Said, next: &Said) -> bool
+    ensures { result ≡ joins said.now next.now }
+{
+    u64::from(said.word) + u64::from(said.span) == u64::from(next.word)
+        && is_same_range(&said.fact, &next.fact)
+}
+
+/// What is said of the words of two neighbours.
+fn joined(said: &Said, next: &Said) -> Result<Said, GenFault>
+    ensures ok { IfOk result (λ s. s
+        ≡ record { word = said.now.word; span = said.now.span + next.now.span; fact = said.now.fact }) }
+    ensures err { IfErr result (λ e. e ≡ GenFault.Invalid) }
+{
+    match said.span.checked_add(next.span) {
+        Some(span) => Ok(Said {
+            word: said.word,
+            span,
+            fact: said.fact,
+        }),
+        None => Err(GenFault::Invalid),
+    }
+}
+
+/// Puts what is said of some words before what is said of others, which come last to first.
+#[tactic(auto, using(crate::proofs::RowLaws::said_before_others))]
+fn push_before(words: &mut Vec<Said>, said: Said) -> Result<(), GenFault>
+    ensures ok { IfOk result (λ _. reverse words.new.items ≡ with_said said (reverse words.old.items)) }
+    ensures limit { result ≢ Err GenFault.Limit }
+{
+    let Some(next) = words.pop() else {
+        words.push(said)?;
+        return Ok(());
+    };
+    if joins(&said, &next) {
+        words.push(joined(&said, &next)?)?;
+        return Ok(());
+    }
+    words.push(next)?;
+    words.push(said)?;
+    Ok(())
+}
+
+/// What is said of the words of one entry.
+fn said_of(needs: &Needs, entry: &RowEntry) -> Result<Said, GenFault>
+    ensures ok { IfOk result (λ s. (n : numbers.Needs) → IsKnown needs.now n
+        → s ≡ record { word = entry.now.word; span = entry.now.span; fact = said_fact n.weights entry.now.fact }) }
+    ensures limit { result ≢ Err GenFault.Limit }
+{
+    Ok(Said {
+        word: entry.word,
+        span: entry.span,
+        fact: said_fact(needs, entry.fact)?,
+    })
+}
+
+/// What a row says, with neighbours of one range joined.
+fn said_words(alloc: Global, needs: &Needs, entries: &[RowEntry]) -> Result<Vec<Said>, GenFault>
+    ensures ok { IfOk result (λ v. (n : numbers.Needs) → IsKnown needs.now n
+        → v.items ≡ said n.weights entries.now) }
+    ensures limit { result ≢ Err GenFault.Limit }
+{
+    let mut words = Vec::with_capacity(alloc, entries.len())?;
+    for number in (0..entries.len()).rev() {
+        let said = said_of(needs, &entries[number])?;
+        push_before(&mut words, said)?;
+    }
+    words.reverse();
+    Ok(words)
+}
+
+/// A fact of a draft. A row says nothing but ranges and loops.
+fn drafted_fact(fact: Fact) -> Fact<Label>
+    ensures { result ≡ drafted_fact fact }
+{
+    match fact {
+        Fact::Number { lo, hi } => Fact::Number { lo, hi },
+        Fact::Loop {
+            base,
+            count,
+            weight,
+        } => Fact::Loop {
+            base,
+            count,
+            weight,
+        },
+        _ => Fact::Unknown,
+    }
+}
+
+/// An entry of a draft.
+fn drafted_entry(said: &Said) -> Result<Entry<Label>, GenFault>
+    ensures ok { IfOk result (λ e. e ≡ drafted_entry said.now) }
+    ensures err { IfErr result (λ e. e ≡ GenFault.Invalid) }
+{
+    match i32::try_from(said.word) {
+        Ok(word) => Ok(Entry {
+            word,
+            span: said.span,
+            fact: drafted_fact(said.fact),
+        }),
+        Err(_) => Err(GenFault::Invalid),
+    }
+}
+
+/// The entries of a draft.
+fn drafted_entries(alloc: Global, said: &[Said]) -> Result<Vec<Entry<Label>>, GenFault>
+    ensures ok { IfOk result (λ v. v.items ≡ map drafted_entry said.now) }
+    ensures limit { result ≢ Err GenFault.Limit }
+{
+    let mut entries = Vec::with_capacity(alloc, said.len())?;
+    for words in said {
+        entries.push(drafted_entry(words)?)?;
+    }
+    Ok(entries)
+}
+
+/// The row of a draft at a label, with its number.
+fn drafted_row(
+    label: Label,
+    number: u64,
+    entries: Vec<Entry<Label>>,
+) -> LabelRow<Label, ContextName>
+    ensures { shown_row result ≡ row_with label number entries.items }
+{
+    LabelRow {
+        offset: label,
+        context: ContextName::Root,
+        depth: 0,
+        number,
+        stack: Stack {
+            a: Fact::Unknown,
+            b: Fact::Unknown,
+            c: Fact::Unknown,
+        },
+        entries,
+    }
+}
+
+/// The row of a draft at a label.
+fn row_at(
+    alloc: Global,
+    code: &Instructions,
+    needs: &Needs,
+    label: usize,
+    entries: &[RowEntry],
+) -> Result<LabelRow<Label, ContextName>, GenFault>
+    ensures ok { IfOk result (λ row. (n : numbers.Needs) → IsKnown needs.now n
+        → shown_row row ≡ drafted_row (said_row n label entries.now)) }
+    ensures limit { result ≢ Err GenFault.Limit }
+{
+    let number = needs.at_label(label)?;
+    let words = said_words(alloc, needs, entries)?;
+    let entries = drafted_entries(alloc, &words)?;
+    Ok(drafted_row(made(code, label)?, number, entries))
+}
+
+/// The rows of a draft, which has the labels in its code.
+///
+/// # Errors
+///
+/// `Invalid` if a row names a label that is not there, or words that no frame has; `Memory` if memory runs out.
+pub fn rows_of(
+    alloc: Global,
+    code: &Instructions,
+    needs: &Needs,
+    pieces: &[Piece],
+) -> Result<Vec<LabelRow<Label, ContextName>>, GenFault>
+    ensures ok { IfOk result (λ v. (n : numbers.Needs) → IsKnown needs.now n
+        → map shown_row v.items ≡ map drafted_row (said_rows n (pieces_of pieces.now))) }
+    ensures limit { result ≢ Err GenFault.Limit }
+{
+    let mut rows = Vec::new(alloc);
+    for piece in pieces {
+        if let Piece::Row { label, ref entries } = *piece {
+            rows.push(row_at(alloc, code, needs, label, entries)?)?;
+        }
+    }
+    Ok(rows)
+}

@@ -1,0 +1,33 @@
+//! The words that code names.
+
+ghost use Rattle.std.specs.Prelude.{◌≡◌, ◌≤◌};
+ghost use Rattle.code_pieces.specs.PieceViews.{pieces_of};
+ghost use Rattle.code_pieces.specs.Laying.{word_above, words_taken};
+
+use crate::piece::Piece;
+use prefix_decoder::Fun;
+
+/// One above the word that an instruction names; 0 if it names none.
+fn word_above(fun: Fun, operand: i32) -> u32
+    ensures value { result ≡ word_above fun operand }
+    ensures small { result ≤ 2_147_483_649 }
+{
+    match fun {
+        Fun::LoadLocal | Fun::StoreLocal | Fun::LoadLocalPointer => operand.unsigned_abs() + 1,
+        _ => 0,
+    }
+}
+
+/// One above the highest word that code names; 0 if it names none.
+pub fn words_taken(pieces: &[Piece]) -> u32
+    ensures value { result ≡ words_taken (pieces_of pieces.now) }
+    ensures small { result ≤ 2_147_483_649 }
+{
+    let mut words = 0u32;
+    for piece in pieces {
+        if let Piece::Direct { fun, operand } = *piece {
+            words = words.max(word_above(fun, operand));
+        }
+    }
+    words
+}
