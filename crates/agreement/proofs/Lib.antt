@@ -12,8 +12,16 @@ pub mod Standing
 pub mod GivingWay
 pub mod Links
 pub mod Waking
+pub mod Woken
 pub mod WaitingOnLinks
 pub mod Acknowledging
 pub mod Taking
 pub mod WaitingForBytes
+pub mod ChannelWords
+pub mod Naming
+pub mod WaitingInside
+pub mod Partner
+pub mod ReceivingInside
+pub mod GoingAlone
+pub mod SendingInside
 pub mod TurnsAgree

@@ -1,5 +1,5 @@
 -- The walk through every instruction, once, on plain words beside what a process has.
-use Rattle.std.proofs.Common.{◌≡◌, ◌≤◌, ◌<◌, ◌+◌, ◌^◌, ℕ, ℤ, pos, negsuc, Bool, true, false, cond, Option}
+use Rattle.std.proofs.Common.{◌≡◌, ◌≤◌, ◌<◌, ◌+◌, ◌%◌, ◌^◌, ℕ, ℤ, pos, negsuc, Bool, true, false, cond, Option}
 use Rattle.std.proofs.Common.{Some, None, refl, subst, arith, int_le, length}
 use Rattle.std.proofs.lemmas.Int.{ints}
 use Rattle.std.specs.Prelude.{⊤, ◌==◌, ◌&&◌, not, nat_abs, IsSome}
@@ -31,7 +31,7 @@ use Rattle.machine_state.proofs.Combining as each
 use Rattle.machine_state.proofs.Scheduling.{schedules-is}
 use Rattle.world_laws.specs.Parked.{HasWords}
 use Rattle.world_laws.proofs.BlankWords.{words_taken}
-use Rattle.std.proofs.lemmas.Bool.{ltb-true}
+use Rattle.std.proofs.lemmas.Bool.{ltb-true, eqb-true}
 use Rattle.machine_state.specs.declared.fault.FaultKind.TheVariants.{OutsideCode}
 use Rattle.world_laws.proofs.StepLeaves.{alone_tells, plain_is_outside}
 use Rattle.plain_machine.specs.declared.flow.PlainFlow.{PlainFlow}
@@ -157,15 +157,21 @@ module _ (site : Site) (original : Local) (state : PlainState) (start : agree.Fi
   unfolding step.writes_byte
   writes_byte a byte l k h = passes _ NotOwn _ h
 
+  even : {safe : Type 0} {t : Stepped} → (v : ℤ) (k : ℕ → Outcome)
+      → (step.address v % 4 ≡ 0 → A safe t (k (step.address v))) → A safe t (step.aligned v k)
+  unfolding step.aligned
+  even v k h = passes _ Unaligned _ (λ is. h (eqb-true (step.address v % 4) 0 is))
+
   aligned : {safe : Type 0} {t : Stepped} → (v : ℤ) (k : ℕ → Outcome) → A safe t (k (step.address v))
       → A safe t (step.aligned v k)
-  unfolding step.aligned
-  aligned v k h = passes _ Unaligned _ (λ even. h)
+  aligned v k h = even v k (λ is. h)
 
   channel : {safe : Type 0} {t : Stepped} → (v : ℤ) (direction : Direction) (k : ℕ → Outcome)
-      → A safe t (k (step.address v)) → A safe t (step.channel s v direction k)
+      → (agree.HoldsEnd s direction (step.address v) → A safe t (k (step.address v)))
+      → A safe t (step.channel s v direction k)
   unfolding step.channel
-  channel v direction k h = aligned v _ (test _ EndNotHeld _ (λ held. h))
+  channel v direction k h =
+      even v _ (λ is. test _ EndNotHeld _ (λ held. h (record { held = held; even = is })))
 
   counts : {safe : Type 0} {t : Stepped} → (least most : ℕ) (v : ℤ) (k : ℕ → Outcome) → most < 2 ^ 31
       → (step.address v ≤ most → A safe t (k (step.address v))) → A safe t (step.counts least most v k)
@@ -402,13 +408,14 @@ module _ (site : Site) (original : Local) (state : PlainState) (start : agree.Fi
   small = omega arith
 
   exchanges : {t : Stepped} → (direction : Direction) (k : Exchange → Local → Outcome)
-      → (HasWords s.holding (scheduled before).memory state.registers.workspace
+      → (agree.HoldsEnd s direction message.channel
+      → HasWords s.holding (scheduled before).memory state.registers.workspace
       → A ⊤ t (k message (step.without_registers (scheduled before)))) → A ⊤ t (step.exchanges s direction before k)
   unfolding step.exchanges message
   exchanges direction k h =
       three _ (counts 1 MAX_MESSAGE found.a _ small (λ most.
-      channel found.b direction _ (schedules before _ (λ taken.
-      h (words_taken s.holding before.memory state.registers.workspace taken)))))
+      channel found.b direction _ (λ end. schedules before _ (λ taken.
+      h end (words_taken s.holding before.memory state.registers.workspace taken)))))
 
   asks_none : (f : PlainFlow) → IsAsked state f (step.without_registers (scheduled before)) (plain.leaves f state)
   asks_none f = asked f _ (of_empty None) forgotten (none found)
@@ -479,16 +486,18 @@ module _ (site : Site) (original : Local) (state : PlainState) (start : agree.Fi
       used _ _ _ (match.word_read before.memory state.memory _ memory) (land p _ _ (word_inside _ own)
       (left_at flow.Next _ _ _ _ (of_empty None) found found_memory (none found)))))
   operation ops.LoopEnd = alone _ loop_end
-  operation ops.Input = alone _ (λ p. exchanges In _ (λ words. test _ NotOwn _ (λ own. asks _ (
+  operation ops.Input = alone _ (λ p. exchanges In _ (λ end words. test _ NotOwn _ (λ own. asks _ (
     asks_none flow.Receive,
     is_message,
     record { plain = p; stack = refl; words = words },
+    end,
   ))))
-  operation ops.Output = alone _ (λ p. exchanges Out _ (λ words. test _ NotOwn _ (λ own.
+  operation ops.Output = alone _ (λ p. exchanges Out _ (λ end words. test _ NotOwn _ (λ own.
       test _ Undefined _ (λ defined. asks _ (
         asks_none flow.Send,
         is_message,
         record { plain = p; stack = refl; words = words },
+        end,
         defined,
       )))))
   operation ops.StartProcess = outside _ (two _ (aligned found.a _
@@ -497,14 +506,14 @@ module _ (site : Site) (original : Local) (state : PlainState) (start : agree.Fi
       (asks _ (asked flow.Join _ before.registers.stack memory start.matches.stack, refl))))
   operation ops.Alternate = alone _ (λ p. schedules before _ (λ own. followed _
       (asks _ (asked flow.Begin _ before.registers.stack forgotten start.matches.stack))))
-  operation ops.EnableChannel = enabling _ (two _ (channel found.b In _ (asks _
+  operation ops.EnableChannel = enabling _ (two _ (channel found.b In _ (λ end. asks _
       (asked flow.EnableChannel _ _ memory (record { a = refl; b = tt; c = tt }), refl, refl))))
   operation ops.EnableSkip = enabling _ (one _ (followed _ (asks _
       (asked flow.EnableSkip _ _ memory (record { a = refl; b = tt; c = tt }), refl))))
   operation ops.AlternationWait = enabling _ (schedules before _ (λ own. writes _ None _ _ (λ again. followed _
       (asks _ (asked flow.Wait _ (of_empty None) (match.word_forgotten _ _ _ forgotten) (none found))))))
   operation ops.DisableChannel = disabling s.mode _ (λ selection is. three _ (channel found.c In _
-      (writes _ None before _ (λ own. asks _ (
+      (λ end. writes _ None before _ (λ own. asks _ (
         asked flow.DisableChannel _ before.registers.stack
             (match.word_forgotten _ _ _ memory) start.matches.stack,
         refl,

@@ -3,6 +3,7 @@ pub mod StepsAgree
 pub mod Agrees
 pub mod GoingOn
 pub mod Leaving
+pub mod Inside
 pub mod Loading
 pub mod Arriving
 pub mod QueueWords

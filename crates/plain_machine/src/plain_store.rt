@@ -3,16 +3,17 @@
 ghost use Rattle.std.specs.Prelude.{◌≡◌, ◌+◌, ◌<◌, ◌≤◌, ◌^◌, ◌&&◌, ◌||◌, ◌==◌, nat_lt, nat_le, length, replicate, IfOk};
 ghost use Rattle.std.specs.Prelude.{slice_index, Some};
 ghost use Rattle.prefix_decoder.specs.Operand.{IsRegister};
-ghost use Rattle.machine_state.specs.LocalStep.{address};
+ghost use Rattle.machine_state.specs.LocalStep.{address, copied};
 ghost use Rattle.machine_state.specs.Memory.{place_of, scheduling_word, with_byte};
 ghost use Rattle.plain_machine.specs.Plain.{defined};
 ghost use Rattle.plain_machine.specs.PlainByte.{byte_step, operand_after, IsByteSafe};
-ghost use Rattle.plain_machine.specs.PlainStep.{state_of, plain_word, plain_code_offset, Does, HasWord};
+ghost use Rattle.plain_machine.specs.PlainStep.{state_of, plain_word, plain_code_offset, with_plain_word, Does};
+ghost use Rattle.plain_machine.specs.PlainStep.{HasWord, HasBytes};
 ghost use Rattle.plain_machine.specs.Waiting.{parked};
 
 use crate::flow::PlainFlow;
 use crate::registers::PlainRegisters;
-use crate::{bytes, bytewise, parking};
+use crate::{bytes, bytewise, parking, words};
 use machine_state::{End, LoadStore, Word, place_of};
 use std::alloc::{AllocError, Global};
 use std::marker::Model;
@@ -105,6 +106,35 @@ impl PlainStore {
         ensures { defined self.new ≡ with_byte (defined self.old) (place_of address) (Some byte) }
     {
         bytes::set_byte(&mut self.bytes, place_of(address) as usize, byte);
+    }
+
+    /// The word at an address in memory.
+    #[inline(always)]
+    pub(crate) fn word(&self, address: u32) -> i32
+        requires { HasWord (defined self.now) address }
+        ensures { result ≡ plain_word (defined self.now) address }
+    {
+        words::load(&self.bytes, address)
+    }
+
+    /// Writes the word at an address in memory.
+    #[inline(always)]
+    pub(crate) fn set_word(&mut self, address: u32, value: i32)
+        requires { HasWord (defined self.old) address }
+        ensures { defined self.new ≡ with_plain_word address value (defined self.old) }
+    {
+        words::store(&mut self.bytes, address, value);
+    }
+
+    /// So many bytes from one address on go to another, as they were before. All lie in memory.
+    #[inline(always)]
+    pub(crate) fn copy(&mut self, source: u32, target: u32, count: u32)
+        requires source { HasBytes (defined self.old) source count }
+        requires target { HasBytes (defined self.old) target count }
+        ensures { let before = defined self.old in
+            defined self.new ≡ copied before (place_of source) (place_of target) count before }
+    {
+        words::copy(&mut self.bytes, source, target, count);
     }
 
     /// Whether the place lies in memory.

@@ -4,14 +4,14 @@ ghost use Rattle.std.specs.Prelude.{◌≡◌, ◌<◌, ◌^◌, [], ◌∷◌, 
 ghost use Rattle.std.specs.List.{remove};
 ghost use Rattle.prefix_decoder.specs.Operand.{IsRegister};
 ghost use Rattle.machine_state.specs.Exchanges.{bytes_at};
-ghost use Rattle.machine_state.specs.LocalStep.{are_defined};
+ghost use Rattle.machine_state.specs.LocalStep.{are_defined, copied};
 ghost use Rattle.machine_state.specs.Memory.{place_of, scheduling_word, with_byte};
 ghost use Rattle.process_queue.specs.Keeping.{AgreesOnKept, ChangesKept};
 ghost use Rattle.process_queue.specs.Picking.{place_of_pick};
 ghost use Rattle.plain_machine.specs.Linked.{keeps_link};
 ghost use Rattle.plain_machine.specs.Plain.{defined};
 ghost use Rattle.plain_machine.specs.PlainByte.{byte_step, operand_after, IsByteSafe};
-ghost use Rattle.plain_machine.specs.PlainStep.{PlainState, leaves, HasWord};
+ghost use Rattle.plain_machine.specs.PlainStep.{PlainState, leaves, HasWord, HasBytes, plain_word, with_plain_word};
 ghost use Rattle.plain_machine.specs.Waiting.{ReadyMemory, parked, picked, resumed_at};
 ghost use Rattle.plain_machine.specs.Waiting.{CanPushBehind, AllCanResume};
 
@@ -111,6 +111,40 @@ impl Workspaces {
         ensures ready { self.new.ready ≡ self.old.ready }
     {
         self.store.set_byte(address, byte);
+    }
+
+    /// The word at this address, which lies in memory.
+    pub fn word(&self, address: u32) -> i32
+        requires { HasWord self.now.memory address }
+        ensures { result ≡ plain_word self.now.memory address }
+    {
+        self.store.word(address)
+    }
+
+    /// The word goes to this address, which lies in memory. No link of a ready process is there.
+    pub fn set_word(&mut self, address: u32, value: i32)
+        requires inside { HasWord self.old.memory address }
+        requires links { let after = with_plain_word address value self.old.memory in
+            AgreesOnKept keeps_link self.old.ready self.old.memory after }
+        ensures memory { self.new.memory ≡ with_plain_word address value self.old.memory }
+        ensures ready { self.new.ready ≡ self.old.ready }
+    {
+        self.store.set_word(address, value);
+    }
+
+    /// So many bytes from one address on go to another, as they were before. All lie in memory, and no link of a ready
+    /// process is where they go.
+    pub fn copy(&mut self, source: u32, target: u32, count: u32)
+        requires source { HasBytes self.old.memory source count }
+        requires target { HasBytes self.old.memory target count }
+        requires links { let before = self.old.memory in
+            let after = copied before (place_of source) (place_of target) count before in
+            AgreesOnKept keeps_link self.old.ready before after }
+        ensures memory { let before = self.old.memory in
+            self.new.memory ≡ copied before (place_of source) (place_of target) count before }
+        ensures ready { self.new.ready ≡ self.old.ready }
+    {
+        self.store.copy(source, target, count);
     }
 
     /// So many bytes from the address on, all of which lie in memory.

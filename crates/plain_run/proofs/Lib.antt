@@ -2,3 +2,4 @@ pub mod Dispatching
 pub mod Stepping
 pub mod Arriving
 pub mod Waking
+pub mod Exchanging
