@@ -45,7 +45,7 @@ use Rattle.certified_worlds.proofs.Steps.{plain_process}
 -- ---- contexts of branches
 
 -- the context of a branch comes after those of the root and the procedures
-after_procedures : (m : Contents) (n : ℕ) (par : Par) (b : Branch) → numbered_branch m n ≡ Some (par, b)
+pub after_procedures : (m : Contents) (n : ℕ) (par : Par) (b : Branch) → numbered_branch m n ≡ Some (par, b)
     → length m.procedures < n
 after_procedures m n par b is = elim (cases_lt n (first_branch m)) [
   | inl low ↦
@@ -57,14 +57,14 @@ after_procedures m n par b is = elim (cases_lt n (first_branch m)) [
 ]
 
 -- so an activation of a branch is the one that its process began with
-began_so : {m : Contents} {h : Holding} {began : Began} {context : ℕ} {layout : Layout} {memory : Memory}
+pub began_so : {m : Contents} {h : Holding} {began : Began} {context : ℕ} {layout : Layout} {memory : Memory}
     {callers : List Caller} → length m.procedures < context → Behind m h began context layout memory callers
     → (context ≡ began.context) × (layout ≡ began.layout)
 began_so after (nobody_waits same there procedure) = (same, there)
 began_so after (one_waits some few reached going lengths base lends resumes rest) = absurd (omega (arith, after, few))
 
 -- the address of a frame word goes by where the frame lies
-same_address : (layout other : Layout) (k : ℤ) → layout.origin ≡ other.origin
+pub same_address : (layout other : Layout) (k : ℤ) → layout.origin ≡ other.origin
     → channel_address layout (FrameWord k) ≡ channel_address other (FrameWord k)
 same_address layout other k same = ap (λ (z : ℤ). cast_unsigned w32 (word_of (pos data_start +ℤ place_in z k))) same
 
@@ -169,7 +169,7 @@ module _ (m : Contents) (w : World) (h : Holds m w) (branches : Branches w.tasks
       cc
 
   -- who is in plain mode has no join open
-  none_open : t.mode ≡ machine_modes.Plain → (j : Join) → opened_by w p ≡ Some j → ⊥
+  pub none_open : t.mode ≡ machine_modes.Plain → (j : Join) → opened_by w p ≡ Some j → ⊥
   none_open plain j opens = elim (starters.openers p (record {
     role = row.role;
     here = row.has_role;

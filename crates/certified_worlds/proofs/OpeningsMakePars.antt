@@ -112,8 +112,8 @@ module _ {m : Contents} {own : Holding} {found : Found} {act : Activation} {base
   opener_keeps = starts_keep_openers m found act.layout base own opened_memory depth workspace can.keeps is left
       can.origin taken.can.frame
 
-  keeps_scope : Keeps m own (scope_of m par.context act.layout) memory new_memory
-  keeps_scope = keeps_more taken.keeps opener_keeps.keeps
+  pub opening_keeps : Keeps m own (scope_of m par.context act.layout) memory new_memory
+  opening_keeps = keeps_more taken.keeps opener_keeps.keeps
 
   -- the block is a word of the frame
   block_at : pos j.block ≡ pos data_start +ℤ place_in act.layout.origin par.block
@@ -213,7 +213,7 @@ module _ {m : Contents} {own : Holding} {found : Found} {act : Activation} {base
         → Pending m own o began every new_memory j due (after_first callers due paid)
     opening_makes callers behind due paid =
         let f : HasFrame own (length new_memory) (words_in m par.context) act.layout.origin depth workspace =
-        same_frame (sym keeps_scope.size) can.frame in
+        same_frame (sym opening_keeps.size) can.frame in
         record {
           frame = record {
             small = f.small;
@@ -223,8 +223,8 @@ module _ {m : Contents} {own : Holding} {found : Found} {act : Activation} {base
             readable = f.readable;
             start = block_at;
           };
-          named = keeps_scope.named can.named;
-          behind = behind_keeps keeps_scope behind;
+          named = opening_keeps.named can.named;
+          behind = behind_keeps opening_keeps behind;
           words = λ k reads hides free. elim (bool_cases (word_given_to_write par (length par.branches) k)) [
             | inl given ↦ absurd (free (given_out k given))
             | inr none ↦ means_same (label.words k reads hides none) refl (sym (word_stays k reads hides free))

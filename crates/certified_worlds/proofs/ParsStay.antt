@@ -75,7 +75,7 @@ pub opener_is : (roles : List Role) (p : ℕ) (role : Role) (o : Option ℕ) →
 opener_is roles p role o here is =
     sym (ap (λ (o : Option Role). elim o as (λ o. Option ℕ) [ None ↦ None | Some role ↦ role.opener ]) here) ∙ is
 
-own_is : (roles : List Role) (p : ℕ) (role : Role) → slice_get roles p ≡ Some role → own_in roles p ≡ role.own
+pub own_is : (roles : List Role) (p : ℕ) (role : Role) → slice_get roles p ≡ Some role → own_in roles p ≡ role.own
 own_is roles p role here =
     ap (λ (o : Option Role). elim o as (λ o. Holding) [ None ↦ nothing | Some role ↦ role.own ]) here
 

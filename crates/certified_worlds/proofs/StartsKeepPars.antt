@@ -7,6 +7,7 @@ use Rattle.module_format.specs.Contents.{Contents, Par, Branch}
 use Rattle.module_format.specs.Keeping as formats
 use Rattle.certificate.specs.Branches.{numbered_branch}
 use Rattle.certificate.specs.Rights.{is_among}
+use Rattle.machine_state.specs.declared.process.Condition.TheVariants.{Ready}
 use Rattle.machine_state.specs.declared.process.Task.{Task}
 use Rattle.machine_state.specs.BranchContexts.{context_of}
 use Rattle.machine_state.specs.BranchShares.{frame_address, address_of}
@@ -119,10 +120,11 @@ module _ {m : Contents} {t : Task} {point : Point m t} {j : Join} {due : ℕ} (a
 
   -- and still does in a state one start further
   pub starter_goes_on : {u : Task} {next : Join} {new : ℕ} (more : IsOneMore j next new) (later : Point m u)
-      → later.state.mode ≡ Starting j.row (j.started + 1) → later.state.context ≡ point.state.context
+      → u.condition ≡ Ready → later.state.mode ≡ Starting j.row (j.started + 1) → later.state.context ≡ point.state.context
       → later.state.depth ≡ point.state.depth → later.act ≡ point.act
       → IsStarter m u later after.par next after.act
-  starter_goes_on {next = next} more later mode context depth act = record {
+  starter_goes_on {next = next} more later ready mode context depth act = record {
+    ready = ready;
     mode = mode ∙ ap (λ (n : ℕ). Starting n (j.started + 1)) (sym more.row)
         ∙ ap (λ (n : ℕ). Starting next.row n) (sym more.started);
     context = context ∙ starter.context;
@@ -175,8 +177,8 @@ module _ {m : Contents} {own : Holding} {o : ℕ} {began : Began} {all : List Be
       (subst (λ (par : Par). HasFrame own (length memory) (words_in m par.context) after.act.layout.origin
       after.par.block j.block) (sym same_par) pending.frame)
 
-  keeps_scope : Keeps m own (scope_of m after.par.context after.act.layout) memory new_memory
-  keeps_scope = subst (λ (par : Par). Keeps m own (scope_of m par.context after.act.layout) memory new_memory) same_par
+  pub start_keeps : Keeps m own (scope_of m after.par.context after.act.layout) memory new_memory
+  start_keeps = subst (λ (par : Par). Keeps m own (scope_of m par.context after.act.layout) memory new_memory) same_par
       opener_keeps.keeps
 
   -- Afterwards it goes on with the same.
@@ -246,9 +248,9 @@ module _ {m : Contents} {own : Holding} {o : ℕ} {began : Began} {all : List Be
     pub start_leaves : Pending m own o began every new_memory next due (after_next more after)
     start_leaves = record {
       frame = subst (λ (n : ℕ). HasFrame own (length new_memory) (words_in m after.par.context) after.act.layout.origin
-          after.par.block n) (sym more.block) (same_frame (sym keeps_scope.size) pending.frame);
-      named = keeps_scope.named pending.named;
-      behind = behind_keeps keeps_scope pending.behind;
+          after.par.block n) (sym more.block) (same_frame (sym start_keeps.size) pending.frame);
+      named = start_keeps.named pending.named;
+      behind = behind_keeps start_keeps pending.behind;
       words = λ k reads hides free. means_same
           (pending.words k reads hides (λ out. free (out_still k out))) refl
           (sym (opener_keeps.others k (λ scheduled. free (scheduled_out k scheduled))));

@@ -33,6 +33,12 @@ use Rattle.states.specs.declared.known.Known.{Known}
 use Rattle.states.specs.State.{State, label_state, unknown, procedure_state}
 use Rattle.states.specs.Below.{below}
 use Rattle.rulings.specs.Rulings.{Ruling, breaks, falling}
+use Rattle.machine_state.specs.declared.instruction.Instruction.{Instruction}
+use Rattle.machine_state.specs.Instructions.{instruction_of}
+use Rattle.module_format.specs.Keeping.{Keeps as IsKept}
+use Rattle.start_laws.specs.Starting.{StartFits, to_start_next, to_start_first, start_breaks}
+use Rattle.start_laws.specs.Ending.{EndFits, to_end_own, to_end_branch, end_breaks}
+use Rattle.facts.specs.RulesFit.{FitsStep, it_starts, it_joins, it_fits}
 use Rattle.facts.specs.Rules.{rule_at}
 use Rattle.certified_worlds.specs.Certified.{state_at, Reaches, follows, IsCertified}
 use Rattle.rulings.specs.Meaning.{owed, Layout, Activation, with_turns, at_label, words_in, MeansKnown, IsWellFormed}
@@ -100,7 +106,7 @@ plain_process both_enabling e = absurd (cc)
 plain_process both_disabling e = absurd (cc)
 plain_process both_starting e = absurd (cc)
 
-owed_still : (q : states.Mode) (s : State) (act : Activation) (callers : List Caller) → is_starting q ≡ false
+pub owed_still : (q : states.Mode) (s : State) (act : Activation) (callers : List Caller) → is_starting q ≡ false
     → owed_at q s act callers ≡ owed s act + owed_behind callers
 owed_still states_modes.Plain s act callers still = refl
 owed_still states_modes.Enabling s act callers still = refl
@@ -161,7 +167,7 @@ pub byte_here : (m : Contents) (r : Registers) (i : Instr) (taken : ℕ) → IsR
 byte_here m r i taken reading = byte_of m r i taken reading.fuel (drop r.at m.code) reading.whole refl reading.rest
 
 -- what is still read makes the instruction longer
-longer : (fuel : ℕ) (bytes : List ℕ) (operand : ℤ) (taken : ℕ) (i : Instr) → read fuel bytes operand taken ≡ Ok i
+pub longer : (fuel : ℕ) (bytes : List ℕ) (operand : ℤ) (taken : ℕ) (i : Instr) → read fuel bytes operand taken ≡ Ok i
     → taken < i.len
 longer zero bytes operand taken i h = absurd (cc)
 longer (suc fuel) [] operand taken i h = absurd (cc)
@@ -204,6 +210,28 @@ fits_pays x (it_selects turns among label low after same changes pay all) whole 
 fits_pays x (it_ends plain changes pay) whole = pay
 fits_pays x (it_asks asks pay) whole = pay
 fits_pays x (it_breaks {broken = v}) whole = absurd (whole v refl)
+
+owed_more : (s : State) (act : Activation) → s.number ≤ owed s act
+owed_more s act = omega arith
+
+start_pays : (x : Here) {s : State} {l : Local} {r : Ruling} {o : Outcome} → s.number ≤ x.owed → owed s x.act ≤ x.owed
+    → StartFits x s l r o → ((v : Rule) → r ≡ breaks v → ⊥) → x.len ≤ x.owed
+start_pays x most all (to_start_next found starts next) whole = let pay = next.paid in omega arith
+start_pays x most all (to_start_first found starts first) whole = let pay = first.paid in omega arith
+start_pays x most all (start_breaks {broken = v}) whole = absurd (whole v refl)
+
+end_pays : (x : Here) {s : State} {l : Local} {r : Ruling} {o : Outcome} → s.number ≤ x.owed → EndFits x s l r o
+    → ((v : Rule) → r ≡ breaks v → ⊥) → x.len ≤ x.owed
+end_pays x most (to_end_own par started pay) whole = omega arith
+end_pays x most (to_end_branch par leaves pay) whole = omega arith
+end_pays x most (end_breaks {broken = v}) whole = absurd (whole v refl)
+
+step_pays : (x : Here) {s : State} {l : Local} {i : Option Instruction} {r : Ruling} {o : Outcome}
+    → s.number ≤ x.owed → owed s x.act ≤ x.owed → FitsStep x s l i r o → ((v : Rule) → r ≡ breaks v → ⊥)
+    → x.len ≤ x.owed
+step_pays x most all (it_starts fits) whole = start_pays x most all fits whole
+step_pays x most all (it_joins fits) whole = end_pays x most fits whole
+step_pays x most all (it_fits none fits) whole = fits_pays x fits whole
 
 -- ---- what the last byte of an instruction comes to
 
@@ -536,8 +564,74 @@ module _ (m : Contents) (d : Decodes m) (wf : IsWellFormed m) (c : IsCertified m
         len = i.len;
       }
 
-  -- a process at a point, which starts no branches; at the end of an alternation the machine has selected an exit
-  module _ (h : Holding) (began : Began) (memory : Memory) (t : Task) (due : ℕ) (p : Point m t)
+  -- a process at a point; at the end of an alternation the machine has selected an exit
+  module _ (kept : IsKept m) (h : Holding) (began : Began) (memory : Memory) (t : Task) (p : Point m t)
+      (meets : MeetsPoint m t h began p memory) (selected : p.state.mode
+      ≡ states_modes.Disabling (length p.state.guards) → HasSelected t.mode p.state.guards) where
+    abbrev pub at_point : Here
+    at_point = here_of h p.act memory t p.state p.instr
+
+    abbrev pub registers_here : Local
+    registers_here = record { registers = t.registers; memory = memory }
+
+    pub point_fits : FitsStep at_point p.state registers_here (instruction_of p.instr.fun p.instr.operand)
+        (rule_at m t.registers.began p.instr p.state)
+        (local_step (step_site at_point) p.instr.fun p.instr.operand registers_here)
+    point_fits =
+        function_fits at_point wf kept p.state registers_here
+        meets.here refl (record { own = record { size = refl; others = λ place e. refl }; keeps = keeps_all })
+        (omega arith) (record { state = refl; memory = refl }) selected
+        p.instr.fun p.instr.operand (d.fits t.registers.began p.instr p.reading.spelled)
+        (has_next t.registers.began p.before p.state p.instr p.reached p.stands p.reading.spelled)
+
+    began_inside : t.registers.began < length m.code
+    began_inside =
+        let some = d.some t.registers.began p.instr p.reading.spelled in
+        let inside = d.inside t.registers.began p.instr p.reading.spelled in
+        omega arith
+
+    -- the rule at the process's point is not broken
+    pub unbroken : (v : Rule) → rule_at m t.registers.began p.instr p.state ≡ breaks v → ⊥
+    unbroken v e =
+        let holds = c.holds.each t.registers.began p.before began_inside p.reached in
+        let i_is : p.instr ≡ holds.instr =
+        same_ok (fetched m.code t.registers.began) p.instr holds.instr p.reading.spelled holds.spelled in
+        let s_is : p.state ≡ holds.state =
+        same_some (state_at m t.registers.began p.before) p.state holds.state p.stands holds.stands in
+        holds.unbroken v (ap (λ j. rule_at m t.registers.began j holds.state) (sym i_is) ∙ ap
+        (λ u. rule_at m t.registers.began p.instr u) (sym s_is) ∙ e)
+
+    -- what falls behind the instruction is reached
+    pub reaches_behind : (s : State) → falling (rule_at m t.registers.began p.instr p.state) ≡ Some s
+        → Reaches m (t.registers.began + p.instr.len) (Some s)
+    reaches_behind s is = follows p.reached p.stands p.reading.spelled refl (sym is)
+
+    -- what the last byte of an instruction comes to is what its rule says
+    pub last_fits : (byte : ℕ) (f : Fun) → slice_get m.code t.registers.at ≡ Some byte
+        → fun_of (function_code byte) ≡ Some f
+        → (p.taken + 1 ≡ p.instr.len) × FitsStep at_point p.state registers_here (instruction_of p.instr.fun p.instr.operand)
+        (rule_at m t.registers.began p.instr p.state)
+        (local_step (site_in m (t.registers.at + 1) t.mode h) f (with_nibble t.registers.operand (nibble byte)) registers_here)
+    last_fits byte f here some =
+        let b = byte_here m t.registers p.instr p.taken p.reading in
+        let same : b.byte ≡ byte = same_some (slice_get m.code t.registers.at) b.byte byte b.here here in
+        let rest = subst (λ y. ended_or (fun_of (function_code y)) (with_nibble t.registers.operand (nibble y))
+        (p.taken + 1) (read b.fuel (drop (t.registers.at + 1) m.code)
+        (after_prefix (function_code y) (with_nibble t.registers.operand (nibble y))) (p.taken + 1))
+        ≡ Ok p.instr) same b.rest in
+        let is = after_some (fun_of (function_code byte)) f _ _ _ p.instr some rest in
+        let at : t.registers.began + p.instr.len ≡ t.registers.at + 1 = omega (arith, p.reading.at_is, is.2) in
+        (is.2, subst (λ n. FitsPoint (local_step (site_in m n t.mode h) f
+        (with_nibble t.registers.operand (nibble byte)) registers_here)) at
+        (subst (λ g. FitsPoint (local_step (step_site at_point) g (with_nibble t.registers.operand (nibble byte)) registers_here)) (sym is.0)
+        (subst (λ e. FitsPoint (local_step (step_site at_point) p.instr.fun e registers_here)) (sym is.1) point_fits)))
+      where
+        FitsPoint : Outcome → Type 0
+        FitsPoint o = FitsStep at_point p.state registers_here (instruction_of p.instr.fun p.instr.operand)
+            (rule_at m t.registers.began p.instr p.state) o
+
+  -- a process that starts no branches; its instruction is none of PARs
+  module _ (kept : IsKept m) (h : Holding) (began : Began) (memory : Memory) (t : Task) (due : ℕ) (p : Point m t)
       (meets : MeetsPoint m t h began p memory) (paid : due + p.taken ≡ owed_at p.state.mode p.state p.act p.callers)
       (calm : t.mode ≡ machine_modes.Starting → ⊥)
       (selected : p.state.mode ≡ states_modes.Disabling (length p.state.guards)
@@ -555,36 +649,11 @@ module _ (m : Contents) (d : Decodes m) (wf : IsWellFormed m) (c : IsCertified m
     owes_all : due + p.taken ≡ owed p.state p.act + owed_behind p.callers
     owes_all = paid ∙ owed_still p.state.mode p.state p.act p.callers still
 
-    point_fits : Fits x (rule_at m t.registers.began p.instr p.state) (local_step (step_site x) p.instr.fun p.instr.operand
-        (record { registers = t.registers; memory = memory }))
-    point_fits =
-        function_fits x wf p.state (record { registers = t.registers; memory = memory })
-        meets.here refl (record { own = record { size = refl; others = λ place e. refl }; keeps = keeps_all })
-        (omega arith) (record { state = refl; memory = refl }) selected
-        p.instr.fun p.instr.operand (d.fits t.registers.began p.instr p.reading.spelled)
-        (has_next t.registers.began p.before p.state p.instr p.reached p.stands p.reading.spelled)
-
-    began_inside : t.registers.began < length m.code
-    began_inside =
-        let some = d.some t.registers.began p.instr p.reading.spelled in
-        let inside = d.inside t.registers.began p.instr p.reading.spelled in
-        omega arith
-
-    -- the rule at the process's point is not broken
-    unbroken : (v : Rule) → rule_at m t.registers.began p.instr p.state ≡ breaks v → ⊥
-    unbroken v e =
-        let holds = c.holds.each t.registers.began p.before began_inside p.reached in
-        let i_is : p.instr ≡ holds.instr =
-        same_ok (fetched m.code t.registers.began) p.instr holds.instr p.reading.spelled holds.spelled in
-        let s_is : p.state ≡ holds.state =
-        same_some (state_at m t.registers.began p.before) p.state holds.state p.stands holds.stands in
-        holds.unbroken v (ap (λ j. rule_at m t.registers.began j holds.state) (sym i_is) ∙ ap
-        (λ u. rule_at m t.registers.began p.instr u) (sym s_is) ∙ e)
-
     -- something is owed before each byte
     pub owes : 1 ≤ due
     owes =
-        let pay = fits_pays x point_fits unbroken in
+        let pay = step_pays x (owed_more p.state p.act) (omega arith) (point_fits kept h began memory t p meets selected)
+        (unbroken kept h began memory t p meets selected) in
         let more =
         longer p.reading.fuel (drop t.registers.at m.code) t.registers.operand p.taken p.instr p.reading.rest in
         omega (arith, owes_all)
@@ -904,32 +973,13 @@ module _ (m : Contents) (d : Decodes m) (wf : IsWellFormed m) (c : IsCertified m
         (with_a_alone (Some a) l) alters.changes (ap is_starting less.mode) (λ plain. let no' = sym less.mode
         ∙ plain in cc)
         (less.after selection a low high))
-    comes r o e last (it_breaks {broken = v}) = absurd (unbroken v (sym e))
+    comes r o e last (it_breaks {broken = v}) =
+        absurd (unbroken kept h began memory t p meets selected v (sym e))
 
     -- the last byte of an instruction
-    pub comes_last : (byte : ℕ) (f : Fun)
-        → slice_get m.code t.registers.at ≡ Some byte → fun_of (function_code byte) ≡ Some f
-        → Comes m x began t due (local_step (site_in m (t.registers.at + 1) t.mode h) f
-        (with_nibble t.registers.operand (nibble byte))
-        (record { registers = t.registers; memory = memory }))
-    comes_last byte f here some =
-        let b = byte_here m t.registers p.instr p.taken p.reading in
-        let same : b.byte ≡ byte = same_some (slice_get m.code t.registers.at) b.byte byte b.here here in
-        let rest = subst (λ y. ended_or (fun_of (function_code y)) (with_nibble t.registers.operand (nibble y))
-        (p.taken + 1) (read b.fuel (drop (t.registers.at + 1) m.code)
-        (after_prefix (function_code y) (with_nibble t.registers.operand (nibble y))) (p.taken + 1))
-        ≡ Ok p.instr) same b.rest in
-        let is = after_some (fun_of (function_code byte)) f _ _ _ p.instr some rest in
-        let at : t.registers.began + p.instr.len ≡ t.registers.at + 1 = omega (arith, p.reading.at_is, is.2) in
-        subst (λ n. Comes m x began t due
-        (local_step (site_in m n t.mode h) f (with_nibble t.registers.operand (nibble byte))
-        (record { registers = t.registers; memory = memory }))) at
-        (subst (λ g. Comes m x began t due (local_step (step_site x) g
-        (with_nibble t.registers.operand (nibble byte)) (record { registers = t.registers; memory = memory })))
-        (sym is.0)
-        (subst (λ e. Comes m x began t due (local_step (step_site x) p.instr.fun e
-        (record { registers = t.registers; memory = memory }))) (sym is.1)
-        (comes (rule_at m t.registers.began p.instr p.state) _ refl is.2 point_fits)))
+    pub comes_last : {o : Outcome} → p.taken + 1 ≡ p.instr.len
+        → Fits x (rule_at m t.registers.began p.instr p.state) o → Comes m x began t due o
+    comes_last {o} last fits = comes (rule_at m t.registers.began p.instr p.state) o refl last fits
 
 -- ---- a prefix
 

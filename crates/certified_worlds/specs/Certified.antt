@@ -11,7 +11,7 @@ use Rattle.states.specs.declared.rule.Rule.TheVariants as rules
 use Rattle.states.specs.State.{State, root_state, label_state, procedure_state}
 use Rattle.states.specs.Below.{below}
 use Rattle.rulings.specs.Rulings.{breaks, falling}
-use Rattle.facts.specs.Rules.{rule_at, has_rule}
+use Rattle.facts.specs.Rules.{rule_at, is_instruction}
 
 -- the state in which the procedure begins that was found
 abbrev pub first_state : Option Entered → Option State
@@ -72,15 +72,15 @@ pub data IsBroken (m : Contents) : Rule → ℕ → Type 0 where
   -- no spelling of an instruction stands there
   misspelled : {rule : Rule} {at : ℕ} {before : Option State} {e : DecodeFault} → rule ≡ rules.Spelling
       → Reaches m at before → at < length m.code → fetched m.code at ≡ Err e → IsBroken m rule at
-  -- the instruction has no rule, whether anything leads there or not
+  -- it is no instruction of the machine, whether anything leads there or not
   unruled : {rule : Rule} {at : ℕ} {before : Option State} {i : Instr} → rule ≡ rules.Spelling → Reaches m at before
-      → at < length m.code → fetched m.code at ≡ Ok i → has_rule m i ≡ false → IsBroken m rule at
+      → at < length m.code → fetched m.code at ≡ Ok i → is_instruction m i ≡ false → IsBroken m rule at
   -- a start that the tables tell lies within an instruction
   hidden : {rule : Rule} {at : ℕ} → rule ≡ rules.InstructionStart → at < length m.code → is_start m at ≡ true
       → ((before : Option State) → Reaches m at before → ⊥) → IsBroken m rule at
-  -- the instruction has a rule, and nothing leads there
+  -- it is one, and nothing leads there
   unreached : {rule : Rule} {at : ℕ} {i : Instr} → rule ≡ rules.Flow → Reaches m at None → at < length m.code
-      → fetched m.code at ≡ Ok i → has_rule m i ≡ true → given m at ≡ None → IsBroken m rule at
+      → fetched m.code at ≡ Ok i → is_instruction m i ≡ true → given m at ≡ None → IsBroken m rule at
   -- a state falls off the code
   fallen_off : {rule : Rule} {at : ℕ} {s : State} → rule ≡ rules.Flow → at ≡ length m.code → Reaches m at (Some s)
       → IsBroken m rule at

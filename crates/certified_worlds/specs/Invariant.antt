@@ -80,7 +80,7 @@ pub record Opener (m : Contents) (w : World) (began : List Began) (dues pending_
       → (IsGone w.tasks branch q → ⊥) → slice_get began q ≡ Some first → IsMember m after.par after.act.layout first
   pub channels : (n : ℕ) (row : ChannelRow) → slice_get after.par.channels n ≡ Some row
       → (c : Channel) × (slice_get w.channels (cell_of (channel_address after.act.layout (FrameWord row.word)))
-      ≡ Some (Some c)) × (c.length ≡ row.length)
+      ≡ Some (Some c)) × (c.length ≡ row.length) × (c.opener ≡ p)
 
 -- ---- all of it
 

@@ -8,6 +8,7 @@ use Rattle.module_format.specs.Stack.{of_empty}
 use Rattle.module_format.specs.declared.fact.Fact.TheVariants.{Unknown}
 use Rattle.certificate.specs.Branches.{numbered_branch}
 use Rattle.certificate.specs.Rights.{is_among}
+use Rattle.machine_state.specs.declared.process.Condition.TheVariants.{Ready}
 use Rattle.machine_state.specs.declared.process.Task.{Task}
 use Rattle.machine_state.specs.Memory.{Memory}
 use Rattle.machine_state.specs.Holding.{Holding}
@@ -47,9 +48,10 @@ pub record IsOut (m : Contents) (opener : ℕ) (began : List Began) (par : Par) 
   pub writes : is_among branch.writes k ≡ true
   pub is_out : (j.started ≤ number) ⊎ HasMember m opener began par j branch
 
--- the opener is among the starts of this row, in the activation that goes on after the PAR
+-- the opener is ready and among the starts of this row, in the activation that goes on after the PAR
 pub record IsStarter (m : Contents) (t : Task) (point : Point m t) (par : Par) (j : Join) (act : Activation) : Type 0
   where
+    pub ready : t.condition ≡ Ready
     pub mode : point.state.mode ≡ Starting j.row j.started
     pub context : point.state.context ≡ par.context
     pub depth : point.state.depth ≡ par.depth
