@@ -39,7 +39,7 @@ abbrev from_label : ℕ → List (ℕ × State) → Option Label → List (ℕ �
 from_label to rest t = elim t [ None ↦ rest | Some t ↦ (to, label_state t) ∷ rest ]
 
 -- the state of the label at the first offset, and then the others
-first_then : (m : Contents) (to : ℕ) (es : List ℕ) (t : Option Label) → label_at m to ≡ t
+pub first_then : (m : Contents) (to : ℕ) (es : List ℕ) (t : Option Label) → label_at m to ≡ t
     → states_at_labels m (to ∷ es) ≡ states_at_labels m (to ∷ []) ++ states_at_labels m es
 first_then m to es None found = subst (λ (t : Option Label). from_label to (states_at_labels m es) t
     ≡ from_label to [] t ++ states_at_labels m es) (sym found) refl

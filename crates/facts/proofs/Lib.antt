@@ -1,3 +1,4 @@
 pub mod GuardLabels
 pub mod Local
 pub mod Unruled
+pub mod AmongStarts

@@ -5,12 +5,9 @@ use Rattle.prefix_decoder.specs.declared.function.Fun.{Fun}
 use Rattle.prefix_decoder.specs.declared.decoding.Instr.{Instr}
 use Rattle.module_format.specs.Contents.{Contents}
 use Rattle.machine_state.specs.declared.op.Op.{Op}
-use Rattle.machine_state.specs.declared.op.Op.TheVariants.{Reverse, StopProcess, MinimumInteger, Binary, Unary, Shift}
-use Rattle.machine_state.specs.declared.op.Op.TheVariants.{Long, CheckSubscript, CheckCount, ByteSubscript}
-use Rattle.machine_state.specs.declared.op.Op.TheVariants.{WordSubscript, LoadPointerToInstruction, LoadByte}
-use Rattle.machine_state.specs.declared.op.Op.TheVariants.{StoreByte, Move, LoopEnd, Return, Input, Output}
-use Rattle.machine_state.specs.declared.op.Op.TheVariants.{Alternate, EnableChannel, EnableSkip, AlternationWait}
-use Rattle.machine_state.specs.declared.op.Op.TheVariants.{DisableChannel, DisableSkip, AlternationEnd}
+use Rattle.machine_state.specs.declared.op.Op.TheVariants.{Long, Return, Input, Output, Alternate, EnableChannel}
+use Rattle.machine_state.specs.declared.op.Op.TheVariants.{EnableSkip, AlternationWait, DisableChannel, DisableSkip}
+use Rattle.machine_state.specs.declared.op.Op.TheVariants.{AlternationEnd, StartProcess, EndProcess}
 use Rattle.machine_state.specs.declared.instruction.Instruction.{Instruction}
 use Rattle.machine_state.specs.declared.instruction.Instruction.TheVariants.{Operate, Call}
 use Rattle.machine_state.specs.Instructions.{instruction_of}
@@ -21,6 +18,9 @@ use Rattle.call_rules.specs.CallRules.{call_rule, return_rule}
 use Rattle.local_rules.specs.LocalRules.{local_operation_rule, local_rule}
 use Rattle.message_rules.specs.MessageRules.{message_rule}
 use Rattle.alternation_rules.specs.AlternationRules.{alternation_rule, altend_rule}
+use Rattle.par_rules.specs.ParRules.{startp_rule, endp_rule}
+use Rattle.facts.specs.declared.way.Way.{Way}
+use Rattle.facts.specs.declared.way.Way.TheVariants.{GoesOn, EndsAlternation, StartsBranch}
 
 -- the rule of an operation, by the family that has it
 unfoldable pub operation_rule : Site → Op → State → Ruling
@@ -34,6 +34,8 @@ operation_rule site AlternationWait s = alternation_rule site AlternationWait s
 operation_rule site DisableChannel s = alternation_rule site DisableChannel s
 operation_rule site DisableSkip s = alternation_rule site DisableSkip s
 operation_rule site AlternationEnd s = altend_rule site s
+operation_rule site StartProcess s = startp_rule site s
+operation_rule site EndProcess s = endp_rule site s
 operation_rule site op s = local_operation_rule site op s
 
 -- the rule of an instruction
@@ -54,53 +56,47 @@ rule site f e s = rule_of site (instruction_of f e) e s
 abbrev pub rule_at : Contents → ℕ → Instr → State → Ruling
 rule_at m at i s = rule (record { contents = m; at = at; length = i.len }) i.fun i.operand s
 
--- Whether an instruction has a rule in a module. One that has none breaks `Spelling` in every state.
-abbrev pub op_has_rule : Contents → Op → Bool
-op_has_rule m Reverse = true
-op_has_rule m MinimumInteger = true
-op_has_rule m StopProcess = true
-op_has_rule m (Binary op) = true
-op_has_rule m (Unary op) = true
-op_has_rule m (Shift op) = true
-op_has_rule m (Long op) = m.has_long_operations
-op_has_rule m CheckSubscript = true
-op_has_rule m CheckCount = true
-op_has_rule m ByteSubscript = true
-op_has_rule m WordSubscript = true
-op_has_rule m LoadPointerToInstruction = true
-op_has_rule m LoadByte = true
-op_has_rule m StoreByte = true
-op_has_rule m Move = true
-op_has_rule m Return = true
-op_has_rule m LoopEnd = true
-op_has_rule m Input = true
-op_has_rule m Output = true
-op_has_rule m Alternate = true
-op_has_rule m EnableChannel = true
-op_has_rule m EnableSkip = true
-op_has_rule m AlternationWait = true
-op_has_rule m DisableChannel = true
-op_has_rule m DisableSkip = true
-op_has_rule m AlternationEnd = true
-op_has_rule m _ = false
+-- Whether an operation is one of the machine for a module: the long ones are where the module says so.
+abbrev pub is_operation : Contents → Op → Bool
+is_operation m (Long op) = m.has_long_operations
+is_operation m _ = true
 
-abbrev pub instruction_has_rule : Contents → Instruction → Bool
-instruction_has_rule m (Operate op) = op_has_rule m op
-instruction_has_rule m _ = true
+abbrev pub is_known : Contents → Instruction → Bool
+is_known m (Operate op) = is_operation m op
+is_known m _ = true
 
-unfoldable pub has_rule : Contents → Instr → Bool
-has_rule m i =
-    elim (instruction_of i.fun i.operand) [ None ↦ false | Some instruction ↦ instruction_has_rule m instruction ]
+-- Whether this is an instruction of the machine for a module. What is none breaks `Spelling` in every state.
+unfoldable pub is_instruction : Contents → Instr → Bool
+is_instruction m i =
+    elim (instruction_of i.fun i.operand) [ None ↦ false | Some instruction ↦ is_known m instruction ]
 
 -- the place of the instruction at an offset
 abbrev pub site_at : Contents → ℕ → Instr → Site
 site_at m at i = record { contents = m; at = at; length = i.len }
 
--- the instruction is the end of an alternation
-abbrev pub is_end : Instruction → Bool
-is_end (Operate AlternationEnd) = true
-is_end _ = false
+-- ---- ways
 
-unfoldable pub is_alternation_end : Instr → Bool
-is_alternation_end i =
-    elim (instruction_of i.fun i.operand) [ None ↦ false | Some instruction ↦ is_end instruction ]
+-- how a process goes on behind an instruction
+abbrev pub way_of_operation : Op → Way
+way_of_operation AlternationEnd = EndsAlternation
+way_of_operation StartProcess = StartsBranch
+way_of_operation op = GoesOn
+
+abbrev pub way_of_known : Instruction → Way
+way_of_known (Operate op) = way_of_operation op
+way_of_known i = GoesOn
+
+unfoldable pub way_of : Instr → Way
+way_of i = elim (instruction_of i.fun i.operand) [ None ↦ GoesOn | Some instruction ↦ way_of_known instruction ]
+
+-- ---- instructions of PARs
+
+abbrev pub is_of_pars : Op → Bool
+is_of_pars StartProcess = true
+is_of_pars EndProcess = true
+is_of_pars op = false
+
+-- whether an instruction starts a branch or ends a process
+abbrev pub has_pars : Option Instruction → Bool
+has_pars (Some (Operate op)) = is_of_pars op
+has_pars i = false

@@ -4,14 +4,18 @@ ghost use Rattle.std.specs.Prelude.{◌≡◌, ◌++◌, ◌+◌, [], ◌∷◌,
 ghost use Rattle.std.specs.List.{AllByRecursion};
 ghost use Rattle.alternation_rules.specs.Guards.{exits};
 ghost use Rattle.rulings.specs.Places.{site_of};
+ghost use Rattle.par_rules.specs.Telling.{labels_of};
 ghost use Rattle.states.specs.Views.{state_of, BelongsTo};
-ghost use Rattle.facts.specs.Rules.{rule_at, is_alternation_end};
+ghost use Rattle.facts.specs.Rules.{rule_at, way_of};
+ghost use Rattle.facts.specs.declared.way.Way.TheVariants.{GoesOn, EndsAlternation, StartsBranch};
 ghost use Rattle.states.specs.Numbers.{out_of_memory};
 ghost use Rattle.facts.specs.Successions.{placed_at, states_at_labels, offset_behind, Succeeds, Follow};
 
-use crate::advancing::{advance, is_alternation_end, leave};
+use crate::advancing::{advance, leave, start};
+use crate::way::{Way, way_of};
 use alternation_rules::exit_at;
 use certificate::Module;
+use par_rules::Started;
 use prefix_decoder::Instr;
 use rulings::{Continuation, Place};
 use states::{Guard, RuleFault, State, label_rows_are_sound};
@@ -112,7 +116,7 @@ fn leave_alternation<'a>(
     instr: Instr,
 ) -> Result<Successors<'a>, RuleFault>
     requires belongs { BelongsTo «module».now state.now }
-    requires ends { is_alternation_end instr ≡ true }
+    requires ends { way_of instr ≡ EndsAlternation }
     ensures ruling { let ruling = rule_at «module».now at instr (state_of state.now) in
         Succeeds «module».now (offset_behind at instr.len) result ruling }
     ensures belongs { IfOk result (Follow «module».now) }
@@ -130,25 +134,66 @@ fn leave_alternation<'a>(
     })
 }
 
-/// The states that follow the instruction at a code offset, by the rule of that instruction, each with its
-/// offset. Running out of memory is reported as `states::MEMORY`.
-// A body that always answers want of memory meets these clauses too, since no clause can say that memory
-// is left: tests show the states that follow.
-pub fn transfer<'a>(
+/// The states of the labels at which others go on behind a start, each made of a copy of another state.
+fn labels_of_start<'a>(
+    alloc: Global,
+    state: &State<'a>,
+    module: &'a Module<'a>,
+    started: Started,
+) -> Result<Vec<Successor<'a>>, RuleFault>
+    requires { BelongsTo «module».now state.now }
+    ensures states { IfOk result (λ labels. map placed_at labels.items
+        ≡ states_at_labels «module».now (labels_of started)) }
+    ensures belong { IfOk result (λ labels. AllByRecursion (λ s. BelongsTo «module».now s.state) labels.items) }
+    ensures memory { IfErr result (λ fault. fault ≡ out_of_memory) }
+{
+    let mut labels = label_at(alloc, state.copy(alloc)?, module, started.branch)?;
+    if let Some(to) = started.successor {
+        push_label(&mut labels, state.copy(alloc)?, module, to)?;
+    }
+    Ok(labels)
+}
+
+/// The states that follow the start of a branch: the starter's, that of the branch, and at the first start that of the
+/// label after the PAR.
+fn start_branch<'a>(
     alloc: Global,
     module: &'a Module<'a>,
     state: &State<'a>,
     at: usize,
     instr: Instr,
 ) -> Result<Successors<'a>, RuleFault>
-    requires { BelongsTo «module».now state.now }
+    requires belongs { BelongsTo «module».now state.now }
+    requires starts { way_of instr ≡ StartsBranch }
     ensures ruling { let ruling = rule_at «module».now at instr (state_of state.now) in
         Succeeds «module».now (offset_behind at instr.len) result ruling }
     ensures belongs { IfOk result (Follow «module».now) }
 {
-    if is_alternation_end(instr) {
-        return leave_alternation(alloc, module, state, at, instr);
-    }
+    let mut state = state.copy(alloc)?;
+    let started = start(&mut state, module, at, instr)?;
+    Ok(Successors {
+        labels: labels_of_start(alloc, &state, module, started)?,
+        behind: Some(Successor {
+            at: offset_behind(at, instr.len),
+            state,
+        }),
+    })
+}
+
+/// The states that follow an instruction that goes on at one or two places, or nowhere.
+fn go_on<'a>(
+    alloc: Global,
+    module: &'a Module<'a>,
+    state: &State<'a>,
+    at: usize,
+    instr: Instr,
+) -> Result<Successors<'a>, RuleFault>
+    requires belongs { BelongsTo «module».now state.now }
+    requires goes_on { way_of instr ≡ GoesOn }
+    ensures ruling { let ruling = rule_at «module».now at instr (state_of state.now) in
+        Succeeds «module».now (offset_behind at instr.len) result ruling }
+    ensures belongs { IfOk result (Follow «module».now) }
+{
     let mut state = state.copy(alloc)?;
     let continuation = advance(&mut state, module, at, instr)?;
     let next = offset_behind(at, instr.len);
@@ -169,5 +214,28 @@ pub fn transfer<'a>(
             behind: None,
             labels: Vec::new(alloc),
         }),
+    }
+}
+
+/// The states that follow the instruction at a code offset, by the rule of that instruction, each with its
+/// offset. Running out of memory is reported as `states::MEMORY`.
+// A body that always answers want of memory meets these clauses too, since no clause can say that memory
+// is left: tests show the states that follow.
+pub fn transfer<'a>(
+    alloc: Global,
+    module: &'a Module<'a>,
+    state: &State<'a>,
+    at: usize,
+    instr: Instr,
+) -> Result<Successors<'a>, RuleFault>
+    requires { BelongsTo «module».now state.now }
+    ensures ruling { let ruling = rule_at «module».now at instr (state_of state.now) in
+        Succeeds «module».now (offset_behind at instr.len) result ruling }
+    ensures belongs { IfOk result (Follow «module».now) }
+{
+    match way_of(instr) {
+        Way::GoesOn => go_on(alloc, module, state, at, instr),
+        Way::EndsAlternation => leave_alternation(alloc, module, state, at, instr),
+        Way::StartsBranch => start_branch(alloc, module, state, at, instr),
     }
 }

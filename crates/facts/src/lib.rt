@@ -4,8 +4,11 @@
 mod advancing;
 mod following;
 mod laws;
+mod way;
 
-pub use advancing::{advance, has_rule, is_alternation_end, leave, reserve_guards};
+pub use advancing::{advance, is_instruction, leave, reserve_guards, start};
 pub use following::{Successor, Successors, transfer};
 pub use laws::rules_fit_steps;
+pub use par_rules::Started;
 pub use rulings::Continuation;
+pub use way::{Way, way_of};

@@ -1,5 +1,5 @@
 -- What a process comes to in an alternation: it is never at fault, and whichever way its turn ends the invariant holds.
-use Rattle.std.proofs.Common.{◌≡◌, ◌⊎◌, ℕ, ◌+◌, ◌≤◌, ◌<◌, ℤ, pos, ◌≤ℤ◌, Bool, true, false, ◌||◌, is_some, inl, inr}
+use Rattle.std.proofs.Common.{◌≡◌, ◌≢◌, ◌⊎◌, ℕ, ◌+◌, ◌≤◌, ◌<◌, ℤ, pos, ◌≤ℤ◌, Bool, true, false, ◌||◌, is_some, inl, inr}
 use Rattle.std.proofs.Common.{List}
 use Rattle.std.proofs.Common.{suc, [], ◌∷◌, length, Option, Some, None, refl, sym, ap, ◌∙◌, subst, arith, if◌then◌else◌}
 use Rattle.std.proofs.lemmas.Bool.{cases_eq}
@@ -28,9 +28,9 @@ use Rattle.machine_state.specs.Endings.{disables_nowhere, is_not_its_own, is_ena
 use Rattle.machine_state.specs.Endings.{on_channel, on_link, HasNoSource, no_channel, no_link}
 use Rattle.machine_state.specs.EnabledLaws.{Alternates, HasEnabled, a_channel as has_channel, a_link as has_link}
 use Rattle.machine_state.specs.EnabledLaws.{HasReady}
-use Rattle.machine_state.specs.EnabledLaws.{a_byte}
+use Rattle.machine_state.specs.EnabledLaws.{a_byte, a_sender}
 use Rattle.machine_state.specs.Exchanges.{input_link}
-use Rattle.machine_state.specs.Frame.{ChangesOwn}
+use Rattle.machine_state.specs.Roles.{opened_in}
 use Rattle.machine_state.specs.Holding.{Holding, has_end}
 use Rattle.machine_state.specs.LocalStep.{with_a_alone}
 use Rattle.machine_state.specs.Memory.{Memory}
@@ -60,19 +60,23 @@ use Rattle.certified_worlds.specs.Alternating.{IsTrueGuard, IsTrueSkip, EnablesA
 use Rattle.certified_worlds.specs.Lives.{it_lives}
 use Rattle.certified_worlds.specs.Point.{MeetsPoint}
 use Rattle.certified_worlds.proofs.Carrying.{MustBeReady, SameEnabled, enabled_as_before, alternates_on, ready_on}
+use Rattle.verifier.proofs.CalmWorlds.{IsCalm, is_alternating, is_among_starts, is_plain, no_alternation}
 use Rattle.verifier.proofs.Enabled.{ready_is_enabled, Sets, enables_somewhere, source_enables, source_is_by}
-use Rattle.verifier.proofs.Enabled.{sets_channel}
-use Rattle.verifier.proofs.Enabled.{sets_link}
+use Rattle.verifier.proofs.Enabled.{only_it, sets_channel, sets_link, who_sends}
 use Rattle.verifier.proofs.Guards.{fresh_guards, grown_guards, IsGoneAt, less_guards}
 use Rattle.verifier.proofs.LawfulWorlds.{IsLawful}
 use Rattle.certified_worlds.proofs.LivesAs.{LivesAs}
-use Rattle.verifier.proofs.Sources.{AtEnd, an_input, an_output, a_channel as a_channel_there, at_end, held_is}
+use Rattle.verifier.proofs.OthersGuards.{LeavesChannels, LeavesEnabled, LeavesLinks, channel_set, channels_same}
+use Rattle.verifier.proofs.OthersGuards.{enabled_same, link_set, links_same, ready_is_silent}
+use Rattle.verifier.proofs.SharedOut.{holds_own, none_open, shared_out}
+use Rattle.verifier.proofs.Sources.{AtEnd, an_input, an_output, a_channel as a_channel_there, at_end}
 use Rattle.verifier.proofs.Sources.{holding_is}
 use Rattle.verifier.proofs.Sources.{input_found}
 use Rattle.certified_worlds.proofs.Steps.{still_state, plain_process, plain_state, behind_in, task_at, AltersTo, HoldsChannel}
-use Rattle.verifier.proofs.Tables.{AreApart, AreBytes, IsSound, Living, SameLengths, equal_lengths, length_set}
-use Rattle.verifier.proofs.Tables.{holds_put}
-use Rattle.verifier.proofs.Tables.{holds_put_alternating, no_alternation}
+use Rattle.verifier.proofs.Tables.{row_of}
+use Rattle.verifier.proofs.Tables.{Allows, AreBytes, IsSound}
+use Rattle.verifier.proofs.Tables.{Living, ChannelsStay, channels_equal, channel_stays, holds_put}
+use Rattle.verifier.proofs.Tables.{holds_put_alternating}
 use Rattle.verifier.proofs.Talking.{at_found}
 use Rattle.verifier.proofs.Arrivals.{bytes_set}
 
@@ -116,41 +120,45 @@ any_found {A} test (y ∷ ys) e = on (test y) refl e (λ rest. any_found test ys
     on true is e further = (0, y, refl, is)
     on false is e further = let rest = further e in (suc rest.0, rest.1, rest.2, rest.3)
 
+-- who is found to have enabled something has
+is_by_it : (o : Option ℕ) (p : ℕ) → is_by o p ≡ true → o ≡ Some p
+is_by_it None p e = absurd (cc)
+is_by_it (Some q) p e = elim (eqb_tells q p) [
+  | inl it ↦ ap Some it.1
+  | inr it ↦ let no' : true ≡ false = sym e ∙ it.0 in absurd (cc)
+]
+
+-- what nobody has enabled this one has not
+is_by_nobody : (o : Option ℕ) (p : ℕ) → is_some o ≡ false → o ≡ Some p → ⊥
+is_by_nobody None p none e = cc
+is_by_nobody (Some q) p none e = cc
+
 -- who is found by the machine to have something enabled has
 in_list_of : (w : World) (p : ℕ) → has_enabled w p ≡ true → HasEnabled w.channels w.links.inputs p
 in_list_of w p some =
     on (list_any (λ (link : InputLink). is_by link.enabled p) w.links.inputs) refl some
   where
-    by_it : (o : Option ℕ) → is_by o p ≡ true → o ≡ Some p
-    by_it None e = absurd (cc)
-    by_it (Some q) e = elim (eqb_tells q p) [
-      | inl it ↦ ap Some it.1
-      | inr it ↦ let no' : true ≡ false = sym e ∙ it.0 in absurd (cc)
-    ]
-
     in_cell : (k : ℕ) (cell : Option Channel) → slice_get w.channels k ≡ Some cell
         → elim cell as (λ c. Bool) [ None ↦ false | Some channel ↦ is_by channel.enabled p ] ≡ true
         → HasEnabled w.channels w.links.inputs p
     in_cell k None here e = absurd (cc)
-    in_cell k (Some c) here e = has_channel k c here (by_it c.enabled e)
+    in_cell k (Some c) here e = has_channel k c here (is_by_it c.enabled p e)
 
     on : (b : Bool) → list_any (λ (link : InputLink). is_by link.enabled p) w.links.inputs ≡ b
         → (b || list_any (λ cell. elim cell as (λ c. Bool) [ None ↦ false | Some channel ↦ is_by channel.enabled p ])
         w.channels) ≡ true → HasEnabled w.channels w.links.inputs p
     on true is e =
         let found = any_found (λ (link : InputLink). is_by link.enabled p) w.links.inputs is in
-        has_link found.0 found.1 found.2 (by_it found.1.enabled found.3)
+        has_link found.0 found.1 found.2 (is_by_it found.1.enabled p found.3)
     on false is e =
         let found = any_found (λ (cell : Option Channel). elim cell as (λ c. Bool)
         [ None ↦ false | Some channel ↦ is_by channel.enabled p ]) w.channels e in
         in_cell found.0 found.1 found.2 found.3
 
 module _ (m : Contents) (wf : IsWellFormed m) (w : World) (lawful : IsLawful m w) (h : IsSound m w) (p : ℕ) (t : Task)
-    (ready : t.condition ≡ Ready) (r : Living m w h.holds.began h.holds.dues p t)
-    (meets : MeetsPoint m t (held r.row.role) r.row.start r.lives.point w.memory) (pick : ℕ) where
-  abbrev apart : AreApart w.roles
-  apart = lawful.apart.processes
-
+    (ready : t.condition ≡ Ready) (r : Living m w h.holds p t)
+    (meets : MeetsPoint m t (held (row_of r).role) (row_of r).start r.lives.point w.memory)
+    (calm : t.mode ≡ modes.Starting → ⊥) (pick : ℕ) where
   abbrev turning : Turning
   turning = at_here m p t pick
 
@@ -164,7 +172,7 @@ module _ (m : Contents) (wf : IsWellFormed m) (w : World) (lawful : IsLawful m w
   abbrev x : Here
   x = record {
     m = m;
-    h = held r.row.role;
+    h = held (row_of r).role;
     context = state.context;
     before = state;
     act = act;
@@ -178,24 +186,22 @@ module _ (m : Contents) (wf : IsWellFormed m) (w : World) (lawful : IsLawful m w
   modes_fit : SameMode state.mode t.mode
   modes_fit = meets.here.same_mode
 
-  pub calm : t.mode ≡ modes.Starting → ⊥
-  calm starting = elim (h.quiet.calm p t r.here) [
-    | inl plain ↦ let no' = sym plain ∙ starting in cc
-    | inr (inl e) ↦ let no' = sym e.0.1 ∙ starting in cc
-    | inr (inr d) ↦ let no' = sym d.0.1 ∙ starting in cc
-  ]
+  -- it has no join open
+  pub unopened : opened_in w.roles p ≡ None
+  unopened = none_open lawful.starters.openers p t r.here r.going (λ starting now. calm starting)
 
   -- its guards, in an alternation
   pub guards_now : (t.mode ≡ modes.Plain → ⊥) → AlternatesHere m w p t state act
-  guards_now busy = r.guards (elim (h.quiet.calm p t r.here) [ inl plain ↦ absurd (busy plain) | inr a ↦ a ])
+  guards_now busy = r.guards (alternates_now (h.calm p t r.here))
+    where
+      alternates_now : IsCalm t → Alternates t.mode t.condition
+      alternates_now (is_plain plain) = absurd (busy plain)
+      alternates_now (is_among_starts starting now) = absurd (calm starting)
+      alternates_now (is_alternating alternates) = alternates
 
-  named_now : HoldsNamed m (held r.row.role) (scope_of m state.context act.layout) w.memory
-  named_now = subst (λ (scope : Scope). HoldsNamed m (held r.row.role) scope w.memory)
+  named_now : HoldsNamed m (held (row_of r).role) (scope_of m state.context act.layout) w.memory
+  named_now = subst (λ (scope : Scope). HoldsNamed m (held (row_of r).role) scope w.memory)
       (scope_still m state.context state.mode act.layout (still_state modes_fit calm)) r.lives.named
-
-  -- one of its channels is at an address where something is enabled, by it alone
-  only_it : (q : ℕ) → HasEnabled w.channels w.links.inputs q → q ≡ p
-  only_it q has = let a = lawful.alternate q has in h.quiet.only q p a.task t a.here r.here
 
   -- with no guards left nothing is enabled
   none_left : (busy : t.mode ≡ modes.Plain → ⊥) → state.mode ≡ states_modes.Disabling (length state.guards)
@@ -235,22 +241,27 @@ module _ (m : Contents) (wf : IsWellFormed m) (w : World) (lawful : IsLawful m w
   -- it goes on in an alternation
   alters_holds : (after : World) (mode : machine.Mode) (condition : Condition) (l : Local) (later : ℕ) (next : State)
       → after.tasks ≡ slice_set w.tasks p (behind_in m t mode condition l) → after.memory ≡ l.memory
-      → after.roles ≡ w.roles → SameLengths w.channels after.channels → AreBytes after.links.inputs
-      → after.fault ≡ w.fault → after.counters.executed ≡ w.counters.executed + 1 → later + 1 ≤ r.row.due
-      → ChangesOwn (held r.row.role) w.memory l.memory → Alternates mode condition
-      → LivesAs m (held r.row.role) r.row.start l.memory (behind_in m t mode condition l) later next act
+      → after.roles ≡ w.roles → ChannelsStay w.channels after.channels → AreBytes after.links.inputs
+      → after.fault ≡ w.fault → after.counters.executed ≡ w.counters.executed + 1 → LeavesEnabled w after p t
+      → later + 1 ≤ (row_of r).due → Allows r.lives w.memory l.memory → Alternates mode condition
+      → LivesAs m (held (row_of r).role) (row_of r).start l.memory (behind_in m t mode condition l) later next act
       → AlternatesHere m after p (behind_in m t mode condition l) next act → IsSound m after
-  alters_holds after mode condition l later next tasks memory roles channels kept fault more less changes alternates
-      lives
-      guards =
-      holds_put_alternating m w h apart p t r.here r.row after (behind_in m t mode condition l) l.memory later (record {
+  alters_holds after mode condition l later next tasks memory roles channels kept fault more leaves less changes
+      alternates lives guards =
+      holds_put_alternating m w h (shared_out lawful) p t r after (behind_in m t mode condition l) l.memory
+      later (record {
         tasks = tasks;
         memory = memory;
         roles = roles;
         channels = channels;
         kept = kept;
         fault = fault;
-      }) (omega (arith, more, less)) alternates changes lives guards
+      }) leaves changes unopened (omega (arith, more, less)) alternates lives guards
+
+  -- no channel and no link has changed
+  same_enabled : (after : World) → after.channels ≡ w.channels → after.links.inputs ≡ w.links.inputs
+      → LeavesEnabled w after p t
+  same_enabled after channels inputs = enabled_same channels inputs (ready_is_silent w p t ready)
 
   -- the task that goes on is ready, as it was
   as_ready : (mode : machine.Mode) (l : Local)
@@ -281,13 +292,15 @@ module _ (m : Contents) (wf : IsWellFormed m) (w : World) (lawful : IsLawful m w
 
   -- ---- alt
 
-  pub begins_holds : (l : Local) (next : State) (later : ℕ) → AltersTo m x t r.row.due later l → Begins x next l
-      → LivesAs m (held r.row.role) r.row.start l.memory (behind_in m t (modes.Enabling false) Ready l) later next act
-      → (after : World) → Moved turning w (begins l) after → IsSound m (counted after)
-  begins_holds l next later alters begun lives after (it_begins k) =
+  pub begins_holds : (l : Local) (next : State) (later : ℕ) → AltersTo m x t (row_of r).due later l → Begins x next l
+      → LivesAs m (held (row_of r).role) (row_of r).start l.memory (behind_in m t (modes.Enabling false) Ready l) later next act
+      → Allows r.lives w.memory l.memory → (after : World) → Moved turning w (begins l) after
+      → IsSound m (counted after)
+  begins_holds l next later alters begun lives changes after (it_begins k) =
       alters_holds (counted after) (modes.Enabling false) Ready l later next (as_ready (modes.Enabling false) l) refl
       refl
-      (equal_lengths refl) h.holds.kept refl refl alters.less alters.own (inl ((false, refl), refl)) lives
+      (channels_equal refl) h.holds.kept refl refl (same_enabled (counted after) refl refl) alters.less changes
+      (inl ((false, refl), refl)) lives
       (fresh_guards m (counted after) p (behind_in m t (modes.Enabling false) Ready l) next act begun.none
       (λ address enables.
       let same = enabled_as_before w (counted after) p refl refl in
@@ -300,20 +313,20 @@ module _ (m : Contents) (wf : IsWellFormed m) (w : World) (lawful : IsLawful m w
   module _ {kind : EndKind} {address : ℕ} (holds : HoldsChannel m x kind address) where
     held_now : has_end (holding_at w.roles p) (record { address = address; direction = In }) ≡ true
     held_now = subst (λ (g : Holding). has_end g (record { address = address; direction = In }) ≡ true)
-        (sym (holding_is m wf w lawful h p r.row.role r.row.has_role)) holds.held
+        (sym (holding_is m wf w lawful h p (row_of r).role (row_of r).has_role)) holds.held
 
-    there : AtEnd m w (record { address = address; direction = In }) (r.row.start.layout.lengths address)
-    there = at_end m wf w lawful h p r.row.role r.row.start (record { address = address; direction = In })
-        r.row.has_role
-        r.row.has_start
+    there : AtEnd m w (record { address = address; direction = In }) ((row_of r).start.layout.lengths address)
+    there = at_end m wf w lawful h p (row_of r).role (row_of r).start (record { address = address; direction = In })
+        (row_of r).has_role
+        (row_of r).has_start
         (subst (λ (g : Holding). has_end g (record { address = address; direction = In }) ≡ true)
-        (held_is m wf w lawful h p r.row.role r.row.has_role) holds.held)
+        (holds_own w.roles p (row_of r).role (row_of r).has_role unopened) holds.held)
 
     -- something is there
     never_nowhere : HasNoSource w address → ⊥
     never_nowhere (no_channel outside none) = on there
       where
-        on : AtEnd m w (record { address = address; direction = In }) (r.row.start.layout.lengths address) → ⊥
+        on : AtEnd m w (record { address = address; direction = In }) ((row_of r).start.layout.lengths address) → ⊥
         on (an_input k few is in_ len) =
             let found : None ≡ Some k = sym outside ∙ (ap input_link is ∙ input_found k few) in cc
         on (an_output k few is out len) = cc
@@ -325,22 +338,21 @@ module _ (m : Contents) (wf : IsWellFormed m) (w : World) (lawful : IsLawful m w
         let no' : None ≡ Some some.0 = sym none ∙ some.1 in
         cc
 
-    -- nobody waits there, since nobody else is there
-    nobody_waits : (c : Channel) → channel_at w address ≡ Some c → is_some c.waiting ≡ false
-    nobody_waits c at = on c.waiting refl
+    -- whoever waits there is a sender
+    sender_found : (c : Channel) → channel_at w address ≡ Some c → is_some c.waiting ≡ true
+        → HasReady w.tasks (slice_set w.channels (cell_of address) (Some (record c { enabled = Some p })))
+        w.links.inputs p
+    sender_found c at some = on c.waiting refl some
       where
-        on : (o : Option ℕ) → c.waiting ≡ o → is_some o ≡ false
-        on None is = refl
-        on (Some q) is = absurd (
-            let v = lawful.cells (cell_of address) c q (channel_there w address c at) is in
-            let same = h.quiet.only q p v.task t v.here r.here in
-            let it = only_one (slice_get w.tasks p) v.task t (subst (λ n. slice_get w.tasks n ≡ Some v.task) same
-            v.here) r.here in
-            let now = ap (λ (u : Task). u.condition) it ∙ ready in
-            elim v.waits [
-              | inl out ↦ let no' = sym out ∙ now in cc
-              | inr in_ ↦ let no' = sym in_ ∙ now in cc
-            ])
+        on : (o : Option ℕ) → c.waiting ≡ o → is_some o ≡ true
+            → HasReady w.tasks (slice_set w.channels (cell_of address) (Some (record c { enabled = Some p })))
+            w.links.inputs p
+        on None is some = absurd (cc)
+        on (Some q) is some =
+            let s = who_sends m wf w lawful h p address t held_now r.here ready c at q is in
+            a_sender (cell_of address) (record c { enabled = Some p }) q s.task s.exchange
+            (got_set w.channels (cell_of address) (Some c) (Some (record c { enabled = Some p }))
+            (channel_there w address c at)) refl is s.here s.sends
 
     -- what is enabled there is enabled by this process, by a guard of this channel
     twice : (busy : t.mode ≡ modes.Plain → ⊥) (s : Source) → IsSource w address s → is_some s.enabled ≡ true
@@ -351,7 +363,7 @@ module _ (m : Contents) (wf : IsWellFormed m) (w : World) (lawful : IsLawful m w
         on None e some = absurd (cc)
         on (Some q) e some =
             let enables = source_enables m wf w lawful h p address s held_now is q e in
-            subst (λ n. EnablesAt w n address) (only_it q (is_in_list w q address enables)) enables
+            subst (λ n. EnablesAt w n address) (only_it m wf w lawful h p address held_now q enables) enables
 
     -- the guard of whatever is enabled there is at this channel
     one_channel : (busy : t.mode ≡ modes.Plain → ⊥) (n : ℕ) (g : Guard) (other : EndKind)
@@ -360,6 +372,42 @@ module _ (m : Contents) (wf : IsWellFormed m) (w : World) (lawful : IsLawful m w
     one_channel busy n g other here is at =
         named_now.differ other kind In ((guards_now busy).fit.held n g other here is) holds.end
         (at ∙ sym holds.address_is)
+
+  -- ---- who has enabled a channel or a link
+
+  -- the channel is enabled by this process, or by nobody, and nobody else has enabled it
+  sets_cell : (address : ℕ) (c : Channel) (by : Option ℕ) (after : World) → channel_at w address ≡ Some c
+      → after.channels ≡ slice_set w.channels (cell_of address) (Some (record c { enabled = by }))
+      → after.links.inputs ≡ w.links.inputs → ((q : ℕ) → p ≢ q → c.enabled ≡ Some q → ⊥)
+      → ((q : ℕ) → p ≢ q → by ≡ Some q → ⊥) → LeavesEnabled w after p t
+  sets_cell address c by after at cells inputs was is = record {
+    channels = subst (λ (cells : List (Option Channel)). LeavesChannels p w.channels cells) (sym cells)
+        (channel_set w.channels (cell_of address) c (record c { enabled = by }) (channel_there w address c at)
+        (λ q other e. absurd (is q other e)) (λ q other e. absurd (was q other e)));
+    links = links_same inputs;
+    silent = ready_is_silent w p t ready;
+  }
+
+  sets_input : (k : ℕ) (link : InputLink) (by : Option ℕ) (after : World) → slice_get w.links.inputs k ≡ Some link
+      → after.links.inputs ≡ slice_set w.links.inputs k (record link { enabled = by })
+      → after.channels ≡ w.channels → ((q : ℕ) → p ≢ q → link.enabled ≡ Some q → ⊥)
+      → ((q : ℕ) → p ≢ q → by ≡ Some q → ⊥) → LeavesEnabled w after p t
+  sets_input k link by after here inputs cells was is = record {
+    channels = channels_same cells;
+    links = subst (λ (links : List InputLink). LeavesLinks p w.links.inputs links) (sym inputs)
+        (link_set w.links.inputs k link (record link { enabled = by }) here (λ q other e. absurd (is q other e))
+        (λ q other e. absurd (was q other e)));
+    silent = ready_is_silent w p t ready;
+  }
+
+  by_itself : (q : ℕ) → p ≢ q → Some p ≡ Some q → ⊥
+  by_itself q other e = let same : p ≡ q = cc in other same
+
+  by_nobody : (q : ℕ) → p ≢ q → None ≡ Some q → ⊥
+  by_nobody q other e = cc
+
+  by_another : (o : Option ℕ) → is_by o p ≡ true → (q : ℕ) → p ≢ q → o ≡ Some q → ⊥
+  by_another o own q other e = other (only_one o p q (is_by_it o p own) e)
 
   -- ---- enbc, enbs
 
@@ -380,8 +428,8 @@ module _ (m : Contents) (wf : IsWellFormed m) (w : World) (lawful : IsLawful m w
   ready_mode b (inr is) = let no' : modes.Enabling b ≡ modes.Disabling None = is.0 in absurd (cc)
 
   module _ {guard : GuardKind} {holds : Bool} {next : State} {l : Local} (later : ℕ)
-      (alters : AltersTo m x t r.row.due later l) (more : Enables x guard holds next l)
-      (lives : (b : Bool) → LivesAs m (held r.row.role) r.row.start l.memory (behind_in m t (modes.Enabling b) Ready
+      (alters : AltersTo m x t (row_of r).due later l) (more : Enables x guard holds next l)
+      (lives : (b : Bool) → LivesAs m (held (row_of r).role) (row_of r).start l.memory (behind_in m t (modes.Enabling b) Ready
       l) later
       next act) where
     mode_now : (b : Bool) × (t.mode ≡ modes.Enabling b)
@@ -400,16 +448,18 @@ module _ (m : Contents) (wf : IsWellFormed m) (w : World) (lawful : IsLawful m w
     enables_mode b u is (inr so) = let no' : modes.Enabling b ≡ modes.Disabling None = sym is ∙ so.0 in absurd (cc)
 
     -- the guard does not hold
-    enables_nothing : (after : World) → after.tasks ≡ slice_set w.tasks p (behind_in m t (modes.Enabling mode_now.0)
+    enables_nothing : Allows r.lives w.memory l.memory → (after : World)
+        → after.tasks ≡ slice_set w.tasks p (behind_in m t (modes.Enabling mode_now.0)
         Ready l)
         → after.memory ≡ l.memory → after.roles ≡ w.roles → after.channels ≡ w.channels → after.links ≡ w.links
         → after.fault ≡ w.fault → after.counters.executed ≡ w.counters.executed + 1 → holds ≡ false → IsSound m after
-    enables_nothing after tasks memory roles channels links fault counters not_so =
+    enables_nothing changes after tasks memory roles channels links fault counters not_so =
         let b = mode_now.0 in
         let u = behind_in m t (modes.Enabling b) Ready l in
         let same = enabled_as_before w after p channels (ap (λ links. links.inputs) links) in
-        alters_holds after (modes.Enabling b) Ready l later next tasks memory roles (equal_lengths channels)
-        (rw links h.holds.kept) fault counters alters.less alters.own (inl ((b, refl), refl)) (lives b)
+        alters_holds after (modes.Enabling b) Ready l later next tasks memory roles (channels_equal channels)
+        (rw links h.holds.kept) fault counters (same_enabled after channels (ap (λ links. links.inputs) links))
+        alters.less changes (inl ((b, refl), refl)) (lives b)
         (grown_guards m x guard holds next l more w after p t u old_guards refl memory refl
         (λ address enables. inl (same.fewer address enables)) (λ address enables. same.more address enables)
         (λ address so at. let no' : true ≡ false = sym so ∙ not_so in absurd (cc)) (b, refl)
@@ -418,12 +468,13 @@ module _ (m : Contents) (wf : IsWellFormed m) (w : World) (lawful : IsLawful m w
           | inr skip ↦ inr (inl skip)
         ]))
 
-  pub enables_skip_holds : {holds : Bool} (l : Local) (next : State) (later : ℕ) → AltersTo m x t r.row.due later l
+  pub enables_skip_holds : {holds : Bool} (l : Local) (next : State) (later : ℕ) → AltersTo m x t (row_of r).due later l
       → Enables x Skip holds next l
-      → ((b : Bool) → LivesAs m (held r.row.role) r.row.start l.memory (behind_in m t (modes.Enabling b) Ready l)
+      → ((b : Bool) → LivesAs m (held (row_of r).role) (row_of r).start l.memory (behind_in m t (modes.Enabling b) Ready l)
       later next act)
-      → (after : World) → Moved turning w (enables_skip holds l) after → IsSound m (counted after)
-  enables_skip_holds {holds} l next later alters more lives after (it_enables_a_skip so k) =
+      → Allows r.lives w.memory l.memory → (after : World) → Moved turning w (enables_skip holds l) after
+      → IsSound m (counted after)
+  enables_skip_holds {holds} l next later alters more lives changes after (it_enables_a_skip so k) =
       let now = enabling_process modes_fit more.before in
       let b = now.0 in
       let u = behind_in m t (modes.Enabling (b || holds)) Ready l in
@@ -432,8 +483,9 @@ module _ (m : Contents) (wf : IsWellFormed m) (w : World) (lawful : IsLawful m w
         registers = between (t.registers.at + 1) l.registers;
         mode = ready_or q holds;
       })) now.1 ∙ as_ready (modes.Enabling (b || holds)) l in
-      alters_holds (counted after) (modes.Enabling (b || holds)) Ready l later next tasks refl refl (equal_lengths refl)
-      h.holds.kept refl refl alters.less alters.own (inl ((b || holds, refl), refl)) (lives (b || holds))
+      alters_holds (counted after) (modes.Enabling (b || holds)) Ready l later next tasks refl refl (channels_equal refl)
+      h.holds.kept refl refl (same_enabled (counted after) refl refl) alters.less changes
+      (inl ((b || holds, refl), refl)) (lives (b || holds))
       (grown_guards m x Skip holds next l more w (counted after) p t u (guards_now (busy_enabling more.before)) refl
       refl refl
       (λ address enables. inl (same.fewer address enables)) (λ address enables. same.more address enables)
@@ -447,23 +499,25 @@ module _ (m : Contents) (wf : IsWellFormed m) (w : World) (lawful : IsLawful m w
       ]))
 
   module _ {kind : EndKind} {address : ℕ} {holds : Bool} (l : Local) (next : State) (later : ℕ)
-      (alters : AltersTo m x t r.row.due later l) (channel : HoldsChannel m x kind address)
+      (alters : AltersTo m x t (row_of r).due later l) (channel : HoldsChannel m x kind address)
       (more : Enables x (AtChannel kind) holds next l)
-      (lives : (b : Bool) → LivesAs m (held r.row.role) r.row.start l.memory (behind_in m t (modes.Enabling b) Ready
+      (lives : (b : Bool) → LivesAs m (held (row_of r).role) (row_of r).start l.memory (behind_in m t (modes.Enabling b) Ready
       l) later
       next act) where
     -- a source is enabled
-    enables_source : (after : World) (s : Source) (b : Bool) → t.mode ≡ modes.Enabling b → holds ≡ true
+    enables_source : Allows r.lives w.memory l.memory → (after : World) (s : Source) (b : Bool)
+        → t.mode ≡ modes.Enabling b → holds ≡ true
         → is_some s.enabled ≡ false
         → after.tasks ≡ slice_set w.tasks p (behind_in m t (modes.Enabling (b || s.is_ready)) Ready l)
-        → after.memory ≡ l.memory → after.roles ≡ w.roles → SameLengths w.channels after.channels
+        → after.memory ≡ l.memory → after.roles ≡ w.roles → ChannelsStay w.channels after.channels
         → AreBytes after.links.inputs → after.fault ≡ w.fault
-        → after.counters.executed ≡ w.counters.executed + 1 → Sets w after address p s.is_ready s.enabled (Some p)
+        → after.counters.executed ≡ w.counters.executed + 1 → LeavesEnabled w after p t
+        → Sets w after address p s.is_ready s.enabled (Some p)
         → (s.is_ready ≡ true → HasReady w.tasks after.channels after.links.inputs p) → IsSound m after
-    enables_source after s b is so free tasks memory roles channels kept fault counters sets found =
+    enables_source changes after s b is so free tasks memory roles channels kept fault counters leaves sets found =
         let u = behind_in m t (modes.Enabling (b || s.is_ready)) Ready l in
         alters_holds after (modes.Enabling (b || s.is_ready)) Ready l later next tasks memory roles channels kept fault
-        counters alters.less alters.own (inl ((b || s.is_ready, refl), refl)) (lives (b || s.is_ready))
+        counters leaves alters.less changes (inl ((b || s.is_ready, refl), refl)) (lives (b || s.is_ready))
         (grown_guards m x (AtChannel kind) holds next l more w after p t u (guards_now (busy_enabling more.before)) refl
         memory refl
         (λ a enables. elim (cases_eq a address) [
@@ -480,39 +534,39 @@ module _ (m : Contents) (wf : IsWellFormed m) (w : World) (lawful : IsLawful m w
         (sets.there refl)) (b || s.is_ready, refl)
         (λ must. elim (or_ready b s.is_ready (enables_mode later alters more lives (b || s.is_ready) u refl must)) [
           | inl was ↦ elim (was_ready later alters more lives b is was) [
-            | inl old ↦ inl (ready_stays after u tasks (sets.ready (inl (λ e. nobody s.enabled free e)) old))
+            | inl old ↦ inl (ready_stays after u tasks (sets.ready (inl (λ e. is_by_nobody s.enabled p free e)) old))
             | inr skip ↦ inr (inl skip)
           ]
           | inr now ↦ inl (ready_stays after u tasks (found now))
         ]))
-      where
-        nobody : (o : Option ℕ) → is_some o ≡ false → o ≡ Some p → ⊥
-        nobody None none e = cc
-        nobody (Some q) none e = cc
 
-    pub enables_holds : (after : World) → Moved turning w (enables_channel holds address l) after
-        → IsSound m (counted after)
-    enables_holds after (it_enables so a k s holds_now (on_channel c outside at) free) =
+    pub enables_holds : Allows r.lives w.memory l.memory → (after : World)
+        → Moved turning w (enables_channel holds address l) after → IsSound m (counted after)
+    enables_holds changes after (it_enables so a k s holds_now (on_channel c outside at) free) =
         let now = enabling_process modes_fit more.before in
-        enables_source (counted after) (of_channel address c) now.0 now.1 holds_now free
+        enables_source changes (counted after) (of_channel address c) now.0 now.1 holds_now free
         (ap (λ (q : machine.Mode). slice_set w.tasks p (record t {
           registers = between (t.registers.at + 1) l.registers;
           mode = ready_or q (is_some c.waiting);
         })) now.1 ∙ as_ready (modes.Enabling (now.0 || is_some c.waiting)) l) refl refl
-        (length_set w.channels (cell_of address) c (record c { enabled = Some p }) (channel_there w address c at) refl)
+        (channel_stays w.channels (cell_of address) c (record c { enabled = Some p }) (channel_there w address c at) refl refl)
         h.holds.kept refl refl
+        (sets_cell address c (Some p) (counted after) at refl refl (λ q other e. is_by_nobody c.enabled q free e)
+        by_itself)
         (sets_channel m wf w lawful h p address (held_now channel) (Some p) (counted after) c at refl refl)
-        (λ waiting. let no' : true ≡ false = sym waiting ∙ nobody_waits channel c at in absurd (cc))
-    enables_holds after (it_enables so a k s holds_now (on_link n link found here) free) =
+        (sender_found channel c at)
+    enables_holds changes after (it_enables so a k s holds_now (on_link n link found here) free) =
         let now = enabling_process modes_fit more.before in
-        enables_source (counted after) (of_link n link) now.0 now.1 holds_now free
+        enables_source changes (counted after) (of_link n link) now.0 now.1 holds_now free
         (ap (λ (q : machine.Mode). slice_set w.tasks p (record t {
           registers = between (t.registers.at + 1) l.registers;
           mode = ready_or q (is_some link.kept);
         })) now.1 ∙ as_ready (modes.Enabling (now.0 || is_some link.kept)) l) refl refl
-        (equal_lengths refl)
+        (channels_equal refl)
         (bytes_set w.links.inputs n (record link { enabled = Some p }) h.holds.kept (λ b. h.holds.kept n link b here))
         refl refl
+        (sets_input n link (Some p) (counted after) here refl refl (λ q other e. is_by_nobody link.enabled q free e)
+        by_itself)
         (sets_link m wf w lawful h p address (held_now channel) (Some p) (counted after) n link
         (let on = link_found (input_word 0) address n found in omega (arith, on)) here refl refl)
         (λ kept. byte_there link.kept refl kept)
@@ -526,18 +580,18 @@ module _ (m : Contents) (wf : IsWellFormed m) (w : World) (lawful : IsLawful m w
                   Some p;
             }) here)
             refl is
-    enables_holds after (it_enables_nothing so a k not_so) =
-        enables_nothing later alters more lives (counted after)
+    enables_holds changes after (it_enables_nothing so a k not_so) =
+        enables_nothing later alters more lives changes (counted after)
         (as_ready_in (modes.Enabling (mode_now later alters more lives).0) l (mode_now later alters more lives).1)
         refl refl
         refl refl refl refl not_so
 
   -- ---- altwt
 
-  module _ (l : Local) (next : State) (later : ℕ) (alters : AltersTo m x t r.row.due later l) (awaits : AwaitsGuards
+  module _ (l : Local) (next : State) (later : ℕ) (alters : AltersTo m x t (row_of r).due later l) (awaits : AwaitsGuards
       x next l)
       (lives : (condition : Condition) → (condition ≡ Ready) ⊎ (condition ≡ Alternating)
-      → LivesAs m (held r.row.role) r.row.start l.memory (behind_in m t (modes.Disabling None) condition l) later
+      → LivesAs m (held (row_of r).role) (row_of r).start l.memory (behind_in m t (modes.Disabling None) condition l) later
       next act) where
     waiting_guards : (after : World) (condition : Condition) → after.channels ≡ w.channels
         → after.links.inputs ≡ w.links.inputs → after.memory ≡ l.memory
@@ -554,21 +608,24 @@ module _ (m : Contents) (wf : IsWellFormed m) (w : World) (lawful : IsLawful m w
         (awaits.keeps.fit old.fit)
         (λ distance is. let no' : modes.Disabling None ≡ modes.Disabling (Some distance) = is in absurd (cc)) ready_now
 
-    pub waits_holds : (after : World) → Moved turning w (waits l) after → IsSound m (counted after)
+    pub waits_holds : Allows r.lives w.memory l.memory → (after : World) → Moved turning w (waits l) after
+        → IsSound m (counted after)
     unfolding dispatch
-    waits_holds after (it_is_ready k is) =
+    waits_holds changes after (it_is_ready k is) =
         let old = guards_now (busy_enabling awaits.before) in
         let u = behind_in m t (modes.Disabling None) Ready l in
         let tasks = as_ready (modes.Disabling None) l in
-        alters_holds (counted after) (modes.Disabling None) Ready l later next tasks refl refl (equal_lengths refl)
-        h.holds.kept refl refl alters.less alters.own (inr ((None, refl), inl refl)) (lives Ready (inl refl))
+        alters_holds (counted after) (modes.Disabling None) Ready l later next tasks refl refl (channels_equal refl)
+        h.holds.kept refl refl (same_enabled (counted after) refl refl) alters.less changes
+        (inr ((None, refl), inl refl)) (lives Ready (inl refl))
         (waiting_guards (counted after) Ready refl refl refl (λ must. elim (old.ready (inl is)) [
           | inl found ↦ inl (ready_stays (counted after) u tasks found)
           | inr skip ↦ inr skip
         ]))
-    waits_holds after (it_waits k unready) =
-        alters_holds (counted after) (modes.Disabling None) Alternating l later next refl refl refl (equal_lengths refl)
-        h.holds.kept refl refl alters.less alters.own (inr ((None, refl), inr refl)) (lives Alternating (inr refl))
+    waits_holds changes after (it_waits k unready) =
+        alters_holds (counted after) (modes.Disabling None) Alternating l later next refl refl refl (channels_equal refl)
+        h.holds.kept refl refl (same_enabled (counted after) refl refl) alters.less changes
+        (inr ((None, refl), inr refl)) (lives Alternating (inr refl))
         (waiting_guards (counted after) Alternating refl refl refl (λ must. elim must [
           | inl not_so ↦ let no' : modes.Disabling None ≡ modes.Enabling true = not_so in absurd (cc)
           | inr not_so ↦ let no' : Alternating ≡ Ready = not_so.1 in absurd (cc)
@@ -580,9 +637,9 @@ module _ (m : Contents) (wf : IsWellFormed m) (w : World) (lawful : IsLawful m w
   busy_disabling e plain = let no' = sym (plain_state modes_fit plain) ∙ e in cc
 
   module _ {guard : GuardKind} {holds : Bool} {distance : ℤ} {next : State} {l : Local} (later : ℕ)
-      (alters : AltersTo m x t r.row.due later l) (less : Disables x guard holds distance next l)
+      (alters : AltersTo m x t (row_of r).due later l) (less : Disables x guard holds distance next l)
       (lives : (selection : Option ℤ) (a : ℤ) → pos 0 ≤ℤ a → a ≤ℤ pos 1
-      → LivesAs m (held r.row.role) r.row.start l.memory (behind_in m t (modes.Disabling selection) Ready
+      → LivesAs m (held (row_of r).role) (row_of r).start l.memory (behind_in m t (modes.Disabling selection) Ready
       (with_a_alone (Some a) l)) later next act) where
     old_list : AlternatesHere m w p t state act
     old_list = guards_now (busy_disabling less.before)
@@ -591,10 +648,12 @@ module _ (m : Contents) (wf : IsWellFormed m) (w : World) (lawful : IsLawful m w
     selection_now = disabling_process modes_fit less.before
 
     -- the guard is disabled in a world, with what was found there
-    disables_in : (after : World) (selection : Option ℤ) (a : ℤ) → pos 0 ≤ℤ a → a ≤ℤ pos 1
+    disables_in : Allows r.lives w.memory l.memory → (after : World) (selection : Option ℤ) (a : ℤ)
+        → pos 0 ≤ℤ a → a ≤ℤ pos 1
         → after.tasks ≡ slice_set w.tasks p (behind_in m t (modes.Disabling selection) Ready (with_a_alone (Some a) l))
-        → after.memory ≡ l.memory → after.roles ≡ w.roles → SameLengths w.channels after.channels
+        → after.memory ≡ l.memory → after.roles ≡ w.roles → ChannelsStay w.channels after.channels
         → AreBytes after.links.inputs → after.fault ≡ w.fault → after.counters.executed ≡ w.counters.executed + 1
+        → LeavesEnabled w after p t
         → ((address : ℕ) → EnablesAt after p address
         → EnablesAt w p address × (holds ≡ true → IsGoneAt m x guard holds distance next l less address → ⊥))
         → ((address : ℕ) → (holds ≡ true → IsGoneAt m x guard holds distance next l less address → ⊥)
@@ -603,12 +662,13 @@ module _ (m : Contents) (wf : IsWellFormed m) (w : World) (lawful : IsLawful m w
         → (d ≡ distance) ⊎ (t.mode ≡ modes.Disabling (Some d)))
         → (selection ≡ None → HasReady w.tasks after.channels after.links.inputs p
         ⊎ (IsTrueSkip w.memory act state × (guard ≡ Skip → holds ≡ true → ⊥))) → IsSound m after
-    disables_in after selection a low high tasks memory roles channels kept fault counters only back exits found =
+    disables_in changes after selection a low high tasks memory roles channels kept fault counters leaves only back
+        exits found =
         let u = behind_in m t (modes.Disabling selection) Ready (with_a_alone (Some a) l) in
         alters_holds after (modes.Disabling selection) Ready (with_a_alone (Some a) l) later next tasks memory roles
         channels
-        kept fault counters alters.less alters.own (inr ((selection, refl), inl refl)) (lives selection a low high)
-        (less_guards m x guard holds distance next l less w after p t u old_list refl memory refl (held r.row.role)
+        kept fault counters leaves alters.less changes (inr ((selection, refl), inl refl)) (lives selection a low high)
+        (less_guards m x guard holds distance next l less w after p t u old_list refl memory refl (held (row_of r).role)
         named_now
         only back exits (λ must. elim (found (unselected selection must)) [
           | inl is ↦ inl (ready_stays after u tasks is)
@@ -648,12 +708,13 @@ module _ (m : Contents) (wf : IsWellFormed m) (w : World) (lawful : IsLawful m w
     selected_exits d is = inl (cc)
 
   pub disables_skip_holds : {holds : Bool} {distance : ℤ} (l : Local) (next : State) (later : ℕ)
-      → AltersTo m x t r.row.due later l → Disables x Skip holds distance next l
+      → AltersTo m x t (row_of r).due later l → Disables x Skip holds distance next l
       → ((selection : Option ℤ) (a : ℤ) → pos 0 ≤ℤ a → a ≤ℤ pos 1
-      → LivesAs m (held r.row.role) r.row.start l.memory (behind_in m t (modes.Disabling selection) Ready
+      → LivesAs m (held (row_of r).role) (row_of r).start l.memory (behind_in m t (modes.Disabling selection) Ready
       (with_a_alone (Some a) l)) later next act)
-      → (after : World) → Moved turning w (disables_skip holds distance l) after → IsSound m (counted after)
-  disables_skip_holds {holds} {distance} l next later alters less lives after (it_disables_a_skip so d k) =
+      → Allows r.lives w.memory l.memory → (after : World) → Moved turning w (disables_skip holds distance l) after
+      → IsSound m (counted after)
+  disables_skip_holds {holds} {distance} l next later alters less lives changes after (it_disables_a_skip so d k) =
       on (selected t.mode holds distance) refl
     where
       same : (v : World) → v.channels ≡ w.channels → v.links.inputs ≡ w.links.inputs → SameEnabled w v p
@@ -670,16 +731,17 @@ module _ (m : Contents) (wf : IsWellFormed m) (w : World) (lawful : IsLawful m w
           else put p (record t { registers = between (t.registers.at + 1) (with_a_alone (Some (pos 0)) l).registers })
           l.memory w))
       on true is =
-          disables_in later alters less lives _ (Some distance) (pos 1) (omega (arith, ints)) (omega (arith, ints))
-          (as_ready (modes.Disabling (Some distance)) (with_a_alone (Some (pos 1)) l)) refl refl (equal_lengths refl)
-          h.holds.kept refl refl
+          disables_in later alters less lives changes _ (Some distance) (pos 1) (omega (arith, ints))
+          (omega (arith, ints))
+          (as_ready (modes.Disabling (Some distance)) (with_a_alone (Some (pos 1)) l)) refl refl (channels_equal refl)
+          h.holds.kept refl refl (same_enabled _ refl refl)
           (λ address enables. ((same _ refl refl).fewer address enables, λ so at. no_channel_gone address at))
           (λ address other enables. (same _ refl refl).more address enables)
           (selected_exits later alters less lives) (λ not_so. absurd (cc))
       on false is =
-          disables_in later alters less lives _ (selection_now later alters less lives).0 (pos 0) (omega (arith, ints))
-          (omega (arith, ints)) (passed_task later alters less lives) refl refl (equal_lengths refl) h.holds.kept
-          refl refl
+          disables_in later alters less lives changes _ (selection_now later alters less lives).0 (pos 0)
+          (omega (arith, ints)) (omega (arith, ints)) (passed_task later alters less lives) refl refl
+          (channels_equal refl) h.holds.kept refl refl (same_enabled _ refl refl)
           (λ address enables. ((same _ refl refl).fewer address enables, λ so at. no_channel_gone address at))
           (λ address other enables. (same _ refl refl).more address enables)
           (unselected_exits later alters less lives)
@@ -693,10 +755,10 @@ module _ (m : Contents) (wf : IsWellFormed m) (w : World) (lawful : IsLawful m w
           ])
 
   module _ {kind : EndKind} {address : ℕ} {holds : Bool} {distance : ℤ} (l : Local) (next : State) (later : ℕ)
-      (alters : AltersTo m x t r.row.due later l) (channel : HoldsChannel m x kind address)
+      (alters : AltersTo m x t (row_of r).due later l) (channel : HoldsChannel m x kind address)
       (less : Disables x (AtChannel kind) holds distance next l)
       (lives : (selection : Option ℤ) (a : ℤ) → pos 0 ≤ℤ a → a ≤ℤ pos 1
-      → LivesAs m (held r.row.role) r.row.start l.memory (behind_in m t (modes.Disabling selection) Ready
+      → LivesAs m (held (row_of r).role) (row_of r).start l.memory (behind_in m t (modes.Disabling selection) Ready
       (with_a_alone (Some a) l)) later next act) where
     -- the guard that is disabled is at this address, and no other is
     gone_here : (a : ℕ) → IsGoneAt m x (AtChannel kind) holds distance next l less a → a ≡ address
@@ -722,18 +784,21 @@ module _ (m : Contents) (wf : IsWellFormed m) (w : World) (lawful : IsLawful m w
     not_skip e so = cc
 
     -- a source is disabled, and selected or not
-    disables_source : (after : World) (s : Source) (selection : Option ℤ) (a : ℤ) → pos 0 ≤ℤ a → a ≤ℤ pos 1
+    disables_source : Allows r.lives w.memory l.memory → (after : World) (s : Source) (selection : Option ℤ)
+        (a : ℤ) → pos 0 ≤ℤ a → a ≤ℤ pos 1
         → holds ≡ true
         → after.tasks ≡ slice_set w.tasks p (behind_in m t (modes.Disabling selection) Ready (with_a_alone (Some a) l))
-        → after.memory ≡ l.memory → after.roles ≡ w.roles → SameLengths w.channels after.channels
+        → after.memory ≡ l.memory → after.roles ≡ w.roles → ChannelsStay w.channels after.channels
         → AreBytes after.links.inputs → after.fault ≡ w.fault → after.counters.executed ≡ w.counters.executed + 1
-        → Sets w after address p s.is_ready s.enabled None
+        → LeavesEnabled w after p t → Sets w after address p s.is_ready s.enabled None
         → ((d : ℤ) → modes.Disabling selection ≡ modes.Disabling (Some d)
         → (d ≡ distance) ⊎ (t.mode ≡ modes.Disabling (Some d)))
         → (selection ≡ None → (s.is_ready ≡ false)
         × (HasReady w.tasks w.channels w.links.inputs p ⊎ IsTrueSkip w.memory act state)) → IsSound m after
-    disables_source after s selection a low high so tasks memory roles channels kept fault counters sets exits found =
-        disables_in later alters less lives after selection a low high tasks memory roles channels kept fault counters
+    disables_source changes after s selection a low high so tasks memory roles channels kept fault counters leaves sets
+        exits found =
+        disables_in later alters less lives changes after selection a low high tasks memory roles channels kept fault
+        counters leaves
         (λ n enables. elim (cases_eq n address) [
           | inl it ↦
               let no' : None ≡ Some p = sets.here (subst (λ k. EnablesAt after p k) it enables) in absurd (cc)
@@ -783,29 +848,35 @@ module _ (m : Contents) (wf : IsWellFormed m) (w : World) (lawful : IsLawful m w
             lives)
             (λ none. (passes_by later alters less lives s.is_ready chosen none, was_found later alters less lives none))
 
-    pub disables_holds : (after : World) → Moved turning w (disables_channel holds address distance l) after
-        → IsSound m (counted after)
-    disables_holds after (it_disables so a d k s holds_now (on_channel c outside at) own) =
+    pub disables_holds : Allows r.lives w.memory l.memory → (after : World)
+        → Moved turning w (disables_channel holds address distance l) after → IsSound m (counted after)
+    disables_holds changes after (it_disables so a d k s holds_now (on_channel c outside at) own) =
         disables_there _ (of_channel address c) holds_now
         (λ selection a v low high tasks memory roles channels links fault counters exits found.
-        disables_source _ (of_channel address c) selection a low high holds_now tasks memory roles
-        (rw channels (length_set w.channels (cell_of address) c (record c { enabled = None }) (channel_there w
+        disables_source changes _ (of_channel address c) selection a low high holds_now tasks memory roles
+        (rw channels (channel_stays w.channels (cell_of address) c (record c { enabled = None }) (channel_there w
         address c at)
-        refl)) (rw links h.holds.kept) fault (rw counters refl)
+        refl refl)) (rw links h.holds.kept) fault (rw counters refl)
+        (sets_cell address c None _ at
+        (ap (λ cells. slice_set cells (cell_of address) (Some (record c { enabled = None }))) channels)
+        (ap (λ links. links.inputs) links) (λ q other e. by_another c.enabled own q other e) by_nobody)
         (sets_channel m wf w lawful h p address (held_now channel) None _ c at
         (ap (λ cells. slice_set cells (cell_of address) (Some (record c { enabled = None }))) channels)
         (ap (λ links. links.inputs) links)) exits found) refl
-    disables_holds after (it_disables so a d k s holds_now (on_link n link found here) own) =
+    disables_holds changes after (it_disables so a d k s holds_now (on_link n link found here) own) =
         disables_there _ (of_link n link) holds_now
         (λ selection a v low high tasks memory roles channels links fault counters exits none.
-        disables_source _ (of_link n link) selection a low high holds_now tasks memory roles
-        (equal_lengths channels) (rw links
+        disables_source changes _ (of_link n link) selection a low high holds_now tasks memory roles
+        (channels_equal channels) (rw links
         (bytes_set w.links.inputs n (record link { enabled = None }) h.holds.kept (λ b. h.holds.kept n link b here)))
         fault (rw counters refl)
+        (sets_input n link None _ here
+        (ap (λ links. slice_set links.inputs n (record link { enabled = None })) links) channels
+        (λ q other e. by_another link.enabled own q other e) by_nobody)
         (sets_link m wf w lawful h p address (held_now channel) None _ n link
         (let on = link_found (input_word 0) address n found in omega (arith, on)) here
         (ap (λ links. slice_set links.inputs n (record link { enabled = None })) links) channels) exits none) refl
-    disables_holds after (it_disables_nothing so a d k not_so) =
+    disables_holds changes after (it_disables_nothing so a d k not_so) =
         subst (λ (b : Bool). IsSound m (counted (if b
         then put p (record t {
           registers = between (t.registers.at + 1) (with_a_alone (Some (pos 1)) l).registers;
@@ -813,9 +884,9 @@ module _ (m : Contents) (wf : IsWellFormed m) (w : World) (lawful : IsLawful m w
         }) l.memory w
         else put p (record t { registers = between (t.registers.at + 1) (with_a_alone (Some (pos 0)) l).registers })
         l.memory w))) (sym (never_chosen t.mode distance))
-        (disables_in later alters less lives _ (selection_now later alters less lives).0 (pos 0) (omega (arith, ints))
-        (omega (arith, ints)) (passed_task later alters less lives) refl refl (equal_lengths refl) h.holds.kept refl
-        refl
+        (disables_in later alters less lives changes _ (selection_now later alters less lives).0 (pos 0)
+        (omega (arith, ints)) (omega (arith, ints)) (passed_task later alters less lives) refl refl (channels_equal refl)
+        h.holds.kept refl refl (same_enabled _ refl refl)
         (λ n enables. (
           (enabled_as_before w _ p refl refl).fewer n enables,
           λ true_guard at. let no' : true ≡ false = sym true_guard ∙ not_so in cc,
@@ -830,12 +901,13 @@ module _ (m : Contents) (wf : IsWellFormed m) (w : World) (lawful : IsLawful m w
   -- ---- altend
 
   pub ends_holds : (to : ℕ) (l : Local) (next : State) (other : Activation) (later : ℕ)
-      → ChangesOwn (held r.row.role) w.memory l.memory
-      → LivesAs m (held r.row.role) r.row.start l.memory (task_at m t modes.Plain to l) later next other
-      → later + 1 ≤ r.row.due → (after : World) → Moved turning w (ends_alternation to l) after
+      → Allows r.lives w.memory l.memory
+      → LivesAs m (held (row_of r).role) (row_of r).start l.memory (task_at m t modes.Plain to l) later next other
+      → later + 1 ≤ (row_of r).due → (after : World) → Moved turning w (ends_alternation to l) after
       → IsSound m (counted after)
   ends_holds to l next other later changes lives less after (it_ends_alternation there k none) =
-      holds_put m w h apart p t r.here r.row (counted after) (task_at m t modes.Plain to l) l.memory later (record {
+      holds_put m w h (shared_out lawful) p t r (counted after) (task_at m t modes.Plain to l) l.memory later
+      (record {
         tasks = ap (λ (c : Condition). slice_set w.tasks p (record {
           registers = between to l.registers;
           mode = modes.Plain;
@@ -843,10 +915,10 @@ module _ (m : Contents) (wf : IsWellFormed m) (w : World) (lawful : IsLawful m w
         })) ready;
         memory = refl;
         roles = refl;
-        channels = equal_lengths refl;
+        channels = channels_equal refl;
         kept = h.holds.kept;
         fault = refl;
-      }) (omega (arith, less)) refl changes (it_lives lives.lives)
+      }) (same_enabled (counted after) refl refl) changes unopened (omega (arith, less)) refl (it_lives lives.lives)
 
   -- ---- no fault
 
@@ -872,10 +944,10 @@ module _ (m : Contents) (wf : IsWellFormed m) (w : World) (lawful : IsLawful m w
 
   -- one that a true guard is disabled at is enabled by this process
   pub never_disabling : {kind : EndKind} {address : ℕ} {holds : Bool} {distance : ℤ} {l : Local} {next : State}
-      {fault : FaultKind} (later : ℕ) → AltersTo m x t r.row.due later l → HoldsChannel m x kind address
+      {fault : FaultKind} (later : ℕ) → AltersTo m x t (row_of r).due later l → HoldsChannel m x kind address
       → Disables x (AtChannel kind) holds distance next l
       → ((selection : Option ℤ) (a : ℤ) → pos 0 ≤ℤ a → a ≤ℤ pos 1
-      → LivesAs m (held r.row.role) r.row.start l.memory (behind_in m t (modes.Disabling selection) Ready
+      → LivesAs m (held (row_of r).role) (row_of r).start l.memory (behind_in m t (modes.Disabling selection) Ready
       (with_a_alone (Some a) l)) later next act)
       → Refused turning w (disables_channel holds address distance l) fault → ⊥
   never_disabling later alters channel less lives (no_code_follows needs none) = code_follows alters.low none

@@ -13,19 +13,24 @@ use Rattle.machine_state.specs.declared.link.InputLink.{InputLink}
 use Rattle.machine_state.specs.declared.link.OutputLink.{OutputLink}
 use Rattle.machine_state.specs.Memory.{Memory, with_byte}
 use Rattle.machine_state.specs.World.{World, held, input_word}
-use Rattle.machine_state.specs.Frame.{ChangesOwn}
+use Rattle.machine_state.specs.Roles.{opened_in}
 use Rattle.machine_state.specs.Waiting.{WaitsOn}
 use Rattle.machine_state.specs.Moves.{dispatch, enqueue, wake, with_condition, with_input, with_output, fill}
 use Rattle.machine_state.specs.Moves.{fill_condition, rouse}
 use Rattle.machine_state.proofs.Moving.{at_some, on_task_is}
 use Rattle.rulings.specs.Buffers.{is_filled, message_place}
 use Rattle.certified_worlds.specs.Lives.{awaits, IsExchanging, Lives, it_lives}
+use Rattle.verifier.proofs.CalmWorlds.{plain_of}
 use Rattle.verifier.proofs.Coming.{input_awaits, output_awaits, more_filled, ready_is_quiet, link_is_quiet, byte_changes}
 use Rattle.verifier.proofs.Coming.{byte_lives}
 use Rattle.verifier.proofs.LawfulWorlds.{IsLawful}
 use Rattle.machine_state.proofs.Lines.{got_set, got_other, set_either}
-use Rattle.verifier.proofs.Tables.{IsSound, AreBytes, equal_lengths, Puts, Living, living, lives_whatever, holds_put}
-use Rattle.verifier.proofs.Tables.{holds_aside, plain_of}
+use Rattle.verifier.proofs.OthersGuards.{IsSilent, LeavesEnabled, channels_same, link_set, enabled_same}
+use Rattle.verifier.proofs.SharedOut.{none_open, shared_aside, shared_out}
+use Rattle.verifier.proofs.Tables.{row_of}
+use Rattle.verifier.proofs.Tables.{Allows, IsSound, AreBytes, channels_equal, Puts, Living, living, lives_whatever}
+use Rattle.verifier.proofs.Tables.{holds_put, nothing_changes}
+use Rattle.verifier.proofs.Tables.{holds_aside}
 use Rattle.certified_worlds.specs.Alternating.{EnablesAt, a_channel, a_link}
 use Rattle.certified_worlds.proofs.Carrying.{alternates_on}
 use Rattle.machine_state.specs.EnabledLaws.{HasReady, a_sender, a_byte}
@@ -44,7 +49,18 @@ wake_is w p t here = ap (enqueue p) (sym (on_task_is p (λ task. record task { c
 link_waiter_is_plain : (m : Contents) (w : World) → IsSound m w → (p : ℕ) (t : Task) (e : Exchange) (done : ℕ)
     → slice_get w.tasks p ≡ Some t → t.condition ≡ OnLink e done → t.mode ≡ modes.Plain
 link_waiter_is_plain m w h p t e done here waits =
-    plain_of t (h.quiet.calm p t here) (λ is. let no' = sym waits ∙ is in cc) (λ is. let no' = sym waits ∙ is in cc)
+    plain_of t (h.calm p t here) (λ is. let no' = sym waits ∙ is in cc) (λ is. let no' = sym waits ∙ is in cc)
+
+-- has no join open
+link_waiter_unopened : (m : Contents) (w : World) → IsLawful m w → (p : ℕ) (t : Task) (e : Exchange) (done : ℕ)
+    → slice_get w.tasks p ≡ Some t → t.condition ≡ OnLink e done → opened_in w.roles p ≡ None
+link_waiter_unopened m w lawful p t e done here waits = none_open lawful.starters.openers p t here
+    (λ ended. let no' = sym waits ∙ ended in cc) (λ starting ready. let no' = sym waits ∙ ready in cc)
+
+-- and waits to send on no channel
+link_waiter_is_silent : (w : World) (p : ℕ) (t : Task) {e : Exchange} {done : ℕ} → t.condition ≡ OnLink e done
+    → IsSilent w p t
+link_waiter_is_silent w p t waits k c q e other here enabled waiting sends = let no' = sym waits ∙ sends in cc
 
 -- ---- an acknowledgement
 
@@ -61,16 +77,17 @@ acknowledged_holds m w lawful h k l p here waiting =
     let u : Task = record v.task { condition = Ready } in
     let ready : World = enqueue p (record free { tasks = slice_set w.tasks p u }) in
     dispatch_holds m 0 (wake p free) (subst (λ x. IsSound m x) (wake_is free p v.task v.here)
-    (holds_put m w h lawful.apart.processes p v.task v.here r.row ready u w.memory r.row.due
+    (holds_put m w h (shared_out lawful) p v.task r ready u w.memory (row_of r).due
     (record {
       tasks = refl;
       memory = refl;
       roles = refl;
-      channels = equal_lengths refl;
+      channels = channels_equal refl;
       kept = h.holds.kept;
       fault = refl;
-    }) (omega arith) (link_waiter_is_plain m w h p v.task v.exchange v.done v.here v.waits)
-    (record { size = refl; others = λ place e. refl })
+    }) (enabled_same refl refl (link_waiter_is_silent w p v.task v.waits)) nothing_changes
+    (link_waiter_unopened m w lawful p v.task v.exchange v.done v.here v.waits) (omega arith)
+    (link_waiter_is_plain m w h p v.task v.exchange v.done v.here v.waits)
     (it_lives (lives_whatever Ready ready_is_quiet
     (λ place. ap (λ c. awaits c place) v.waits ∙ output_awaits v.exchange v.done place channel) (λ place. refl) r.lives))))
 
@@ -141,7 +158,7 @@ module _ (m : Contents) (w : World) (lawful : IsLawful m w) (h : IsSound m w) (k
       (record { fewer = fewer_enabled p; more = more_enabled p }) (λ n g at. refl)
       (record { guards = refl; left = refl }) guards.fit (λ distance is. is)
       (λ must. elim (guards.ready must) [ inl is ↦ inl (ready_still p is) | inr skip ↦ inr skip ])) h)
-      lawful.apart.processes l.enabled
+      (shared_aside w kept refl refl refl (shared_out lawful)) l.enabled
       (λ q enabled. a_byte k with_it byte (got_set w.links.inputs k l with_it here) enabled refl))
 
 -- ---- a byte that is taken
@@ -166,27 +183,27 @@ module _ (m : Contents) (w : World) (lawful : IsLawful m w) (h : IsSound m w) (k
   awaited place = ap (λ c. awaits c place) v.waits ∙ (input_awaits v.exchange v.done k place v.on
       ∙ more_filled v.exchange v.done place v.more)
 
-  r : Living m w h.holds.began h.holds.dues p v.task
+  r : Living m w h.holds p v.task
   r = living m w h.holds p v.task (OnLink v.exchange v.done) v.here v.waits (λ e. cc) (λ e. cc)
 
-  changes : ChangesOwn (held r.row.role) w.memory filled
+  changes : Allows r.lives w.memory filled
   changes = byte_changes r.lives goal_place byte small (λ place. is_filled v.exchange (v.done + 1) after_it place) awaited
 
   -- the process lives on, where a test tells the places that are still awaited
   filled_lives : (c : Condition) (still : ℕ → Bool) → ((e : Exchange) → IsExchanging c e → ⊥)
       → ((place : ℕ) → awaits c place ≡ still place)
       → ((place : ℕ) → awaits v.task.condition place ≡ (eqb place goal_place || still place))
-      → Lives m (held r.row.role) r.row.start filled (record v.task { condition = c }) r.row.due
+      → Lives m (held (row_of r).role) (row_of r).start filled (record v.task { condition = c }) (row_of r).due
   filled_lives c still quiet is_still was = byte_lives r.lives goal_place byte small still was c quiet is_still
 
   filled_puts : (c : Condition) (after : World) → Puts w after p (record v.task { condition = c }) filled
-      → after.counters ≡ w.counters → Lives m (held r.row.role) r.row.start filled (record v.task { condition = c }) r.row.due
-      → IsSound m after
-  filled_puts c after puts same lives =
-      holds_put m w h lawful.apart.processes p v.task v.here r.row after (record v.task { condition = c }) filled
-      r.row.due
-      puts (rw same (omega arith)) (link_waiter_is_plain m w h p v.task v.exchange v.done v.here v.waits) changes
-      (it_lives lives)
+      → LeavesEnabled w after p v.task → after.counters ≡ w.counters
+      → Lives m (held (row_of r).role) (row_of r).start filled (record v.task { condition = c }) (row_of r).due → IsSound m after
+  filled_puts c after puts leaves same lives =
+      holds_put m w h (shared_out lawful) p v.task r after
+      (record v.task { condition = c }) filled (row_of r).due puts leaves changes
+      (link_waiter_unopened m w lawful p v.task v.exchange v.done v.here v.waits) (rw same (omega arith))
+      (link_waiter_is_plain m w h p v.task v.exchange v.done v.here v.waits) (it_lives lives)
 
   abbrev with_filled : World
   with_filled = record w { memory = filled }
@@ -202,9 +219,14 @@ module _ (m : Contents) (w : World) (lawful : IsLawful m w) (h : IsSound m w) (k
         tasks = refl;
         memory = refl;
         roles = refl;
-        channels = equal_lengths refl;
+        channels = channels_equal refl;
         kept = bytes_set w.links.inputs k (record l { waiting = None }) h.holds.kept (λ b. h.holds.kept k l b here);
         fault = refl;
+      }) (record {
+        channels = channels_same refl;
+        links = link_set w.links.inputs k l (record l { waiting = None }) here (λ q other is. is)
+            (λ q other is. (is, λ byte kept. kept));
+        silent = link_waiter_is_silent w p v.task v.waits;
       }) refl
       (filled_lives Ready (λ place. false) ready_is_quiet (λ place. refl) (λ place. awaited place
       ∙ ap (λ i. eqb place goal_place || is_filled v.exchange (v.done + 1) i place) none)))
@@ -218,10 +240,10 @@ module _ (m : Contents) (w : World) (lawful : IsLawful m w) (h : IsSound m w) (k
         tasks = refl;
         memory = refl;
         roles = refl;
-        channels = equal_lengths refl;
+        channels = channels_equal refl;
         kept = h.holds.kept;
         fault = refl;
-      }) refl
+      }) (enabled_same refl refl (link_waiter_is_silent w p v.task v.waits)) refl
       (filled_lives next (λ place. is_filled v.exchange (v.done + 1) after_it place)
       (link_is_quiet v.exchange (v.done + 1)) (λ place. input_awaits v.exchange (v.done + 1) k place v.on) awaited))
 

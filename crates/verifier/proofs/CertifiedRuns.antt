@@ -3,14 +3,14 @@ use Rattle.std.proofs.Common.{List, [], ◌∷◌, ◌++◌, sym, subst, append_
 use Rattle.module_format.specs.Contents.{Contents}
 use Rattle.module_format.specs.Keeping.{Keeps}
 use Rattle.machine_state.specs.declared.event.Event.{Event}
-use Rattle.machine_state.specs.World.{loaded}
+use Rattle.machine_state.specs.World.{World, loaded}
 use Rattle.machine_state.specs.Happens.{happens, world_after}
 use Rattle.machine_state.proofs.EveryWorld.{run_further}
 use Rattle.certified_worlds.specs.Certified.{IsCertified}
 use Rattle.certified_worlds.specs.Invariant.{Holds}
 use Rattle.verifier.specs.Headline.{IsEvent, AreEvents, RunsWell}
 use Rattle.verifier.proofs.Kept.{decodes, well_formed}
-use Rattle.verifier.proofs.LawfulWorlds.{lawful}
+use Rattle.verifier.proofs.LawfulWorlds.{IsLawful, lawful}
 use Rattle.verifier.proofs.Tables.{IsSound}
 use Rattle.verifier.proofs.EventsKeepInvariant.{event_holds}
 use Rattle.verifier.proofs.Start.{loaded_holds}
@@ -20,7 +20,8 @@ module _ (m : Contents) (k : Keeps m) (c : IsCertified m) where
   step_further : (es : List Event) (e : Event) → IsEvent e → IsSound m (world_after m es)
       → IsSound m (happens m (world_after m es) e)
   step_further es e is h =
-      event_holds m (decodes m k) (well_formed m k) c (world_after m es) (lawful m es k) h e is
+      event_holds m (decodes m k) (well_formed m k) k c (world_after m es) (lawful m es k) h e is
+      (subst (λ (w : World). IsLawful m w) (run_further m (loaded m) es e) (lawful m (es ++ e ∷ []) k))
 
   holds_from : (before es : List Event) → AreEvents es → IsSound m (world_after m before)
       → IsSound m (world_after m (before ++ es))

@@ -9,7 +9,6 @@ use Rattle.machine_state.specs.declared.process.Condition.{Condition}
 use Rattle.machine_state.specs.declared.process.Condition.TheVariants.{Ready, Sending, Receiving, OnLink}
 use Rattle.machine_state.specs.declared.process.Exchange.{Exchange}
 use Rattle.machine_state.specs.declared.process.Task.{Task}
-use Rattle.machine_state.specs.Frame.{ChangesOwn}
 use Rattle.machine_state.specs.Holding.{Holding, may_write}
 use Rattle.machine_state.specs.LocalStep.{copied}
 use Rattle.machine_state.specs.Memory.{Memory, byte_at, with_byte, place_of}
@@ -23,7 +22,7 @@ use Rattle.rulings.specs.Buffers.{message_place, is_filled, IsByte}
 use Rattle.certified_worlds.specs.Lives.{awaits, IsExchanging, Lives}
 use Rattle.certified_worlds.specs.Point.{Began}
 use Rattle.certified_worlds.proofs.Given.{or_left}
-use Rattle.verifier.proofs.Tables.{lives_on, lives_whatever}
+use Rattle.verifier.proofs.Tables.{Allows, lives_on, lives_whatever}
 
 -- ---- what is awaited
 
@@ -58,6 +57,29 @@ pub link_is_quiet : (x : Exchange) (done : ℕ) (e : Exchange) → IsExchanging 
 link_is_quiet x done e (inl no') = cc
 link_is_quiet x done e (inr no') = cc
 
+-- ---- what comes
+
+-- Of what a process awaits bytes come, and that is allowed.
+pub fills_allowed : {m : Contents} {h : Holding} {began : Began} {memory : Memory} {t : Task} {due : ℕ}
+    (l : Lives m h began memory t due) (new : Memory) → length new ≡ length memory
+    → ((place : ℕ) → awaits t.condition place ≡ false → byte_at new place ≡ byte_at memory place)
+    → ((place : ℕ) → awaits t.condition place ≡ true → (byte_at new place ≡ byte_at memory place)
+    ⊎ IsByte (byte_at new place)) → Allows l memory new
+fills_allowed {h = h} {memory = memory} {t = t} l new size others come = record {
+  own = record {
+    size = size;
+    others = λ place free. elim (bool_cases (awaits t.condition place)) [
+      | inl awaited ↦ let no' : true ≡ false = sym (l.room place awaited).0 ∙ free in absurd (cc)
+      | inr none ↦ others place none
+    ];
+  };
+  keeps = l.fills memory new (record {
+    size = size;
+    others = λ place may none. others place none;
+    come = λ place may awaited. come place awaited;
+  });
+}
+
 -- ---- one byte comes
 
 module _ {m : Contents} {h : Holding} {began : Began} {memory : Memory} {t : Task} {due : ℕ}
@@ -72,17 +94,24 @@ module _ {m : Contents} {h : Holding} {began : Began} {memory : Memory} {t : Tas
   awaited_here : awaits t.condition goal ≡ true
   awaited_here = was goal ∙ ap (λ (b : Bool). b || still goal) (eqb_is goal)
 
-  pub byte_changes : ChangesOwn h memory with_it
-  byte_changes = record {
-    size = length-with_byte memory goal (Some byte);
-    others = λ place free. byte_at-with_byte_other memory goal place (Some byte)
-        (λ e. let no' : true ≡ false = sym (l.room goal awaited_here).0 ∙ ap (may_write h) (sym e) ∙ free in cc);
-  }
+  differs : (place : ℕ) → eqb place goal ≡ false → place ≢ goal
+  differs place e same =
+      elim (eqb_tells place goal) [ inl t ↦ let no' : true ≡ false = sym t.0 ∙ e in cc | inr t ↦ t.1 same ]
+
+  pub byte_changes : Allows l memory with_it
+  byte_changes = fills_allowed l with_it (length-with_byte memory goal (Some byte))
+      (λ place free. byte_at-with_byte_other memory goal place (Some byte)
+      (differs place (or_left (eqb place goal) (still place) (sym (was place) ∙ free))))
+      (λ place awaited. elim (eqb_tells place goal) [
+        | inl t ↦ inr (subst (λ q. IsByte (byte_at with_it q)) (sym t.1)
+            (byte, byte_at-with_byte memory goal (Some byte) (l.room goal awaited_here).1, small))
+        | inr t ↦ inl (byte_at-with_byte_other memory goal place (Some byte) t.1)
+      ])
 
   -- it lives on in a condition in which it awaits the others
   pub byte_lives : (c : Condition) → ((e : Exchange) → IsExchanging c e → ⊥)
       → ((place : ℕ) → awaits c place ≡ still place) → Lives m h began with_it (record t { condition = c }) due
-  byte_lives c quiet is_still = lives_on with_it c quiet byte_changes.size
+  byte_lives c quiet is_still = lives_on with_it c quiet byte_changes.own.size
       (λ place e free. byte_at-with_byte_other memory goal place (Some byte)
       (differs place (or_left (eqb place goal) (still place) (sym (was place) ∙ free))))
       (λ place e. was place ∙ or_true_right (eqb place goal) (still place) (sym (is_still place) ∙ e))
@@ -99,10 +128,6 @@ module _ {m : Contents} {h : Holding} {began : Began} {memory : Memory} {t : Tas
       or_true_right : (a b : Bool) → b ≡ true → (a || b) ≡ true
       or_true_right true b e = refl
       or_true_right false b e = e
-
-      differs : (place : ℕ) → eqb place goal ≡ false → place ≢ goal
-      differs place e same =
-          elim (eqb_tells place goal) [ inl t ↦ let no' : true ≡ false = sym t.0 ∙ e in cc | inr t ↦ t.1 same ]
 
       same_place : (place : ℕ) (b : Bool) → b ≡ false → (eqb place goal || b) ≡ true → place ≡ goal
       same_place place true none e = absurd (cc)
@@ -145,7 +170,7 @@ module _ {m : Contents} {h : Holding} {began : Began} {memory : Memory} (t : Tas
       Ready ready_is_quiet (λ place. refl)
 
   pub last_changes : (byte : ℕ) → byte < 256 → 1 ≤ e.length
-      → ChangesOwn h memory (with_byte memory (message_place e 0) (Some byte))
+      → Allows l memory (with_byte memory (message_place e 0) (Some byte))
   last_changes byte small some = byte_changes l (message_place e 0) byte small
       (λ place. is_filled e 1 (e.length - 1) place) (first_awaited some)
 
@@ -223,15 +248,19 @@ straight e size n small each (suc j) less =
 module _ {m : Contents} {h : Holding} {began : Began} {memory : Memory} (t : Task) {due : ℕ} (sent e : Exchange)
     (same : sent.length ≡ e.length) (small : length memory ≤ 1048576)
     (bytes : (j : ℕ) → j < sent.length → IsByte (byte_at memory (message_place sent j)))
-    (l : Lives m h began memory (record t { condition = Receiving e }) due) where
+    (waits : t.condition ≡ Receiving e) (l : Lives m h began memory t due) where
   abbrev after : Memory
   after = copied memory (place_of sent.address) (place_of e.address) sent.length memory
 
   size : length after ≡ length memory
   size = length-copied memory (place_of sent.address) (place_of e.address) sent.length memory
 
+  awaits_is : (place : ℕ) → awaits t.condition place ≡ is_filled e 0 e.length place
+  awaits_is place = ap (λ (c : Condition). awaits c place) waits
+
   room : (j : ℕ) → j < e.length → (may_write h (message_place e j) ≡ true) × (message_place e j < length memory)
-  room j less = l.room (message_place e j) (filled_at e 0 e.length j (omega arith) (omega (arith, less)))
+  room j less = l.room (message_place e j)
+      (awaits_is (message_place e j) ∙ filled_at e 0 e.length j (omega arith) (omega (arith, less)))
 
   to_is : (j : ℕ) → j < e.length → message_place e j ≡ place_of e.address + j
   to_is = straight e (length memory) e.length small (λ j less. (room j less).1)
@@ -284,19 +313,19 @@ module _ {m : Contents} {h : Holding} {began : Began} {memory : Memory} (t : Tas
     ]
   ]
 
-  pub filled_changes : ChangesOwn h memory after
-  filled_changes = record {
-    size = size;
-    others = λ place free. elim (bool_cases (is_filled e 0 e.length place)) [
-      | inl filled ↦ let no' : true ≡ false = sym (l.room place filled).0 ∙ free in absurd (cc)
-      | inr none ↦ beside place none
-    ];
-  }
-
-  pub filled_lives : Lives m h began after (record t { condition = Ready }) due
-  filled_lives = lives_on after Ready ready_is_quiet size (λ place may none. beside place none)
-      (λ place no'. absurd (cc)) (λ place no'. absurd (cc))
-      (λ place awaited over.
+  -- a place of the buffer
+  filled_byte : (place : ℕ) → is_filled e 0 e.length place ≡ true → IsByte (byte_at after place)
+  filled_byte place awaited =
       let i = filled_is e 0 e.length place awaited in
       let less : i.0 < e.length = let high = i.2 in omega (arith, high) in
-      subst (λ place. IsByte (byte_at after place)) (sym i.3) (came i.0 less)) l
+      subst (λ place. IsByte (byte_at after place)) (sym i.3) (came i.0 less)
+
+  pub filled_changes : Allows l memory after
+  filled_changes = fills_allowed l after size (λ place none. beside place (sym (awaits_is place) ∙ none))
+      (λ place awaited. inr (filled_byte place (sym (awaits_is place) ∙ awaited)))
+
+  pub filled_lives : Lives m h began after (record t { condition = Ready }) due
+  filled_lives = lives_on after Ready ready_is_quiet size
+      (λ place may none. beside place (sym (awaits_is place) ∙ none))
+      (λ place no'. absurd (cc)) (λ place no'. absurd (cc))
+      (λ place awaited over. filled_byte place (sym (awaits_is place) ∙ awaited)) l

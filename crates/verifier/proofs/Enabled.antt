@@ -9,9 +9,12 @@ use Rattle.module_format.specs.Contents.{Contents}
 use Rattle.module_format.specs.declared.rows.Direction.TheVariants.{In}
 use Rattle.machine_state.specs.declared.link.InputLink.{InputLink}
 use Rattle.machine_state.specs.declared.process.Channel.{Channel}
+use Rattle.machine_state.specs.declared.process.Condition.TheVariants.{Ready, Receiving}
+use Rattle.machine_state.specs.declared.process.Exchange.{Exchange}
+use Rattle.machine_state.specs.declared.process.Task.{Task}
 use Rattle.machine_state.specs.Alternations.{Source}
 use Rattle.machine_state.specs.EnabledLaws.{HasEnabled, a_channel as has_channel, a_link as has_link, HasReady}
-use Rattle.machine_state.specs.EnabledLaws.{a_sender, a_byte}
+use Rattle.machine_state.specs.EnabledLaws.{a_sender, a_byte, IsSending}
 use Rattle.machine_state.specs.Endings.{IsSource, on_channel, on_link}
 use Rattle.machine_state.specs.Holding.{has_end}
 use Rattle.machine_state.specs.Moves.{cell_of, channel_at}
@@ -19,9 +22,10 @@ use Rattle.machine_state.specs.Ownership.{IsWord}
 use Rattle.machine_state.specs.World.{World, holding_at, input_word}
 use Rattle.machine_state.proofs.Changes.{channel_there}
 use Rattle.machine_state.proofs.Claims.{only_one}
-use Rattle.machine_state.proofs.EnabledIsHeld.{word_of}
+use Rattle.machine_state.proofs.EnabledIsHeld.{only_receiver, word_of}
 use Rattle.machine_state.proofs.Lines.{got_set, got_other, set_either}
 use Rattle.machine_state.proofs.Waiting.{link_found}
+use Rattle.machine_state.proofs.WhoWaitsOnLinks.{one_holds}
 use Rattle.rulings.specs.Meaning.{IsWellFormed}
 use Rattle.certified_worlds.specs.Alternating.{EnablesAt, a_channel, a_link}
 use Rattle.verifier.proofs.LawfulWorlds.{IsLawful}
@@ -94,6 +98,50 @@ module _ (m : Contents) (wf : IsWellFormed m) (w : World) (lawful : IsLawful m w
       let same : j ≡ k = omega (arith, on, there) in
       ap (λ (l : InputLink). l.enabled) (only_one (slice_get w.links.inputs k) link other here
       (subst (λ n. slice_get w.links.inputs n ≡ Some other) same at)) ∙ is
+
+  -- What is enabled at an end that a process holds to receive by is enabled by it.
+  pub only_it : (p address : ℕ)
+      → has_end (holding_at w.roles p) (record { address = address; direction = In }) ≡ true → (q : ℕ)
+      → EnablesAt w q address → q ≡ p
+  only_it p address held q enables =
+      elim (cases_eq q p) [ inl same ↦ same | inr differ ↦ absurd (by_another enables differ) ]
+    where
+      by_another : EnablesAt w q address → q ≢ p → ⊥
+      by_another (a_channel word c here is) differ =
+          only_receiver m w lawful.stands lawful.apart lawful.enabled (cell_of address) q p address c here is refl held
+          differ
+      by_another (a_link k link at here is) differ =
+          one_holds w lawful.apart q p (record { address = input_word k; direction = In }) differ
+          (lawful.enabled.at_links k link q here is)
+          (subst (λ a. has_end (holding_at w.roles p) (record { address = a; direction = In }) ≡ true) at held)
+
+  -- Whoever waits there, while the process is ready, is a sender.
+  pub who_sends : (p address : ℕ) (t : Task)
+      → has_end (holding_at w.roles p) (record { address = address; direction = In }) ≡ true
+      → slice_get w.tasks p ≡ Some t → t.condition ≡ Ready → (c : Channel) → channel_at w address ≡ Some c → (q : ℕ)
+      → c.waiting ≡ Some q → IsSending w.tasks q
+  who_sends p address t held here ready c at q waiting =
+      let there = channel_there w address c at in
+      let v = lawful.cells (cell_of address) c q there waiting in
+      elim v.waits [
+        | inl sends ↦ record { task = v.task; here = v.here; exchange = v.exchange; sends = sends }
+        | inr receives ↦ absurd (receiving v.task v.exchange v.here receives v.at)
+      ]
+    where
+      receiving : (u : Task) (e : Exchange) → slice_get w.tasks q ≡ Some u → u.condition ≡ Receiving e
+          → cell_of e.channel ≡ cell_of address → ⊥
+      receiving u e stands receives cell =
+          let there = channel_there w address c at in
+          let end = (lawful.recorded q u In e stands receives).end in
+          let mine = word_of m w lawful.stands p (record { address = address; direction = In }) c there held in
+          let theirs = word_of m w lawful.stands q (record { address = e.channel; direction = In }) c
+          (subst (λ n. slice_get w.channels n ≡ Some (Some c)) (sym cell) there) end in
+          one_holds w lawful.apart p q (record { address = address; direction = In }) (λ it.
+          let one = only_one (slice_get w.tasks q) t u (subst (λ n. slice_get w.tasks n ≡ Some t) it here) stands in
+          let no' : Ready ≡ Receiving e = sym ready ∙ (ap (λ (x : Task). x.condition) one ∙ receives) in
+          cc) held
+          (subst (λ a. has_end (holding_at w.roles q) (record { address = a; direction = In }) ≡ true)
+          (same_address e.channel address theirs mine cell) end)
 
   module _ (p address : ℕ) (held : has_end (holding_at w.roles p) (record { address = address; direction = In }) ≡ true)
       (by : Option ℕ) (after : World) where

@@ -15,7 +15,7 @@ use Rattle.states.specs.Below.{below}
 use Rattle.rulings.specs.Rulings.{outside_alternation, outside_starts, uses, forward, writes_word, reads_word}
 use Rattle.rulings.specs.Rulings.{schedules, pays, leads_to, goes_on}
 use Rattle.local_rules.specs.WordRules.{becomes, fact_of_two}
-use Rattle.facts.specs.Rules.{operation_rule, instruction_rule, rule_of, rule, has_rule}
+use Rattle.facts.specs.Rules.{operation_rule, instruction_rule, rule_of, rule, is_instruction}
 use Rattle.verifier.specs.Judge.{judged_at, judge, verdict, refused}
 use Rattle.local_rules.specs.LocalRules.{local_operation_rule, local_rule}
 
@@ -39,13 +39,13 @@ first_is_dear = refl
 nothing_leads_to_it : verdict (record (first 7) { code = 0x21 ∷ 0xf5 ∷ 0x45 ∷ [] }) ≡ refused rules.Flow 2
 unfolding judge judged_at below written context_at outside_alternation outside_starts uses becomes fact_of_two
     result_range forward writes_word reads_word schedules pays leads_to goes_on operation_rule instruction_rule rule_of
-    local_operation_rule local_rule rule instruction_of op_of has_rule
+    local_operation_rule local_rule rule instruction_of op_of is_instruction
 nothing_leads_to_it = refl
 
 it_has_no_rule : verdict (record (first 7) { code = 0x21 ∷ 0xf5 ∷ 0x22 ∷ 0xf2 ∷ [] }) ≡ refused rules.Spelling 2
 unfolding judge judged_at below written context_at outside_alternation outside_starts uses becomes fact_of_two
     result_range forward writes_word reads_word schedules pays leads_to goes_on operation_rule instruction_rule rule_of
-    local_operation_rule local_rule rule instruction_of op_of has_rule
+    local_operation_rule local_rule rule instruction_of op_of is_instruction
 it_has_no_rule = refl
 
 -- ldc 5, stl 1, j 0 to the label at 3 of this number, ldl 1, stopp

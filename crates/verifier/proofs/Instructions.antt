@@ -1,8 +1,6 @@
 -- What a byte of the running process does: it is in the code, is a prefix, or completes an instruction.
-use Rattle.std.proofs.Common.{◌≡◌, ℕ, zero, suc, ◌+◌, ◌≤◌, ◌<◌, true, false, ℤ, inl, inr, List, [], ◌∷◌, ◌++◌, length}
-use Rattle.std.proofs.Common.{Option, Some, None, refl, sym, ap, ◌∙◌, subst, arith}
-use Rattle.std.proofs.lemmas.Bool.Decides.{leb_tells}
-use Rattle.std.proofs.lemmas.Option.{slice_get_within}
+use Rattle.std.proofs.Common.{◌≡◌, ℕ, suc, ◌+◌, ◌≤◌, true, false, ℤ, inl, inr, List, [], ◌∷◌, ◌++◌}
+use Rattle.std.proofs.Common.{length, Option, Some, None, refl, sym, ap, ◌∙◌, subst, arith}
 use Rattle.std.specs.Prelude.{slice_get}
 use Rattle.prefix_decoder.specs.declared.function.Fun.{Fun}
 use Rattle.prefix_decoder.specs.Functions.{fun_of, function_code, nibble}
@@ -17,23 +15,22 @@ use Rattle.machine_state.specs.World.{World, Role, Queue, held}
 use Rattle.machine_state.specs.Site.{Local, Outcome}
 use Rattle.machine_state.specs.LocalStep.{local_step}
 use Rattle.machine_state.specs.Frame.{ChangesOwn}
-use Rattle.machine_state.specs.Moves.{counted, put, picked, dispatch}
+use Rattle.machine_state.specs.Moves.{counted, picked, dispatch}
 use Rattle.machine_state.specs.Turn.{Turn, at_here, between, continued}
 use Rattle.machine_state.specs.Happens.{site_of}
 use Rattle.machine_state.specs.Endings.{Ends, at_fault, has_run, has_emitted, it_goes, it_jumps, it_is_sliced}
-use Rattle.machine_state.specs.Endings.{it_lands, it_stops, Refused, no_code_follows, local_here, IsOutsideCode}
-use Rattle.machine_state.specs.Endings.{no_byte, no_byte_follows}
+use Rattle.machine_state.specs.Endings.{it_lands, it_stops, Refused, no_code_follows, local_here}
 use Rattle.rulings.specs.Meaning.{IsWellFormed}
 use Rattle.certified_worlds.specs.Certified.{IsCertified}
-use Rattle.rulings.proofs.Combining.{elsewhere}
 use Rattle.certified_worlds.specs.Point.{Point, MeetsPoint, Decodes}
 use Rattle.certified_worlds.specs.Lives.{awaits, Meets, it_lives, it_stopped}
 use Rattle.machine_state.specs.declared.process.Mode.TheVariants as modes
-use Rattle.certified_worlds.proofs.Steps.{site_in, here_of, task_at, byte_here, owes, prefixed_point, GoesOnAs, Comes, comes_on}
+use Rattle.certified_worlds.proofs.Steps.{site_in, here_of, task_at, owes, GoesOnAs, Comes, comes_on}
 use Rattle.certified_worlds.proofs.Steps.{comes_to, comes_straight, comes_down, comes_in, comes_out, comes_to_begin}
 use Rattle.certified_worlds.proofs.Steps.{comes_to_enable, comes_to_enable_skip, comes_to_wait, comes_to_disable}
 use Rattle.certified_worlds.proofs.Steps.{comes_to_disable_skip, comes_to_end, comes_last}
-use Rattle.verifier.proofs.Alternations.{calm, has_selected, begins_holds, enables_holds, enables_skip_holds}
+use Rattle.verifier.proofs.CalmWorlds.{IsCalm, is_alternating, is_among_starts, is_plain, no_alternation}
+use Rattle.verifier.proofs.Alternations.{unopened, has_selected, begins_holds, enables_holds, enables_skip_holds}
 use Rattle.verifier.proofs.Alternations.{waits_holds}
 use Rattle.verifier.proofs.Alternations.{disables_holds, disables_skip_holds, ends_holds, never_enabling}
 use Rattle.verifier.proofs.Alternations.{never_disabling, never_ending}
@@ -47,47 +44,77 @@ use Rattle.states.specs.declared.known.Mode as states
 use Rattle.certificate.specs.Rights as rights
 use Rattle.module_format.specs.declared.rows.Direction.TheVariants.{In}
 use Rattle.rulings.specs.Meaning.{Activation, words_in}
+use Rattle.rulings.specs.Regions.{Scope, scope_of, Keeps}
+use Rattle.rulings.proofs.Within.{scope_still}
+use Rattle.machine_state.specs.Roles.{opened_in}
 use Rattle.rulings.specs.Guarding.{guard_value, first_left, IsTaken, GuardsFit}
 use Rattle.rulings.specs.Fitting.{Here, Stays}
 use Rattle.std.specs.Prelude.{slice_set}
 use Rattle.verifier.proofs.LawfulWorlds.{IsLawful}
 use Rattle.verifier.proofs.Talking.{never_in, never_out}
 use Rattle.verifier.proofs.Messages.{moved_in, moved_out, emitted_holds}
-use Rattle.verifier.proofs.Tables.{AreApart, equal_lengths, IsSound, Puts, Living, no_alternation, holds_put}
-use Rattle.verifier.proofs.Tables.{holds_put_alternating}
+use Rattle.verifier.proofs.InItsMode.{at_still}
+use Rattle.verifier.proofs.OthersGuards.{LeavesEnabled, enabled_same, ready_is_silent}
+use Rattle.verifier.proofs.Prefixes.{prefixed, prefixed_lives, puts_prefixed, some_owed, world_prefixed}
+use Rattle.verifier.proofs.SharedOut.{shared_out}
+use Rattle.module_format.specs.Keeping.{Keeps as IsKept}
+use Rattle.machine_state.specs.Holding.{Holding}
+use Rattle.machine_state.specs.Instructions.{instruction_of}
+use Rattle.states.specs.declared.known.Mode.TheVariants as states_modes
+use Rattle.rulings.specs.Guarding.{HasSelected}
+use Rattle.facts.specs.Rules.{rule_at}
+use Rattle.facts.specs.RulesFit.{FitsStep, it_starts, it_joins, it_fits}
+use Rattle.certified_worlds.proofs.Steps.{last_fits, unbroken}
+use Rattle.verifier.proofs.PartingTurns as parting
+use Rattle.verifier.proofs.StepsKeep.{LeavesKept, fits_keep}
+use Rattle.verifier.proofs.Tables.{row_of}
+use Rattle.verifier.proofs.Tables.{Allows, channels_equal, IsSound}
+use Rattle.verifier.proofs.Tables.{Puts, Living, nothing_changes, holds_put, holds_put_alternating}
 
 -- ---- a process that runs
 
-module _ (m : Contents) (d : Decodes m) (wf : IsWellFormed m) (c : IsCertified m) (w : World) (lawful : IsLawful m w)
-    (h : IsSound m w) (p : ℕ) (t : Task) (ready : t.condition ≡ Ready)
-    (r : Living m w h.holds.began h.holds.dues p t) where
-  abbrev apart : AreApart w.roles
-  apart = lawful.apart.processes
-
+module _ (m : Contents) (d : Decodes m) (wf : IsWellFormed m) (kept : IsKept m) (c : IsCertified m) (w : World)
+    (lawful : IsLawful m w) (h : IsSound m w) (p : ℕ) (t : Task) (ready : t.condition ≡ Ready)
+    (r : Living m w h.holds p t) (calm_now : t.mode ≡ modes.Starting → ⊥) where
   abbrev point : Point m t
   point = r.lives.point
 
-  meets_now : MeetsPoint m t (held r.row.role) r.row.start point w.memory
+  meets_now : MeetsPoint m t (held (row_of r).role) (row_of r).start point w.memory
   meets_now = r.lives.claim w.memory refl (λ place e none. refl) (λ place e.
       let no' : true ≡ false = sym e ∙ ap (λ c. awaits c place) ready in absurd (cc))
 
-  calm_now : t.mode ≡ modes.Starting → ⊥
-  calm_now = calm m wf w lawful h p t ready r meets_now 0
+  no_join : opened_in w.roles p ≡ None
+  no_join = unopened m wf w lawful h p t ready r meets_now calm_now 0
+
+  -- what its instruction changes within its activation is allowed
+  allows : (new : Memory) → ChangesOwn (held (row_of r).role) w.memory new
+      → Keeps m (held (row_of r).role) (scope_of m point.state.context point.act.layout) w.memory new
+      → Allows r.lives w.memory new
+  allows new own keeps = record {
+    own = own;
+    keeps = subst (λ (scope : Scope). Keeps m (held (row_of r).role) scope w.memory new)
+        (sym (scope_still m point.state.context point.state.mode point.act.layout (at_still r.lives calm_now))) keeps;
+  }
+
+  -- where no channel and no link has changed
+  same_enabled : (after : World) → after.channels ≡ w.channels → after.links.inputs ≡ w.links.inputs
+      → LeavesEnabled w after p t
+  same_enabled after channels inputs = enabled_same channels inputs (ready_is_silent w p t ready)
 
   abbrev here_now : Here
-  here_now = here_of m d wf c (held r.row.role) point.act w.memory t point.state point.instr
+  here_now = here_of m d wf c (held (row_of r).role) point.act w.memory t point.state point.instr
 
   -- a byte was executed, and the process goes on in plain mode as another task
-  went_on : (after : World) (u : Task) (new : Memory) (later : ℕ) → Puts w after p u new
-      → after.counters.executed ≡ w.counters.executed + 1 → later + 1 ≤ r.row.due → u.mode ≡ modes.Plain
-      → ChangesOwn (held r.row.role) w.memory new → Meets m (held r.row.role) r.row.start new u later → IsSound m after
-  went_on after u new later puts more less plain changes meets =
-      holds_put m w h apart p t r.here r.row after u new later puts (omega arith) plain changes meets
+  went_on : (after : World) (u : Task) (new : Memory) (later : ℕ) → Puts w after p u new → LeavesEnabled w after p t
+      → after.counters.executed ≡ w.counters.executed + 1 → later + 1 ≤ (row_of r).due → u.mode ≡ modes.Plain
+      → Allows r.lives w.memory new → Meets m (held (row_of r).role) (row_of r).start new u later → IsSound m after
+  went_on after u new later puts leaves more less plain changes meets =
+      holds_put m w h (shared_out lawful) p t r after u new later puts leaves changes no_join (omega arith) plain meets
 
   -- it lives on at another offset, whoever runs next
-  module _ (to : ℕ) (l : Local) (later : ℕ) (queue : Queue) (less : later + 1 ≤ r.row.due)
-      (changes : ChangesOwn (held r.row.role) w.memory l.memory)
-      (goes : GoesOnAs m here_now r.row.start t (task_at m t t.mode to l) l later) where
+  module _ (to : ℕ) (l : Local) (later : ℕ) (queue : Queue) (less : later + 1 ≤ (row_of r).due)
+      (changes : Allows r.lives w.memory l.memory)
+      (goes : GoesOnAs m here_now (row_of r).start t (task_at m t t.mode to l) l later) where
     abbrev after : World
     after = record (counted (continued (at_here m p t 0) to l w)) { queue = queue }
 
@@ -100,7 +127,7 @@ module _ (m : Contents) (d : Decodes m) (wf : IsWellFormed m) (c : IsCertified m
       })) ready;
       memory = refl;
       roles = refl;
-      channels = equal_lengths refl;
+      channels = channels_equal refl;
       kept = h.holds.kept;
       fault = refl;
     }
@@ -111,8 +138,9 @@ module _ (m : Contents) (d : Decodes m) (wf : IsWellFormed m) (c : IsCertified m
         let old = r.guards alternates in
         let act_is = kept.2 in
         let u : Task = task_at m t t.mode to l in
-        holds_put_alternating m w h apart p t r.here r.row after u l.memory later goes_puts (omega arith)
-        (subst (λ (c : Condition). Alternates t.mode c) ready alternates) changes goes.lives
+        holds_put_alternating m w h (shared_out lawful) p t r after u l.memory later goes_puts
+        (same_enabled after refl refl) changes no_join (omega arith)
+        (subst (λ (c : Condition). Alternates t.mode c) ready alternates) goes.lives
         (subst (λ (act : Activation). AlternatesHere m after p u goes.state act) (sym act_is)
         (alternates_on m w after p t u point.state goes.state point.act old
         (enabled_as_before w after p refl refl)
@@ -148,205 +176,178 @@ module _ (m : Contents) (d : Decodes m) (wf : IsWellFormed m) (c : IsCertified m
             back i g one = subst (λ (guards : List Guard). slice_get guards i ≡ Some g) s.guards one
 
     goes_on : IsSound m after
-    goes_on = elim (h.quiet.calm p t r.here) [
-      | inl plain ↦
-          went_on after (task_at m t t.mode to l) l.memory later goes_puts refl less plain changes (it_lives
-          goes.lives.lives)
-      | inr alternates ↦ goes_on_alternating alternates (λ plain. no_alternation t plain alternates)
-    ]
+    goes_on = on (h.calm p t r.here)
+      where
+        on : IsCalm t → IsSound m after
+        on (is_plain plain) =
+            went_on after (task_at m t t.mode to l) l.memory later goes_puts (same_enabled after refl refl) refl less
+            plain changes (it_lives goes.lives.lives)
+        on (is_among_starts starting now) = absurd (calm_now starting)
+        on (is_alternating alternates) = goes_on_alternating alternates (λ plain. no_alternation t plain alternates)
 
   -- what an instruction comes to needs nothing of the world that could be missing
   never_refused : (pick : ℕ) {o : Outcome} {kind : FaultKind}
-      → Comes m here_now r.row.start t r.row.due o → Refused (at_here m p t pick) w o kind → ⊥
+      → Comes m here_now (row_of r).start t (row_of r).due o → Refused (at_here m p t pick) w o kind → ⊥
   never_refused pick (comes_on later changes lives less) (no_code_follows needs none) = elim needs [ ]
   never_refused pick (comes_to later changes lives less) (no_code_follows needs none) = elim needs [ ]
   never_refused pick (comes_straight later changes lives less) (no_code_follows needs none) = elim needs [ ]
   never_refused pick (comes_down plain changes less) (no_code_follows needs none) = elim needs [ ]
   never_refused pick (comes_in later plain talks changes lives less) refused =
-      never_in m wf w lawful h p t ready r pick talks refused
+      never_in m wf w lawful h p t ready r no_join pick talks refused
   never_refused pick (comes_out later plain talks changes lives less) refused =
-      never_out m wf w lawful h p t ready r pick talks refused
+      never_out m wf w lawful h p t ready r no_join pick talks refused
   never_refused pick (comes_to_begin later alters begun lives) (no_code_follows needs none) = elim needs [ ]
   never_refused pick (comes_to_enable later kind alters channel more fresh lives) refused =
-      never_enabling m wf w lawful h p t ready r meets_now pick channel more fresh alters.low refused
+      never_enabling m wf w lawful h p t ready r meets_now calm_now pick channel more fresh alters.low refused
   never_refused pick (comes_to_enable_skip later alters more lives) (no_code_follows needs none) = elim needs [ ]
   never_refused pick (comes_to_wait later alters awaits lives) (no_code_follows needs none) = elim needs [ ]
   never_refused pick (comes_to_disable later kind alters channel fewer lives) refused =
-      never_disabling m wf w lawful h p t ready r meets_now pick later alters channel fewer lives refused
+      never_disabling m wf w lawful h p t ready r meets_now calm_now pick later alters channel fewer lives refused
   never_refused pick (comes_to_disable_skip later alters fewer lives) (no_code_follows needs none) = elim needs [ ]
   never_refused pick (comes_to_end later all changes lives less low) refused =
-      never_ending m wf w lawful h p t ready r meets_now pick all low refused
+      never_ending m wf w lawful h p t ready r meets_now calm_now pick all low refused
 
   -- whatever its instruction comes to, its turn ends so
-  ended_holds : (pick : ℕ) {o : Outcome} {turn : Turn} → Comes m here_now r.row.start t r.row.due o
-      → Ends (at_here m p t pick) w o turn → IsSound m turn.world
+  ended_holds : (pick : ℕ) {o : Outcome} {turn : Turn} → Comes m here_now (row_of r).start t (row_of r).due o
+      → LeavesKept here_now o → Ends (at_here m p t pick) w o turn → IsSound m turn.world
   unfolding dispatch
-  ended_holds pick (comes_on later changes goes less) (has_run (it_goes l)) =
-      goes_on (t.registers.at + 1) l later w.queue less changes goes
-  ended_holds pick (comes_to later changes goes less) (has_run (it_jumps to l)) =
-      goes_on to l later w.queue less changes goes
-  ended_holds pick (comes_to later changes goes less) (has_run (it_is_sliced to l)) =
-      goes_on to l later (picked pick (record { running = None; ready = w.queue.ready ++ p ∷ [] })) less changes goes
-  ended_holds pick (comes_straight later changes goes less) (has_run (it_lands to l)) =
-      goes_on to l later w.queue less changes goes
-  ended_holds pick (comes_down plain changes less) (has_run (it_stops l)) =
+  ended_holds pick (comes_on later changes goes less) kept (has_run (it_goes l)) =
+      goes_on (t.registers.at + 1) l later w.queue less (allows l.memory changes kept) goes
+  ended_holds pick (comes_to later changes goes less) kept (has_run (it_jumps to l)) =
+      goes_on to l later w.queue less (allows l.memory changes kept) goes
+  ended_holds pick (comes_to later changes goes less) kept (has_run (it_is_sliced to l)) =
+      goes_on to l later (picked pick (record { running = None; ready = w.queue.ready ++ p ∷ [] })) less
+      (allows l.memory changes kept) goes
+  ended_holds pick (comes_straight later changes goes less) kept (has_run (it_lands to l)) =
+      goes_on to l later w.queue less (allows l.memory changes kept) goes
+  ended_holds pick (comes_down plain changes less) kept (has_run (it_stops l)) =
       went_on _ (record t { registers = between (t.registers.at + 1) l.registers; condition = Stopped }) l.memory 0
       (record {
         tasks = refl;
         memory = refl;
         roles = refl;
-        channels = equal_lengths refl;
+        channels = channels_equal refl;
         kept = h.holds.kept;
         fault = refl;
-      }) refl less plain changes (it_stopped refl)
-  ended_holds pick (comes_in {e = e} {l = l} later plain talks changes lives less) (has_run {after = after} moved) =
-      moved_in m wf w lawful h p t ready plain r pick e l later less changes talks lives after moved
-  ended_holds pick (comes_out {e = e} {l = l} later plain talks changes lives less) (has_run {after = after} moved) =
-      moved_out m wf w lawful h p t ready plain r pick e l later less changes talks lives after moved
-  ended_holds pick (comes_to_begin {l = l} {s = s} later alters begun lives) (has_run {after = after} moved) =
-      begins_holds m wf w lawful h p t ready r meets_now pick l s later alters begun lives after moved
-  ended_holds pick (comes_to_enable {l = l} {s = s} later kind alters channel more fresh lives)
+      }) (same_enabled _ refl refl) refl less plain (allows l.memory changes kept) (it_stopped refl)
+  ended_holds pick (comes_in {e = e} {l = l} later plain talks changes lives less) kept
       (has_run {after = after} moved) =
-      enables_holds m wf w lawful h p t ready r meets_now pick l s later alters channel more lives after moved
-  ended_holds pick (comes_to_enable_skip {l = l} {s = s} later alters more lives) (has_run {after = after} moved) =
-      enables_skip_holds m wf w lawful h p t ready r meets_now pick l s later alters more lives after moved
-  ended_holds pick (comes_to_wait {l = l} {s = s} later alters awaits lives) (has_run {after = after} moved) =
-      waits_holds m wf w lawful h p t ready r meets_now pick l s later alters awaits lives after moved
-  ended_holds pick (comes_to_disable {l = l} {s = s} later kind alters channel fewer lives) (has_run {after = after}
-      moved) =
-      disables_holds m wf w lawful h p t ready r meets_now pick l s later alters channel fewer lives after moved
-  ended_holds pick (comes_to_disable_skip {l = l} {s = s} later alters fewer lives) (has_run {after = after} moved) =
-      disables_skip_holds m wf w lawful h p t ready r meets_now pick l s later alters fewer lives after moved
-  ended_holds pick (comes_to_end {to = to} {l = l} {s = s} {act = act} later all changes lives less low)
+      moved_in m wf w lawful h p t ready plain r pick e l later less (allows l.memory changes kept) talks lives after
+      moved
+  ended_holds pick (comes_out {e = e} {l = l} later plain talks changes lives less) kept
       (has_run {after = after} moved) =
-      ends_holds m wf w lawful h p t ready r meets_now pick to l s act later changes lives less after moved
-  ended_holds pick comes (at_fault refused) = absurd (never_refused pick comes refused)
-  ended_holds pick (comes_out later plain talks changes lives less) (has_emitted e l k on same) =
-      emitted_holds m wf w lawful h p t ready plain r pick e l later less changes talks lives k on
+      moved_out m wf w lawful h p t ready plain r pick e l later less (allows l.memory changes kept) talks lives after
+      moved
+  ended_holds pick (comes_to_begin {l = l} {s = s} later alters begun lives) kept (has_run {after = after} moved) =
+      begins_holds m wf w lawful h p t ready r meets_now calm_now pick l s later alters begun lives
+      (allows l.memory alters.own kept) after moved
+  ended_holds pick (comes_to_enable {l = l} {s = s} later kind alters channel more fresh lives) kept
+      (has_run {after = after} moved) =
+      enables_holds m wf w lawful h p t ready r meets_now calm_now pick l s later alters channel more lives
+      (allows l.memory alters.own kept) after moved
+  ended_holds pick (comes_to_enable_skip {l = l} {s = s} later alters more lives) kept (has_run {after = after} moved) =
+      enables_skip_holds m wf w lawful h p t ready r meets_now calm_now pick l s later alters more lives
+      (allows l.memory alters.own kept) after moved
+  ended_holds pick (comes_to_wait {l = l} {s = s} later alters awaits lives) kept (has_run {after = after} moved) =
+      waits_holds m wf w lawful h p t ready r meets_now calm_now pick l s later alters awaits lives
+      (allows l.memory alters.own kept) after moved
+  ended_holds pick (comes_to_disable {l = l} {s = s} later kind alters channel fewer lives) kept
+      (has_run {after = after} moved) =
+      disables_holds m wf w lawful h p t ready r meets_now calm_now pick l s later alters channel fewer lives
+      (allows l.memory alters.own kept) after moved
+  ended_holds pick (comes_to_disable_skip {l = l} {s = s} later alters fewer lives) kept
+      (has_run {after = after} moved) =
+      disables_skip_holds m wf w lawful h p t ready r meets_now calm_now pick l s later alters fewer lives
+      (allows l.memory alters.own kept) after moved
+  ended_holds pick (comes_to_end {to = to} {l = l} {s = s} {act = act} later all changes lives less low) kept
+      (has_run {after = after} moved) =
+      ends_holds m wf w lawful h p t ready r meets_now calm_now pick to l s act later (allows l.memory changes kept)
+      lives less
+      after moved
+  ended_holds pick comes kept (at_fault refused) = absurd (never_refused pick comes refused)
+  ended_holds pick (comes_out later plain talks changes lives less) kept (has_emitted e l k on same) =
+      emitted_holds m wf w lawful h p t ready plain r pick e l later less (allows l.memory changes kept) talks lives k
+      on
+
+  selected : point.state.mode ≡ states_modes.Disabling (length point.state.guards)
+      → HasSelected t.mode point.state.guards
+  selected = has_selected m wf w lawful h p t ready r meets_now calm_now 0
 
   -- the byte that completes an instruction
-  pub step_holds : (pick byte : ℕ) (f : Fun) {turn : Turn} → slice_get m.code t.registers.at ≡ Some byte
-      → fun_of (function_code byte) ≡ Some f
+  pub step_holds : (pick byte : ℕ) (f : Fun) {turn : Turn} → IsLawful m turn.world
+      → slice_get m.code t.registers.at ≡ Some byte → fun_of (function_code byte) ≡ Some f
       → Ends (at_here m p t pick) w (local_step (site_of (at_here m p t pick) w) f
       (with_nibble t.registers.operand (nibble byte)) (local_here t w)) turn
       → IsSound m turn.world
-  step_holds pick byte f here is ends = ended_holds pick
-      (subst (λ g. Comes m here_now r.row.start t r.row.due (local_step
-      (site_in m (t.registers.at + 1) t.mode g) f (with_nibble t.registers.operand (nibble byte)) (local_here t w)))
-      (sym (ap (λ (o : Option Role). elim o [ None ↦ nothing | Some role ↦ held role ]) r.row.has_role))
-      (comes_last m d wf c (held r.row.role) r.row.start w.memory t r.row.due point meets_now r.lives.paid calm_now
-      (has_selected m wf w lawful h p t ready r meets_now 0) byte f here is)) ends
+  step_holds pick byte f {turn} next here is ends =
+      let fits = last_fits m d wf c kept (held (row_of r).role) (row_of r).start w.memory t point meets_now selected
+      byte f here is in
+      on fits.0 (subst (λ (g : Holding). FitsStep here_now point.state (local_here t w)
+      (instruction_of point.instr.fun point.instr.operand) (rule_at m t.registers.began point.instr point.state)
+      (local_step (site_in m (t.registers.at + 1) t.mode g) f (with_nibble t.registers.operand (nibble byte))
+      (local_here t w)))
+      (sym (ap (λ (o : Option Role). elim o [ None ↦ nothing | Some role ↦ held role ]) (row_of r).has_role)) fits.1)
+      ends
+    where
+      on : {o : Outcome} → point.taken + 1 ≡ point.instr.len
+          → FitsStep here_now point.state (local_here t w) (instruction_of point.instr.fun point.instr.operand)
+          (rule_at m t.registers.began point.instr point.state) o
+          → Ends (at_here m p t pick) w o turn → IsSound m turn.world
+      on last (it_fits none fits) ends = ended_holds pick
+          (comes_last m d wf c kept (held (row_of r).role) (row_of r).start w.memory t (row_of r).due point meets_now
+          r.lives.paid calm_now selected last fits)
+          (fits_keep fits
+          (unbroken m d wf c kept (held (row_of r).role) (row_of r).start w.memory t point meets_now selected))
+          ends
+      on last (it_starts fits) ends = parting.started_holds m d wf kept c w lawful h p t ready r pick last meets_now
+          selected fits next ends
+      on last (it_joins fits) ends = parting.ended_holds m d wf kept c w lawful h p t ready r pick last meets_now
+          selected fits next ends
 
   -- ---- a prefix
 
   module _ (byte : ℕ) (operand : ℤ) (here : slice_get m.code t.registers.at ≡ Some byte)
       (none : fun_of (function_code byte) ≡ None)
       (is : after_prefix (function_code byte) (with_nibble t.registers.operand (nibble byte)) ≡ operand) where
-    abbrev prefixed_by : ℤ → Task
-    prefixed_by n = record t { registers = record t.registers { at = t.registers.at + 1; operand = n } }
-
-    -- it lives on one byte further in its instruction
-    further_lives : (due : ℕ) → r.row.due ≡ suc due → LivesAs m (held r.row.role) r.row.start w.memory
-        (prefixed_by (after_prefix (function_code byte) (with_nibble t.registers.operand (nibble byte)))) due
-        point.state
-        point.act
-    further_lives due one = record {
-      state_is = refl;
-      act_is = refl;
-      lives = record {
-        point = prefixed_point byte point here none;
-        claim = λ later size agree bytes.
-            let old = r.lives.claim later size agree bytes in
-            record {
-              here = elsewhere (t.registers.at + 1) t.registers.began (after_prefix (function_code byte)
-                  (with_nibble t.registers.operand (nibble byte))) old.here;
-              behind = old.behind;
-            };
-        room = r.lives.room;
-        sends = r.lives.sends;
-        fills = r.lives.fills;
-        named = r.lives.named;
-        behind = r.lives.behind;
-        known_length = r.lives.known_length;
-        paid = let paid = r.lives.paid in omega (arith, paid, one);
-      };
-    }
-
     -- a byte is owed
-    one_owed : (due : ℕ) × (r.row.due ≡ suc due)
-    one_owed = on r.row.due refl (owes m d wf c (held r.row.role) r.row.start w.memory t r.row.due point meets_now
-        r.lives.paid calm_now (has_selected m wf w lawful h p t ready r meets_now 0))
-      where
-        on : (due : ℕ) → r.row.due ≡ due → 1 ≤ r.row.due → (less : ℕ) × (r.row.due ≡ suc less)
-        on zero e some = absurd (omega (arith, e, some))
-        on (suc due) e some = (due, e)
+    one_owed : (due : ℕ) × ((row_of r).due ≡ suc due)
+    one_owed = some_owed (row_of r).due (owes m d wf c kept (held (row_of r).role) (row_of r).start w.memory t (row_of r).due point
+        meets_now r.lives.paid calm_now selected)
+
+    abbrev u : Task
+    u = prefixed t operand
 
     abbrev after_prefixed : World
-    after_prefixed = counted (put p (prefixed_by operand) w.memory w)
+    after_prefixed = world_prefixed p t operand w
 
-    further : LivesAs m (held r.row.role) r.row.start w.memory (prefixed_by operand) one_owed.0 point.state point.act
-    further = subst (λ n. LivesAs m (held r.row.role) r.row.start w.memory (prefixed_by n) one_owed.0 point.state
-        point.act)
-        is (further_lives one_owed.0 one_owed.1)
+    further : LivesAs m (held (row_of r).role) (row_of r).start w.memory u one_owed.0 point.state point.act
+    further = prefixed_lives m w h p t r byte operand here none is one_owed.0 one_owed.1
 
-    prefixed_puts : Puts w after_prefixed p (prefixed_by operand) w.memory
-    prefixed_puts = record {
-      tasks = refl;
-      memory = refl;
-      roles = refl;
-      channels = equal_lengths refl;
-      kept = h.holds.kept;
-      fault = refl;
-    }
+    prefixed_puts : Puts w after_prefixed p u w.memory
+    prefixed_puts = puts_prefixed m w h p t operand
 
-    pub prefix_holds : IsSound m (counted (put p (prefixed_by operand) w.memory w))
-    prefix_holds = elim (h.quiet.calm p t r.here) [
-      | inl plain ↦
-          went_on after_prefixed (prefixed_by operand) w.memory one_owed.0 prefixed_puts refl
-          (let one = one_owed.1 in omega arith) plain (record { size = refl; others = λ place e. refl })
-          (it_lives further.lives)
-      | inr alternates ↦
-          let old = r.guards alternates in
-          holds_put_alternating m w h apart p t r.here r.row after_prefixed (prefixed_by operand) w.memory one_owed.0
-          prefixed_puts (let one = one_owed.1 in omega arith) alternates (record {
-            size = refl;
-            others = λ place e.
-                refl;
-          })
-          further
-          (alternates_on m w after_prefixed p t (prefixed_by operand) point.state point.state point.act old
-          (enabled_as_before w after_prefixed p refl refl) (λ n g there. refl) (record {
-            guards = refl;
-            left = refl;
-          }) old.fit
-          (λ distance same. same)
-          (λ must. elim (old.ready must) [
-            | inl found ↦ inl (ready_on w.tasks w.channels w.links.inputs p p t (prefixed_by operand) r.here
-                (λ e sends. let no' = sym ready ∙ sends in cc) found)
-            | inr skip ↦ inr skip
-          ]))
-    ]
-
-    -- another byte follows
-    pub prefix_followed : t.registers.at + 1 < length m.code
-    prefix_followed =
-        let moved = prefixed_point byte point here none in
-        let b = byte_here m (record t.registers {
-          at = t.registers.at + 1;
-          operand = after_prefix (function_code byte) (with_nibble t.registers.operand (nibble byte));
-        }) moved.instr moved.taken moved.reading in
-        slice_get_within m.code (t.registers.at + 1) b.byte b.here
-
-  -- the process is inside the code
-  pub never_outside : IsOutsideCode m t → ⊥
-  never_outside (no_byte none) =
-      let b = byte_here m t.registers point.instr point.taken point.reading in
-      let both : None ≡ Some b.byte = sym none ∙ b.here in
-      cc
-  never_outside (no_byte_follows byte here none last) =
-      let operand = after_prefix (function_code byte) (with_nibble t.registers.operand (nibble byte)) in
-      let low = prefix_followed byte operand here none refl in
-      elim (leb_tells (suc (t.registers.at + 1)) (length m.code)) [
-        | inl is ↦ let no' : true ≡ false = sym is.0 ∙ last in cc
-        | inr is ↦ let high = is.1 in omega arith
-      ]
+    pub prefix_holds : IsSound m after_prefixed
+    prefix_holds = on (h.calm p t r.here)
+      where
+        on : IsCalm t → IsSound m after_prefixed
+        on (is_plain plain) =
+            went_on after_prefixed u w.memory one_owed.0 prefixed_puts
+            (same_enabled after_prefixed refl refl) refl (let one = one_owed.1 in omega arith) plain nothing_changes
+            (it_lives further.lives)
+        on (is_among_starts starting now) = absurd (calm_now starting)
+        on (is_alternating alternates) =
+            let old = r.guards alternates in
+            holds_put_alternating m w h (shared_out lawful) p t r after_prefixed u w.memory
+            one_owed.0 prefixed_puts (same_enabled after_prefixed refl refl) nothing_changes no_join
+            (let one = one_owed.1 in omega arith) alternates further
+            (alternates_on m w after_prefixed p t u point.state point.state point.act old
+            (enabled_as_before w after_prefixed p refl refl) (λ n g there. refl) (record {
+              guards = refl;
+              left = refl;
+            }) old.fit
+            (λ distance same. same)
+            (λ must. elim (old.ready must) [
+              | inl found ↦ inl (ready_on w.tasks w.channels w.links.inputs p p t u r.here
+                  (λ e sends. let no' = sym ready ∙ sends in cc) found)
+              | inr skip ↦ inr skip
+            ]))

@@ -18,7 +18,7 @@ use Rattle.states.specs.Numbers.{number_of}
 use Rattle.states.specs.State.{State, root_state}
 use Rattle.rulings.specs.Rulings.{Ruling, falls, leads, falls_or_leads, calls, starts, selects, returns, ends, breaks}
 use Rattle.rulings.specs.Rulings.{falling}
-use Rattle.facts.specs.Rules.{rule_at, has_rule}
+use Rattle.facts.specs.Rules.{rule_at, is_instruction}
 use Rattle.facts.proofs.Unruled.{unruled as breaks_one}
 use Rattle.verifier.specs.declared.stop.Breach.{Breach}
 use Rattle.certified_worlds.specs.Certified.{given, state_at, entering, Reaches, begins, follows, HoldsAt, HoldsBelow}
@@ -52,7 +52,7 @@ excluded m v at c (misspelled _ r low e) = let h =
 excluded m v at c (unruled _ r low sp lacking) =
     let h = c.holds.each _ _ low r in
     let i_is = same_ok (fetched m.code at) h.instr _ h.spelled sp in
-    h.unbroken rules.Spelling (breaks_one m at h.instr h.state (ap (has_rule m) i_is ∙ lacking))
+    h.unbroken rules.Spelling (breaks_one m at h.instr h.state (ap (is_instruction m) i_is ∙ lacking))
 excluded m v at c (hidden _ low start none) = let r = c.holds.starts _ low start in none r.0 r.1
 excluded m v at c (unreached _ r low sp ruled g) =
     let h = c.holds.each _ _ low r in
@@ -158,7 +158,7 @@ told_is v w h = cc
 broken_in : (m : Contents) (at : ℕ) (before : Option State) (i : Instr) (v : Rule) (o : Option State)
     → state_at m at before ≡ o → Reaches m at before → at < length m.code → fetched m.code at ≡ Ok i
     → judged_in m at before i o ≡ Err v → IsBroken m v at
-broken_in m at before i v None e r low sp h = elim (cases_Bool (has_rule m i)) [
+broken_in m at before i v None e r low sp h = elim (cases_Bool (is_instruction m i)) [
   | inr lacking ↦ unruled (told_is _ _ (sym h ∙ ap (λ (b : Bool). Err
       (if b then rules.Flow else rules.Spelling)) lacking)) r low sp lacking
   | inl ruled ↦ elim (option_cases (given m at)) [

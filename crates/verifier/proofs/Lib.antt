@@ -2,8 +2,13 @@ pub mod Judging
 pub mod Reporting
 pub mod RowsLeft
 pub mod Passing
+pub mod CalmWorlds
 pub mod Tables
 pub mod LawfulWorlds
+pub mod InItsMode
+pub mod SharedOut
+pub mod OthersGuards
+pub mod StepsKeep
 pub mod Rousing
 pub mod Coming
 pub mod Arrivals
@@ -13,7 +18,11 @@ pub mod Enabled
 pub mod Guards
 pub mod Alternations
 pub mod Messages
+pub mod Prefixes
+pub mod AmongStarts
+pub mod PartingTurns
 pub mod Instructions
+pub mod StartersGoOn
 pub mod EventsKeepInvariant
 pub mod RootHolds
 pub mod RootEnds

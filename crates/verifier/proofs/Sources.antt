@@ -15,11 +15,11 @@ use Rattle.machine_state.specs.declared.process.Exchange.{Exchange}
 use Rattle.machine_state.specs.declared.process.Task.{Task}
 use Rattle.machine_state.specs.Memory.{place_of}
 use Rattle.machine_state.specs.Holding.{Holding, nothing, has_end}
-use Rattle.machine_state.specs.World.{World, Role, Join, held, holding_at, link_word, input_word, output_word}
+use Rattle.machine_state.specs.World.{World, Role, held, holding_at, link_word, input_word, output_word}
 use Rattle.machine_state.specs.Moves.{cell_of}
 use Rattle.machine_state.specs.Exchanges.{input_link, output_link}
 use Rattle.machine_state.specs.Ownership.{IsWord}
-use Rattle.machine_state.specs.Roles.{own_in}
+use Rattle.machine_state.specs.Roles.{own_in, opened_in}
 use Rattle.machine_state.specs.ChannelLaws.{WaitsTo}
 use Rattle.machine_state.proofs.Claims.{only_one}
 use Rattle.rulings.specs.Meaning.{IsWellFormed}
@@ -27,6 +27,8 @@ use Rattle.certified_worlds.specs.Lives.{IsExchanging}
 use Rattle.certified_worlds.specs.Point.{Began}
 use Rattle.certified_worlds.specs.Invariant.{LengthAgrees, at_link, at_channel}
 use Rattle.verifier.proofs.LawfulWorlds.{IsLawful}
+use Rattle.verifier.proofs.SharedOut.{holds_own, none_open}
+use Rattle.verifier.proofs.Tables.{row_of}
 use Rattle.verifier.proofs.Tables.{IsSound, Living, living}
 
 -- ---- links
@@ -90,11 +92,6 @@ module _ (m : Contents) (wf : IsWellFormed m) (w : World) (lawful : IsLawful m w
       let words = wf.few_words in
       omega (arith, low, is)
 
-  pub held_is : (p : ℕ) (role : Role) → slice_get w.roles p ≡ Some role → held role ≡ role.own
-  held_is p role here =
-      ap (λ (o : Option Join). elim o as (λ o. Holding) [ None ↦ role.own | Some join ↦ join.rest ])
-      (h.quiet.roles p role here).0
-
   pub holding_is : (p : ℕ) (role : Role) → slice_get w.roles p ≡ Some role → holding_at w.roles p ≡ held role
   holding_is p role here =
       ap (λ (o : Option Role). elim o as (λ o. Holding) [ None ↦ nothing | Some role ↦ held role ]) here
@@ -141,23 +138,34 @@ module _ (m : Contents) (wf : IsWellFormed m) (w : World) (lawful : IsLawful m w
 
   is_alive : (direction : Direction) (c : Condition) (e : Exchange) → WaitsTo direction c e
       → (p : ℕ) (t : Task) → slice_get w.tasks p ≡ Some t → t.condition ≡ c
-      → Living m w h.holds.began h.holds.dues p t
+      → Living m w h.holds p t
   is_alive In c e is p t here same = living m w h.holds p t (Receiving e) here (same ∙ is) (λ e. cc) (λ e. cc)
   is_alive Out c e is p t here same = living m w h.holds p t (Sending e) here (same ∙ is) (λ e. cc) (λ e. cc)
 
+  -- who waits for a message has no join open
+  waits_with_none : (direction : Direction) (c : Condition) (e : Exchange) → WaitsTo direction c e → (q : ℕ) (t : Task)
+      → slice_get w.tasks q ≡ Some t → t.condition ≡ c → opened_in w.roles q ≡ None
+  waits_with_none In c e is q t here same = none_open lawful.starters.openers q t here
+      (λ ended. let no' = sym is ∙ (sym same ∙ ended) in cc)
+      (λ starting ready. let no' = sym is ∙ (sym same ∙ ready) in cc)
+  waits_with_none Out c e is q t here same = none_open lawful.starters.openers q t here
+      (λ ended. let no' = sym is ∙ (sym same ∙ ended) in cc)
+      (λ starting ready. let no' = sym is ∙ (sym same ∙ ready) in cc)
+
   pub partner : (q : ℕ) (t : Task) (direction : Direction) (e : Exchange) → slice_get w.tasks q ≡ Some t
       → WaitsTo direction t.condition e → Partner w q direction e
-  partner q t direction e here waits = on (at_end q r.row.role r.row.start _ r.row.has_role r.row.has_start own)
+  partner q t direction e here waits = on (at_end q (row_of r).role (row_of r).start _ (row_of r).has_role (row_of r).has_start own)
     where
-      r : Living m w h.holds.began h.holds.dues q t
+      r : Living m w h.holds q t
       r = is_alive direction t.condition e waits q t here refl
 
-      own : has_end r.row.role.own (record { address = e.channel; direction = direction }) ≡ true
+      own : has_end (row_of r).role.own (record { address = e.channel; direction = direction }) ≡ true
       own = subst (λ (g : Holding). has_end g (record { address = e.channel; direction = direction }) ≡ true)
-          (holding_is q r.row.role r.row.has_role ∙ held_is q r.row.role r.row.has_role)
+          (holding_is q (row_of r).role (row_of r).has_role
+          ∙ holds_own w.roles q (row_of r).role (row_of r).has_role (waits_with_none direction t.condition e waits q t here refl))
           (lawful.recorded q t direction e here waits).end
 
-      on : AtEnd m w (record { address = e.channel; direction = direction }) (r.row.start.layout.lengths e.channel)
+      on : AtEnd m w (record { address = e.channel; direction = direction }) ((row_of r).start.layout.lengths e.channel)
           → Partner w q direction e
       on (an_input k few is in_ len) =
           let told = lawful.recorded q t direction e here waits in

@@ -1,7 +1,7 @@
 -- The invariant holds of the loaded world.
 use Rattle.std.proofs.Common.{◌≡◌, ℕ, zero, suc, ◌+◌, ◌*◌, ◌≤◌, ◌<◌, ◌≤ℤ◌, ◌<ℤ◌, ◌+ℤ◌, ◌-ℤ◌, neg_ℤ, Bool, true, false}
 use Rattle.std.proofs.Common.{if◌then◌else◌, ltb, ◌&&◌, ◌||◌, ℤ, pos, negsuc, List, [], ◌∷◌, length, replicate, Some}
-use Rattle.std.proofs.Common.{Option, None, inl, refl, sym, ap, ◌∙◌, subst, arith}
+use Rattle.std.proofs.Common.{Option, None, refl, sym, ap, ◌∙◌, subst, arith}
 use Rattle.std.proofs.lemmas.List.{length-append, length-map, length-replicate}
 use Rattle.std.proofs.lemmas.Bool.{le-leb}
 use Rattle.std.proofs.lemmas.Int.{ints}
@@ -24,7 +24,8 @@ use Rattle.rulings.specs.Meaning.{HasFrame, frame_lo, frame_hi, from_nowhere, Me
 use Rattle.certified_worlds.specs.Point.{Began, Behind, nobody_waits, owed_behind, Decodes}
 use Rattle.certified_worlds.specs.Lives.{Meets, it_lives}
 use Rattle.rulings.proofs.Within.{is_starting}
-use Rattle.verifier.proofs.Tables.{IsSound, AreBytes, no_alternation, quietly}
+use Rattle.verifier.proofs.CalmWorlds.{is_plain, no_alternation}
+use Rattle.verifier.proofs.Tables.{IsSound, AreBytes}
 use Rattle.rulings.specs.Regions.{kind_used, parameter_used}
 use Rattle.machine_state.specs.declared.holding.End.{End}
 use Rattle.machine_state.specs.declared.process.Task.{Task}
@@ -228,32 +229,37 @@ module _ (m : Contents) (d : Decodes m) (wf : IsWellFormed m) (c : IsCertified m
       (en.after root_local root_after)
       (entered_behind m d wf c en nobody_behind) in
       let due : ℕ = owed en.state en.act + owed_behind [] in
-      quietly m (loaded m) (due ∷ []) (0 ∷ []) (root_began ∷ [])
-      (record {
-        roles = λ p role h.
-            let x = only (root_role m) role p h in
-            (ap (λ (r : Role). r.opened) (sym x.1), ap (λ (r : Role). r.opener) (sym x.1));
-        calm = λ p t h. inl (root_plain p t h);
-        only = λ p q t u h g. (only (root_task m) t p h).0 ∙ sym (only (root_task m) u q g).0;
-      })
-      (record {
-        each = λ p t h.
-            let x = only (root_task m) t p h in
-            record {
-              role = root_role m;
-              has_role = ap (λ n. slice_get (root_role m ∷ []) n) x.0;
-              start = root_began;
-              has_start = ap (λ n. slice_get (root_began ∷ []) n) x.0;
-              due = owed en.state en.act + owed_behind [];
-              has_due = ap (λ n. slice_get (due ∷ []) n) x.0;
-              root = λ none. refl;
-              meets = subst (λ u. Meets m (root_holding m) root_began (loaded_memory m) u (due)) x.1
-                  (it_lives lives.lives);
-              alternating = λ alternates. absurd (no_alternation t (root_plain p t h) alternates);
-            };
-      }) root_agrees quiet_links_keep_nothing
-      (let none = nothing_due root_activation.turns in omega (arith, en.paid, none)) refl
-      (record { begun = refl; owing = refl; pending = refl })
+      record {
+        holds = record {
+          dues = due ∷ [];
+          pending_dues = 0 ∷ [];
+          began = root_began ∷ [];
+          counted = record { begun = refl; owing = refl; pending = refl };
+          table = record {
+            each = λ p t h.
+                let x = only (root_task m) t p h in
+                record {
+                  role = root_role m;
+                  has_role = ap (λ n. slice_get (root_role m ∷ []) n) x.0;
+                  start = root_began;
+                  has_start = ap (λ n. slice_get (root_began ∷ []) n) x.0;
+                  due = owed en.state en.act + owed_behind [];
+                  has_due = ap (λ n. slice_get (due ∷ []) n) x.0;
+                  root = λ none. refl;
+                  meets = subst (λ u. Meets m (root_holding m) root_began (loaded_memory m) u (due)) x.1
+                      (it_lives lives.lives);
+                  alternating = λ alternates. absurd (no_alternation t (root_plain p t h) alternates);
+                };
+          };
+          pending = λ p role j h is.
+              let no' : None ≡ Some j = ap (λ (r : Role). r.opened) (only (root_role m) role p h).1 ∙ is in absurd (cc);
+          lengths = root_agrees;
+          kept = quiet_links_keep_nothing;
+          owed = let none = nothing_due root_activation.turns in omega (arith, en.paid, none);
+          well = refl;
+        };
+        calm = λ p t h. is_plain (root_plain p t h);
+      }
     where
       root_plain : (p : ℕ) (t : Task) → slice_get (root_task m ∷ []) p ≡ Some t → t.mode ≡ machine_modes.Plain
       root_plain p t h = let x = only (root_task m) t p h in ap (λ (u : Task). u.mode) (sym x.1)

@@ -4,7 +4,9 @@ use Rattle.std.proofs.Common.{Option, Some, None, refl, sym, ap, ◌∙◌, subs
 use Rattle.std.proofs.lemmas.Bool.{cases_eq}
 use Rattle.std.proofs.lemmas.List.{length-set}
 use Rattle.std.specs.Prelude.{slice_get, slice_set}
-use Rattle.module_format.specs.Contents.{Contents}
+use std.Path.{path_j}
+use Rattle.std.proofs.Math.Path.{subst_refl}
+use Rattle.module_format.specs.Contents.{Contents, Par}
 use Rattle.machine_state.specs.declared.process.Task.{Task}
 use Rattle.machine_state.specs.declared.process.Condition.{Condition}
 use Rattle.machine_state.specs.declared.process.Exchange.{Exchange}
@@ -13,8 +15,10 @@ use Rattle.machine_state.specs.declared.link.InputLink.{InputLink}
 use Rattle.machine_state.specs.EnabledLaws.{Alternates}
 use Rattle.machine_state.specs.declared.process.Condition.TheVariants.{Ready, Alternating, Stopped, Ended}
 use Rattle.machine_state.specs.Memory.{Memory, byte_at}
-use Rattle.machine_state.specs.Holding.{Holding, may_write, may_read, IsApart}
-use Rattle.machine_state.specs.World.{World, Role, held}
+use Rattle.machine_state.specs.Holding.{Holding, nothing, may_write, may_read, IsApart}
+use Rattle.machine_state.specs.Roles.{opened_in}
+use Rattle.machine_state.specs.Waiting.{IsGone, IsOver}
+use Rattle.machine_state.specs.World.{World, Role, Join, held}
 use Rattle.machine_state.specs.Frame.{ChangesOwn}
 use Rattle.machine_state.specs.declared.process.Channel.{Channel}
 use Rattle.machine_state.specs.Moves.{picked, dispatch, cell_of}
@@ -22,7 +26,9 @@ use Rattle.machine_state.proofs.Claims.{only_one}
 use Rattle.machine_state.proofs.Lines.{got_set, got_other, set_either}
 use Rattle.rulings.proofs.Words.{bool_cases}
 use Rattle.rulings.proofs.Combining.{readable_byte}
-use Rattle.rulings.specs.Regions.{scope_in, Keeps}
+use Rattle.rulings.specs.Regions.{Scope, scope_in, Keeps}
+use Rattle.rulings.proofs.Within.{is_starting, scope_still}
+use Rattle.share_laws.specs.Climbing.{ChangesWithin}
 use Rattle.states.specs.State.{State}
 use Rattle.rulings.specs.Meaning.{Activation}
 use Rattle.certified_worlds.specs.Alternating.{AlternatesHere}
@@ -37,38 +43,21 @@ use Rattle.certified_worlds.specs.Point.{Began, Point}
 use Rattle.rulings.specs.Buffers.{message_place, IsByte}
 use Rattle.certified_worlds.specs.Lives.{awaits, IsExchanging, Lives, Meets, it_lives, it_stopped, it_ended}
 use Rattle.certified_worlds.specs.Invariant.{AlternatesIn, Process, Table, LengthAgrees, at_link, at_channel, LengthsAgree}
-use Rattle.certified_worlds.specs.Invariant.{total, AreCounted, Holds}
+use Rattle.certified_worlds.specs.Invariant.{Opener, total, Holds}
+use Rattle.certified_worlds.specs.Pending.{IsStarter, Pending, StartsHere}
+use Rattle.certified_worlds.proofs.ParsStay.{Changer, opened_is, openers_stay, step_changes}
 use Rattle.rulings.proofs.Agreeing.{agree_keeps}
+use Rattle.verifier.proofs.CalmWorlds.{IsCalm, is_plain, is_among_starts, is_alternating, no_alternation}
+use Rattle.verifier.proofs.InItsMode.{at_still}
+use Rattle.verifier.proofs.OthersGuards.{LeavesEnabled, not_starting, others_alternate}
+use Rattle.verifier.proofs.SharedOut.{IsSharedOut, never_starting, over_still}
 
 -- ---- one process
 
--- a process is in the middle of nothing, or in an alternation
-abbrev pub IsCalm : Task → Type 0
-IsCalm t = (t.mode ≡ modes.Plain) ⊎ Alternates t.mode t.condition
-
--- No rule starts a branch yet: no process has an opener or a join open, and there is one.
-pub record IsQuiet (w : World) : Type 0 where
-  pub roles : (p : ℕ) (role : Role) → slice_get w.roles p ≡ Some role → (role.opened ≡ None) × (role.opener ≡ None)
-  pub calm : (p : ℕ) (t : Task) → slice_get w.tasks p ≡ Some t → IsCalm t
-  pub only : (p q : ℕ) (t u : Task) → slice_get w.tasks p ≡ Some t → slice_get w.tasks q ≡ Some u → p ≡ q
-
--- who is in plain mode is in no alternation
-pub no_alternation : (t : Task) → t.mode ≡ modes.Plain → Alternates t.mode t.condition → ⊥
-no_alternation t plain (inl enables) = let no' : modes.Plain ≡ modes.Enabling enables.0.0 = sym plain ∙ enables.0.1 in cc
-no_alternation t plain (inr disables) =
-    let no' : modes.Plain ≡ modes.Disabling disables.0.0 = sym plain ∙ disables.0.1 in cc
-
--- who waits for a message is in plain mode
-pub plain_of : (t : Task) → IsCalm t → (t.condition ≡ Ready → ⊥) → (t.condition ≡ Alternating → ⊥)
-    → t.mode ≡ modes.Plain
-plain_of t (inl plain) unready unroused = plain
-plain_of t (inr (inl enables)) unready unroused = absurd (unready enables.1)
-plain_of t (inr (inr disables)) unready unroused =
-    absurd (elim disables.1 [ inl ready ↦ unready ready | inr waits ↦ unroused waits ])
-
+-- The invariant holds, and each process is in its mode as it should be.
 pub record IsSound (m : Contents) (w : World) : Type 0 where
   pub holds : Holds m w
-  pub quiet : IsQuiet w
+  pub calm : (p : ℕ) (t : Task) → slice_get w.tasks p ≡ Some t → IsCalm t
 
 -- ---- a process
 
@@ -202,8 +191,16 @@ lives_in_mode {t = t} next l same = record {
   act_is = refl;
 }
 
--- what another process does with bytes of its own leaves a process alone
-meets_elsewhere : {m : Contents} {g h : Holding} {began : Began} {memory new : Memory} {t : Task} {due : ℕ}
+-- ---- what another process does with bytes of its own
+
+-- it leaves what a process may read
+pub bytes_elsewhere : {g h : Holding} {memory new : Memory} → IsApart g h → ChangesOwn g memory new → (place : ℕ)
+    → may_read h place ≡ true → byte_at new place ≡ byte_at memory place
+bytes_elsewhere {g} apart changes place e = changes.others place (elim (bool_cases (may_write g place))
+    [ inl mine ↦ absurd (apart.written place mine e) | inr free ↦ free ])
+
+-- it leaves the process alone
+unfoldable pub meets_elsewhere : {m : Contents} {g h : Holding} {began : Began} {memory new : Memory} {t : Task} {due : ℕ}
     → IsApart g h → ChangesOwn g memory new → Meets m h began memory t due → Meets m h began new t due
 meets_elsewhere apart changes (it_stopped e) = it_stopped e
 meets_elsewhere apart changes (it_ended e) = it_ended e
@@ -222,67 +219,95 @@ meets_elsewhere {m} {g} {h} {began} {memory} {new} apart changes (it_lives l) = 
 })
   where
     same : (place : ℕ) → may_read h place ≡ true → byte_at new place ≡ byte_at memory place
-    same place e = changes.others place (elim (bool_cases (may_write g place))
-        [ inl mine ↦ absurd (apart.written place mine e) | inr free ↦ free ])
+    same place e = bytes_elsewhere apart changes place e
 
     kept : Keeps m h (scope_in m l.point.state l.point.act.layout) memory new
     kept = agree_keeps h memory new changes.size same m (scope_in m l.point.state l.point.act.layout)
 
+-- and its place among the starts of a PAR
+pub starts_elsewhere : {m : Contents} {g h : Holding} {began : Began} {memory new : Memory} {t : Task} {due : ℕ}
+    (apart : IsApart g h) (changes : ChangesOwn g memory new) (meets : Meets m h began memory t due) (par : Par)
+    (j : Join) (act : Activation) → StartsHere meets par j act
+    → StartsHere (meets_elsewhere apart changes meets) par j act
+unfolding meets_elsewhere
+starts_elsewhere apart changes (it_lives l) par j act starts = starts
+starts_elsewhere apart changes (it_stopped e) par j act starts = starts
+starts_elsewhere apart changes (it_ended e) par j act starts = starts
+
+-- a process changes nothing
+pub nothing_changes : {m : Contents} {h : Holding} {scope : Scope} {memory : Memory}
+    → ChangesWithin m h scope memory memory
+nothing_changes {m} {h} {scope} {memory} = record {
+  own = record { size = refl; others = λ place e. refl };
+  keeps = agree_keeps h memory memory refl (λ place e. refl) m scope;
+}
+
 -- ---- a process of a world in which the invariant holds
 
--- it is alive, with what is known of its guards
+-- it is alive, with what is known of its guards, and of its place among the starts of a PAR
 record Alive (m : Contents) (w : World) (p : ℕ) {g : Holding} {began : Began} {t : Task} {due : ℕ}
     (meets : Meets m g began w.memory t due) : Type 0 where
   lives : Lives m g began w.memory t due
+  is : meets ≡ it_lives lives
   guards : AlternatesIn w p meets → AlternatesHere m w p t lives.point.state lives.point.act
+  starts : (par : Par) (j : Join) (act : Activation) → StartsHere meets par j act → IsStarter m t lives.point par j act
 
 -- with its place in the table, and all that is known of it
-pub record Living (m : Contents) (w : World) (began : List Began) (dues : List ℕ) (p : ℕ) (t : Task) : Type 0 where
+pub record Living (m : Contents) (w : World) (h : Holds m w) (p : ℕ) (t : Task) : Type 0 where
   pub here : slice_get w.tasks p ≡ Some t
-  pub row : Process m w began dues p t
-  pub lives : Lives m (held row.role) row.start w.memory t row.due
+  pub lives : Lives m (held (h.table.each p t here).role) (h.table.each p t here).start w.memory t
+      (h.table.each p t here).due
+  pub is : (h.table.each p t here).meets ≡ it_lives lives
+  pub going : t.condition ≡ Ended → ⊥
   pub guards : Alternates t.mode t.condition → AlternatesHere m w p t lives.point.state lives.point.act
+  pub starts : (par : Par) (j : Join) (act : Activation) → StartsHere (h.table.each p t here).meets par j act
+      → IsStarter m t lives.point par j act
+
+abbrev pub row_of : {m : Contents} {w : World} {h : Holds m w} {p : ℕ} {t : Task} → Living m w h p t
+    → Process m w h.began h.dues p t
+row_of {h = h} {p = p} {t = t} r = h.table.each p t r.here
 
 -- who is not over is alive
 pub living : (m : Contents) (w : World) (h : Holds m w) (p : ℕ) (t : Task) (c : Condition)
-    → slice_get w.tasks p ≡ Some t → t.condition ≡ c → (c ≡ Stopped → ⊥) → (c ≡ Ended → ⊥)
-    → Living m w h.began h.dues p t
+    → slice_get w.tasks p ≡ Some t → t.condition ≡ c → (c ≡ Stopped → ⊥) → (c ≡ Ended → ⊥) → Living m w h p t
 living m w h p t c here is going unended =
     let row = h.table.each p t here in
     let l = alive row.meets in
     record {
       here = here;
-      row = row;
       lives = l.lives;
+      is = l.is;
+      going = λ ended. unended (sym is ∙ ended);
       guards = λ alternates. l.guards (row.alternating alternates);
+      starts = l.starts;
     }
   where
     alive : {g : Holding} {began : Began} {due : ℕ} (meets : Meets m g began w.memory t due) → Alive m w p meets
-    alive (it_lives l) = record { lives = l; guards = λ guards. guards }
+    alive (it_lives l) = record {
+      lives = l;
+      is = refl;
+      guards = λ guards. guards;
+      starts = λ par j act starts. starts;
+    }
     alive (it_stopped s) = absurd (going (sym is ∙ s))
     alive (it_ended e) = absurd (unended (sym is ∙ e))
-
--- no two processes hold the same
-abbrev pub AreApart : List Role → Type 0
-AreApart roles = (p q : ℕ) (r s : Role) → p ≢ q → slice_get roles p ≡ Some r → slice_get roles q ≡ Some s
-    → IsApart (held r) (held s)
 
 -- what is kept on the links are bytes
 abbrev pub AreBytes : List InputLink → Type 0
 AreBytes inputs = (k : ℕ) (link : InputLink) (b : ℕ) → slice_get inputs k ≡ Some link → link.kept ≡ Some b → b < 256
 
--- each channel is there, with messages as long as before
-abbrev pub SameLengths : List (Option Channel) → List (Option Channel) → Type 0
-SameLengths old new = (k : ℕ) (c : Channel) → slice_get old k ≡ Some (Some c)
-    → (d : Channel) × (slice_get new k ≡ Some (Some d)) × (d.length ≡ c.length)
+-- each channel is there, as its opener has made it
+abbrev pub ChannelsStay : List (Option Channel) → List (Option Channel) → Type 0
+ChannelsStay old new = (k : ℕ) (c : Channel) → slice_get old k ≡ Some (Some c)
+    → (d : Channel) × (slice_get new k ≡ Some (Some d)) × (d.length ≡ c.length) × (d.opener ≡ c.opener)
 
-pub equal_lengths : {old new : List (Option Channel)} → new ≡ old → SameLengths old new
-equal_lengths same k c here = (c, ap (λ (cells : List (Option Channel)). slice_get cells k) same ∙ here, refl)
+pub channels_equal : {old new : List (Option Channel)} → new ≡ old → ChannelsStay old new
+channels_equal same k c here = (c, ap (λ (cells : List (Option Channel)). slice_get cells k) same ∙ here, refl, refl)
 
 -- where one channel has changed
-pub length_set : (cells : List (Option Channel)) (k : ℕ) (old new : Channel) → slice_get cells k ≡ Some (Some old)
-    → new.length ≡ old.length → SameLengths cells (slice_set cells k (Some new))
-length_set cells k old new there same n c here = elim (cases_eq k n) [
+pub channel_stays : (cells : List (Option Channel)) (k : ℕ) (old new : Channel) → slice_get cells k ≡ Some (Some old)
+    → new.length ≡ old.length → new.opener ≡ old.opener → ChannelsStay cells (slice_set cells k (Some new))
+channel_stays cells k old new there same by n c here = elim (cases_eq k n) [
   | inl it ↦
       let one : Some old ≡ Some c = only_one (slice_get cells n) (Some old) (Some c)
       (subst (λ i. slice_get cells i ≡ Some (Some old)) it there) here in
@@ -291,12 +316,13 @@ length_set cells k old new there same n c here = elim (cases_eq k n) [
         subst (λ i. slice_get (slice_set cells k (Some new)) i ≡ Some (Some new)) it
             (got_set cells k (Some old) (Some new) there),
         same ∙ ap (λ (c : Channel). c.length) is,
+        by ∙ ap (λ (c : Channel). c.opener) is,
       )
-  | inr differ ↦ (c, got_other cells k n (Some new) differ ∙ here, refl)
+  | inr differ ↦ (c, got_other cells k n (Some new) differ ∙ here, refl, refl)
 ]
 
 lengths_kept : (m : Contents) (roles : List Role) {old new : List (Option Channel)} (began : List Began)
-    → SameLengths old new → LengthsAgree m roles old began → LengthsAgree m roles new began
+    → ChannelsStay old new → LengthsAgree m roles old began → LengthsAgree m roles new began
 lengths_kept m roles {old = old} {new = new} began same agree p role start e has_role has_start has =
     on (agree p role start e has_role has_start has)
   where
@@ -310,7 +336,7 @@ pub record Puts (w after : World) (p : ℕ) (u : Task) (new : Memory) : Type 0 w
   pub tasks : after.tasks ≡ slice_set w.tasks p u
   pub memory : after.memory ≡ new
   pub roles : after.roles ≡ w.roles
-  pub channels : SameLengths w.channels after.channels
+  pub channels : ChannelsStay w.channels after.channels
   pub kept : AreBytes after.links.inputs
   pub fault : after.fault ≡ w.fault
 
@@ -320,128 +346,267 @@ total_set [] p d e h = absurd (cc)
 total_set (x ∷ xs) zero d e h = let same : x ≡ d = cc in omega arith
 total_set (x ∷ xs) (suc p) d e h = let rest = total_set xs p d e h in omega arith
 
--- where nobody has a join open or is a branch, the table, lengths and links are all
-pub quietly : (m : Contents) (w : World) (dues pending_dues : List ℕ) (began : List Began) → IsQuiet w
-    → Table m w began dues → LengthsAgree m w.roles w.channels began → AreBytes w.links.inputs
-    → total dues + total pending_dues + w.counters.executed ≤ m.budget → w.fault ≡ None
-    → AreCounted w.tasks began dues pending_dues → IsSound m w
-quietly m w dues pending_dues began quiet table lengths kept owed well counted = record {
-  holds = record {
-    dues = dues;
-    pending_dues = pending_dues;
-    began = began;
-    counted = counted;
-    table = table;
-    pending = λ p role j here is. let no' : None ≡ Some j = sym (quiet.roles p role here).0 ∙ is in absurd (cc);
-    lengths = lengths;
-    kept = kept;
-    owed = owed;
-    well = well;
-  };
-  quiet = quiet;
-}
+-- What a process may change that lives: bytes of its own, as its activation allows.
+abbrev pub Allows : {m : Contents} {h : Holding} {began : Began} {old : Memory} {t : Task} {due : ℕ}
+    → Lives m h began old t due → Memory → Memory → Type 0
+Allows {m = m} {h = h} l memory new = ChangesWithin m h (scope_in m l.point.state l.point.act.layout) memory new
 
-module _ (m : Contents) (w : World) (h : IsSound m w) (apart : AreApart w.roles) (p : ℕ) (t : Task)
-    (here : slice_get w.tasks p ≡ Some t) (row : Process m w h.holds.began h.holds.dues p t) (after : World) (u : Task)
-    (new : Memory) (later : ℕ) (puts : Puts w after p u new) where
-  -- what stands in the list of tasks afterwards
-  stands_after : (q : ℕ) (v : Task) → slice_get after.tasks q ≡ Some v
-      → ((p ≡ q) × (v ≡ u)) ⊎ ((p ≢ q) × (slice_get w.tasks q ≡ Some v))
-  stands_after q v there =
-      set_either w.tasks p u q v (subst (λ (tasks : List Task). slice_get tasks q ≡ Some v) puts.tasks there)
+-- One process changes what it may, and goes on as another task.
+module _ (m : Contents) (w : World) (h : IsSound m w) (out : IsSharedOut m w) (p : ℕ) (t : Task)
+    (r : Living m w h.holds p t) (after : World) (u : Task) (new : Memory) (later : ℕ) (puts : Puts w after p u new)
+    (leaves : LeavesEnabled w after p t) (allowed : Allows r.lives w.memory new) where
+  abbrev began : List Began
+  began = h.holds.began
 
   abbrev dues_after : List ℕ
   dues_after = slice_set h.holds.dues p later
 
-  -- each process is as it was, but for the one that has changed
-  each_after : ChangesOwn (held row.role) w.memory new → Process m after h.holds.began dues_after p u
-      → (q : ℕ) (v : Task)
-      → slice_get after.tasks q ≡ Some v → Process m after h.holds.began dues_after q v
-  each_after changes mine q v there = elim (stands_after q v there) [
-    | inl itself ↦ subst (λ (n : ℕ). Process m after h.holds.began dues_after n v) itself.0
-        (subst (λ (x : Task). Process m after h.holds.began dues_after p x) (sym itself.1) mine)
-    | inr other ↦
-        let old = h.holds.table.each q v other.1 in
+  allowed_now : Allows r.lives w.memory after.memory
+  allowed_now = subst (λ (memory : Memory). Allows r.lives w.memory memory) (sym puts.memory) allowed
+
+  -- what stands in the list of tasks afterwards: it, or another one
+  abbrev StandsAfter : ℕ → Task → Type 0
+  StandsAfter q v = ((p ≡ q) × (v ≡ u)) ⊎ ((p ≢ q) × (slice_get w.tasks q ≡ Some v))
+
+  stands_after : (q : ℕ) (v : Task) → slice_get after.tasks q ≡ Some v → StandsAfter q v
+  stands_after q v there =
+      set_either w.tasks p u q v (subst (λ (tasks : List Task). slice_get tasks q ≡ Some v) puts.tasks there)
+
+  has_role_after : (q : ℕ) (role : Role) → slice_get w.roles q ≡ Some role → slice_get after.roles q ≡ Some role
+  has_role_after q role here = subst (λ (roles : List Role). slice_get roles q ≡ Some role) (sym puts.roles) here
+
+  had_role : (q : ℕ) (role : Role) → slice_get after.roles q ≡ Some role → slice_get w.roles q ≡ Some role
+  had_role q role here = subst (λ (roles : List Role). slice_get roles q ≡ Some role) puts.roles here
+
+  -- ---- the others
+
+  -- who alternates does so still
+  alternates_elsewhere : (q : ℕ) → p ≢ q → (v : Task) {g : Holding} {start : Began} {due : ℕ}
+      (apart : IsApart (held (row_of r).role) g) (meets : Meets m g start w.memory v due)
+      → Alternates v.mode v.condition → AlternatesIn w q meets
+      → AlternatesIn after q (meets_elsewhere apart allowed_now.own meets)
+  unfolding meets_elsewhere
+  alternates_elsewhere q other v apart (it_lives l) alternates guards =
+      others_alternate m w after p t u r.here puts.tasks leaves q other v l alternates
+      (bytes_elsewhere apart allowed_now.own) guards
+  alternates_elsewhere q other v apart (it_stopped e) alternates guards = guards
+  alternates_elsewhere q other v apart (it_ended e) alternates guards = guards
+
+  apart_from : (q : ℕ) → p ≢ q → (role : Role) → slice_get w.roles q ≡ Some role → IsApart (held (row_of r).role) (held role)
+  apart_from q other role here = out.apart p q (row_of r).role role other (row_of r).has_role here
+
+  elsewhere : (q : ℕ) (v : Task) → p ≢ q → Process m w began h.holds.dues q v → Process m after began dues_after q v
+  elsewhere q v other old = record {
+    role = old.role;
+    has_role = has_role_after q old.role old.has_role;
+    start = old.start;
+    has_start = old.has_start;
+    due = old.due;
+    has_due = got_other h.holds.dues p q later other ∙ old.has_due;
+    root = old.root;
+    meets = meets_elsewhere (apart_from q other old.role old.has_role) allowed_now.own old.meets;
+    alternating = λ alternates. alternates_elsewhere q other v (apart_from q other old.role old.has_role) old.meets
+        alternates (old.alternating alternates);
+  }
+
+  -- who is over for good is so still
+  gone_after : (q : ℕ) (role : Role) → IsGone w.tasks role q → IsGone after.tasks role q
+  gone_after q role gone = (
+    gone.0,
+    subst (λ (tasks : List Task). IsOver tasks q) (sym puts.tasks)
+        (over_still w.tasks w.roles p t u r.here r.going q gone.1),
+  )
+
+  -- ---- what openers go on with
+
+  -- what they go on with is so still
+  abbrev OpenersStay : Type 0
+  OpenersStay = (q : ℕ) (role : Role) (j : Join) (here : slice_get w.roles q ≡ Some role) (is : role.opened ≡ Some j)
+      → let opener = h.holds.pending q role j here is in
+      Pending m role.own q opener.start began after.memory j opener.due opener.after
+
+  -- what one changes that has no join open climbs
+  unopened_leaves : opened_in w.roles p ≡ None → OpenersStay
+  unopened_leaves none q role j here is =
+      openers_stay m w h.holds out.branches after.memory out.holders p changer q role j here is none
+    where
+      still : is_starting r.lives.point.state.mode ≡ false
+      still = at_still r.lives (never_starting out.starters p t r.here none)
+
+      changer : Changer m w began p after.memory
+      changer = step_changes m w began p t r.here (row_of r).role (row_of r).has_role (row_of r).start (row_of r).has_start (row_of r).due
+          (sym (opened_is w.roles p (row_of r).role (row_of r).has_role) ∙ none) r.going r.lives still after.memory
+          allowed_now.own
+          (subst (λ (scope : Scope). Keeps m (held (row_of r).role) scope w.memory after.memory)
+          (scope_still m r.lives.point.state.context r.lives.point.state.mode r.lives.point.act.layout still)
+          allowed_now.keeps)
+
+  -- who is no opener is not among starts
+  starts_none : opened_in w.roles p ≡ None → (par : Par) (j : Join) (act : Activation)
+      → IsStarter m t r.lives.point par j act → ⊥
+  starts_none none par j act starter =
+      let no' : true ≡ false = sym (ap is_starting starter.mode)
+      ∙ at_still r.lives (never_starting out.starters p t r.here none) in
+      cc
+
+  abbrev RowAt : ℕ → Task → Type 0
+  RowAt q v = Process m after began dues_after q v
+
+  -- the row of a process under an equal number has its place among the starts of a PAR still
+  moved_row : (v : Task) (row : RowAt p v) (q : ℕ) (same : p ≡ q) (par : Par) (j : Join) (act : Activation)
+      → StartsHere row.meets par j act → StartsHere (subst (λ (n : ℕ). RowAt n v) same row).meets par j act
+  moved_row v row q same par j act starts =
+      path_j (λ (n : ℕ) (e : p ≡ n). StartsHere (subst (λ (n : ℕ). RowAt n v) e row).meets par j act)
+      (subst (λ (row : RowAt p v). StartsHere row.meets par j act) (sym (subst_refl (λ (n : ℕ). RowAt n v) row)) starts)
+      same
+
+  module _ (mine : Process m after began dues_after p u) where
+    -- and so it has under an equal task
+    moved_task : (v : Task) (same : u ≡ v) (par : Par) (j : Join) (act : Activation) → StartsHere mine.meets par j act
+        → StartsHere (subst (λ (x : Task). RowAt p x) same mine).meets par j act
+    moved_task v same par j act starts =
+        path_j (λ (x : Task) (e : u ≡ x). StartsHere (subst (λ (x : Task). RowAt p x) e mine).meets par j act)
+        (subst (λ (row : RowAt p u). StartsHere row.meets par j act) (sym (subst_refl (λ (x : Task). RowAt p x) mine))
+        starts) same
+
+    -- each process is as it was, but for the one that has changed
+    placed : (q : ℕ) (v : Task) → StandsAfter q v → Process m after began dues_after q v
+    placed q v (inl itself) =
+        subst (λ (n : ℕ). RowAt n v) itself.0 (subst (λ (x : Task). RowAt p x) (sym itself.1) mine)
+    placed q v (inr other) = elsewhere q v other.0 (h.holds.table.each q v other.1)
+
+    abbrev table_after : Table m after began dues_after
+    table_after = record { each = λ q v there. placed q v (stands_after q v there) }
+
+    -- this one is among the starts of its own PAR still
+    abbrev StartsOn : Type 0
+    StartsOn = (par : Par) (j : Join) (act : Activation) → IsStarter m t r.lives.point par j act
+        → StartsHere mine.meets par j act
+
+    starts_never : opened_in w.roles p ≡ None → StartsOn
+    starts_never none par j act starter = absurd (starts_none none par j act starter)
+
+    starts_placed : StartsOn → (q : ℕ) (v : Task) (stands : StandsAfter q v) (par : Par) (j : Join) (act : Activation)
+        → ((x : Task) (here : slice_get w.tasks q ≡ Some x)
+        → StartsHere (h.holds.table.each q x here).meets par j act)
+        → StartsHere (placed q v stands).meets par j act
+    unfolding placed elsewhere
+    starts_placed on q v (inl itself) par j act starts =
+        moved_row v (subst (λ (x : Task). RowAt p x) (sym itself.1) mine) q itself.0 par j act
+        (moved_task v (sym itself.1) par j act (on par j act (r.starts par j act (starts_here itself.0))))
+      where
+        starts_here : p ≡ q → StartsHere (h.holds.table.each p t r.here).meets par j act
+        starts_here same = subst (λ (n : ℕ). (x : Task) (here : slice_get w.tasks n ≡ Some x)
+            → StartsHere (h.holds.table.each n x here).meets par j act) (sym same) starts t r.here
+    starts_placed on q v (inr there) par j act starts =
+        let old = h.holds.table.each q v there.1 in
+        starts_elsewhere (apart_from q there.0 old.role old.has_role) allowed_now.own old.meets par j act
+        (starts v there.1)
+
+    opener_after : OpenersStay → StartsOn → (q : ℕ) (role : Role) (j : Join) → slice_get after.roles q ≡ Some role
+        → role.opened ≡ Some j → Opener m after began dues_after h.holds.pending_dues table_after q role j
+    opener_after stay on q role j here is =
+        let there = had_role q role here in
+        let old = h.holds.pending q role j there is in
         record {
-          role = old.role;
-          has_role = subst (λ (roles : List Role). slice_get roles q ≡ Some old.role) (sym puts.roles) old.has_role;
           start = old.start;
           has_start = old.has_start;
           due = old.due;
-          has_due = got_other h.holds.dues p q later other.0 ∙ old.has_due;
-          root = old.root;
-          meets = subst (λ (memory : Memory). Meets m (held old.role) old.start memory v old.due) (sym puts.memory)
-              (meets_elsewhere (apart p q row.role old.role other.0 row.has_role old.has_role) changes old.meets);
-          alternating = λ alternates. absurd (other.0 (h.quiet.only p q t v here other.1));
+          has_due = old.has_due;
+          after = old.after;
+          pending = stay q role j there is;
+          starter = λ task now. starts_placed on q task (stands_after q task now) old.after.par j old.after.act
+              old.starter;
+          members = λ a branch first has_branch by live has_first. old.members a branch first
+              (had_role a branch has_branch) by (λ gone. live (gone_after a branch gone)) has_first;
+          channels = λ n channel at.
+              let c = old.channels n channel at in
+              let d = puts.channels _ c.0 c.1 in
+              (d.0, d.1, d.2 ∙ c.2, d.3 ∙ c.3);
         }
-  ]
 
-  quiet_after : IsCalm u → IsQuiet after
-  quiet_after calm = record {
-    roles = rw puts.roles h.quiet.roles;
-    calm = λ q v there. elim (stands_after q v there) [
+    -- ---- all of it
+
+    calm_after : IsCalm u → (q : ℕ) (v : Task) → slice_get after.tasks q ≡ Some v → IsCalm v
+    calm_after calm q v there = elim (stands_after q v there) [
       | inl itself ↦ subst IsCalm (sym itself.1) calm
-      | inr other ↦ h.quiet.calm q v other.1
-    ];
-    only = λ q r v x there also. sym (at_once q v there) ∙ at_once r x also;
-  }
-    where
-      at_once : (q : ℕ) (v : Task) → slice_get after.tasks q ≡ Some v → p ≡ q
-      at_once q v there =
-          elim (stands_after q v there) [ inl itself ↦ itself.0 | inr other ↦ h.quiet.only p q t v here other.1 ]
+      | inr other ↦ h.calm q v other.1
+    ]
+
+    sound_after : OpenersStay → StartsOn → later + after.counters.executed ≤ (row_of r).due + w.counters.executed → IsCalm u
+        → IsSound m after
+    sound_after stay on paid calm = record {
+      holds = record {
+        dues = dues_after;
+        pending_dues = h.holds.pending_dues;
+        began = began;
+        counted = record {
+          begun = h.holds.counted.begun ∙ same_count;
+          owing = length-set h.holds.dues p later ∙ h.holds.counted.owing ∙ same_count;
+          pending = h.holds.counted.pending ∙ same_count;
+        };
+        table = table_after;
+        pending = opener_after stay on;
+        lengths = lengths_kept m after.roles began puts.channels (rw puts.roles h.holds.lengths);
+        kept = puts.kept;
+        owed = let t = total_set h.holds.dues p (row_of r).due later (row_of r).has_due in let o = h.holds.owed in omega arith;
+        well = puts.fault ∙ h.holds.well;
+      };
+      calm = calm_after calm;
+    }
+      where
+        same_count : length w.tasks ≡ length after.tasks
+        same_count = sym (ap (λ (tasks : List Task). length tasks) puts.tasks ∙ length-set w.tasks p u)
 
   -- the process that has changed
-  mine_after : (meets : Meets m (held row.role) row.start after.memory u later)
-      → (Alternates u.mode u.condition → AlternatesIn after p meets) → Process m after h.holds.began dues_after p u
+  mine_after : (meets : Meets m (held (row_of r).role) (row_of r).start after.memory u later)
+      → (Alternates u.mode u.condition → AlternatesIn after p meets) → Process m after began dues_after p u
   mine_after meets alternating = record {
-    role = row.role;
-    has_role = subst (λ (roles : List Role). slice_get roles p ≡ Some row.role) (sym puts.roles) row.has_role;
-    start = row.start;
-    has_start = row.has_start;
+    role = (row_of r).role;
+    has_role = has_role_after p (row_of r).role (row_of r).has_role;
+    start = (row_of r).start;
+    has_start = (row_of r).has_start;
     due = later;
-    has_due = got_set h.holds.dues p row.due later row.has_due;
-    root = row.root;
+    has_due = got_set h.holds.dues p (row_of r).due later (row_of r).has_due;
+    root = (row_of r).root;
     meets = meets;
     alternating = alternating;
   }
 
-  sound_after : later + after.counters.executed ≤ row.due + w.counters.executed → IsCalm u
-      → ChangesOwn (held row.role) w.memory new → Process m after h.holds.began dues_after p u → IsSound m after
-  sound_after paid calm changes mine =
-      quietly m after dues_after h.holds.pending_dues h.holds.began (quiet_after calm)
-      (record { each = each_after changes mine })
-      (lengths_kept m after.roles h.holds.began puts.channels (rw puts.roles h.holds.lengths)) puts.kept
-      (let t = total_set h.holds.dues p row.due later row.has_due in let o = h.holds.owed in omega arith)
-      (puts.fault ∙ h.holds.well) (record {
-        begun = h.holds.counted.begun ∙ same_count;
-        owing = length-set h.holds.dues p later ∙ h.holds.counted.owing ∙ same_count;
-        pending = h.holds.counted.pending ∙ same_count;
-      })
-    where
-      same_count : length w.tasks ≡ length after.tasks
-      same_count = sym (ap (λ (tasks : List Task). length tasks) puts.tasks ∙ length-set w.tasks p u)
-
-  -- The invariant holds where one process changes bytes of its own, goes on in plain mode as another task, and owes
-  -- less
-  -- by what is counted.
-  pub holds_put : later + after.counters.executed ≤ row.due + w.counters.executed → u.mode ≡ modes.Plain
-      → ChangesOwn (held row.role) w.memory new
-      → Meets m (held row.role) row.start new u later → IsSound m after
-  holds_put paid plain changes meets = sound_after paid (inl plain) changes
-      (mine_after (subst (λ (memory : Memory). Meets m (held row.role) row.start memory u later) (sym puts.memory)
-      meets)
-      (λ alternates. absurd (no_alternation u plain alternates)))
+  -- The invariant holds where it goes on in plain mode, and owes less by what is counted.
+  pub holds_put : opened_in w.roles p ≡ None → later + after.counters.executed ≤ (row_of r).due + w.counters.executed
+      → u.mode ≡ modes.Plain → Meets m (held (row_of r).role) (row_of r).start new u later → IsSound m after
+  holds_put none paid plain meets =
+      let mine = mine_after (subst (λ (memory : Memory). Meets m (held (row_of r).role) (row_of r).start memory u later)
+      (sym puts.memory) meets) (λ alternates. absurd (no_alternation u plain alternates)) in
+      sound_after mine (unopened_leaves none) (starts_never mine none) paid (is_plain plain)
 
   -- The same where it goes on in an alternation, as its guards say.
-  pub holds_put_alternating : later + after.counters.executed ≤ row.due + w.counters.executed
-      → Alternates u.mode u.condition → ChangesOwn (held row.role) w.memory new → {s : State} {act : Activation}
-      → LivesAs m (held row.role) row.start new u later s act → AlternatesHere m after p u s act → IsSound m after
-  holds_put_alternating paid alternates changes {s} {act} lives guards =
-      let l = subst (λ (memory : Memory). LivesAs m (held row.role) row.start memory u later s act) (sym puts.memory)
-      lives in
-      sound_after paid (inr alternates) changes (mine_after (it_lives l.lives) (λ again.
+  pub holds_put_alternating : opened_in w.roles p ≡ None
+      → later + after.counters.executed ≤ (row_of r).due + w.counters.executed → Alternates u.mode u.condition
+      → {s : State} {act : Activation} → LivesAs m (held (row_of r).role) (row_of r).start new u later s act
+      → AlternatesHere m after p u s act → IsSound m after
+  holds_put_alternating none paid alternates {s} {act} lives guards =
+      let l = subst (λ (memory : Memory). LivesAs m (held (row_of r).role) (row_of r).start memory u later s act)
+      (sym puts.memory) lives in
+      let mine = mine_after (it_lives l.lives) (λ again.
       subst (λ (act : Activation). AlternatesHere m after p u l.lives.point.state act) (sym l.act_is)
-      (subst (λ (s : State). AlternatesHere m after p u s act) (sym l.state_is) guards)))
+      (subst (λ (s : State). AlternatesHere m after p u s act) (sym l.state_is) guards)) in
+      sound_after mine (unopened_leaves none) (starts_never mine none) paid (is_alternating alternates)
+
+  -- The same where it goes on among starts, and changes no byte.
+  pub holds_put_starting : later + after.counters.executed ≤ (row_of r).due + w.counters.executed
+      → u.mode ≡ modes.Starting → u.condition ≡ Ready → after.memory ≡ w.memory
+      → (lives : Lives m (held (row_of r).role) (row_of r).start after.memory u later)
+      → ((par : Par) (j : Join) (act : Activation) → IsStarter m t r.lives.point par j act
+      → IsStarter m u lives.point par j act) → IsSound m after
+  unfolding mine_after
+  holds_put_starting paid starting ready same lives starts =
+      sound_after (mine_after (it_lives lives) (λ alternates. absurd (not_starting u alternates starting)))
+      (λ q role j here is.
+      let opener = h.holds.pending q role j here is in
+      subst (λ (memory : Memory). Pending m role.own q opener.start began memory j opener.due opener.after) (sym same)
+      opener.pending) starts paid (is_among_starts starting ready)
 
 -- ---- what the invariant does not read
 
@@ -455,61 +620,103 @@ pub record Rests (w after : World) : Type 0 where
   pub counters : after.counters ≡ w.counters
   pub fault : after.fault ≡ w.fault
 
--- with what a process lives by, in the memory that is there now
-record Again (m : Contents) (w after : World) (p : ℕ) {g : Holding} {start : Began} {t : Task} {due : ℕ}
-    (old : Meets m g start w.memory t due) : Type 0 where
-  meets : Meets m g start after.memory t due
-  guards : AlternatesIn w p old → AlternatesIn after p meets
+module _ (m : Contents) (w after : World) (rests : Rests w after)
+    (still : (p : ℕ) (t : Task) (s : State) (act : Activation) → slice_get w.tasks p ≡ Some t
+    → AlternatesHere m w p t s act → AlternatesHere m after p t s act) (h : IsSound m w) where
+  stood : (p : ℕ) (t : Task) → slice_get after.tasks p ≡ Some t → slice_get w.tasks p ≡ Some t
+  stood p t there = subst (λ (tasks : List Task). slice_get tasks p ≡ Some t) rests.tasks there
 
--- Who alternates does so still.
-pub holds_aside : (m : Contents) (w after : World) → Rests w after
-    → ((p : ℕ) (t : Task) (s : State) (act : Activation) → slice_get w.tasks p ≡ Some t → AlternatesHere m w p t s act
-    → AlternatesHere m after p t s act) → IsSound m w → IsSound m after
-holds_aside m w after rests still h =
-    quietly m after h.holds.dues h.holds.pending_dues h.holds.began
-    (record {
-      roles = rw rests.roles h.quiet.roles;
-      calm = rw rests.tasks h.quiet.calm;
-      only = rw rests.tasks h.quiet.only;
-    })
-    (record {
-      each = λ p t there. each p t (subst (λ (tasks : List Task). slice_get tasks p ≡ Some t) rests.tasks
-          there);
-    })
-    (rw (rests.roles, rests.channels) h.holds.lengths) rests.kept (rw rests.counters h.holds.owed)
-    (rests.fault ∙ h.holds.well) (rw rests.tasks h.holds.counted)
-  where
-    again : {g : Holding} {start : Began} {due : ℕ} (p : ℕ) (t : Task) (meets : Meets m g start w.memory t due)
-        → slice_get w.tasks p ≡ Some t → Again m w after p meets
-    again {g} {start} {due} p t (it_lives l) here =
-        let now = subst (λ (memory : Memory). LivesAs m g start memory t due l.point.state l.point.act) (sym
-        rests.memory)
-        (record { lives = l; state_is = refl; act_is = refl }) in
-        record {
-          meets = it_lives now.lives;
-          guards = λ guards.
-              subst (λ (act : Activation). AlternatesHere m after p t now.lives.point.state act) (sym now.act_is)
-              (subst (λ (s : State). AlternatesHere m after p t s l.point.act) (sym now.state_is)
-              (still p t l.point.state l.point.act here guards));
-        }
-    again p t (it_stopped e) here = record { meets = it_stopped e; guards = λ guards. guards }
-    again p t (it_ended e) here = record { meets = it_ended e; guards = λ guards. guards }
+  had_role_aside : (p : ℕ) (role : Role) → slice_get after.roles p ≡ Some role → slice_get w.roles p ≡ Some role
+  had_role_aside p role there = subst (λ (roles : List Role). slice_get roles p ≡ Some role) rests.roles there
 
-    each : (p : ℕ) (t : Task) → slice_get w.tasks p ≡ Some t → Process m after h.holds.began h.holds.dues p t
-    each p t here =
-        let old = h.holds.table.each p t here in
-        let now = again p t old.meets here in
-        record {
-          role = old.role;
-          has_role = subst (λ (roles : List Role). slice_get roles p ≡ Some old.role) (sym rests.roles) old.has_role;
-          start = old.start;
-          has_start = old.has_start;
-          due = old.due;
-          has_due = old.has_due;
-          root = old.root;
-          meets = now.meets;
-          alternating = λ alternates. now.guards (old.alternating alternates);
-        }
+  -- nobody has changed memory
+  nobody : (g : Holding) → IsApart nothing g
+  nobody g = record {
+    written = λ place no' mine. cc;
+    read = λ place no' mine. cc;
+    ends = λ end no' mine. cc;
+  }
+
+  unchanged : ChangesOwn nothing w.memory after.memory
+  unchanged = record {
+    size = ap (λ (memory : Memory). length memory) rests.memory;
+    others = λ place e. ap (λ (memory : Memory). byte_at memory place) rests.memory;
+  }
+
+  guards_aside : (p : ℕ) (t : Task) {g : Holding} {start : Began} {due : ℕ} (meets : Meets m g start w.memory t due)
+      → slice_get w.tasks p ≡ Some t → AlternatesIn w p meets
+      → AlternatesIn after p (meets_elsewhere (nobody g) unchanged meets)
+  unfolding meets_elsewhere
+  guards_aside p t (it_lives l) here guards = still p t l.point.state l.point.act here guards
+  guards_aside p t (it_stopped e) here guards = guards
+  guards_aside p t (it_ended e) here guards = guards
+
+  row_aside : (p : ℕ) (t : Task) (old : Process m w h.holds.began h.holds.dues p t) → slice_get w.tasks p ≡ Some t
+      → Process m after h.holds.began h.holds.dues p t
+  row_aside p t old here = record {
+    role = old.role;
+    has_role = subst (λ (roles : List Role). slice_get roles p ≡ Some old.role) (sym rests.roles) old.has_role;
+    start = old.start;
+    has_start = old.has_start;
+    due = old.due;
+    has_due = old.has_due;
+    root = old.root;
+    meets = meets_elsewhere (nobody (held old.role)) unchanged old.meets;
+    alternating = λ alternates. guards_aside p t old.meets here (old.alternating alternates);
+  }
+
+  abbrev table_aside : Table m after h.holds.began h.holds.dues
+  table_aside = record {
+    each = λ p t there. row_aside p t (h.holds.table.each p t (stood p t there)) (stood p t there);
+  }
+
+  starts_aside : (p : ℕ) (t : Task) (old : Process m w h.holds.began h.holds.dues p t)
+      (here : slice_get w.tasks p ≡ Some t) (par : Par) (j : Join) (act : Activation)
+      → StartsHere old.meets par j act → StartsHere (row_aside p t old here).meets par j act
+  unfolding row_aside
+  starts_aside p t old here par j act starts =
+      starts_elsewhere (nobody (held old.role)) unchanged old.meets par j act starts
+
+  opener_aside : (q : ℕ) (role : Role) (j : Join) → slice_get after.roles q ≡ Some role → role.opened ≡ Some j
+      → Opener m after h.holds.began h.holds.dues h.holds.pending_dues table_aside q role j
+  opener_aside q role j here is =
+      let old = h.holds.pending q role j (had_role_aside q role here) is in
+      record {
+        start = old.start;
+        has_start = old.has_start;
+        due = old.due;
+        has_due = old.has_due;
+        after = old.after;
+        pending = subst (λ (memory : Memory). Pending m role.own q old.start h.holds.began memory j old.due old.after)
+            (sym rests.memory) old.pending;
+        starter = λ task there.
+            starts_aside q task (h.holds.table.each q task (stood q task there)) (stood q task there) old.after.par j
+            old.after.act (old.starter task (stood q task there));
+        members = λ a branch first has_branch by live has_first. old.members a branch first
+            (had_role_aside a branch has_branch) by (λ gone. live (rw rests.tasks gone)) has_first;
+        channels = λ n channel at.
+            let c = old.channels n channel at in
+            let d = channels_equal rests.channels _ c.0 c.1 in
+            (d.0, d.1, d.2 ∙ c.2, d.3 ∙ c.3);
+      }
+
+  -- Who alternates does so still.
+  pub holds_aside : IsSound m after
+  holds_aside = record {
+    holds = record {
+      dues = h.holds.dues;
+      pending_dues = h.holds.pending_dues;
+      began = h.holds.began;
+      counted = rw rests.tasks h.holds.counted;
+      table = table_aside;
+      pending = opener_aside;
+      lengths = rw (rests.roles, rests.channels) h.holds.lengths;
+      kept = rests.kept;
+      owed = rw rests.counters h.holds.owed;
+      well = rests.fault ∙ h.holds.well;
+    };
+    calm = rw rests.tasks h.calm;
+  }
 
 -- whoever is picked to run
 pub dispatch_holds : (m : Contents) (pick : ℕ) (w : World) → IsSound m w → IsSound m (dispatch pick w)

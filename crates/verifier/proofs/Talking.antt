@@ -13,6 +13,7 @@ use Rattle.machine_state.specs.declared.process.Condition.TheVariants.{Ready, Se
 use Rattle.machine_state.specs.declared.process.Exchange.{Exchange}
 use Rattle.machine_state.specs.declared.process.Task.{Task}
 use Rattle.machine_state.specs.Holding.{Holding, has_end}
+use Rattle.machine_state.specs.Roles.{opened_in}
 use Rattle.machine_state.specs.World.{World, held, holding_at, input_word, output_word}
 use Rattle.machine_state.specs.Moves.{cell_of, channel_at}
 use Rattle.machine_state.specs.Site.{Local, receives, sends}
@@ -30,8 +31,10 @@ use Rattle.machine_state.proofs.WhoWaitsOnLinks.{one_holds}
 use Rattle.rulings.specs.Meaning.{IsWellFormed}
 use Rattle.verifier.proofs.LawfulWorlds.{IsLawful}
 use Rattle.certified_worlds.proofs.Steps.{Talks}
+use Rattle.verifier.proofs.SharedOut.{holds_own}
+use Rattle.verifier.proofs.Tables.{row_of}
 use Rattle.verifier.proofs.Tables.{IsSound, Living}
-use Rattle.verifier.proofs.Sources.{AtEnd, an_input, an_output, a_channel, Partner, partner, no_cell, at_end, held_is}
+use Rattle.verifier.proofs.Sources.{AtEnd, an_input, an_output, a_channel, Partner, partner, no_cell, at_end}
 use Rattle.verifier.proofs.Sources.{holding_is, same_address, input_found, output_found}
 
 -- a channel that is found is there, and one that is there is found
@@ -56,15 +59,16 @@ condition_is w q t here =
     ap (λ (o : Option Task). elim o as (λ o. Condition) [ None ↦ Ready | Some task ↦ task.condition ]) here
 
 module _ (m : Contents) (wf : IsWellFormed m) (w : World) (lawful : IsLawful m w) (h : IsSound m w) (p : ℕ) (t : Task)
-    (ready : t.condition ≡ Ready) (r : Living m w h.holds.began h.holds.dues p t) where
+    (ready : t.condition ≡ Ready) (r : Living m w h.holds p t)
+    (unopened : opened_in w.roles p ≡ None) where
   -- what is at the end over which it wants a message
-  pub there : {direction : Direction} {e : Exchange} → Talks m (held r.row.role) r.row.start t direction e
+  pub there : {direction : Direction} {e : Exchange} → Talks m (held (row_of r).role) (row_of r).start t direction e
       → AtEnd m w (record { address = e.channel; direction = direction }) e.length
   there {direction} {e} talks =
       subst (λ n. AtEnd m w (record { address = e.channel; direction = direction }) n) (sym talks.len)
-      (at_end m wf w lawful h p r.row.role r.row.start _ r.row.has_role r.row.has_start
+      (at_end m wf w lawful h p (row_of r).role (row_of r).start _ (row_of r).has_role (row_of r).has_start
       (subst (λ (g : Holding). has_end g (record { address = e.channel; direction = direction }) ≡ true)
-      (held_is m wf w lawful h p r.row.role r.row.has_role) talks.end))
+      (holds_own w.roles p (row_of r).role (row_of r).has_role unopened) talks.end))
 
   -- who waits is another one
   pub another : (q : ℕ) (u : Task) (c : Condition) → slice_get w.tasks q ≡ Some u → u.condition ≡ c → (c ≡ Ready → ⊥)
@@ -79,7 +83,7 @@ module _ (m : Contents) (wf : IsWellFormed m) (w : World) (lawful : IsLawful m w
 
   -- nobody else waits for the same on the channel of a message
   alone_there : {direction : Direction} {e : Exchange} (q : ℕ) (u : Task) (x : Exchange) (c : Channel)
-      → Talks m (held r.row.role) r.row.start t direction e
+      → Talks m (held (row_of r).role) (row_of r).start t direction e
       → slice_get w.channels (cell_of e.channel) ≡ Some (Some c) → cell_of x.channel ≡ cell_of e.channel
       → slice_get w.tasks q ≡ Some u → WaitsTo direction u.condition x → ⊥
   alone_there {direction} {e} q u x c talks at cell here waits = on (there talks)
@@ -95,13 +99,13 @@ module _ (m : Contents) (wf : IsWellFormed m) (w : World) (lawful : IsLawful m w
           one_holds w lawful.apart p q (record { address = e.channel; direction = direction })
           (another q u u.condition here refl (waits_still direction u.condition x waits))
           (subst (λ (g : Holding). has_end g (record { address = e.channel; direction = direction }) ≡ true)
-          (sym (holding_is m wf w lawful h p r.row.role r.row.has_role)) talks.end)
+          (sym (holding_is m wf w lawful h p (row_of r).role (row_of r).has_role)) talks.end)
           (subst (λ a. has_end (holding_at w.roles q) (record { address = a; direction = direction }) ≡ true) same
           theirs.end)
 
   -- the messages of both are as long as those of the channel
   same_length : {direction : Direction} {e : Exchange} (other : Direction) (q : ℕ) (u : Task) (x : Exchange) (c : Channel)
-      → Talks m (held r.row.role) r.row.start t direction e
+      → Talks m (held (row_of r).role) (row_of r).start t direction e
       → slice_get w.channels (cell_of e.channel) ≡ Some (Some c) → cell_of x.channel ≡ cell_of e.channel
       → slice_get w.tasks q ≡ Some u → WaitsTo other u.condition x → x.length ≡ e.length
   same_length {direction} {e} other q u x c talks at cell here waits = on (there talks)
@@ -122,7 +126,7 @@ module _ (m : Contents) (wf : IsWellFormed m) (w : World) (lawful : IsLawful m w
 
   -- ---- no fault
 
-  code_follows : {direction : Direction} {e : Exchange} → Talks m (held r.row.role) r.row.start t direction e
+  code_follows : {direction : Direction} {e : Exchange} → Talks m (held (row_of r).role) (row_of r).start t direction e
       → nat_lt (t.registers.at + 1) (length m.code) ≡ false → ⊥
   code_follows talks none = elim (leb_tells (suc (t.registers.at + 1)) (length m.code)) [
     | inl is ↦ let no' : true ≡ false = sym is.0 ∙ none in cc
@@ -170,7 +174,7 @@ module _ (m : Contents) (wf : IsWellFormed m) (w : World) (lawful : IsLawful m w
           ]
 
   pub never_in : {e : Exchange} {l : Local} {kind : FaultKind} (pick : ℕ)
-      → Talks m (held r.row.role) r.row.start t In e → Refused (at_here m p t pick) w (receives e l) kind → ⊥
+      → Talks m (held (row_of r).role) (row_of r).start t In e → Refused (at_here m p t pick) w (receives e l) kind → ⊥
   never_in pick talks (no_code_follows needs none) = code_follows talks none
   never_in pick talks (receives_nowhere e l (no_channel outside none)) = on (there talks)
     where
@@ -211,7 +215,7 @@ module _ (m : Contents) (wf : IsWellFormed m) (w : World) (lawful : IsLawful m w
           no_cell m wf w lawful h (4 + k) e.channel c (omega (arith, low)) (omega (arith, at)) there
 
   pub never_out : {e : Exchange} {l : Local} {kind : FaultKind} (pick : ℕ)
-      → Talks m (held r.row.role) r.row.start t Out e → Refused (at_here m p t pick) w (sends e l) kind → ⊥
+      → Talks m (held (row_of r).role) (row_of r).start t Out e → Refused (at_here m p t pick) w (sends e l) kind → ⊥
   never_out pick talks (no_code_follows needs none) = code_follows talks none
   never_out pick talks (sends_nowhere e l outside none) = on (there talks)
     where

@@ -11,7 +11,7 @@ use Rattle.states.specs.declared.rule.Rule.TheVariants as rules
 use Rattle.states.specs.Numbers.{number_of}
 use Rattle.states.specs.State.{State, root_state}
 use Rattle.rulings.specs.Rulings.{Ruling, breaks, falling}
-use Rattle.facts.specs.Rules.{rule_at, has_rule}
+use Rattle.facts.specs.Rules.{rule_at, is_instruction}
 use Rattle.verifier.specs.declared.stop.Breach.{Breach}
 use Rattle.certified_worlds.specs.Certified.{state_at, entering}
 
@@ -28,7 +28,7 @@ both (Err first) _ = Err first
 
 -- one instruction, in the state at its offset, or where there is none
 abbrev pub judged_in : Contents → ℕ → Option State → Instr → Option State → Result (Option State) Rule
-judged_in m at before i None = Err (if has_rule m i then rules.Flow else rules.Spelling)
+judged_in m at before i None = Err (if is_instruction m i then rules.Flow else rules.Spelling)
 judged_in m at before i (Some s) = both (entering m at before) (rule_at m at i s)
 
 -- one instruction, where `before` falls into its offset

@@ -7,16 +7,19 @@ ghost use Rattle.module_format.specs.Keeping.{Keeps};
 ghost use Rattle.states.specs.State.{State as Known};
 ghost use Rattle.states.specs.Views.{state_of, BelongsTo};
 ghost use Rattle.rulings.specs.Rulings.{Ruling};
-ghost use Rattle.facts.specs.Rules.{has_rule};
+ghost use Rattle.facts.specs.Rules.{is_instruction};
 ghost use Rattle.rulings.specs.Telling.{Advances};
 ghost use Rattle.alternation_rules.specs.Telling.{Selects};
+ghost use Rattle.par_rules.specs.Telling.{Starts};
 ghost use Rattle.certified_worlds.specs.Certified.{entering};
 ghost use Rattle.verifier.specs.Judge.{lower, both, judged_at};
 ghost use Rattle.verifier.specs.Judging.{falling_state, Judges, IsComparable, IsGiven};
 
 use crate::rows::Given;
 use certificate::Module;
-use facts::{Continuation, advance, has_rule, is_alternation_end, leave, reserve_guards};
+use facts::{
+    Continuation, Started, Way, advance, is_instruction, leave, reserve_guards, start, way_of,
+};
 use prefix_decoder::Instr;
 use states::{Rule, State, cost_below};
 use std::alloc::AllocError;
@@ -78,12 +81,25 @@ fn both_at_end(entered: Result<u64, Rule>, left: Result<(), Rule>) -> Result<boo
     }
 }
 
-/// The rule that an instruction breaks to which nothing leads: `Rule::Spelling` where it has none, else
+/// Whether a state falls through the start of a branch, as each does, or the lower of two rules that are broken.
+fn both_at_start(entered: Result<u64, Rule>, started: Result<Started, Rule>) -> Result<bool, Rule>
+    ensures { (ruling : Ruling) (after : Known) → Starts started after ruling
+        → Judges result after (both entered ruling) }
+{
+    match (entered, started) {
+        (Ok(_), Ok(_)) => Ok(true),
+        (Ok(_), Err(rule)) => Err(rule),
+        (Err(rule), Ok(_)) => Err(rule),
+        (Err(first), Err(second)) => Err(lower(first, second)),
+    }
+}
+
+/// The rule that an instruction breaks to which nothing leads: `Rule::Spelling` where it is none of the machine, else
 /// `Rule::Flow`.
 fn unreached(module: &Module, instr: Instr) -> Rule
-    ensures { result ≡ (if has_rule «module».now instr then rules.Flow else rules.Spelling) }
+    ensures { result ≡ (if is_instruction «module».now instr then rules.Flow else rules.Spelling) }
 {
-    if has_rule(module, instr) {
+    if is_instruction(module, instr) {
         return Rule::Flow;
     }
     Rule::Spelling
@@ -115,8 +131,9 @@ pub(crate) fn judge<'a>(
         Given::Nothing => return Ok(Err(unreached(module, instr))),
     }
     reserve_guards(state)?;
-    if is_alternation_end(instr) {
-        return Ok(both_at_end(entered, leave(state, module, at, instr)));
-    }
-    Ok(both(entered, advance(state, module, at, instr)))
+    Ok(match way_of(instr) {
+        Way::GoesOn => both(entered, advance(state, module, at, instr)),
+        Way::EndsAlternation => both_at_end(entered, leave(state, module, at, instr)),
+        Way::StartsBranch => both_at_start(entered, start(state, module, at, instr)),
+    })
 }

@@ -1,9 +1,8 @@
-use Rattle.std.proofs.Common.{◌≡◌, ◌∙◌, sym, subst, drop, List, ◌+◌, rules}
+use Rattle.std.proofs.Common.{sym, subst, List, rules}
 use Rattle.std.proofs.lemmas.List.{drop_all}
 use Rattle.states.specs.declared.known.Guard.{Guard}
 use Rattle.rulings.specs.Places.{site_of}
 use Rattle.module_format.proofs.Loop.{item_at}
-use Rattle.facts.specs.declared.following.Successor.{Successor}
 use Rattle.facts.proofs.GuardLabels.{SoFar, skips, goes_on, all}
 use Rattle.facts.proofs.following.labels_of_guards.Goals as goal
 use Rattle.facts.proofs.following.labels_of_guards.Goals.{in-Some+in_ok-copy+in_ok-push_label, in_default}

@@ -1,0 +1,30 @@
+//! How a process goes on behind an instruction.
+
+ghost use Rattle.std.specs.Prelude.{◌≡◌};
+ghost use Rattle.facts.specs.Rules.{way_of};
+
+use machine_state::{Instruction, Op};
+use prefix_decoder::Instr;
+
+/// How a process goes on behind an instruction, as far as who judges it has to know before.
+#[derive(Clone, Copy, PartialEq, Eq)]
+pub enum Way {
+    /// At one or two places, or nowhere (`advance`).
+    GoesOn,
+    /// It ends an alternation, and goes on where a guard leads (`leave`).
+    EndsAlternation,
+    /// It starts a branch of a PAR, which begins at a label (`start`).
+    StartsBranch,
+}
+
+/// The way of an instruction.
+#[tactic(auto, unfolding(crate::specs::Rules::way_of))]
+pub fn way_of(instr: Instr) -> Way
+    ensures { result ≡ way_of instr }
+{
+    match Instruction::of(instr.fun, instr.operand) {
+        Some(Instruction::Operate(Op::AlternationEnd)) => Way::EndsAlternation,
+        Some(Instruction::Operate(Op::StartProcess)) => Way::StartsBranch,
+        _ => Way::GoesOn,
+    }
+}
