@@ -11,8 +11,6 @@ pub enum Outcome {
     Set,
     /// The answer is the expected one.
     Held,
-    /// The answer agrees with the expected one up to something that is not there yet.
-    Pending,
     /// The answer is another one.
     Differs,
     /// The statement cannot be read.
@@ -28,17 +26,6 @@ impl Outcome {
     {
         if is_expected {
             Outcome::Held
-        } else {
-            Outcome::Differs
-        }
-    }
-
-    /// What comes of a question whose answer is another one, because something is not there yet or for another reason.
-    pub fn pending(is_pending: bool) -> Self
-        ensures { result ≡ (if is_pending then Outcome.Pending else Outcome.Differs) }
-    {
-        if is_pending {
-            Outcome::Pending
         } else {
             Outcome::Differs
         }

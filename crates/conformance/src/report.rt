@@ -9,7 +9,6 @@ use std::alloc::Global;
 #[derive(Clone, Copy)]
 struct Counts {
     held: u64,
-    pending: u64,
     differing: u64,
     unreadable: u64,
 }
@@ -26,7 +25,6 @@ impl Report {
         Report {
             counts: Counts {
                 held: 0,
-                pending: 0,
                 differing: 0,
                 unreadable: 0,
             },
@@ -81,7 +79,6 @@ impl Report {
         match outcome {
             Outcome::Set => {}
             Outcome::Held => counts.held = counts.held.saturating_add(1),
-            Outcome::Pending => counts.pending = counts.pending.saturating_add(1),
             Outcome::Differs => {
                 counts.differing = counts.differing.saturating_add(1);
                 self.put_difference(name, statement, answer);
@@ -100,8 +97,6 @@ impl Report {
         let counts = self.counts;
         self.text.great(counts.held);
         self.text.put(" answers hold, ");
-        self.text.great(counts.pending);
-        self.text.put(" are pending, ");
         self.text.great(counts.differing);
         self.text.put(" differ, ");
         self.text.great(counts.unreadable);

@@ -9,7 +9,7 @@ use crate::stepping::function;
 use crate::words::{Words, question};
 use certificate::{Fact, LabelRow, Module};
 use conformance::{Answer, Outcome, judged};
-use facts::{Successor, Successors, has_rule, transfer};
+use facts::{Successor, Successors, is_instruction, transfer};
 use prefix_decoder::{Fun, Instr};
 use states::{Known, Loop, Source, State, WordFact, label_rows_are_sound};
 use std::alloc::Global;
@@ -198,7 +198,7 @@ fn instruction(words: &mut Words) -> Instr {
     }
 }
 
-/// What follows an instruction, after `no rule` where it has none.
+/// What follows an instruction, after `no instruction` where it is none of the machine.
 fn put_following<'a>(
     alloc: Global,
     module: &'a Module<'a>,
@@ -209,8 +209,8 @@ fn put_following<'a>(
 )
     requires { BelongsTo «module».now state.now }
 {
-    if !has_rule(module, instr) {
-        out.put("no rule ");
+    if !is_instruction(module, instr) {
+        out.put("no instruction ");
     }
     match transfer(alloc, module, state, at, instr) {
         Ok(successors) => put_successors(&successors, out),

@@ -3,9 +3,6 @@
 use crate::words::Words;
 use certificate::{FormatFault, Module, write};
 use conformance::{Answer, Outcome, judged};
-use facts::has_rule;
-use prefix_decoder::fetch;
-use states::SPELLING;
 use std::alloc::Global;
 use verifier::{Refusal, verify};
 
@@ -41,14 +38,6 @@ fn validity(alloc: Global, module: &Module, file: &[u8]) -> &'static str {
         Ok(written) if written.as_slice() == file => READ,
         Ok(_) => "written otherwise",
         Err(_) => "out of memory",
-    }
-}
-
-/// Whether an instruction at a code offset has no rule.
-pub(crate) fn is_unruled(module: &Module, offset: u32) -> bool {
-    match fetch(module.tables().code, offset as usize) {
-        Ok(instr) => !has_rule(module, instr),
-        Err(_) => false,
     }
 }
 
@@ -92,24 +81,6 @@ impl<'t> Expected<'t> {
         }
         false
     }
-
-    /// Whether the refusal is that of an instruction without a rule, at or before the offset where the module should be
-    /// refused.
-    fn is_pending(self, module: &Module, refusal: Refusal) -> bool {
-        let is_before = match self.offset() {
-            Some(offset) => refusal.offset <= offset,
-            None => true,
-        };
-        is_before && refusal.number == SPELLING && is_unruled(module, refusal.offset)
-    }
-
-    /// What comes of a refusal whose rule and offset are not the first ones.
-    fn judge(self, module: &Module, refusal: Refusal) -> Outcome {
-        if self.lists(refusal) {
-            return Outcome::Held;
-        }
-        Outcome::pending(self.is_pending(module, refusal))
-    }
 }
 
 /// Whether a word is the name of this rule.
@@ -133,7 +104,7 @@ pub(crate) fn verdict(alloc: Global, module: &Module, text: &str, out: &mut Answ
             out.fault("V", refusal.number, u64::from(refusal.offset));
             match judged(out, expected.first) {
                 Outcome::Held => Outcome::Held,
-                _ => expected.judge(module, refusal),
+                _ => Outcome::of(expected.lists(refusal)),
             }
         }
     }

@@ -1,13 +1,12 @@
 //! What machines answer.
 
 use crate::events::{LINKS, event, letter, names_effect};
-use crate::modules::is_unruled;
 use crate::setting::Setting;
 use crate::words::Words;
 use certificate::Module;
 use conformance::{Answer, Outcome, judged};
 use machine::{Checked, Replay, Stop, replay};
-use machine_state::{Event, Fault, UNKNOWN_OPERATION};
+use machine_state::{Event, Fault};
 use std::alloc::Global;
 use verifier::{Verified, verify};
 
@@ -82,14 +81,6 @@ fn put_questions(machine: &Checked, out: &mut Answer) {
     }
 }
 
-/// Whether a run stopped at an instruction without a step.
-fn is_pending(module: &Module, fault: Option<Fault>) -> bool {
-    match fault {
-        Some(fault) => fault.number == UNKNOWN_OPERATION && is_unruled(module, fault.offset),
-        None => false,
-    }
-}
-
 /// What comes of a run that ended: its fault, and what the four questions answer.
 fn judge_end(machine: &Checked, expected: &str, out: &mut Answer) -> Outcome {
     out.clear();
@@ -100,7 +91,6 @@ fn judge_end(machine: &Checked, expected: &str, out: &mut Answer) -> Outcome {
 /// What comes of the events of a run on a machine.
 fn judge_run(
     machine: &mut Checked,
-    module: &Module,
     setting: &Setting,
     expected: &str,
     out: &mut Answer,
@@ -111,7 +101,7 @@ fn judge_run(
         return course.outcome;
     }
     if out.as_str() != setting.fault.as_str() {
-        return Outcome::pending(is_pending(module, course.fault));
+        return Outcome::Differs;
     }
     match course.differing {
         Some(letter) => {
@@ -135,7 +125,7 @@ pub(crate) fn run(
         return Outcome::Unreadable;
     }
     match Checked::load(alloc, module) {
-        Ok(mut machine) => judge_run(&mut machine, module, setting, expected, out),
+        Ok(mut machine) => judge_run(&mut machine, setting, expected, out),
         Err(_) => Outcome::OutOfMemory,
     }
 }
