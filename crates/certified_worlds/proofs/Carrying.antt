@@ -1,6 +1,6 @@
 -- What a process in an alternation has enabled, and the values of its guards, over changes of the world.
 use Rattle.std.proofs.Common.{◌≡◌, ◌≢◌, ◌⊎◌, ℕ, ◌≤◌, ◌<◌, ℤ, true, inl, inr, List, Option, Some, None}
-use Rattle.std.proofs.Common.{refl, sym, ap, ◌∙◌, subst}
+use Rattle.std.proofs.Common.{sym, ap, ◌∙◌, subst}
 use Rattle.std.specs.Prelude.{slice_get, slice_set}
 use Rattle.module_format.specs.Contents.{Contents}
 use Rattle.machine_state.specs.declared.process.Condition.TheVariants.{Ready, Sending}
@@ -141,13 +141,3 @@ ready_on tasks cells inputs p q t u here silent (a_sender k c r sender e at is w
     other same =
         silent e (ap (λ (x : Task). x.condition)
         (only_one (slice_get tasks r) t sender (subst (λ (n : ℕ). slice_get tasks n ≡ Some t) same here) there) ∙ sends)
-
--- where no task, no channel, no input link and no byte has changed
-pub alternates_still : {m : Contents} {w after : World} {p : ℕ} {t : Task} {s : State} {act : Activation}
-    → AlternatesHere m w p t s act → after.tasks ≡ w.tasks → after.channels ≡ w.channels
-    → after.links.inputs ≡ w.links.inputs → after.memory ≡ w.memory → AlternatesHere m after p t s act
-alternates_still {m} {w} {after} {p} {t} {s} {act} old tasks channels inputs memory =
-    alternates_on m w after p t t s s act old (enabled_as_before w after p channels inputs)
-    (λ n g here. ap (λ (memory : Memory). guard_value memory act g.name) memory)
-    (record { guards = refl; left = refl }) old.fit (λ distance is. is)
-    (λ must. rw (tasks, channels, inputs) (old.ready must))

@@ -122,8 +122,8 @@ module _ (m : Contents) (d : Decodes m) (wf : IsWellFormed m) (c : IsCertified m
         has_due = got_set h.dues o row.due opener.due row.has_due;
         root = λ unopened. ap (λ (b : Began). b.context) (sym start_is)
             ∙ row.root (ap (λ (r : Role). r.opener) role_is ∙ unopened);
-        meets = it_lives (subst (λ (row : Par). LivesAs m role.own opener.start w.memory (closed_task j row t) opener.due
-            (label_state opener.after.label) opener.after.act) par_is
+        meets = it_lives (subst (λ (row : Par). LivesAs m role.own opener.start w.memory (closed_task j row t)
+            opener.due (label_state opener.after.label) opener.after.act) par_is
             (opener_lives m d wf c opener.pending
             (started ∙ ap (λ (row : Par). length row.branches) (sym par_is)) none t)).lives;
         alternating = λ alternates. absurd (plain_beside refl alternates);

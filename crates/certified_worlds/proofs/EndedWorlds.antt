@@ -63,20 +63,20 @@ reduced w tasks roles queue = record w {
 }
 
 module _ (m : Contents) (w : World) (h : Holds m w) (p : ℕ) (t : Task) (here : slice_get w.tasks p ≡ Some t)
-    (o : ℕ) (ro : Role) (j : Join) where
+    (o : ℕ) (opener_role : Role) (j : Join) where
   abbrev row : Process m w h.began h.dues p t
   row = h.table.each p t here
 
   -- What stands in the list of roles: the opener's join has lost the process, which has nothing for good if it is a
   -- branch; all others are the same.
   pub data RoleNow (q : ℕ) (now : Role) : Type 0 where
-    of_opener : o ≡ q → now ≡ with_join (join_without p j) ro → RoleNow q now
+    of_opener : o ≡ q → now ≡ with_join (join_without p j) opener_role → RoleNow q now
     of_branch : p ≡ q → o ≢ q → now ≡ without_own row.role → RoleNow q now
     of_other : o ≢ q → p ≢ q → slice_get w.roles q ≡ Some now → RoleNow q now
 
   pub record RolesReduced (roles : List Role) : Type 0 where
     pub now : (q : ℕ) (role : Role) → slice_get roles q ≡ Some role → RoleNow q role
-    pub opener : slice_get roles o ≡ Some (with_join (join_without p j) ro)
+    pub opener : slice_get roles o ≡ Some (with_join (join_without p j) opener_role)
     pub branch : o ≢ p → slice_get roles p ≡ Some (without_own row.role)
     pub others : (q : ℕ) (role : Role) → o ≢ q → p ≢ q → slice_get w.roles q ≡ Some role
         → slice_get roles q ≡ Some role
@@ -88,12 +88,14 @@ module _ (m : Contents) (w : World) (h : Holds m w) (p : ℕ) (t : Task) (here :
     pub plain : u.mode ≡ Plain
     pub pays : 1 ≤ row.due
     pub reduces : RolesReduced roles
-    pub has_role : slice_get w.roles o ≡ Some ro
-    pub is_open : ro.opened ≡ Some j
+    pub has_role : slice_get w.roles o ≡ Some opener_role
+    pub is_open : opener_role.opened ≡ Some j
     pub unopened : o ≢ p → row.role.opened ≡ None
-    pub started : o ≡ p → j.started ≡ length (h.pending o ro j has_role is_open).after.par.branches
-    pub pending : Pending m ro.own o (h.pending o ro j has_role is_open).start h.began w.memory (join_without p j)
-        (h.pending o ro j has_role is_open).due (after_without p (h.pending o ro j has_role is_open).after)
+    pub started : o ≡ p → j.started ≡ length (h.pending o opener_role j has_role is_open).after.par.branches
+    pub pending : Pending m opener_role.own o (h.pending o opener_role j has_role is_open).start h.began w.memory
+        (join_without p j)
+        (h.pending o opener_role j has_role is_open).due
+        (after_without p (h.pending o opener_role j has_role is_open).after)
     pub others : OthersMeet m w h p (reduced w (slice_set w.tasks p u) roles queue)
 
   module _ (ready : t.condition ≡ Ready) (u : Task) (roles : List Role) (queue : Queue)
@@ -104,8 +106,8 @@ module _ (m : Contents) (w : World) (h : Holds m w) (p : ℕ) (t : Task) (here :
     abbrev dues_after : List ℕ
     dues_after = slice_set h.dues p 0
 
-    abbrev old_opener : Opener m w h.began h.dues h.pending_dues h.table o ro j
-    old_opener = h.pending o ro j shown.has_role shown.is_open
+    abbrev old_opener : Opener m w h.began h.dues h.pending_dues h.table o opener_role j
+    old_opener = h.pending o opener_role j shown.has_role shown.is_open
 
     -- ---- each process
 
@@ -126,11 +128,11 @@ module _ (m : Contents) (w : World) (h : Holds m w) (p : ℕ) (t : Task) (here :
     role_of_ended : RoleOfEnded
     role_of_ended = elim (cases_eq o p) [
       | inl same ↦
-          let own = only_one (slice_get w.roles p) ro row.role
-          (subst (λ (n : ℕ). slice_get w.roles n ≡ Some ro) same shown.has_role) row.has_role in
+          let own = only_one (slice_get w.roles p) opener_role row.role
+          (subst (λ (n : ℕ). slice_get w.roles n ≡ Some opener_role) same shown.has_role) row.has_role in
           record {
-            role = with_join (join_without p j) ro;
-            has_role = subst (λ (n : ℕ). slice_get roles n ≡ Some (with_join (join_without p j) ro)) same
+            role = with_join (join_without p j) opener_role;
+            has_role = subst (λ (n : ℕ). slice_get roles n ≡ Some (with_join (join_without p j) opener_role)) same
                 shown.reduces.opener;
             opener = ap (λ (role : Role). role.opener) own;
           }
@@ -170,15 +172,15 @@ module _ (m : Contents) (w : World) (h : Holds m w) (p : ℕ) (t : Task) (here :
     role_of_other : (q : ℕ) (was : Role) → p ≢ q → slice_get w.roles q ≡ Some was → RoleOfOther q was
     role_of_other q was differ has = elim (cases_eq o q) [
       | inl same ↦
-          let own : ro ≡ was = only_one (slice_get w.roles q) ro was
-          (subst (λ (n : ℕ). slice_get w.roles n ≡ Some ro) same shown.has_role) has in
+          let own : opener_role ≡ was = only_one (slice_get w.roles q) opener_role was
+          (subst (λ (n : ℕ). slice_get w.roles n ≡ Some opener_role) same shown.has_role) has in
           record {
-            role = with_join (join_without p j) ro;
-            has_role = subst (λ (n : ℕ). slice_get roles n ≡ Some (with_join (join_without p j) ro)) same
+            role = with_join (join_without p j) opener_role;
+            has_role = subst (λ (n : ℕ). slice_get roles n ≡ Some (with_join (join_without p j) opener_role)) same
                 shown.reduces.opener;
             opener = ap (λ (role : Role). role.opener) own;
             holds = ap held (sym own) ∙ ap (λ (x : Option Join). elim x as (λ x. Holding)
-                [ None ↦ ro.own | Some join ↦ join.rest ]) shown.is_open;
+                [ None ↦ opener_role.own | Some join ↦ join.rest ]) shown.is_open;
           }
       | inr other ↦ record {
         role = was;
@@ -231,7 +233,8 @@ module _ (m : Contents) (w : World) (h : Holds m w) (p : ℕ) (t : Task) (here :
         → (d : ℕ) (branch : Role) (first : Began) → slice_get roles d ≡ Some branch → branch.opener ≡ Some q
         → (IsGone after.tasks branch d → ⊥) → slice_get h.began d ≡ Some first → IsMember m par layout first
     members_reduced q par layout old d branch first has by live begun = elim (shown.reduces.now d branch has) [
-      | of_opener same is ↦ old d ro first (subst (λ (n : ℕ). slice_get w.roles n ≡ Some ro) same shown.has_role)
+      | of_opener same is ↦ old d opener_role first
+          (subst (λ (n : ℕ). slice_get w.roles n ≡ Some opener_role) same shown.has_role)
           (sym (ap (λ (r : Role). r.opener) is) ∙ by)
           (λ gone. let no' : None ≡ Some j = sym gone.0 ∙ shown.is_open in cc) begun
       | of_branch same differ is ↦ old d row.role first
@@ -252,8 +255,8 @@ module _ (m : Contents) (w : World) (h : Holds m w) (p : ℕ) (t : Task) (here :
       )) begun
     ]
 
-    opener_reduced : Opener m after h.began dues_after h.pending_dues table_reduced o (with_join (join_without p j) ro)
-        (join_without p j)
+    opener_reduced : Opener m after h.began dues_after h.pending_dues table_reduced o
+        (with_join (join_without p j) opener_role) (join_without p j)
     opener_reduced = record {
       start = old_opener.start;
       has_start = old_opener.has_start;
@@ -297,7 +300,7 @@ module _ (m : Contents) (w : World) (h : Holds m w) (p : ℕ) (t : Task) (here :
           subst (λ (n : ℕ). Opener m after h.began dues_after h.pending_dues table_reduced n role k) same
           (subst (λ (r : Role). Opener m after h.began dues_after h.pending_dues table_reduced o r k) (sym was)
           (subst (λ (x : Join). Opener m after h.began dues_after h.pending_dues table_reduced o
-          (with_join (join_without p j) ro) x) join_is opener_reduced))
+          (with_join (join_without p j) opener_role) x) join_is opener_reduced))
       | of_branch same differ was ↦
           let none = shown.unopened (λ e. differ (e ∙ same)) in
           let no' : None ≡ Some k = sym none ∙ (sym (ap (λ (r : Role). r.opened) was) ∙ is) in
@@ -309,8 +312,8 @@ module _ (m : Contents) (w : World) (h : Holds m w) (p : ℕ) (t : Task) (here :
 
     lengths_reduced : LengthsAgree m roles w.channels h.began
     lengths_reduced q role start e has begun ends = elim (shown.reduces.now q role has) [
-      | of_opener same is ↦ h.lengths q ro start e
-          (subst (λ (n : ℕ). slice_get w.roles n ≡ Some ro) same shown.has_role) begun
+      | of_opener same is ↦ h.lengths q opener_role start e
+          (subst (λ (n : ℕ). slice_get w.roles n ≡ Some opener_role) same shown.has_role) begun
           (sym (ap (λ (r : Role). has_end r.own e) is) ∙ ends)
       | of_branch same differ is ↦
           let no' : false ≡ true = sym (ap (λ (r : Role). has_end r.own e) is) ∙ ends in

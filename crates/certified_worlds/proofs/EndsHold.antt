@@ -136,10 +136,10 @@ module _ (m : Contents) (d : Decodes m) (wf : IsWellFormed m) (c : IsCertified m
 
   -- ---- whether the join goes on or is over
 
-  module _ (o : ℕ) (ro : Role) (j : Join) (par : Par) (at_row : slice_get m.pars j.row ≡ Some par)
-      (has_ro : slice_get w.roles o ≡ Some ro) (roles : List Role) where
+  module _ (o : ℕ) (opener_role : Role) (j : Join) (par : Par) (at_row : slice_get m.pars j.row ≡ Some par)
+      (has_opener_role : slice_get w.roles o ≡ Some opener_role) (roles : List Role) where
     abbrev role_then : Role
-    role_then = with_join (join_without p j) ro
+    role_then = with_join (join_without p j) opener_role
 
     -- the world with one member less, and with the join over, where this is the opener's task
     abbrev reduced_world : Queue → World
@@ -152,7 +152,7 @@ module _ (m : Contents) (d : Decodes m) (wf : IsWellFormed m) (c : IsCertified m
     abbrev pub HoldsThen : World → Type 0
     HoldsThen g = HoldersIn m g.roles g.channels → Holds m (counted g)
 
-    module _ (shown : (queue : Queue) → EndShows m w h p t r.here o ro j over roles queue)
+    module _ (shown : (queue : Queue) → EndShows m w h p t r.here o opener_role j over roles queue)
         (started : is_last p j ≡ true → j.started ≡ length par.branches)
         (rests : is_last p j ≡ true → (u : Task) → slice_get tasks_after o ≡ Some u → u.condition ≡ Ended) (v : World)
         (gone : member_gone (at_here m p t pick) o j v ≡ record w { tasks = tasks_after; roles = roles }) where
@@ -160,13 +160,13 @@ module _ (m : Contents) (d : Decodes m) (wf : IsWellFormed m) (c : IsCertified m
       unfolding dispatch
       still_open some ordered = subst (λ (g : World). Holds m (counted (record g {
         queue = picked pick (record g.queue { running = None });
-      }))) (sym gone) (reduced_holds m w h p t r.here o ro j r.ready over roles
+      }))) (sym gone) (reduced_holds m w h p t r.here o opener_role j r.ready over roles
           (picked pick (record w.queue { running = None })) (shown (picked pick (record w.queue { running = None }))))
 
       -- the opener's task
       resumes : (u : Task) × (slice_get tasks_after o ≡ Some u)
       resumes = got_within tasks_after o (
-          let low = slice_get_within w.roles o ro has_ro in
+          let low = slice_get_within w.roles o opener_role has_opener_role in
           let many = order.as_many in
           let same = length-set w.tasks p over in
           omega (arith, low, many, same))
@@ -204,7 +204,7 @@ module _ (m : Contents) (d : Decodes m) (wf : IsWellFormed m) (c : IsCertified m
 
       is_over : is_last p j ≡ true → HoldsThen (closed o j par (member_gone (at_here m p t pick) o j v))
       is_over last ordered =
-          let held_now = reduced_holds m w h p t r.here o ro j r.ready over roles w.queue (shown w.queue) in
+          let held_now = reduced_holds m w h p t r.here o opener_role j r.ready over roles w.queue (shown w.queue) in
           let ordered_then = subst (λ (g : World). HoldersIn m g.roles g.channels) over_is ordered in
           subst (λ (g : World). Holds m (counted g)) (sym over_is)
           (closed_holds m d wf c (reduced_world w.queue) held_now o role_then (join_without p j)
@@ -295,16 +295,17 @@ module _ (m : Contents) (d : Decodes m) (wf : IsWellFormed m) (c : IsCertified m
   -- ---- the end of a branch
 
   module _ (par : Par) (leaves : LeavesAgreed x point.state local par) (pays : x.len ≤ point.state.number)
-      (unopened : opened_by w p ≡ None) (o : ℕ) (up : opener_of w p ≡ Some o) (ro : Role)
-      (has_ro : slice_get w.roles o ≡ Some ro) (j : Join) (opened : opened_by w o ≡ Some j) (row_par : Par) (at_row : slice_get m.pars j.row ≡ Some row_par) where
+      (unopened : opened_by w p ≡ None) (o : ℕ) (up : opener_of w p ≡ Some o) (opener_role : Role)
+      (has_opener_role : slice_get w.roles o ≡ Some opener_role) (j : Join) (opened : opened_by w o ≡ Some j)
+      (row_par : Par) (at_row : slice_get m.pars j.row ≡ Some row_par) where
     by : row.role.opener ≡ Some o
     by = opener_is w.roles p row.role (Some o) row.has_role up
 
-    theirs_open : ro.opened ≡ Some j
-    theirs_open = sym (opened_is w.roles o ro has_ro) ∙ opened
+    theirs_open : opener_role.opened ≡ Some j
+    theirs_open = sym (opened_is w.roles o opener_role has_opener_role) ∙ opened
 
-    abbrev theirs : Opener m w h.began h.dues h.pending_dues h.table o ro j
-    theirs = h.pending o ro j has_ro theirs_open
+    abbrev theirs : Opener m w h.began h.dues h.pending_dues h.table o opener_role j
+    theirs = h.pending o opener_role j has_opener_role theirs_open
 
     member : IsMember m theirs.after.par theirs.after.act.layout row.start
     member = theirs.members p row.role row.start row.has_role by not_gone row.has_start
@@ -333,36 +334,38 @@ module _ (m : Contents) (d : Decodes m) (wf : IsWellFormed m) (c : IsCertified m
         (leaves_said leaves theirs.after.label
         (ap (λ (row : Par). label_at m row.successor) par_is ∙ theirs.after.at))
 
-    pending_then : Pending m ro.own o theirs.start h.began w.memory (join_without p j) theirs.due
+    pending_then : Pending m opener_role.own o theirs.start h.began w.memory (join_without p j) theirs.due
         (after_without p theirs.after)
     pending_then = branch_leaves theirs.pending p row.start row.has_start member point.act
         (subst (λ (layout : Layout). LieAlike theirs.after.act.layout layout) (sym began_here.1) member.lent.alike)
         (ap (λ (layout : Layout). layout.back) began_here.1 ∙ member.back) says
 
     abbrev branch_roles : List Role
-    branch_roles = slice_set (slice_set w.roles p (without_own row.role)) o (with_join (join_without p j) ro)
+    branch_roles = slice_set (slice_set w.roles p (without_own row.role)) o (with_join (join_without p j) opener_role)
 
-    has_there : slice_get (slice_set w.roles p (without_own row.role)) o ≡ Some ro
-    has_there = got_other w.roles p o (without_own row.role) (λ same. differ (sym same)) ∙ has_ro
+    has_there : slice_get (slice_set w.roles p (without_own row.role)) o ≡ Some opener_role
+    has_there = got_other w.roles p o (without_own row.role) (λ same. differ (sym same)) ∙ has_opener_role
 
-    branch_reduces : RolesReduced m w h p t r.here o ro j branch_roles
+    branch_reduces : RolesReduced m w h p t r.here o opener_role j branch_roles
     branch_reduces = record {
       now = λ q role has. elim (set_either (slice_set w.roles p (without_own row.role)) o
-          (with_join (join_without p j) ro) q role has) [
+          (with_join (join_without p j) opener_role) q role has) [
             | inl set ↦ of_opener set.0 set.1
             | inr other ↦ elim (set_either w.roles p (without_own row.role) q role other.1) [
               | inl set ↦ of_branch set.0 other.0 set.1
               | inr elsewhere ↦ of_other other.0 elsewhere.0 elsewhere.1
             ]
           ];
-      opener = got_set (slice_set w.roles p (without_own row.role)) o ro (with_join (join_without p j) ro) has_there;
+      opener = got_set (slice_set w.roles p (without_own row.role)) o opener_role
+          (with_join (join_without p j) opener_role) has_there;
       branch = λ differ. got_other (slice_set w.roles p (without_own row.role)) o p
-          (with_join (join_without p j) ro) differ ∙ got_set w.roles p row.role (without_own row.role) row.has_role;
+          (with_join (join_without p j) opener_role) differ ∙ got_set w.roles p row.role (without_own row.role)
+          row.has_role;
       others = λ q role aside other has. got_other (slice_set w.roles p (without_own row.role)) o q
-          (with_join (join_without p j) ro) aside ∙ got_other w.roles p q (without_own row.role) other ∙ has;
+          (with_join (join_without p j) opener_role) aside ∙ got_other w.roles p q (without_own row.role) other ∙ has;
     }
 
-    branch_shows : (queue : Queue) → EndShows m w h p t r.here o ro j over branch_roles queue
+    branch_shows : (queue : Queue) → EndShows m w h p t r.here o opener_role j over branch_roles queue
     branch_shows queue = record {
       ended = refl;
       plain = refl;
@@ -372,7 +375,7 @@ module _ (m : Contents) (d : Decodes m) (wf : IsWellFormed m) (c : IsCertified m
           let last = r.last in
           omega (arith, owes, all, pays, last);
       reduces = branch_reduces;
-      has_role = has_ro;
+      has_role = has_opener_role;
       is_open = theirs_open;
       unopened = λ aside. sym (opened_is w.roles p row.role row.has_role) ∙ unopened;
       started = λ same. absurd (differ same);
@@ -382,7 +385,7 @@ module _ (m : Contents) (d : Decodes m) (wf : IsWellFormed m) (c : IsCertified m
 
     -- with the last branch the opener is over, and so has started all of them
     opener_is_over : is_last p j ≡ true → IsOver w.tasks o
-    opener_is_over last = elim (order.branches.joins o ro j has_ro theirs_open) [
+    opener_is_over last = elim (order.branches.joins o opener_role j has_opener_role theirs_open) [
       | inl among ↦
           let none = empty (join_without p j).members last in
           let no' : is_member [] o ≡ true = subst (λ (ms : List ℕ). is_member ms o ≡ true) none
@@ -409,12 +412,12 @@ module _ (m : Contents) (d : Decodes m) (wf : IsWellFormed m) (c : IsCertified m
 
     -- Where holders are in order afterwards, the invariant holds.
     pub branch_end_holds : HoldersIn m joined_world.roles joined_world.channels → Holds m (counted joined_world)
-    branch_end_holds = ends_hold o ro j row_par at_row has_ro branch_roles branch_shows all_joined opener_rests
-        (given_back (at_here m p t pick) ended_world)
+    branch_end_holds = ends_hold o opener_role j row_par at_row has_opener_role branch_roles branch_shows all_joined
+        opener_rests (given_back (at_here m p t pick) ended_world)
         (ap (λ (g : World). member_gone (at_here m p t pick) o j g)
         (on_role_is p without_own ended_world row.role row.has_role)
         ∙ on_role_is o (with_opened (Some (without p j)))
-        (record ended_world { roles = slice_set w.roles p (without_own row.role) }) ro has_there)
+        (record ended_world { roles = slice_set w.roles p (without_own row.role) }) opener_role has_there)
 
   -- ---- by the rule
 
@@ -456,6 +459,6 @@ module _ (m : Contents) (d : Decodes m) (wf : IsWellFormed m) (c : IsCertified m
             absurd (none_open m w h order.branches order.starters p t r.here r.ready pick 0 local leaves.machine_mode j
             opens)
         on unbroken (to_end_branch par leaves pays) (joins_opener block k o j row none up opens at same) ordered =
-            let ro = told_in (λ (role : Role). role.opened) w.roles o j opens in
-            branch_end_holds par leaves pays none o up ro.0 ro.1 j opens row at ordered
+            let opener_role = told_in (λ (role : Role). role.opened) w.roles o j opens in
+            branch_end_holds par leaves pays none o up opener_role.0 opener_role.1 j opens row at ordered
         on unbroken (end_breaks {broken}) moved ordered = absurd (unbroken broken refl)

@@ -1,5 +1,6 @@
 -- The first start of a PAR keeps the invariant.
-use Rattle.std.proofs.Common.{◌≡◌, ◌≢◌, ℕ, ◌+◌, ◌<◌, true, false, inl, inr, List, [], ◌∷◌, ◌++◌, length, Option, Some, None}
+use Rattle.std.proofs.Common.{◌≡◌, ◌≢◌, ℕ, ◌+◌, ◌<◌, true, false, inl, inr, List, [], ◌∷◌, ◌++◌, length}
+use Rattle.std.proofs.Common.{Option, Some, None}
 use Rattle.std.proofs.Common.{ℤ, refl, sym, ap, ◌∙◌, subst, pos, ◌+ℤ◌, arith}
 use Rattle.std.proofs.lemmas.Option.{slice_get_within}
 use Rattle.std.specs.Prelude.{slice_get}
@@ -60,13 +61,15 @@ use Rattle.certified_worlds.proofs.BranchLengths.{branch_lengths}
 use Rattle.certified_worlds.proofs.GrownLists.{got_end}
 use Rattle.certified_worlds.proofs.LivesAs.{LivesAs}
 use Rattle.certified_worlds.proofs.MadeChannels.{row_rises, channels_stay, channels_made}
-use Rattle.certified_worlds.proofs.OpeningsMakePars.{IsFirstJoin, is_first_join, opening_keeps, after_first, opening_makes}
+use Rattle.certified_worlds.proofs.OpeningsMakePars.{IsFirstJoin, is_first_join, opening_keeps, after_first}
+use Rattle.certified_worlds.proofs.OpeningsMakePars.{opening_makes}
 use Rattle.certified_worlds.proofs.OrderlyWorlds.{IsOrderly, IsAtLastByte}
 use Rattle.certified_worlds.proofs.OthersAfterStarts.{begotten_others}
 use Rattle.certified_worlds.proofs.OwnWords.{scheduling_is_own, opening_is_own}
 use Rattle.certified_worlds.proofs.ParsStay.{Changer, own_is, opened_is, step_changes, openers_stay}
 use Rattle.certified_worlds.proofs.RulesGive.{label_stands}
-use Rattle.certified_worlds.proofs.StartedWorlds.{Beginning, begotten, started_is, agrees_still, OpenerGoesOn, StartShows}
+use Rattle.certified_worlds.proofs.StartedWorlds.{Beginning, begotten, started_is, agrees_still, OpenerGoesOn}
+use Rattle.certified_worlds.proofs.StartedWorlds.{StartShows}
 use Rattle.certified_worlds.proofs.StartedWorlds.{begotten_holds}
 use Rattle.certified_worlds.proofs.StartsKeepPars.{began_by, becomes_member}
 use Rattle.certified_worlds.proofs.StartsLive.{starter_lives, branch_lives}
@@ -180,8 +183,8 @@ module _ (m : Contents) (d : Decodes m) (wf : IsWellFormed m) (keeps : formats.K
     own = held_by_branch m found base plan.addresses (length w.memory)
 
     tests : first_fault (first_faults m w.memory row.role.own plan found branch_workspace) ≡ None
-    tests = first_starts_pass m p found point.act.layout row.role.own w.memory t.registers.workspace can_there n.prepared
-        n.first b.is b.left
+    tests = first_starts_pass m p found point.act.layout row.role.own w.memory t.registers.workspace can_there
+        n.prepared n.first b.is b.left
 
     -- ---- both processes
 

@@ -52,7 +52,8 @@ use Rattle.certified_worlds.proofs.OrderlyWorlds.{IsOrderly, IsAtLastByte}
 use Rattle.certified_worlds.proofs.OthersAfterStarts.{begotten_others}
 use Rattle.certified_worlds.proofs.OwnWords.{scheduling_is_own}
 use Rattle.certified_worlds.proofs.ParsStay.{Changer, opened_is, starter_changes, others_stay}
-use Rattle.certified_worlds.proofs.StartedWorlds.{Beginning, begotten, started_is, OpenerGoesOn, StartShows, begotten_holds}
+use Rattle.certified_worlds.proofs.StartedWorlds.{Beginning, begotten, started_is, OpenerGoesOn, StartShows}
+use Rattle.certified_worlds.proofs.StartedWorlds.{begotten_holds}
 use Rattle.certified_worlds.proofs.StartsKeepPars.{IsOneMore, is_one_more, after_next, starter_alike, starter_laid}
 use Rattle.certified_worlds.proofs.StartsKeepPars.{starter_goes_on, began_by, becomes_member, same_par, start_keeps}
 use Rattle.certified_worlds.proofs.StartsKeepPars.{start_leaves}
@@ -250,7 +251,8 @@ module _ (m : Contents) (d : Decodes m) (wf : IsWellFormed m) (keeps : formats.K
         branch_lengths can named (starter_alike opener.after starter) opener.start
         (behind_lengths opener.pending.behind) w.channels
         (λ end owns. h.lengths p row.role opener.start end row.has_role opener.has_start owns) (λ k channel at.
-        let cell = opener.channels k channel (subst (λ (par : Par). slice_get par.channels k ≡ Some channel) par_is at) in
+        let cell = opener.channels k channel (subst (λ (par : Par). slice_get par.channels k ≡ Some channel) par_is at)
+        in
         (cell.0, cell.1, cell.2)) (length w.memory) e has
 
     -- ---- it changes its own words, and the others go on

@@ -1,5 +1,6 @@
 -- Where a PAR is opened its channels are there, as long as its row says, and all other channels stay.
-use Rattle.std.proofs.Common.{◌≡◌, ℕ, zero, suc, ◌+◌, ◌/◌, ◌<◌, true, ℤ, pos, ◌+ℤ◌, ◌*ℤ◌, ◌≤ℤ◌, FitsSigned, List, [], ◌∷◌}
+use Rattle.std.proofs.Common.{◌≡◌, ℕ, zero, suc, ◌+◌, ◌/◌, ◌<◌, true, ℤ, pos, ◌+ℤ◌, ◌*ℤ◌, ◌≤ℤ◌, FitsSigned}
+use Rattle.std.proofs.Common.{List, [], ◌∷◌}
 use Rattle.std.proofs.Common.{length, Option, Some, None, refl, sym, ap, ◌∙◌, subst, inl, inr, arith}
 use Rattle.std.proofs.lemmas.Int.{ints}
 use Rattle.std.proofs.lemmas.List.{length-set}
@@ -29,7 +30,8 @@ use Rattle.rulings.specs.Meaning.{Layout}
 use Rattle.rulings.specs.Regions.{channel_address}
 use Rattle.rulings.proofs.Regions.{bytes_written}
 use Rattle.share_laws.specs.Opening.{CanOpen}
-use Rattle.share_laws.proofs.HiddenWords.{fits_words, hidden_word, hidden_place, channel_is_word, channel_hides, channel_at}
+use Rattle.share_laws.proofs.HiddenWords.{fits_words, hidden_word, hidden_place, channel_is_word}
+use Rattle.share_laws.proofs.HiddenWords.{channel_hides, channel_at}
 use Rattle.share_laws.proofs.Rows.{among_at, each_at}
 use Rattle.certified_worlds.proofs.BranchLengths.{among_map}
 use Rattle.certified_worlds.proofs.OrderlyWorlds.{KeepsChannels}

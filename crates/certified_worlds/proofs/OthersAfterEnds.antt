@@ -6,12 +6,12 @@ use Rattle.machine_state.specs.declared.process.Channel.{Channel}
 use Rattle.machine_state.specs.declared.process.Condition.TheVariants.{Ready, Sending, Ended}
 use Rattle.machine_state.specs.declared.process.Task.{Task}
 use Rattle.machine_state.specs.EnabledLaws.{Alternates, HasReady, a_sender, a_byte}
-use Rattle.machine_state.specs.Holding.{Holding, IsApart, nothing}
+use Rattle.machine_state.specs.Holding.{nothing}
 use Rattle.machine_state.specs.Joins.{closed_task}
 use Rattle.machine_state.specs.Moves.{cell_of}
 use Rattle.machine_state.specs.World.{World, Role, Join, Queue}
 use Rattle.machine_state.proofs.ChannelWaiters.{left_channel}
-use Rattle.machine_state.proofs.Claims.{is_apart, nothing_claimed, only_one}
+use Rattle.machine_state.proofs.Claims.{only_one}
 use Rattle.machine_state.proofs.Frame.{changes_nothing}
 use Rattle.machine_state.proofs.Lines.{got_other}
 use Rattle.machine_state.proofs.WhoWaits.{left_still}
@@ -21,11 +21,7 @@ use Rattle.certified_worlds.proofs.Carrying.{SameEnabled, enabled_as_before, rea
 use Rattle.certified_worlds.proofs.ClosedWorlds.{closed_world}
 use Rattle.certified_worlds.proofs.EndedWorlds.{reduced}
 use Rattle.certified_worlds.proofs.OrderlyWorlds.{OthersMeet}
-use Rattle.certified_worlds.proofs.OthersStay.{others_meet}
-
--- what holds nothing is apart from all
-nothing_meets : (h : Holding) → IsApart nothing h
-nothing_meets h = is_apart nothing h (λ c claimed other. nothing_claimed c claimed)
+use Rattle.certified_worlds.proofs.OthersStay.{nothing_meets, others_meet}
 
 -- who is ready sends nothing
 pub reduced_others : (m : Contents) (w : World) (h : Holds m w) (p : ℕ) (t u : Task) (roles : List Role) (queue : Queue)

@@ -8,9 +8,11 @@ use Rattle.machine_state.specs.declared.process.Condition.{Condition}
 use Rattle.machine_state.specs.declared.process.Task.{Task}
 use Rattle.machine_state.specs.EnabledLaws.{Alternates, HasReady}
 use Rattle.machine_state.specs.Frame.{ChangesOwn}
-use Rattle.machine_state.specs.Holding.{Holding, may_read, may_write, IsApart}
-use Rattle.machine_state.specs.Memory.{byte_at}
+use Rattle.machine_state.specs.Holding.{Holding, may_read, may_write, nothing, IsApart}
+use Rattle.machine_state.specs.Memory.{Memory, byte_at}
 use Rattle.machine_state.specs.World.{World, Role, held}
+use Rattle.machine_state.proofs.Claims.{is_apart, nothing_claimed}
+use Rattle.machine_state.proofs.Frame.{changes_nothing}
 use Rattle.machine_state.proofs.Reading.{word_at_same}
 use Rattle.states.specs.declared.known.Guard.{Guard}
 use Rattle.states.specs.declared.known.GuardName.{GuardName}
@@ -41,6 +43,10 @@ alternates_quietly u (inr disables) place = elim disables.1 [
   | inl ready ↦ ap (λ (c : Condition). awaits c place) ready
   | inr waits ↦ ap (λ (c : Condition). awaits c place) waits
 ]
+
+-- what holds nothing is apart from all
+pub nothing_meets : (h : Holding) → IsApart nothing h
+nothing_meets h = is_apart nothing h (λ c claimed other. nothing_claimed c claimed)
 
 module _ (m : Contents) (w after : World) (g : Holding) (changes : ChangesOwn g w.memory after.memory) where
   -- ---- one that holds nothing of what has changed
@@ -79,8 +85,8 @@ module _ (m : Contents) (w after : World) (g : Holding) (changes : ChangesOwn g 
             (sent.0, subst IsByte (sym (same (message_place e k) sent.0)) sent.1);
         fills = l.fills;
         named = (kept l).named l.named;
-        behind = behind_in_keeps start l.point.state.mode l.point.state.context l.point.act.layout l.point.callers (kept l)
-            l.behind;
+        behind = behind_in_keeps start l.point.state.mode l.point.state.context l.point.act.layout l.point.callers
+            (kept l) l.behind;
         known_length = l.known_length;
         paid = l.paid;
       }
@@ -109,7 +115,8 @@ module _ (m : Contents) (w after : World) (g : Holding) (changes : ChangesOwn g 
               word_stays l.point.act.layout.origin word (frame_now.readable word (old.fit.read n guard word at is))
 
           guards_stay : SameEnabled w after q
-              → (HasReady w.tasks w.channels w.links.inputs q → HasReady after.tasks after.channels after.links.inputs q)
+              → (HasReady w.tasks w.channels w.links.inputs q
+              → HasReady after.tasks after.channels after.links.inputs q)
               → AlternatesHere m after q u l.point.state l.point.act
           guards_stay enabled ready = alternates_on m w after q u u l.point.state l.point.state l.point.act old enabled
               (λ n guard at. value_stays n guard at guard.name refl) (record { guards = refl; left = refl }) old.fit
@@ -149,3 +156,13 @@ module _ (m : Contents) (w after : World) (g : Holding) (changes : ChangesOwn g 
   others_meet h p apart enabled ready q u at differ =
       let old = h.table.each q u at in
       meets_apart (apart q old.role differ old.has_role) q old.meets (enabled q u differ at) (ready q u differ at)
+
+-- So it is of anyone where no byte has changed.
+pub meets_unchanged : (m : Contents) (w after : World) → after.memory ≡ w.memory → (q : ℕ) {h : Holding} {start : Began}
+    {u : Task} {due : ℕ} (old : Meets m h start w.memory u due) → SameEnabled w after q
+    → (HasReady w.tasks w.channels w.links.inputs q → HasReady after.tasks after.channels after.links.inputs q)
+    → MeetsStill m w after q old
+meets_unchanged m w after same q {h = h} old enabled ready =
+    meets_apart m w after nothing
+    (subst (λ (memory : Memory). ChangesOwn nothing w.memory memory) (sym same) (changes_nothing nothing w.memory))
+    (nothing_meets h) q old (λ alternates. enabled) (λ alternates. ready)

@@ -26,7 +26,8 @@ use Rattle.certified_worlds.specs.Lives.{awaits, Lives}
 use Rattle.certified_worlds.specs.Pending.{Pending, IsMember}
 use Rattle.certified_worlds.specs.Invariant.{Opener, Holds}
 use Rattle.certified_worlds.proofs.BehindKeeps.{behind_named}
-use Rattle.certified_worlds.proofs.BranchChanges.{scope_began, within_began, has_began, step_within, filled_within, climbs}
+use Rattle.certified_worlds.proofs.BranchChanges.{scope_began, within_began, has_began, step_within}
+use Rattle.certified_worlds.proofs.BranchChanges.{filled_within, climbs}
 use Rattle.certified_worlds.proofs.BranchChanges.{member_leaves, pending_elsewhere}
 
 -- ---- who is under whom

@@ -1,5 +1,6 @@
 -- The invariant in the world after a start, the first one of a PAR or a later one, by what the start has to show.
-use Rattle.std.proofs.Common.{◌≡◌, ◌≢◌, ℕ, ◌+◌, ◌≤◌, ◌<◌, true, inl, inr, List, [], ◌∷◌, ◌++◌, length, Option, Some, None}
+use Rattle.std.proofs.Common.{◌≡◌, ◌≢◌, ℕ, ◌+◌, ◌≤◌, ◌<◌, true, inl, inr, List, [], ◌∷◌, ◌++◌, length, Option}
+use Rattle.std.proofs.Common.{Some, None}
 use Rattle.std.proofs.Common.{ℤ, refl, sym, ap, ◌∙◌, subst, arith, length-append}
 use Rattle.std.proofs.lemmas.Option.{slice_get_within}
 use Rattle.std.specs.Prelude.{slice_get, slice_set}
@@ -97,8 +98,8 @@ started_is here plan found workspace l w role has =
 -- ---- what more processes and channels leave
 
 -- what waits for a PAR waits for it still where one began more
-pub pending_grows : {m : Contents} {own : Holding} {o : ℕ} {began : Began} {all : List Began} {memory : Memory} {j : Join}
-    {due : ℕ} {after : AfterPar m j due} (every : List Began)
+pub pending_grows : {m : Contents} {own : Holding} {o : ℕ} {began : Began} {all : List Began} {memory : Memory}
+    {j : Join} {due : ℕ} {after : AfterPar m j due} (every : List Began)
     → ((q : ℕ) (b : Began) → slice_get all q ≡ Some b → slice_get every q ≡ Some b)
     → Pending m own o began all memory j due after → Pending m own o began every memory j due after
 pending_grows {m} {o = o} {all = all} {j = j} {after = after} every grows pending = record {
@@ -360,7 +361,8 @@ module _ (m : Contents) (w : World) (h : Holds m w) (p : ℕ) (t : Task) (here :
           members = members_after q old.after.par old.after.act.layout old.members (λ same. absurd (differ same));
           channels = λ n row at.
               let c = old.channels n row at in
-              let there = shown.channels (cell_of (channel_address old.after.act.layout (FrameWord row.word))) c.0 c.1 in
+              let there = shown.channels (cell_of (channel_address old.after.act.layout (FrameWord row.word))) c.0 c.1
+              in
               (c.0, there, c.2, c.3);
         }
 

@@ -120,7 +120,8 @@ module _ {m : Contents} {t : Task} {point : Point m t} {j : Join} {due : ℕ} (a
 
   -- and still does in a state one start further
   pub starter_goes_on : {u : Task} {next : Join} {new : ℕ} (more : IsOneMore j next new) (later : Point m u)
-      → u.condition ≡ Ready → later.state.mode ≡ Starting j.row (j.started + 1) → later.state.context ≡ point.state.context
+      → u.condition ≡ Ready → later.state.mode ≡ Starting j.row (j.started + 1)
+      → later.state.context ≡ point.state.context
       → later.state.depth ≡ point.state.depth → later.act ≡ point.act
       → IsStarter m u later after.par next after.act
   starter_goes_on {next = next} more later ready mode context depth act = record {

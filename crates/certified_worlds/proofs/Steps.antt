@@ -74,7 +74,8 @@ use Rattle.rulings.proofs.Dues.{label_owed}
 use Rattle.rulings.proofs.Regions.{keeps_all}
 use Rattle.rulings.specs.Regions.{Scope, scope_of, scope_in, scope_among, Keeps, HoldsNamed}
 use Rattle.rulings.proofs.Lending.{lift}
-use Rattle.certified_worlds.proofs.Given.{nothing_given, is_given, given_label, given_none, label_is_start, given_procedure}
+use Rattle.certified_worlds.proofs.Given.{nothing_given, is_given, given_label, given_none, label_is_start}
+use Rattle.certified_worlds.proofs.Given.{given_procedure}
 use Rattle.certified_worlds.proofs.Given.{procedure_is_start}
 use Rattle.std.proofs.lemmas.Int.{ints}
 use Rattle.module_format.specs.Stack.{of_empty, AreRelated}
@@ -609,9 +610,10 @@ module _ (m : Contents) (d : Decodes m) (wf : IsWellFormed m) (c : IsCertified m
     -- what the last byte of an instruction comes to is what its rule says
     pub last_fits : (byte : ℕ) (f : Fun) → slice_get m.code t.registers.at ≡ Some byte
         → fun_of (function_code byte) ≡ Some f
-        → (p.taken + 1 ≡ p.instr.len) × FitsStep at_point p.state registers_here (instruction_of p.instr.fun p.instr.operand)
-        (rule_at m t.registers.began p.instr p.state)
-        (local_step (site_in m (t.registers.at + 1) t.mode h) f (with_nibble t.registers.operand (nibble byte)) registers_here)
+        → (p.taken + 1 ≡ p.instr.len) × FitsStep at_point p.state registers_here
+        (instruction_of p.instr.fun p.instr.operand) (rule_at m t.registers.began p.instr p.state)
+        (local_step (site_in m (t.registers.at + 1) t.mode h) f (with_nibble t.registers.operand (nibble byte))
+        registers_here)
     last_fits byte f here some =
         let b = byte_here m t.registers p.instr p.taken p.reading in
         let same : b.byte ≡ byte = same_some (slice_get m.code t.registers.at) b.byte byte b.here here in
@@ -620,11 +622,15 @@ module _ (m : Contents) (d : Decodes m) (wf : IsWellFormed m) (c : IsCertified m
         (after_prefix (function_code y) (with_nibble t.registers.operand (nibble y))) (p.taken + 1))
         ≡ Ok p.instr) same b.rest in
         let is = after_some (fun_of (function_code byte)) f _ _ _ p.instr some rest in
-        let at : t.registers.began + p.instr.len ≡ t.registers.at + 1 = omega (arith, p.reading.at_is, is.2) in
-        (is.2, subst (λ n. FitsPoint (local_step (site_in m n t.mode h) f
-        (with_nibble t.registers.operand (nibble byte)) registers_here)) at
-        (subst (λ g. FitsPoint (local_step (step_site at_point) g (with_nibble t.registers.operand (nibble byte)) registers_here)) (sym is.0)
-        (subst (λ e. FitsPoint (local_step (step_site at_point) p.instr.fun e registers_here)) (sym is.1) point_fits)))
+        let at : t.registers.began + p.instr.len ≡ t.registers.at + 1 = omega (arith, p.reading.at_is, is.2) in (
+          is.2,
+          subst (λ n. FitsPoint (local_step (site_in m n t.mode h) f
+              (with_nibble t.registers.operand (nibble byte)) registers_here)) at
+              (subst (λ g. FitsPoint (local_step (step_site at_point) g (with_nibble t.registers.operand (nibble byte))
+              registers_here)) (sym is.0)
+              (subst (λ e. FitsPoint (local_step (step_site at_point) p.instr.fun e registers_here)) (sym is.1)
+              point_fits)),
+        )
       where
         FitsPoint : Outcome → Type 0
         FitsPoint o = FitsStep at_point p.state registers_here (instruction_of p.instr.fun p.instr.operand)
@@ -652,8 +658,8 @@ module _ (m : Contents) (d : Decodes m) (wf : IsWellFormed m) (c : IsCertified m
     -- something is owed before each byte
     pub owes : 1 ≤ due
     owes =
-        let pay = step_pays x (owed_more p.state p.act) (omega arith) (point_fits kept h began memory t p meets selected)
-        (unbroken kept h began memory t p meets selected) in
+        let pay = step_pays x (owed_more p.state p.act) (omega arith)
+        (point_fits kept h began memory t p meets selected) (unbroken kept h began memory t p meets selected) in
         let more =
         longer p.reading.fuel (drop t.registers.at m.code) t.registers.operand p.taken p.instr p.reading.rest in
         omega (arith, owes_all)
@@ -688,8 +694,8 @@ module _ (m : Contents) (d : Decodes m) (wf : IsWellFormed m) (c : IsCertified m
         let said : MeansStack caller.state.stack l.registers.stack caller.state.context caller.act l.memory =
         subst (λ (said : Stack Known). MeansStack said l.registers.stack caller.state.context caller.act l.memory)
         (sym going.registers)
-        (subst (λ (stack : Stack (Option ℤ)). MeansStack (of_empty unknown) stack caller.state.context caller.act l.memory)
-        (sym registers) (record { a = unknown_means; b = unknown_means; c = unknown_means })) in
+        (subst (λ (stack : Stack (Option ℤ)). MeansStack (of_empty unknown) stack caller.state.context caller.act
+        l.memory) (sym registers) (record { a = unknown_means; b = unknown_means; c = unknown_means })) in
         let whole : scope_in m caller.state caller.act.layout ≡ scope_of m caller.state.context caller.act.layout =
         ap (λ (q : states.Mode). scope_among m caller.state.context q caller.act.layout) going.plain in
         let here : After m h t.mode caller.act caller.state l =
@@ -742,9 +748,11 @@ module _ (m : Contents) (d : Decodes m) (wf : IsWellFormed m) (c : IsCertified m
         low = let low = asks.low in omega (arith, p.reading.at_is);
       }
 
-      known : {direction : Direction} {e : Exchange} (other : Exchange) → p.taken + 1 ≡ p.instr.len → GoesOver x direction e
+      known : {direction : Direction} {e : Exchange} (other : Exchange) → p.taken + 1 ≡ p.instr.len
+          → GoesOver x direction e
           → e ≡ other → other.length ≡ began.layout.lengths other.channel
-      known other last over same = subst (λ (e : Exchange). e.length ≡ began.layout.lengths e.channel) same (talks last over).len
+      known other last over same = subst (λ (e : Exchange). e.length ≡ began.layout.lengths e.channel) same
+          (talks last over).len
 
       receiving : {e : Exchange} → p.taken + 1 ≡ p.instr.len → Receives x s' l e
           → Meanwhile h began t.mode p.act s' l (Receiving e)

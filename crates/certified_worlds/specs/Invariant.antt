@@ -1,5 +1,5 @@
--- What holds of every world that a certified module comes to, in parts: but for alternations, each reads only some parts
--- of the world. Who runs and who waits, and that holdings are apart, are laws of every module.
+-- What holds of every world that a certified module comes to, in parts: but for alternations, each reads only some
+-- parts of the world. Who runs and who waits, and that holdings are apart, are laws of every module.
 use Rattle.std.specs.Prelude.{◌≡◌, ℕ, ◌+◌, ◌≤◌, ◌<◌, ⊤, true, if◌then◌else◌, List, [], ◌∷◌, length, Option, Some, None}
 use Rattle.std.specs.Prelude.{nat_lt, slice_get}
 use Rattle.module_format.specs.Contents.{Contents, link_length}
