@@ -59,8 +59,10 @@ use Rattle.rulings.proofs.Within.{scope_still}
 use Rattle.certified_worlds.specs.Alternating.{IsTrueGuard, IsTrueSkip, EnablesAt, a_channel, a_link, AlternatesHere}
 use Rattle.certified_worlds.specs.Lives.{it_lives}
 use Rattle.certified_worlds.specs.Point.{MeetsPoint}
+use Rattle.certified_worlds.specs.Invariant.{Holds}
 use Rattle.certified_worlds.proofs.Carrying.{MustBeReady, SameEnabled, enabled_as_before, alternates_on, ready_on}
-use Rattle.verifier.proofs.CalmWorlds.{IsCalm, is_alternating, is_among_starts, is_plain, no_alternation}
+use Rattle.certified_worlds.proofs.StartedWorlds.{plain_beside}
+use Rattle.verifier.proofs.CalmWorlds.{IsCalm, is_alternating, is_among_starts, is_plain}
 use Rattle.verifier.proofs.Enabled.{ready_is_enabled, Sets, enables_somewhere, source_enables, source_is_by}
 use Rattle.verifier.proofs.Enabled.{only_it, sets_channel, sets_link, who_sends}
 use Rattle.verifier.proofs.Guards.{fresh_guards, grown_guards, IsGoneAt, less_guards}
@@ -72,9 +74,10 @@ use Rattle.verifier.proofs.SharedOut.{holds_own, none_open, shared_out}
 use Rattle.verifier.proofs.Sources.{AtEnd, an_input, an_output, a_channel as a_channel_there, at_end}
 use Rattle.verifier.proofs.Sources.{holding_is}
 use Rattle.verifier.proofs.Sources.{input_found}
-use Rattle.certified_worlds.proofs.Steps.{still_state, plain_process, plain_state, behind_in, task_at, AltersTo, HoldsChannel}
+use Rattle.certified_worlds.proofs.Steps.{still_state, plain_process, plain_state, behind_in, task_at}
+use Rattle.certified_worlds.proofs.Steps.{AltersTo, HoldsChannel}
 use Rattle.verifier.proofs.Tables.{row_of}
-use Rattle.verifier.proofs.Tables.{Allows, AreBytes, IsSound}
+use Rattle.verifier.proofs.Tables.{Allows, AreBytes}
 use Rattle.verifier.proofs.Tables.{Living, ChannelsStay, channels_equal, channel_stays, holds_put}
 use Rattle.verifier.proofs.Tables.{holds_put_alternating}
 use Rattle.verifier.proofs.Talking.{at_found}
@@ -155,8 +158,8 @@ in_list_of w p some =
         [ None ↦ false | Some channel ↦ is_by channel.enabled p ]) w.channels e in
         in_cell found.0 found.1 found.2 found.3
 
-module _ (m : Contents) (wf : IsWellFormed m) (w : World) (lawful : IsLawful m w) (h : IsSound m w) (p : ℕ) (t : Task)
-    (ready : t.condition ≡ Ready) (r : Living m w h.holds p t)
+module _ (m : Contents) (wf : IsWellFormed m) (w : World) (lawful : IsLawful m w) (h : Holds m w) (p : ℕ) (t : Task)
+    (ready : t.condition ≡ Ready) (r : Living m w h p t)
     (meets : MeetsPoint m t (held (row_of r).role) (row_of r).start r.lives.point w.memory)
     (calm : t.mode ≡ modes.Starting → ⊥) (pick : ℕ) where
   abbrev turning : Turning
@@ -192,7 +195,7 @@ module _ (m : Contents) (wf : IsWellFormed m) (w : World) (lawful : IsLawful m w
 
   -- its guards, in an alternation
   pub guards_now : (t.mode ≡ modes.Plain → ⊥) → AlternatesHere m w p t state act
-  guards_now busy = r.guards (alternates_now (h.calm p t r.here))
+  guards_now busy = r.guards (alternates_now (lawful.calm p t r.here))
     where
       alternates_now : IsCalm t → Alternates t.mode t.condition
       alternates_now (is_plain plain) = absurd (busy plain)
@@ -243,11 +246,11 @@ module _ (m : Contents) (wf : IsWellFormed m) (w : World) (lawful : IsLawful m w
       → after.tasks ≡ slice_set w.tasks p (behind_in m t mode condition l) → after.memory ≡ l.memory
       → after.roles ≡ w.roles → ChannelsStay w.channels after.channels → AreBytes after.links.inputs
       → after.fault ≡ w.fault → after.counters.executed ≡ w.counters.executed + 1 → LeavesEnabled w after p t
-      → later + 1 ≤ (row_of r).due → Allows r.lives w.memory l.memory → Alternates mode condition
+      → later + 1 ≤ (row_of r).due → Allows r.lives w.memory l.memory
       → LivesAs m (held (row_of r).role) (row_of r).start l.memory (behind_in m t mode condition l) later next act
-      → AlternatesHere m after p (behind_in m t mode condition l) next act → IsSound m after
+      → AlternatesHere m after p (behind_in m t mode condition l) next act → Holds m after
   alters_holds after mode condition l later next tasks memory roles channels kept fault more leaves less changes
-      alternates lives guards =
+      lives guards =
       holds_put_alternating m w h (shared_out lawful) p t r after (behind_in m t mode condition l) l.memory
       later (record {
         tasks = tasks;
@@ -256,7 +259,7 @@ module _ (m : Contents) (wf : IsWellFormed m) (w : World) (lawful : IsLawful m w
         channels = channels;
         kept = kept;
         fault = fault;
-      }) leaves changes unopened (omega (arith, more, less)) alternates lives guards
+      }) leaves changes unopened (omega (arith, more, less)) lives guards
 
   -- no channel and no link has changed
   same_enabled : (after : World) → after.channels ≡ w.channels → after.links.inputs ≡ w.links.inputs
@@ -293,20 +296,21 @@ module _ (m : Contents) (wf : IsWellFormed m) (w : World) (lawful : IsLawful m w
   -- ---- alt
 
   pub begins_holds : (l : Local) (next : State) (later : ℕ) → AltersTo m x t (row_of r).due later l → Begins x next l
-      → LivesAs m (held (row_of r).role) (row_of r).start l.memory (behind_in m t (modes.Enabling false) Ready l) later next act
+      → LivesAs m (held (row_of r).role) (row_of r).start l.memory (behind_in m t (modes.Enabling false) Ready l)
+      later next act
       → Allows r.lives w.memory l.memory → (after : World) → Moved turning w (begins l) after
-      → IsSound m (counted after)
+      → Holds m (counted after)
   begins_holds l next later alters begun lives changes after (it_begins k) =
       alters_holds (counted after) (modes.Enabling false) Ready l later next (as_ready (modes.Enabling false) l) refl
       refl
-      (channels_equal refl) h.holds.kept refl refl (same_enabled (counted after) refl refl) alters.less changes
-      (inl ((false, refl), refl)) lives
+      (channels_equal refl) h.kept refl refl (same_enabled (counted after) refl refl) alters.less changes
+      lives
       (fresh_guards m (counted after) p (behind_in m t (modes.Enabling false) Ready l) next act begun.none
       (λ address enables.
       let same = enabled_as_before w (counted after) p refl refl in
       let a = lawful.alternate p (is_in_list w p address (same.fewer address enables)) in
       let it = only_one (slice_get w.tasks p) a.task t a.here r.here in
-      no_alternation a.task (ap (λ (u : Task). u.mode) it ∙ plain_process modes_fit begun.before) a.alternates) refl)
+      plain_beside (ap (λ (u : Task). u.mode) it ∙ plain_process modes_fit begun.before) a.alternates) refl)
 
   -- ---- the channel of a guard
 
@@ -429,8 +433,8 @@ module _ (m : Contents) (wf : IsWellFormed m) (w : World) (lawful : IsLawful m w
 
   module _ {guard : GuardKind} {holds : Bool} {next : State} {l : Local} (later : ℕ)
       (alters : AltersTo m x t (row_of r).due later l) (more : Enables x guard holds next l)
-      (lives : (b : Bool) → LivesAs m (held (row_of r).role) (row_of r).start l.memory (behind_in m t (modes.Enabling b) Ready
-      l) later
+      (lives : (b : Bool) → LivesAs m (held (row_of r).role) (row_of r).start l.memory
+      (behind_in m t (modes.Enabling b) Ready l) later
       next act) where
     mode_now : (b : Bool) × (t.mode ≡ modes.Enabling b)
     mode_now = enabling_process modes_fit more.before
@@ -452,14 +456,14 @@ module _ (m : Contents) (wf : IsWellFormed m) (w : World) (lawful : IsLawful m w
         → after.tasks ≡ slice_set w.tasks p (behind_in m t (modes.Enabling mode_now.0)
         Ready l)
         → after.memory ≡ l.memory → after.roles ≡ w.roles → after.channels ≡ w.channels → after.links ≡ w.links
-        → after.fault ≡ w.fault → after.counters.executed ≡ w.counters.executed + 1 → holds ≡ false → IsSound m after
+        → after.fault ≡ w.fault → after.counters.executed ≡ w.counters.executed + 1 → holds ≡ false → Holds m after
     enables_nothing changes after tasks memory roles channels links fault counters not_so =
         let b = mode_now.0 in
         let u = behind_in m t (modes.Enabling b) Ready l in
         let same = enabled_as_before w after p channels (ap (λ links. links.inputs) links) in
         alters_holds after (modes.Enabling b) Ready l later next tasks memory roles (channels_equal channels)
-        (rw links h.holds.kept) fault counters (same_enabled after channels (ap (λ links. links.inputs) links))
-        alters.less changes (inl ((b, refl), refl)) (lives b)
+        (rw links h.kept) fault counters (same_enabled after channels (ap (λ links. links.inputs) links))
+        alters.less changes (lives b)
         (grown_guards m x guard holds next l more w after p t u old_guards refl memory refl
         (λ address enables. inl (same.fewer address enables)) (λ address enables. same.more address enables)
         (λ address so at. let no' : true ≡ false = sym so ∙ not_so in absurd (cc)) (b, refl)
@@ -470,10 +474,10 @@ module _ (m : Contents) (wf : IsWellFormed m) (w : World) (lawful : IsLawful m w
 
   pub enables_skip_holds : {holds : Bool} (l : Local) (next : State) (later : ℕ) → AltersTo m x t (row_of r).due later l
       → Enables x Skip holds next l
-      → ((b : Bool) → LivesAs m (held (row_of r).role) (row_of r).start l.memory (behind_in m t (modes.Enabling b) Ready l)
-      later next act)
+      → ((b : Bool) → LivesAs m (held (row_of r).role) (row_of r).start l.memory
+      (behind_in m t (modes.Enabling b) Ready l) later next act)
       → Allows r.lives w.memory l.memory → (after : World) → Moved turning w (enables_skip holds l) after
-      → IsSound m (counted after)
+      → Holds m (counted after)
   enables_skip_holds {holds} l next later alters more lives changes after (it_enables_a_skip so k) =
       let now = enabling_process modes_fit more.before in
       let b = now.0 in
@@ -483,9 +487,9 @@ module _ (m : Contents) (wf : IsWellFormed m) (w : World) (lawful : IsLawful m w
         registers = between (t.registers.at + 1) l.registers;
         mode = ready_or q holds;
       })) now.1 ∙ as_ready (modes.Enabling (b || holds)) l in
-      alters_holds (counted after) (modes.Enabling (b || holds)) Ready l later next tasks refl refl (channels_equal refl)
-      h.holds.kept refl refl (same_enabled (counted after) refl refl) alters.less changes
-      (inl ((b || holds, refl), refl)) (lives (b || holds))
+      alters_holds (counted after) (modes.Enabling (b || holds)) Ready l later next tasks refl refl
+      (channels_equal refl) h.kept refl refl (same_enabled (counted after) refl refl) alters.less changes
+      (lives (b || holds))
       (grown_guards m x Skip holds next l more w (counted after) p t u (guards_now (busy_enabling more.before)) refl
       refl refl
       (λ address enables. inl (same.fewer address enables)) (λ address enables. same.more address enables)
@@ -501,8 +505,8 @@ module _ (m : Contents) (wf : IsWellFormed m) (w : World) (lawful : IsLawful m w
   module _ {kind : EndKind} {address : ℕ} {holds : Bool} (l : Local) (next : State) (later : ℕ)
       (alters : AltersTo m x t (row_of r).due later l) (channel : HoldsChannel m x kind address)
       (more : Enables x (AtChannel kind) holds next l)
-      (lives : (b : Bool) → LivesAs m (held (row_of r).role) (row_of r).start l.memory (behind_in m t (modes.Enabling b) Ready
-      l) later
+      (lives : (b : Bool) → LivesAs m (held (row_of r).role) (row_of r).start l.memory
+      (behind_in m t (modes.Enabling b) Ready l) later
       next act) where
     -- a source is enabled
     enables_source : Allows r.lives w.memory l.memory → (after : World) (s : Source) (b : Bool)
@@ -513,11 +517,11 @@ module _ (m : Contents) (wf : IsWellFormed m) (w : World) (lawful : IsLawful m w
         → AreBytes after.links.inputs → after.fault ≡ w.fault
         → after.counters.executed ≡ w.counters.executed + 1 → LeavesEnabled w after p t
         → Sets w after address p s.is_ready s.enabled (Some p)
-        → (s.is_ready ≡ true → HasReady w.tasks after.channels after.links.inputs p) → IsSound m after
+        → (s.is_ready ≡ true → HasReady w.tasks after.channels after.links.inputs p) → Holds m after
     enables_source changes after s b is so free tasks memory roles channels kept fault counters leaves sets found =
         let u = behind_in m t (modes.Enabling (b || s.is_ready)) Ready l in
         alters_holds after (modes.Enabling (b || s.is_ready)) Ready l later next tasks memory roles channels kept fault
-        counters leaves alters.less changes (inl ((b || s.is_ready, refl), refl)) (lives (b || s.is_ready))
+        counters leaves alters.less changes (lives (b || s.is_ready))
         (grown_guards m x (AtChannel kind) holds next l more w after p t u (guards_now (busy_enabling more.before)) refl
         memory refl
         (λ a enables. elim (cases_eq a address) [
@@ -541,7 +545,7 @@ module _ (m : Contents) (wf : IsWellFormed m) (w : World) (lawful : IsLawful m w
         ]))
 
     pub enables_holds : Allows r.lives w.memory l.memory → (after : World)
-        → Moved turning w (enables_channel holds address l) after → IsSound m (counted after)
+        → Moved turning w (enables_channel holds address l) after → Holds m (counted after)
     enables_holds changes after (it_enables so a k s holds_now (on_channel c outside at) free) =
         let now = enabling_process modes_fit more.before in
         enables_source changes (counted after) (of_channel address c) now.0 now.1 holds_now free
@@ -549,8 +553,8 @@ module _ (m : Contents) (wf : IsWellFormed m) (w : World) (lawful : IsLawful m w
           registers = between (t.registers.at + 1) l.registers;
           mode = ready_or q (is_some c.waiting);
         })) now.1 ∙ as_ready (modes.Enabling (now.0 || is_some c.waiting)) l) refl refl
-        (channel_stays w.channels (cell_of address) c (record c { enabled = Some p }) (channel_there w address c at) refl refl)
-        h.holds.kept refl refl
+        (channel_stays w.channels (cell_of address) c (record c { enabled = Some p }) (channel_there w address c at)
+        refl refl) h.kept refl refl
         (sets_cell address c (Some p) (counted after) at refl refl (λ q other e. is_by_nobody c.enabled q free e)
         by_itself)
         (sets_channel m wf w lawful h p address (held_now channel) (Some p) (counted after) c at refl refl)
@@ -563,7 +567,7 @@ module _ (m : Contents) (wf : IsWellFormed m) (w : World) (lawful : IsLawful m w
           mode = ready_or q (is_some link.kept);
         })) now.1 ∙ as_ready (modes.Enabling (now.0 || is_some link.kept)) l) refl refl
         (channels_equal refl)
-        (bytes_set w.links.inputs n (record link { enabled = Some p }) h.holds.kept (λ b. h.holds.kept n link b here))
+        (bytes_set w.links.inputs n (record link { enabled = Some p }) h.kept (λ b. h.kept n link b here))
         refl refl
         (sets_input n link (Some p) (counted after) here refl refl (λ q other e. is_by_nobody link.enabled q free e)
         by_itself)
@@ -588,11 +592,11 @@ module _ (m : Contents) (wf : IsWellFormed m) (w : World) (lawful : IsLawful m w
 
   -- ---- altwt
 
-  module _ (l : Local) (next : State) (later : ℕ) (alters : AltersTo m x t (row_of r).due later l) (awaits : AwaitsGuards
-      x next l)
+  module _ (l : Local) (next : State) (later : ℕ) (alters : AltersTo m x t (row_of r).due later l)
+      (awaits : AwaitsGuards x next l)
       (lives : (condition : Condition) → (condition ≡ Ready) ⊎ (condition ≡ Alternating)
-      → LivesAs m (held (row_of r).role) (row_of r).start l.memory (behind_in m t (modes.Disabling None) condition l) later
-      next act) where
+      → LivesAs m (held (row_of r).role) (row_of r).start l.memory (behind_in m t (modes.Disabling None) condition l)
+      later next act) where
     waiting_guards : (after : World) (condition : Condition) → after.channels ≡ w.channels
         → after.links.inputs ≡ w.links.inputs → after.memory ≡ l.memory
         → (MustBeReady (behind_in m t (modes.Disabling None) condition l)
@@ -609,23 +613,23 @@ module _ (m : Contents) (wf : IsWellFormed m) (w : World) (lawful : IsLawful m w
         (λ distance is. let no' : modes.Disabling None ≡ modes.Disabling (Some distance) = is in absurd (cc)) ready_now
 
     pub waits_holds : Allows r.lives w.memory l.memory → (after : World) → Moved turning w (waits l) after
-        → IsSound m (counted after)
+        → Holds m (counted after)
     unfolding dispatch
     waits_holds changes after (it_is_ready k is) =
         let old = guards_now (busy_enabling awaits.before) in
         let u = behind_in m t (modes.Disabling None) Ready l in
         let tasks = as_ready (modes.Disabling None) l in
         alters_holds (counted after) (modes.Disabling None) Ready l later next tasks refl refl (channels_equal refl)
-        h.holds.kept refl refl (same_enabled (counted after) refl refl) alters.less changes
-        (inr ((None, refl), inl refl)) (lives Ready (inl refl))
+        h.kept refl refl (same_enabled (counted after) refl refl) alters.less changes
+        (lives Ready (inl refl))
         (waiting_guards (counted after) Ready refl refl refl (λ must. elim (old.ready (inl is)) [
           | inl found ↦ inl (ready_stays (counted after) u tasks found)
           | inr skip ↦ inr skip
         ]))
     waits_holds changes after (it_waits k unready) =
-        alters_holds (counted after) (modes.Disabling None) Alternating l later next refl refl refl (channels_equal refl)
-        h.holds.kept refl refl (same_enabled (counted after) refl refl) alters.less changes
-        (inr ((None, refl), inr refl)) (lives Alternating (inr refl))
+        alters_holds (counted after) (modes.Disabling None) Alternating l later next refl refl refl
+        (channels_equal refl) h.kept refl refl (same_enabled (counted after) refl refl) alters.less changes
+        (lives Alternating (inr refl))
         (waiting_guards (counted after) Alternating refl refl refl (λ must. elim must [
           | inl not_so ↦ let no' : modes.Disabling None ≡ modes.Enabling true = not_so in absurd (cc)
           | inr not_so ↦ let no' : Alternating ≡ Ready = not_so.1 in absurd (cc)
@@ -661,13 +665,13 @@ module _ (m : Contents) (wf : IsWellFormed m) (w : World) (lawful : IsLawful m w
         → ((d : ℤ) → modes.Disabling selection ≡ modes.Disabling (Some d)
         → (d ≡ distance) ⊎ (t.mode ≡ modes.Disabling (Some d)))
         → (selection ≡ None → HasReady w.tasks after.channels after.links.inputs p
-        ⊎ (IsTrueSkip w.memory act state × (guard ≡ Skip → holds ≡ true → ⊥))) → IsSound m after
+        ⊎ (IsTrueSkip w.memory act state × (guard ≡ Skip → holds ≡ true → ⊥))) → Holds m after
     disables_in changes after selection a low high tasks memory roles channels kept fault counters leaves only back
         exits found =
         let u = behind_in m t (modes.Disabling selection) Ready (with_a_alone (Some a) l) in
         alters_holds after (modes.Disabling selection) Ready (with_a_alone (Some a) l) later next tasks memory roles
         channels
-        kept fault counters leaves alters.less changes (inr ((selection, refl), inl refl)) (lives selection a low high)
+        kept fault counters leaves alters.less changes (lives selection a low high)
         (less_guards m x guard holds distance next l less w after p t u old_list refl memory refl (held (row_of r).role)
         named_now
         only back exits (λ must. elim (found (unselected selection must)) [
@@ -713,7 +717,7 @@ module _ (m : Contents) (wf : IsWellFormed m) (w : World) (lawful : IsLawful m w
       → LivesAs m (held (row_of r).role) (row_of r).start l.memory (behind_in m t (modes.Disabling selection) Ready
       (with_a_alone (Some a) l)) later next act)
       → Allows r.lives w.memory l.memory → (after : World) → Moved turning w (disables_skip holds distance l) after
-      → IsSound m (counted after)
+      → Holds m (counted after)
   disables_skip_holds {holds} {distance} l next later alters less lives changes after (it_disables_a_skip so d k) =
       on (selected t.mode holds distance) refl
     where
@@ -723,7 +727,7 @@ module _ (m : Contents) (wf : IsWellFormed m) (w : World) (lawful : IsLawful m w
       no_channel_gone : (address : ℕ) → IsGoneAt m x Skip holds distance next l less address → ⊥
       no_channel_gone address at = let no' : Skip ≡ AtChannel at.0 = at.1 in cc
 
-      on : (b : Bool) → selected t.mode holds distance ≡ b → IsSound m (counted (if b
+      on : (b : Bool) → selected t.mode holds distance ≡ b → Holds m (counted (if b
           then put p (record t {
             registers = between (t.registers.at + 1) (with_a_alone (Some (pos 1)) l).registers;
             mode = modes.Disabling (Some distance);
@@ -734,14 +738,14 @@ module _ (m : Contents) (wf : IsWellFormed m) (w : World) (lawful : IsLawful m w
           disables_in later alters less lives changes _ (Some distance) (pos 1) (omega (arith, ints))
           (omega (arith, ints))
           (as_ready (modes.Disabling (Some distance)) (with_a_alone (Some (pos 1)) l)) refl refl (channels_equal refl)
-          h.holds.kept refl refl (same_enabled _ refl refl)
+          h.kept refl refl (same_enabled _ refl refl)
           (λ address enables. ((same _ refl refl).fewer address enables, λ so at. no_channel_gone address at))
           (λ address other enables. (same _ refl refl).more address enables)
           (selected_exits later alters less lives) (λ not_so. absurd (cc))
       on false is =
           disables_in later alters less lives changes _ (selection_now later alters less lives).0 (pos 0)
           (omega (arith, ints)) (omega (arith, ints)) (passed_task later alters less lives) refl refl
-          (channels_equal refl) h.holds.kept refl refl (same_enabled _ refl refl)
+          (channels_equal refl) h.kept refl refl (same_enabled _ refl refl)
           (λ address enables. ((same _ refl refl).fewer address enables, λ so at. no_channel_gone address at))
           (λ address other enables. (same _ refl refl).more address enables)
           (unselected_exits later alters less lives)
@@ -794,7 +798,7 @@ module _ (m : Contents) (wf : IsWellFormed m) (w : World) (lawful : IsLawful m w
         → ((d : ℤ) → modes.Disabling selection ≡ modes.Disabling (Some d)
         → (d ≡ distance) ⊎ (t.mode ≡ modes.Disabling (Some d)))
         → (selection ≡ None → (s.is_ready ≡ false)
-        × (HasReady w.tasks w.channels w.links.inputs p ⊎ IsTrueSkip w.memory act state)) → IsSound m after
+        × (HasReady w.tasks w.channels w.links.inputs p ⊎ IsTrueSkip w.memory act state)) → Holds m after
     disables_source changes after s selection a low high so tasks memory roles channels kept fault counters leaves sets
         exits found =
         disables_in later alters less lives changes after selection a low high tasks memory roles channels kept fault
@@ -820,18 +824,18 @@ module _ (m : Contents) (wf : IsWellFormed m) (w : World) (lawful : IsLawful m w
         → (d ≡ distance) ⊎ (t.mode ≡ modes.Disabling (Some d)))
         → (selection ≡ None → (s.is_ready ≡ false)
         × (HasReady w.tasks w.channels w.links.inputs p ⊎ IsTrueSkip w.memory act state))
-        → IsSound m (counted (s.with_enabled None v)))
+        → Holds m (counted (s.with_enabled None v)))
         → after ≡ s.with_enabled None (if selected t.mode s.is_ready distance
         then put p (record t {
           registers = between (t.registers.at + 1) (with_a_alone (Some (pos 1)) l).registers;
           mode = modes.Disabling (Some distance);
         }) l.memory w
         else put p (record t { registers = between (t.registers.at + 1) (with_a_alone (Some (pos 0)) l).registers })
-        l.memory w) → IsSound m (counted after)
+        l.memory w) → Holds m (counted after)
     disables_there after s so go is =
-        subst (λ (v : World). IsSound m (counted v)) (sym is) (on (selected t.mode s.is_ready distance) refl)
+        subst (λ (v : World). Holds m (counted v)) (sym is) (on (selected t.mode s.is_ready distance) refl)
       where
-        on : (b : Bool) → selected t.mode s.is_ready distance ≡ b → IsSound m (counted (s.with_enabled None (if b
+        on : (b : Bool) → selected t.mode s.is_ready distance ≡ b → Holds m (counted (s.with_enabled None (if b
             then put p (record t {
               registers = between (t.registers.at + 1) (with_a_alone (Some (pos 1)) l).registers;
               mode = modes.Disabling (Some distance);
@@ -849,14 +853,14 @@ module _ (m : Contents) (wf : IsWellFormed m) (w : World) (lawful : IsLawful m w
             (λ none. (passes_by later alters less lives s.is_ready chosen none, was_found later alters less lives none))
 
     pub disables_holds : Allows r.lives w.memory l.memory → (after : World)
-        → Moved turning w (disables_channel holds address distance l) after → IsSound m (counted after)
+        → Moved turning w (disables_channel holds address distance l) after → Holds m (counted after)
     disables_holds changes after (it_disables so a d k s holds_now (on_channel c outside at) own) =
         disables_there _ (of_channel address c) holds_now
         (λ selection a v low high tasks memory roles channels links fault counters exits found.
         disables_source changes _ (of_channel address c) selection a low high holds_now tasks memory roles
         (rw channels (channel_stays w.channels (cell_of address) c (record c { enabled = None }) (channel_there w
         address c at)
-        refl refl)) (rw links h.holds.kept) fault (rw counters refl)
+        refl refl)) (rw links h.kept) fault (rw counters refl)
         (sets_cell address c None _ at
         (ap (λ cells. slice_set cells (cell_of address) (Some (record c { enabled = None }))) channels)
         (ap (λ links. links.inputs) links) (λ q other e. by_another c.enabled own q other e) by_nobody)
@@ -868,7 +872,7 @@ module _ (m : Contents) (wf : IsWellFormed m) (w : World) (lawful : IsLawful m w
         (λ selection a v low high tasks memory roles channels links fault counters exits none.
         disables_source changes _ (of_link n link) selection a low high holds_now tasks memory roles
         (channels_equal channels) (rw links
-        (bytes_set w.links.inputs n (record link { enabled = None }) h.holds.kept (λ b. h.holds.kept n link b here)))
+        (bytes_set w.links.inputs n (record link { enabled = None }) h.kept (λ b. h.kept n link b here)))
         fault (rw counters refl)
         (sets_input n link None _ here
         (ap (λ links. slice_set links.inputs n (record link { enabled = None })) links) channels
@@ -877,7 +881,7 @@ module _ (m : Contents) (wf : IsWellFormed m) (w : World) (lawful : IsLawful m w
         (let on = link_found (input_word 0) address n found in omega (arith, on)) here
         (ap (λ links. slice_set links.inputs n (record link { enabled = None })) links) channels) exits none) refl
     disables_holds changes after (it_disables_nothing so a d k not_so) =
-        subst (λ (b : Bool). IsSound m (counted (if b
+        subst (λ (b : Bool). Holds m (counted (if b
         then put p (record t {
           registers = between (t.registers.at + 1) (with_a_alone (Some (pos 1)) l).registers;
           mode = modes.Disabling (Some distance);
@@ -885,8 +889,8 @@ module _ (m : Contents) (wf : IsWellFormed m) (w : World) (lawful : IsLawful m w
         else put p (record t { registers = between (t.registers.at + 1) (with_a_alone (Some (pos 0)) l).registers })
         l.memory w))) (sym (never_chosen t.mode distance))
         (disables_in later alters less lives changes _ (selection_now later alters less lives).0 (pos 0)
-        (omega (arith, ints)) (omega (arith, ints)) (passed_task later alters less lives) refl refl (channels_equal refl)
-        h.holds.kept refl refl (same_enabled _ refl refl)
+        (omega (arith, ints)) (omega (arith, ints)) (passed_task later alters less lives) refl refl
+        (channels_equal refl) h.kept refl refl (same_enabled _ refl refl)
         (λ n enables. (
           (enabled_as_before w _ p refl refl).fewer n enables,
           λ true_guard at. let no' : true ≡ false = sym true_guard ∙ not_so in cc,
@@ -904,7 +908,7 @@ module _ (m : Contents) (wf : IsWellFormed m) (w : World) (lawful : IsLawful m w
       → Allows r.lives w.memory l.memory
       → LivesAs m (held (row_of r).role) (row_of r).start l.memory (task_at m t modes.Plain to l) later next other
       → later + 1 ≤ (row_of r).due → (after : World) → Moved turning w (ends_alternation to l) after
-      → IsSound m (counted after)
+      → Holds m (counted after)
   ends_holds to l next other later changes lives less after (it_ends_alternation there k none) =
       holds_put m w h (shared_out lawful) p t r (counted after) (task_at m t modes.Plain to l) l.memory later
       (record {
@@ -916,7 +920,7 @@ module _ (m : Contents) (wf : IsWellFormed m) (w : World) (lawful : IsLawful m w
         memory = refl;
         roles = refl;
         channels = channels_equal refl;
-        kept = h.holds.kept;
+        kept = h.kept;
         fault = refl;
       }) (same_enabled (counted after) refl refl) changes unopened (omega (arith, less)) refl (it_lives lives.lives)
 

@@ -20,19 +20,20 @@ use Rattle.machine_state.specs.Moves.{fill_condition, rouse}
 use Rattle.machine_state.proofs.Moving.{at_some, on_task_is}
 use Rattle.rulings.specs.Buffers.{is_filled, message_place}
 use Rattle.certified_worlds.specs.Lives.{awaits, IsExchanging, Lives, it_lives}
+use Rattle.certified_worlds.specs.Invariant.{Holds}
 use Rattle.verifier.proofs.CalmWorlds.{plain_of}
-use Rattle.verifier.proofs.Coming.{input_awaits, output_awaits, more_filled, ready_is_quiet, link_is_quiet, byte_changes}
+use Rattle.verifier.proofs.Coming.{input_awaits, output_awaits, more_filled, ready_is_quiet, link_is_quiet}
+use Rattle.verifier.proofs.Coming.{byte_changes}
 use Rattle.verifier.proofs.Coming.{byte_lives}
 use Rattle.verifier.proofs.LawfulWorlds.{IsLawful}
 use Rattle.machine_state.proofs.Lines.{got_set, got_other, set_either}
 use Rattle.verifier.proofs.OthersGuards.{IsSilent, LeavesEnabled, channels_same, link_set, enabled_same}
 use Rattle.verifier.proofs.SharedOut.{none_open, shared_aside, shared_out}
 use Rattle.verifier.proofs.Tables.{row_of}
-use Rattle.verifier.proofs.Tables.{Allows, IsSound, AreBytes, channels_equal, Puts, Living, living, lives_whatever}
+use Rattle.verifier.proofs.Tables.{Allows, AreBytes, channels_equal, Puts, Living, living, lives_whatever}
 use Rattle.verifier.proofs.Tables.{holds_put, nothing_changes}
 use Rattle.verifier.proofs.Tables.{holds_aside}
 use Rattle.certified_worlds.specs.Alternating.{EnablesAt, a_channel, a_link}
-use Rattle.certified_worlds.proofs.Carrying.{alternates_on}
 use Rattle.machine_state.specs.EnabledLaws.{HasReady, a_sender, a_byte}
 use Rattle.machine_state.specs.declared.process.Mode.TheVariants as modes
 use Rattle.machine_state.proofs.Claims.{only_one}
@@ -46,10 +47,10 @@ pub wake_is : (w : World) (p : ℕ) (t : Task) → slice_get w.tasks p ≡ Some 
 wake_is w p t here = ap (enqueue p) (sym (on_task_is p (λ task. record task { condition = Ready }) w t here))
 
 -- who waits on a link is in plain mode
-link_waiter_is_plain : (m : Contents) (w : World) → IsSound m w → (p : ℕ) (t : Task) (e : Exchange) (done : ℕ)
+link_waiter_is_plain : (m : Contents) (w : World) → IsLawful m w → (p : ℕ) (t : Task) (e : Exchange) (done : ℕ)
     → slice_get w.tasks p ≡ Some t → t.condition ≡ OnLink e done → t.mode ≡ modes.Plain
-link_waiter_is_plain m w h p t e done here waits =
-    plain_of t (h.calm p t here) (λ is. let no' = sym waits ∙ is in cc) (λ is. let no' = sym waits ∙ is in cc)
+link_waiter_is_plain m w lawful p t e done here waits =
+    plain_of t (lawful.calm p t here) (λ is. let no' = sym waits ∙ is in cc) (λ is. let no' = sym waits ∙ is in cc)
 
 -- has no join open
 link_waiter_unopened : (m : Contents) (w : World) → IsLawful m w → (p : ℕ) (t : Task) (e : Exchange) (done : ℕ)
@@ -64,32 +65,33 @@ link_waiter_is_silent w p t waits k c q e other here enabled waiting sends = let
 
 -- ---- an acknowledgement
 
-pub acknowledged_holds : (m : Contents) (w : World) → IsLawful m w → IsSound m w → (k : ℕ) (l : OutputLink) (p : ℕ)
+pub acknowledged_holds : (m : Contents) (w : World) → IsLawful m w → Holds m w → (k : ℕ) (l : OutputLink) (p : ℕ)
     → slice_get w.links.outputs k ≡ Some l → l.waiting ≡ Some p
-    → IsSound m (dispatch 0 (wake p (with_output k (record { waiting = None }) w)))
+    → Holds m (dispatch 0 (wake p (with_output k (record { waiting = None }) w)))
 acknowledged_holds m w lawful h k l p here waiting =
     let v = lawful.waiters.outputs k l p here waiting in
-    let r = living m w h.holds p v.task (OnLink v.exchange v.done) v.here v.waits (λ e. cc) (λ e. cc) in
+    let r = living m w h p v.task (OnLink v.exchange v.done) v.here v.waits (λ e. cc) (λ e. cc) in
     let low : k < 4 = let inside = slice_get_within w.links.outputs k l here in let four = lawful.four.outputs in
     omega arith in
     let channel : v.exchange.channel < input_word 0 = let on = v.on in omega arith in
     let free : World = with_output k (record { waiting = None }) w in
     let u : Task = record v.task { condition = Ready } in
     let ready : World = enqueue p (record free { tasks = slice_set w.tasks p u }) in
-    dispatch_holds m 0 (wake p free) (subst (λ x. IsSound m x) (wake_is free p v.task v.here)
+    dispatch_holds m 0 (wake p free) (subst (λ x. Holds m x) (wake_is free p v.task v.here)
     (holds_put m w h (shared_out lawful) p v.task r ready u w.memory (row_of r).due
     (record {
       tasks = refl;
       memory = refl;
       roles = refl;
       channels = channels_equal refl;
-      kept = h.holds.kept;
+      kept = h.kept;
       fault = refl;
     }) (enabled_same refl refl (link_waiter_is_silent w p v.task v.waits)) nothing_changes
     (link_waiter_unopened m w lawful p v.task v.exchange v.done v.here v.waits) (omega arith)
-    (link_waiter_is_plain m w h p v.task v.exchange v.done v.here v.waits)
+    (link_waiter_is_plain m w lawful p v.task v.exchange v.done v.here v.waits)
     (it_lives (lives_whatever Ready ready_is_quiet
-    (λ place. ap (λ c. awaits c place) v.waits ∙ output_awaits v.exchange v.done place channel) (λ place. refl) r.lives))))
+    (λ place. ap (λ c. awaits c place) v.waits ∙ output_awaits v.exchange v.done place channel) (λ place. refl)
+    r.lives))))
 
 -- ---- a byte that is kept
 
@@ -101,7 +103,7 @@ bytes_set inputs k l bytes small j link b here kept = elim (set_either inputs k 
   | inr other ↦ bytes j link b other.1 kept
 ]
 
-module _ (m : Contents) (w : World) (lawful : IsLawful m w) (h : IsSound m w) (k byte : ℕ) (small : byte < 256)
+module _ (m : Contents) (w : World) (lawful : IsLawful m w) (h : Holds m w) (k byte : ℕ) (small : byte < 256)
     (l : InputLink) (here : slice_get w.links.inputs k ≡ Some l) (empty : l.kept ≡ None) where
   abbrev with_it : InputLink
   with_it = record l { kept = Some byte }
@@ -143,27 +145,24 @@ module _ (m : Contents) (w : World) (lawful : IsLawful m w) (h : IsSound m w) (k
     | inr differ ↦ a_byte j link b (got_other w.links.inputs k j with_it differ ∙ at) is there
   ]
 
-  pub kept_holds : IsSound m (dispatch 0 (rouse l.enabled kept))
+  pub kept_holds : Holds m (dispatch 0 (rouse l.enabled kept))
   kept_holds = dispatch_holds m 0 (rouse l.enabled kept)
       (rouse_holds m kept (holds_aside m w kept (record {
         tasks = refl;
         memory = refl;
         roles = refl;
         channels = refl;
-        kept = bytes_set w.links.inputs k with_it h.holds.kept
+        kept = bytes_set w.links.inputs k with_it h.kept
             (λ b is. let same : byte ≡ b = cc in omega (arith, small, same));
         counters = refl;
         fault = refl;
-      }) (λ p t s act there guards. alternates_on m w kept p t t s s act guards
-      (record { fewer = fewer_enabled p; more = more_enabled p }) (λ n g at. refl)
-      (record { guards = refl; left = refl }) guards.fit (λ distance is. is)
-      (λ must. elim (guards.ready must) [ inl is ↦ inl (ready_still p is) | inr skip ↦ inr skip ])) h)
+      }) (λ p. record { fewer = fewer_enabled p; more = more_enabled p }) ready_still h)
       (shared_aside w kept refl refl refl (shared_out lawful)) l.enabled
       (λ q enabled. a_byte k with_it byte (got_set w.links.inputs k l with_it here) enabled refl))
 
 -- ---- a byte that is taken
 
-module _ (m : Contents) (w : World) (lawful : IsLawful m w) (h : IsSound m w) (k byte : ℕ) (small : byte < 256)
+module _ (m : Contents) (w : World) (lawful : IsLawful m w) (h : Holds m w) (k byte : ℕ) (small : byte < 256)
     (l : InputLink) (p : ℕ) (here : slice_get w.links.inputs k ≡ Some l) (waiting : l.waiting ≡ Some p) where
   abbrev v : WaitsOn w.tasks p (input_word k)
   v = lawful.waiters.inputs k l p here waiting
@@ -183,11 +182,12 @@ module _ (m : Contents) (w : World) (lawful : IsLawful m w) (h : IsSound m w) (k
   awaited place = ap (λ c. awaits c place) v.waits ∙ (input_awaits v.exchange v.done k place v.on
       ∙ more_filled v.exchange v.done place v.more)
 
-  r : Living m w h.holds p v.task
-  r = living m w h.holds p v.task (OnLink v.exchange v.done) v.here v.waits (λ e. cc) (λ e. cc)
+  r : Living m w h p v.task
+  r = living m w h p v.task (OnLink v.exchange v.done) v.here v.waits (λ e. cc) (λ e. cc)
 
   changes : Allows r.lives w.memory filled
-  changes = byte_changes r.lives goal_place byte small (λ place. is_filled v.exchange (v.done + 1) after_it place) awaited
+  changes = byte_changes r.lives goal_place byte small (λ place. is_filled v.exchange (v.done + 1) after_it place)
+      awaited
 
   -- the process lives on, where a test tells the places that are still awaited
   filled_lives : (c : Condition) (still : ℕ → Bool) → ((e : Exchange) → IsExchanging c e → ⊥)
@@ -198,29 +198,32 @@ module _ (m : Contents) (w : World) (lawful : IsLawful m w) (h : IsSound m w) (k
 
   filled_puts : (c : Condition) (after : World) → Puts w after p (record v.task { condition = c }) filled
       → LeavesEnabled w after p v.task → after.counters ≡ w.counters
-      → Lives m (held (row_of r).role) (row_of r).start filled (record v.task { condition = c }) (row_of r).due → IsSound m after
+      → Lives m (held (row_of r).role) (row_of r).start filled (record v.task { condition = c }) (row_of r).due
+      → Holds m after
   filled_puts c after puts leaves same lives =
       holds_put m w h (shared_out lawful) p v.task r after
       (record v.task { condition = c }) filled (row_of r).due puts leaves changes
       (link_waiter_unopened m w lawful p v.task v.exchange v.done v.here v.waits) (rw same (omega arith))
-      (link_waiter_is_plain m w h p v.task v.exchange v.done v.here v.waits) (it_lives lives)
+      (link_waiter_is_plain m w lawful p v.task v.exchange v.done v.here v.waits) (it_lives lives)
 
   abbrev with_filled : World
   with_filled = record w { memory = filled }
 
   -- with the last byte it becomes ready
-  last_holds : v.done + 1 ≡ v.exchange.length → IsSound m (wake p (with_input k (record l { waiting = None }) with_filled))
+  last_holds : v.done + 1 ≡ v.exchange.length
+      → Holds m (wake p (with_input k (record l { waiting = None }) with_filled))
   last_holds last =
       let free : World = with_input k (record l { waiting = None }) with_filled in
       let none : after_it ≡ 0 = omega (arith, last) in
-      let ready : World = enqueue p (record free { tasks = slice_set w.tasks p (record v.task { condition = Ready }) }) in
-      subst (λ x. IsSound m x) (wake_is free p v.task v.here)
+      let ready : World = enqueue p (record free { tasks = slice_set w.tasks p (record v.task { condition = Ready }) })
+      in
+      subst (λ x. Holds m x) (wake_is free p v.task v.here)
       (filled_puts Ready ready (record {
         tasks = refl;
         memory = refl;
         roles = refl;
         channels = channels_equal refl;
-        kept = bytes_set w.links.inputs k (record l { waiting = None }) h.holds.kept (λ b. h.holds.kept k l b here);
+        kept = bytes_set w.links.inputs k (record l { waiting = None }) h.kept (λ b. h.kept k l b here);
         fault = refl;
       }) (record {
         channels = channels_same refl;
@@ -232,29 +235,30 @@ module _ (m : Contents) (w : World) (lawful : IsLawful m w) (h : IsSound m w) (k
       ∙ ap (λ i. eqb place goal_place || is_filled v.exchange (v.done + 1) i place) none)))
 
   -- else it waits for the next
-  next_holds : IsSound m (with_condition p (OnLink v.exchange (v.done + 1)) with_filled)
+  next_holds : Holds m (with_condition p (OnLink v.exchange (v.done + 1)) with_filled)
   next_holds =
       let next : Condition = OnLink v.exchange (v.done + 1) in
-      subst (λ x. IsSound m x) (sym (on_task_is p (λ task. record task { condition = next }) with_filled v.task v.here))
-      (filled_puts next (record with_filled { tasks = slice_set w.tasks p (record v.task { condition = next }) }) (record {
+      subst (λ x. Holds m x) (sym (on_task_is p (λ task. record task { condition = next }) with_filled v.task v.here))
+      (filled_puts next (record with_filled { tasks = slice_set w.tasks p (record v.task { condition = next }) })
+      (record {
         tasks = refl;
         memory = refl;
         roles = refl;
         channels = channels_equal refl;
-        kept = h.holds.kept;
+        kept = h.kept;
         fault = refl;
       }) (enabled_same refl refl (link_waiter_is_silent w p v.task v.waits)) refl
       (filled_lives next (λ place. is_filled v.exchange (v.done + 1) after_it place)
       (link_is_quiet v.exchange (v.done + 1)) (λ place. input_awaits v.exchange (v.done + 1) k place v.on) awaited))
 
-  pub taken_holds : IsSound m (dispatch 0 (fill p k byte l w))
-  taken_holds = dispatch_holds m 0 (fill p k byte l w) (subst (λ x. IsSound m x)
+  pub taken_holds : Holds m (dispatch 0 (fill p k byte l w))
+  taken_holds = dispatch_holds m 0 (fill p k byte l w) (subst (λ x. Holds m x)
       (sym (at_some (slice_get w.tasks p) v.task w (λ task. fill_condition p k byte l task.condition w) v.here
       ∙ ap (λ c. fill_condition p k byte l c w) v.waits))
       (on_last (eqb (v.done + 1) v.exchange.length) refl))
     where
       on_last : (b : Bool) → eqb (v.done + 1) v.exchange.length ≡ b
-          → IsSound m (if b then wake p (with_input k (record l { waiting = None }) with_filled)
+          → Holds m (if b then wake p (with_input k (record l { waiting = None }) with_filled)
           else with_condition p (OnLink v.exchange (v.done + 1)) with_filled)
       on_last true e = last_holds (elim (eqb_tells (v.done + 1) v.exchange.length)
           [ inl t ↦ t.1 | inr t ↦ let no' : true ≡ false = sym e ∙ t.0 in absurd (cc) ])

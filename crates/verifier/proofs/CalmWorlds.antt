@@ -1,6 +1,7 @@
 -- Whatever a module does, each process is in the middle of nothing, starts branches and is ready, or is in an
 -- alternation.
-use Rattle.std.proofs.Common.{◌≡◌, ℕ, zero, suc, ◌+◌, ◌||◌, Bool, true, false, inl, inr, List, [], ◌∷◌, ◌++◌, Option, Some, None}
+use Rattle.std.proofs.Common.{◌≡◌, ℕ, zero, suc, ◌+◌, ◌||◌, Bool, true, false, inl, inr, List, [], ◌∷◌, ◌++◌}
+use Rattle.std.proofs.Common.{Option, Some, None}
 use Rattle.std.proofs.Common.{refl, sym, ap, ◌∙◌, subst, slice_get}
 use Rattle.std.specs.Prelude.{slice_set}
 use Rattle.module_format.specs.Contents.{Contents}
@@ -30,12 +31,6 @@ pub data IsCalm (t : Task) : Type 0 where
   is_among_starts : t.mode ≡ modes.Starting → t.condition ≡ Ready → IsCalm t
   is_alternating : Alternates t.mode t.condition → IsCalm t
 
--- who is in plain mode is in no alternation
-pub no_alternation : (t : Task) → t.mode ≡ modes.Plain → Alternates t.mode t.condition → ⊥
-no_alternation t plain (inl enables) = let no' : modes.Plain ≡ modes.Enabling enables.0.0 = sym plain ∙ enables.0.1 in cc
-no_alternation t plain (inr disables) =
-    let no' : modes.Plain ≡ modes.Disabling disables.0.0 = sym plain ∙ disables.0.1 in cc
-
 -- who waits for a message is in plain mode
 pub plain_of : (t : Task) → IsCalm t → (t.condition ≡ Ready → ⊥) → (t.condition ≡ Alternating → ⊥)
     → t.mode ≡ modes.Plain
@@ -50,7 +45,7 @@ AllCalm tasks = (p : ℕ) (t : Task) → slice_get tasks p ≡ Some t → IsCalm
 
 -- ---- one task is another one
 
-set_calm : (tasks : List Task) (q : ℕ) (u : Task) → IsCalm u → AllCalm tasks → AllCalm (slice_set tasks q u)
+pub set_calm : (tasks : List Task) (q : ℕ) (u : Task) → IsCalm u → AllCalm tasks → AllCalm (slice_set tasks q u)
 set_calm tasks q u calm all p t here = elim (set_either tasks q u p t here) [
   | inl it ↦ subst IsCalm (sym it.1) calm
   | inr other ↦ all p t other.1

@@ -11,29 +11,28 @@ use Rattle.certified_worlds.specs.Invariant.{Holds}
 use Rattle.verifier.specs.Headline.{IsEvent, AreEvents, RunsWell}
 use Rattle.verifier.proofs.Kept.{decodes, well_formed}
 use Rattle.verifier.proofs.LawfulWorlds.{IsLawful, lawful}
-use Rattle.verifier.proofs.Tables.{IsSound}
 use Rattle.verifier.proofs.EventsKeepInvariant.{event_holds}
 use Rattle.verifier.proofs.Start.{loaded_holds}
 
 module _ (m : Contents) (k : Keeps m) (c : IsCertified m) where
   -- one event more
-  step_further : (es : List Event) (e : Event) → IsEvent e → IsSound m (world_after m es)
-      → IsSound m (happens m (world_after m es) e)
+  step_further : (es : List Event) (e : Event) → IsEvent e → Holds m (world_after m es)
+      → Holds m (happens m (world_after m es) e)
   step_further es e is h =
       event_holds m (decodes m k) (well_formed m k) k c (world_after m es) (lawful m es k) h e is
       (subst (λ (w : World). IsLawful m w) (run_further m (loaded m) es e) (lawful m (es ++ e ∷ []) k))
 
-  holds_from : (before es : List Event) → AreEvents es → IsSound m (world_after m before)
-      → IsSound m (world_after m (before ++ es))
-  holds_from before [] are h = subst (λ (es : List Event). IsSound m (world_after m es)) (sym (append-nil before)) h
-  holds_from before (e ∷ es) are h = subst (λ (es : List Event). IsSound m (world_after m es))
+  holds_from : (before es : List Event) → AreEvents es → Holds m (world_after m before)
+      → Holds m (world_after m (before ++ es))
+  holds_from before [] are h = subst (λ (es : List Event). Holds m (world_after m es)) (sym (append-nil before)) h
+  holds_from before (e ∷ es) are h = subst (λ (es : List Event). Holds m (world_after m es))
       (append_assoc before (e ∷ []) es) (holds_from (before ++ e ∷ []) es are.1
-      (subst (IsSound m) (sym (run_further m (loaded m) before e)) (step_further before e are.0 h)))
+      (subst (Holds m) (sym (run_further m (loaded m) before e)) (step_further before e are.0 h)))
 
 pub certified_run_holds : (m : Contents) (es : List Event) → Keeps m → IsCertified m → AreEvents es
     → Holds m (world_after m es)
 certified_run_holds m es k c are =
-    (holds_from m k c [] es are (loaded_holds m (decodes m k) (well_formed m k) c)).holds
+    holds_from m k c [] es are (loaded_holds m (decodes m k) (well_formed m k) c)
 
 pub runs_well : (m : Contents) → Keeps m → IsCertified m → RunsWell m
 runs_well m k c es are =

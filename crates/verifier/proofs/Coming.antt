@@ -224,7 +224,8 @@ filled_at e j (suc n) i low high = elim (cases_eq i j) [
     same n = elim (eqb_tells n n) [ inl t ↦ t.0 | inr t ↦ absurd (t.1 refl) ]
 
     above : (j i : ℕ) → j ≤ i → (i ≡ j → ⊥) → j + 1 ≤ i
-    above j i low other = elim (cases_lt j i) [ inl less ↦ omega (arith, less) | inr equal ↦ absurd (other (omega (arith, low, equal))) ]
+    above j i low other = elim (cases_lt j i)
+        [ inl less ↦ omega (arith, less) | inr equal ↦ absurd (other (omega (arith, low, equal))) ]
 
     or_true : (a b : Bool) → b ≡ true → (a || b) ≡ true
     or_true true b e = refl

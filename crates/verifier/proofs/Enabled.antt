@@ -28,9 +28,9 @@ use Rattle.machine_state.proofs.Waiting.{link_found}
 use Rattle.machine_state.proofs.WhoWaitsOnLinks.{one_holds}
 use Rattle.rulings.specs.Meaning.{IsWellFormed}
 use Rattle.certified_worlds.specs.Alternating.{EnablesAt, a_channel, a_link}
+use Rattle.certified_worlds.specs.Invariant.{Holds}
 use Rattle.verifier.proofs.LawfulWorlds.{IsLawful}
 use Rattle.verifier.proofs.Sources.{same_address, no_cell}
-use Rattle.verifier.proofs.Tables.{IsSound}
 
 -- what has something ready is enabled
 pub ready_is_enabled : (w : World) (p : ℕ) → HasReady w.tasks w.channels w.links.inputs p
@@ -47,7 +47,7 @@ pub record Sets (w after : World) (address p : ℕ) (is_ready : Bool) (enabled :
   pub ready : ((enabled ≡ Some p → ⊥) ⊎ (is_ready ≡ false)) → HasReady w.tasks w.channels w.links.inputs p
       → HasReady w.tasks after.channels after.links.inputs p
 
-module _ (m : Contents) (wf : IsWellFormed m) (w : World) (lawful : IsLawful m w) (h : IsSound m w) where
+module _ (m : Contents) (wf : IsWellFormed m) (w : World) (lawful : IsLawful m w) (h : Holds m w) where
   -- what a process has enabled is at an address
   pub enables_somewhere : (p : ℕ) → HasEnabled w.channels w.links.inputs p → (address : ℕ) × EnablesAt w p address
   enables_somewhere p (has_channel k c here is) =

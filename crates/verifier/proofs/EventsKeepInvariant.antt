@@ -21,13 +21,14 @@ use Rattle.rulings.specs.Meaning.{IsWellFormed}
 use Rattle.module_format.specs.Keeping.{Keeps as IsKept}
 use Rattle.certified_worlds.specs.Certified.{IsCertified}
 use Rattle.certified_worlds.specs.Point.{Decodes}
+use Rattle.certified_worlds.proofs.StartedWorlds.{starts_beside}
+use Rattle.certified_worlds.specs.Invariant.{Holds}
 use Rattle.verifier.specs.Headline.{IsEvent}
 use Rattle.verifier.proofs.CalmWorlds.{IsCalm, is_alternating, is_among_starts, is_plain}
 use Rattle.verifier.proofs.LawfulWorlds.{IsLawful, runs_ready}
-use Rattle.verifier.proofs.OthersGuards.{not_starting}
 use Rattle.verifier.proofs.Prefixes.{never_outside, world_prefixed}
 use Rattle.verifier.proofs.StartersGoOn.{starter_prefix_holds, starter_step_holds}
-use Rattle.verifier.proofs.Tables.{IsSound, Living, living}
+use Rattle.verifier.proofs.Tables.{Living, living}
 use Rattle.verifier.proofs.Arrivals.{taken_holds, kept_holds, acknowledged_holds}
 use Rattle.verifier.proofs.Instructions.{step_holds, prefix_holds}
 
@@ -35,38 +36,39 @@ not_in_plain : (t : Task) → t.mode ≡ modes.Plain → t.mode ≡ modes.Starti
 not_in_plain t plain starting = let no' : modes.Plain ≡ modes.Starting = sym plain ∙ starting in cc
 
 module _ (m : Contents) (d : Decodes m) (wf : IsWellFormed m) (kept : IsKept m) (c : IsCertified m) (w : World)
-    (lawful : IsLawful m w) (h : IsSound m w) where
+    (lawful : IsLawful m w) (h : Holds m w) where
   -- the process that runs, with all that is known of it
   running : (p : ℕ) (t : Task) → w.queue.running ≡ Some p → slice_get w.tasks p ≡ Some t
-      → (t.condition ≡ Ready) × Living m w h.holds p t
+      → (t.condition ≡ Ready) × Living m w h p t
   running p t runs here =
       let ready = runs_ready w lawful p t runs here in
-      (ready, living m w h.holds p t Ready here ready (λ e. cc) (λ e. cc))
+      (ready, living m w h p t Ready here ready (λ e. cc) (λ e. cc))
 
   -- a byte that is a prefix, or that completes an instruction, by how the process is
-  prefixed_holds : (p : ℕ) (t : Task) → IsCalm t → t.condition ≡ Ready → Living m w h.holds p t → (byte : ℕ)
+  prefixed_holds : (p : ℕ) (t : Task) → IsCalm t → t.condition ≡ Ready → Living m w h p t → (byte : ℕ)
       (operand : ℤ) → slice_get m.code t.registers.at ≡ Some byte → fun_of (function_code byte) ≡ None
       → after_prefix (function_code byte) (with_nibble t.registers.operand (nibble byte)) ≡ operand
-      → IsSound m (world_prefixed p t operand w)
+      → Holds m (world_prefixed p t operand w)
   prefixed_holds p t (is_plain plain) ready r = prefix_holds m d wf kept c w lawful h p t ready r (not_in_plain t plain)
   prefixed_holds p t (is_alternating alternates) ready r =
-      prefix_holds m d wf kept c w lawful h p t ready r (not_starting t alternates)
+      prefix_holds m d wf kept c w lawful h p t ready r (λ starting. starts_beside starting alternates)
   prefixed_holds p t (is_among_starts starting now) ready r =
       starter_prefix_holds m d wf kept c w lawful h p t ready starting r
 
-  completed_holds : (p : ℕ) (t : Task) → IsCalm t → t.condition ≡ Ready → Living m w h.holds p t → (pick byte : ℕ)
-      (f : Fun) {turn : Turn} → IsLawful m turn.world → slice_get m.code t.registers.at ≡ Some byte → fun_of (function_code byte) ≡ Some f
+  completed_holds : (p : ℕ) (t : Task) → IsCalm t → t.condition ≡ Ready → Living m w h p t → (pick byte : ℕ)
+      (f : Fun) {turn : Turn} → IsLawful m turn.world → slice_get m.code t.registers.at ≡ Some byte
+      → fun_of (function_code byte) ≡ Some f
       → Ends (at_here m p t pick) w (local_step (site_of (at_here m p t pick) w) f
-      (with_nibble t.registers.operand (nibble byte)) (local_here t w)) turn → IsSound m turn.world
+      (with_nibble t.registers.operand (nibble byte)) (local_here t w)) turn → Holds m turn.world
   completed_holds p t (is_plain plain) ready r = step_holds m d wf kept c w lawful h p t ready r (not_in_plain t plain)
   completed_holds p t (is_alternating alternates) ready r =
-      step_holds m d wf kept c w lawful h p t ready r (not_starting t alternates)
+      step_holds m d wf kept c w lawful h p t ready r (λ starting. starts_beside starting alternates)
   completed_holds p t (is_among_starts starting now) ready r =
       starter_step_holds m d wf kept c w lawful h p t ready starting r
 
   -- for each way in which an event can end
   happened_holds : {e : Event} {turn : Turn} → IsEvent e → IsLawful m turn.world → Happened m w e turn
-      → IsSound m turn.world
+      → Holds m turn.world
   happened_holds is next (was_at_fault f faulty) = h
   happened_holds is next (it_rests rests) = h
   happened_holds is next (is_outside p task outside runs here) =
@@ -74,10 +76,10 @@ module _ (m : Contents) (d : Decodes m) (wf : IsWellFormed m) (kept : IsKept m) 
       absurd (never_outside m w h p task r.1 outside)
   happened_holds is next (is_prefix p task byte operand runs here at none further more) =
       let r = running p task runs here in
-      prefixed_holds p task (h.calm p task here) r.0 r.1 byte operand at none further
+      prefixed_holds p task (lawful.calm p task here) r.0 r.1 byte operand at none further
   happened_holds is next (is_step {pick = pick} p task byte f runs here at some ends) =
       let r = running p task runs here in
-      completed_holds p task (h.calm p task here) r.0 r.1 pick byte f next at some ends
+      completed_holds p task (lawful.calm p task here) r.0 r.1 pick byte f next at some ends
   happened_holds small next (is_taken {link = link} {byte = byte} input p here waiting) =
       taken_holds m w lawful h (link_index link) byte small input p here waiting
   happened_holds small next (is_kept {link = link} {byte = byte} input here nobody empty) =
@@ -85,5 +87,5 @@ module _ (m : Contents) (d : Decodes m) (wf : IsWellFormed m) (kept : IsKept m) 
   happened_holds is next (is_acknowledged {link = link} output p here waiting) =
       acknowledged_holds m w lawful h (link_index link) output p here waiting
 
-  pub event_holds : (e : Event) → IsEvent e → IsLawful m (happens m w e) → IsSound m (happens m w e)
+  pub event_holds : (e : Event) → IsEvent e → IsLawful m (happens m w e) → Holds m (happens m w e)
   event_holds e is next = happened_holds is next (turn_happens m w e)

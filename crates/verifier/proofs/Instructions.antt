@@ -25,11 +25,13 @@ use Rattle.certified_worlds.specs.Certified.{IsCertified}
 use Rattle.certified_worlds.specs.Point.{Point, MeetsPoint, Decodes}
 use Rattle.certified_worlds.specs.Lives.{awaits, Meets, it_lives, it_stopped}
 use Rattle.machine_state.specs.declared.process.Mode.TheVariants as modes
+use Rattle.certified_worlds.specs.Invariant.{Holds}
 use Rattle.certified_worlds.proofs.Steps.{site_in, here_of, task_at, owes, GoesOnAs, Comes, comes_on}
 use Rattle.certified_worlds.proofs.Steps.{comes_to, comes_straight, comes_down, comes_in, comes_out, comes_to_begin}
 use Rattle.certified_worlds.proofs.Steps.{comes_to_enable, comes_to_enable_skip, comes_to_wait, comes_to_disable}
 use Rattle.certified_worlds.proofs.Steps.{comes_to_disable_skip, comes_to_end, comes_last}
-use Rattle.verifier.proofs.CalmWorlds.{IsCalm, is_alternating, is_among_starts, is_plain, no_alternation}
+use Rattle.certified_worlds.proofs.StartedWorlds.{plain_beside}
+use Rattle.verifier.proofs.CalmWorlds.{IsCalm, is_alternating, is_among_starts, is_plain}
 use Rattle.verifier.proofs.Alternations.{unopened, has_selected, begins_holds, enables_holds, enables_skip_holds}
 use Rattle.verifier.proofs.Alternations.{waits_holds}
 use Rattle.verifier.proofs.Alternations.{disables_holds, disables_skip_holds, ends_holds, never_enabling}
@@ -68,14 +70,14 @@ use Rattle.certified_worlds.proofs.Steps.{last_fits, unbroken}
 use Rattle.verifier.proofs.PartingTurns as parting
 use Rattle.verifier.proofs.StepsKeep.{LeavesKept, fits_keep}
 use Rattle.verifier.proofs.Tables.{row_of}
-use Rattle.verifier.proofs.Tables.{Allows, channels_equal, IsSound}
+use Rattle.verifier.proofs.Tables.{Allows, channels_equal}
 use Rattle.verifier.proofs.Tables.{Puts, Living, nothing_changes, holds_put, holds_put_alternating}
 
 -- ---- a process that runs
 
 module _ (m : Contents) (d : Decodes m) (wf : IsWellFormed m) (kept : IsKept m) (c : IsCertified m) (w : World)
-    (lawful : IsLawful m w) (h : IsSound m w) (p : ℕ) (t : Task) (ready : t.condition ≡ Ready)
-    (r : Living m w h.holds p t) (calm_now : t.mode ≡ modes.Starting → ⊥) where
+    (lawful : IsLawful m w) (h : Holds m w) (p : ℕ) (t : Task) (ready : t.condition ≡ Ready)
+    (r : Living m w h p t) (calm_now : t.mode ≡ modes.Starting → ⊥) where
   abbrev point : Point m t
   point = r.lives.point
 
@@ -107,7 +109,7 @@ module _ (m : Contents) (d : Decodes m) (wf : IsWellFormed m) (kept : IsKept m) 
   -- a byte was executed, and the process goes on in plain mode as another task
   went_on : (after : World) (u : Task) (new : Memory) (later : ℕ) → Puts w after p u new → LeavesEnabled w after p t
       → after.counters.executed ≡ w.counters.executed + 1 → later + 1 ≤ (row_of r).due → u.mode ≡ modes.Plain
-      → Allows r.lives w.memory new → Meets m (held (row_of r).role) (row_of r).start new u later → IsSound m after
+      → Allows r.lives w.memory new → Meets m (held (row_of r).role) (row_of r).start new u later → Holds m after
   went_on after u new later puts leaves more less plain changes meets =
       holds_put m w h (shared_out lawful) p t r after u new later puts leaves changes no_join (omega arith) plain meets
 
@@ -128,11 +130,11 @@ module _ (m : Contents) (d : Decodes m) (wf : IsWellFormed m) (kept : IsKept m) 
       memory = refl;
       roles = refl;
       channels = channels_equal refl;
-      kept = h.holds.kept;
+      kept = h.kept;
       fault = refl;
     }
 
-    goes_on_alternating : (alternates : Alternates t.mode t.condition) → (t.mode ≡ modes.Plain → ⊥) → IsSound m after
+    goes_on_alternating : (alternates : Alternates t.mode t.condition) → (t.mode ≡ modes.Plain → ⊥) → Holds m after
     goes_on_alternating alternates busy =
         let kept = goes.stays busy in
         let old = r.guards alternates in
@@ -140,7 +142,7 @@ module _ (m : Contents) (d : Decodes m) (wf : IsWellFormed m) (kept : IsKept m) 
         let u : Task = task_at m t t.mode to l in
         holds_put_alternating m w h (shared_out lawful) p t r after u l.memory later goes_puts
         (same_enabled after refl refl) changes no_join (omega arith)
-        (subst (λ (c : Condition). Alternates t.mode c) ready alternates) goes.lives
+        goes.lives
         (subst (λ (act : Activation). AlternatesHere m after p u goes.state act) (sym act_is)
         (alternates_on m w after p t u point.state goes.state point.act old
         (enabled_as_before w after p refl refl)
@@ -175,15 +177,15 @@ module _ (m : Contents) (d : Decodes m) (wf : IsWellFormed m) (kept : IsKept m) 
                 → slice_get point.state.guards i ≡ Some g
             back i g one = subst (λ (guards : List Guard). slice_get guards i ≡ Some g) s.guards one
 
-    goes_on : IsSound m after
-    goes_on = on (h.calm p t r.here)
+    goes_on : Holds m after
+    goes_on = on (lawful.calm p t r.here)
       where
-        on : IsCalm t → IsSound m after
+        on : IsCalm t → Holds m after
         on (is_plain plain) =
             went_on after (task_at m t t.mode to l) l.memory later goes_puts (same_enabled after refl refl) refl less
             plain changes (it_lives goes.lives.lives)
         on (is_among_starts starting now) = absurd (calm_now starting)
-        on (is_alternating alternates) = goes_on_alternating alternates (λ plain. no_alternation t plain alternates)
+        on (is_alternating alternates) = goes_on_alternating alternates (λ plain. plain_beside plain alternates)
 
   -- what an instruction comes to needs nothing of the world that could be missing
   never_refused : (pick : ℕ) {o : Outcome} {kind : FaultKind}
@@ -209,7 +211,7 @@ module _ (m : Contents) (d : Decodes m) (wf : IsWellFormed m) (kept : IsKept m) 
 
   -- whatever its instruction comes to, its turn ends so
   ended_holds : (pick : ℕ) {o : Outcome} {turn : Turn} → Comes m here_now (row_of r).start t (row_of r).due o
-      → LeavesKept here_now o → Ends (at_here m p t pick) w o turn → IsSound m turn.world
+      → LeavesKept here_now o → Ends (at_here m p t pick) w o turn → Holds m turn.world
   unfolding dispatch
   ended_holds pick (comes_on later changes goes less) kept (has_run (it_goes l)) =
       goes_on (t.registers.at + 1) l later w.queue less (allows l.memory changes kept) goes
@@ -227,7 +229,7 @@ module _ (m : Contents) (d : Decodes m) (wf : IsWellFormed m) (kept : IsKept m) 
         memory = refl;
         roles = refl;
         channels = channels_equal refl;
-        kept = h.holds.kept;
+        kept = h.kept;
         fault = refl;
       }) (same_enabled _ refl refl) refl less plain (allows l.memory changes kept) (it_stopped refl)
   ended_holds pick (comes_in {e = e} {l = l} later plain talks changes lives less) kept
@@ -278,7 +280,7 @@ module _ (m : Contents) (d : Decodes m) (wf : IsWellFormed m) (kept : IsKept m) 
       → slice_get m.code t.registers.at ≡ Some byte → fun_of (function_code byte) ≡ Some f
       → Ends (at_here m p t pick) w (local_step (site_of (at_here m p t pick) w) f
       (with_nibble t.registers.operand (nibble byte)) (local_here t w)) turn
-      → IsSound m turn.world
+      → Holds m turn.world
   step_holds pick byte f {turn} next here is ends =
       let fits = last_fits m d wf c kept (held (row_of r).role) (row_of r).start w.memory t point meets_now selected
       byte f here is in
@@ -292,7 +294,7 @@ module _ (m : Contents) (d : Decodes m) (wf : IsWellFormed m) (kept : IsKept m) 
       on : {o : Outcome} → point.taken + 1 ≡ point.instr.len
           → FitsStep here_now point.state (local_here t w) (instruction_of point.instr.fun point.instr.operand)
           (rule_at m t.registers.began point.instr point.state) o
-          → Ends (at_here m p t pick) w o turn → IsSound m turn.world
+          → Ends (at_here m p t pick) w o turn → Holds m turn.world
       on last (it_fits none fits) ends = ended_holds pick
           (comes_last m d wf c kept (held (row_of r).role) (row_of r).start w.memory t (row_of r).due point meets_now
           r.lives.paid calm_now selected last fits)
@@ -300,7 +302,7 @@ module _ (m : Contents) (d : Decodes m) (wf : IsWellFormed m) (kept : IsKept m) 
           (unbroken m d wf c kept (held (row_of r).role) (row_of r).start w.memory t point meets_now selected))
           ends
       on last (it_starts fits) ends = parting.started_holds m d wf kept c w lawful h p t ready r pick last meets_now
-          selected fits next ends
+          selected fits ends
       on last (it_joins fits) ends = parting.ended_holds m d wf kept c w lawful h p t ready r pick last meets_now
           selected fits next ends
 
@@ -311,8 +313,8 @@ module _ (m : Contents) (d : Decodes m) (wf : IsWellFormed m) (kept : IsKept m) 
       (is : after_prefix (function_code byte) (with_nibble t.registers.operand (nibble byte)) ≡ operand) where
     -- a byte is owed
     one_owed : (due : ℕ) × ((row_of r).due ≡ suc due)
-    one_owed = some_owed (row_of r).due (owes m d wf c kept (held (row_of r).role) (row_of r).start w.memory t (row_of r).due point
-        meets_now r.lives.paid calm_now selected)
+    one_owed = some_owed (row_of r).due (owes m d wf c kept (held (row_of r).role) (row_of r).start w.memory t
+        (row_of r).due point meets_now r.lives.paid calm_now selected)
 
     abbrev u : Task
     u = prefixed t operand
@@ -326,10 +328,10 @@ module _ (m : Contents) (d : Decodes m) (wf : IsWellFormed m) (kept : IsKept m) 
     prefixed_puts : Puts w after_prefixed p u w.memory
     prefixed_puts = puts_prefixed m w h p t operand
 
-    pub prefix_holds : IsSound m after_prefixed
-    prefix_holds = on (h.calm p t r.here)
+    pub prefix_holds : Holds m after_prefixed
+    prefix_holds = on (lawful.calm p t r.here)
       where
-        on : IsCalm t → IsSound m after_prefixed
+        on : IsCalm t → Holds m after_prefixed
         on (is_plain plain) =
             went_on after_prefixed u w.memory one_owed.0 prefixed_puts
             (same_enabled after_prefixed refl refl) refl (let one = one_owed.1 in omega arith) plain nothing_changes
@@ -339,7 +341,7 @@ module _ (m : Contents) (d : Decodes m) (wf : IsWellFormed m) (kept : IsKept m) 
             let old = r.guards alternates in
             holds_put_alternating m w h (shared_out lawful) p t r after_prefixed u w.memory
             one_owed.0 prefixed_puts (same_enabled after_prefixed refl refl) nothing_changes no_join
-            (let one = one_owed.1 in omega arith) alternates further
+            (let one = one_owed.1 in omega arith) further
             (alternates_on m w after_prefixed p t u point.state point.state point.act old
             (enabled_as_before w after_prefixed p refl refl) (λ n g there. refl) (record {
               guards = refl;

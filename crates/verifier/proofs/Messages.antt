@@ -25,7 +25,8 @@ use Rattle.machine_state.specs.Moves.{with_channel, with_output}
 use Rattle.machine_state.specs.Site.{Local, receives, sends}
 use Rattle.machine_state.specs.Turn.{Here, at_here, between, continued, waiting}
 use Rattle.machine_state.specs.Exchanges.{output_link, condition_of, waits_at, met}
-use Rattle.machine_state.specs.Endings.{Moved, receives_first, receives_from, receives_none, receives_last, receives_one}
+use Rattle.machine_state.specs.Endings.{Moved, receives_first, receives_from, receives_none, receives_last}
+use Rattle.machine_state.specs.Endings.{receives_one}
 use Rattle.machine_state.specs.Endings.{sends_first, sends_to}
 use Rattle.machine_state.proofs.Changes.{channel_there, rouses}
 use Rattle.machine_state.proofs.Claims.{only_one}
@@ -39,7 +40,9 @@ use Rattle.rulings.specs.Buffers.{message_place, IsByte}
 use Rattle.rulings.specs.Meaning.{IsWellFormed}
 use Rattle.certified_worlds.specs.Alternating.{a_channel, a_link}
 use Rattle.certified_worlds.specs.Lives.{awaits, Lives, it_lives}
-use Rattle.verifier.proofs.CalmWorlds.{no_alternation, plain_of}
+use Rattle.certified_worlds.specs.Invariant.{Holds}
+use Rattle.certified_worlds.proofs.StartedWorlds.{plain_beside}
+use Rattle.verifier.proofs.CalmWorlds.{is_plain, plain_of}
 use Rattle.verifier.proofs.LawfulWorlds.{IsLawful}
 use Rattle.certified_worlds.proofs.Steps.{Talks}
 use Rattle.verifier.proofs.Enabled.{only_it}
@@ -48,7 +51,7 @@ use Rattle.verifier.proofs.OthersGuards.{channels_same, links_same, enabled_same
 use Rattle.verifier.proofs.SharedOut.{IsSharedOut, none_open, shared_out, shared_still}
 use Rattle.verifier.proofs.Sources.{holding_is}
 use Rattle.verifier.proofs.Tables.{row_of}
-use Rattle.verifier.proofs.Tables.{Allows, AreBytes, IsSound, Living, living, Puts, channels_equal, channel_stays}
+use Rattle.verifier.proofs.Tables.{Allows, AreBytes, Living, living, Puts, channels_equal, channel_stays}
 use Rattle.verifier.proofs.Tables.{holds_put, nothing_changes}
 use Rattle.verifier.proofs.Rousing.{roused_holds}
 use Rattle.verifier.proofs.Arrivals.{bytes_set, wake_is}
@@ -62,17 +65,17 @@ unfolding place_of
 first_place e = omega arith
 
 -- a process goes on in another condition, and owes what it owed
-turned : (m : Contents) (v : World) (h : IsSound m v) → IsSharedOut m v → (q : ℕ) (u : Task)
-    (r : Living m v h.holds q u) → opened_in v.roles q ≡ None → u.mode ≡ modes.Plain
+turned : (m : Contents) (v : World) (h : Holds m v) → IsSharedOut m v → (q : ℕ) (u : Task)
+    (r : Living m v h q u) → opened_in v.roles q ≡ None → u.mode ≡ modes.Plain
     → (after : World) (next : Task) (new : Memory) → Puts v after q next new → LeavesEnabled v after q u
     → Allows r.lives v.memory new → after.counters ≡ v.counters → next.mode ≡ u.mode
-    → Lives m (held (row_of r).role) (row_of r).start new next (row_of r).due → IsSound m after
+    → Lives m (held (row_of r).role) (row_of r).start new next (row_of r).due → Holds m after
 turned m v h out q u r unopened plain after next new puts leaves changes same mode lives =
     holds_put m v h out q u r after next new (row_of r).due puts leaves changes unopened (rw same (omega arith))
     (mode ∙ plain) (it_lives lives)
 
-module _ (m : Contents) (wf : IsWellFormed m) (w : World) (lawful : IsLawful m w) (h : IsSound m w) (p : ℕ) (t : Task)
-    (ready : t.condition ≡ Ready) (plain : t.mode ≡ modes.Plain) (r : Living m w h.holds p t)
+module _ (m : Contents) (wf : IsWellFormed m) (w : World) (lawful : IsLawful m w) (h : Holds m w) (p : ℕ) (t : Task)
+    (ready : t.condition ≡ Ready) (plain : t.mode ≡ modes.Plain) (r : Living m w h p t)
     (pick : ℕ) where
   -- it has no join open
   unopened : opened_in w.roles p ≡ None
@@ -90,7 +93,7 @@ module _ (m : Contents) (wf : IsWellFormed m) (w : World) (lawful : IsLawful m w
   calmly : (c : Condition) (u : Task) (q : ℕ) → slice_get w.tasks q ≡ Some u → u.condition ≡ c → (c ≡ Ready → ⊥)
       → (c ≡ Alternating → ⊥) → u.mode ≡ modes.Plain
   calmly c u q there is unready unroused =
-      plain_of u (h.calm q u there) (λ e. unready (sym is ∙ e)) (λ e. unroused (sym is ∙ e))
+      plain_of u (lawful.calm q u there) (λ e. unready (sym is ∙ e)) (λ e. unroused (sym is ∙ e))
 
   -- and has no join open
   waiter_unopened : (c : Condition) (u : Task) (q : ℕ) → slice_get w.tasks q ≡ Some u → u.condition ≡ c
@@ -102,7 +105,7 @@ module _ (m : Contents) (wf : IsWellFormed m) (w : World) (lawful : IsLawful m w
   steps_to : (c : Condition) (l : Local) (later : ℕ) (after : World) → Puts w after p (behind c l) l.memory
       → LeavesEnabled w after p t → after.counters.executed ≡ w.counters.executed + 1 → later + 1 ≤ (row_of r).due
       → Allows r.lives w.memory l.memory
-      → Lives m (held (row_of r).role) (row_of r).start l.memory (behind c l) later → IsSound m after
+      → Lives m (held (row_of r).role) (row_of r).start l.memory (behind c l) later → Holds m after
   steps_to c l later after puts leaves one less changes lives =
       holds_put m w h (shared_out lawful) p t r after (behind c l) l.memory later puts leaves changes unopened
       (omega arith) plain (it_lives lives)
@@ -112,7 +115,7 @@ module _ (m : Contents) (wf : IsWellFormed m) (w : World) (lawful : IsLawful m w
       → after.roles ≡ w.roles → ((k : ℕ) → owner_in after.channels k ≡ owner_in w.channels k) → IsSharedOut m after
   still_out after u mode tasks roles owners = shared_still w after p t u r.here r.going
       (λ starting. let no' : modes.Plain ≡ modes.Starting = sym plain ∙ (sym mode ∙ starting) in cc)
-      unopened tasks roles owners (shared_out lawful)
+      (is_plain (mode ∙ plain)) unopened tasks roles owners (shared_out lawful)
 
   -- the same, and nothing else has changed
   abbrev stepped : Condition → Local → World
@@ -120,13 +123,13 @@ module _ (m : Contents) (wf : IsWellFormed m) (w : World) (lawful : IsLawful m w
 
   stepped_holds : (c : Condition) (l : Local) (later : ℕ) → later + 1 ≤ (row_of r).due
       → Allows r.lives w.memory l.memory
-      → Lives m (held (row_of r).role) (row_of r).start l.memory (behind c l) later → IsSound m (stepped c l)
+      → Lives m (held (row_of r).role) (row_of r).start l.memory (behind c l) later → Holds m (stepped c l)
   stepped_holds c l later less changes lives = steps_to c l later (stepped c l) (record {
     tasks = refl;
     memory = refl;
     roles = refl;
     channels = channels_equal refl;
-    kept = h.holds.kept;
+    kept = h.kept;
     fault = refl;
   }) (enabled_same refl refl (ready_is_silent w p t ready)) refl less changes lives
 
@@ -174,14 +177,14 @@ module _ (m : Contents) (wf : IsWellFormed m) (w : World) (lawful : IsLawful m w
       abbrev waiting_in : World
       waiting_in = stepped (Receiving e) l
 
-      in_sound : IsSound m waiting_in
-      in_sound = stepped_holds (Receiving e) l later less changes lives
+      in_holds : Holds m waiting_in
+      in_holds = stepped_holds (Receiving e) l later less changes lives
 
       in_there : slice_get waiting_in.tasks p ≡ Some (behind (Receiving e) l)
       in_there = got_set w.tasks p t (behind (Receiving e) l) r.here
 
-      in_mine : Living m waiting_in in_sound.holds p (behind (Receiving e) l)
-      in_mine = living m waiting_in in_sound.holds p (behind (Receiving e) l) (Receiving e) in_there refl (λ e. cc) (λ e. cc)
+      in_mine : Living m waiting_in in_holds p (behind (Receiving e) l)
+      in_mine = living m waiting_in in_holds p (behind (Receiving e) l) (Receiving e) in_there refl (λ e. cc) (λ e. cc)
 
       held_in : has_end (holding_at w.roles p) (record { address = e.channel; direction = In }) ≡ true
       held_in = subst (λ (g : Holding). has_end g (record { address = e.channel; direction = In }) ≡ true)
@@ -194,7 +197,7 @@ module _ (m : Contents) (wf : IsWellFormed m) (w : World) (lawful : IsLawful m w
           let word = word_of m w lawful.stands p (record { address = e.channel; direction = In }) c there held_in in
           let it = only_it m wf w lawful h p e.channel held_in q (a_channel word c there enabled) in
           let a = lawful.alternate p (has_channel (cell_of e.channel) c there (enabled ∙ ap Some it)) in
-          no_alternation a.task (ap (λ (u : Task). u.mode) (only_one (slice_get w.tasks p) a.task t a.here r.here)
+          plain_beside (ap (λ (u : Task). u.mode) (only_one (slice_get w.tasks p) a.task t a.here r.here)
           ∙ plain) a.alternates
 
       -- it waits for the first byte, or the second, of a link, or goes on with the last
@@ -205,17 +208,18 @@ module _ (m : Contents) (wf : IsWellFormed m) (w : World) (lawful : IsLawful m w
           → after.tasks ≡ slice_set w.tasks p (behind next l) → after.memory ≡ memory → after.roles ≡ w.roles
           → after.channels ≡ w.channels → after.links.inputs ≡ slice_set w.links.inputs k new → after.fault ≡ w.fault
           → after.counters ≡ waiting_in.counters → Allows in_mine.lives l.memory memory
-          → Lives m (held (row_of in_mine).role) (row_of in_mine).start memory (behind next l) (row_of in_mine).due → IsSound m after
+          → Lives m (held (row_of in_mine).role) (row_of in_mine).start memory (behind next l) (row_of in_mine).due
+          → Holds m after
       on_link k link new next memory after is_there enabled kept bytes tasks same roles channels inputs fault counters
           own lives_on =
-          turned m waiting_in in_sound (stepped_out (Receiving e) l) p (behind (Receiving e) l) in_mine unopened plain
+          turned m waiting_in in_holds (stepped_out (Receiving e) l) p (behind (Receiving e) l) in_mine unopened plain
           after (behind next l) memory (record {
             tasks = tasks ∙ sym (set_twice w.tasks p (behind (Receiving e) l) (behind next l));
             memory = same;
             roles = roles;
             channels = channels_equal channels;
             kept = subst (λ (xs : List InputLink). AreBytes xs) (sym inputs)
-                (bytes_set w.links.inputs k new h.holds.kept bytes);
+                (bytes_set w.links.inputs k new h.kept bytes);
             fault = fault;
           }) (record {
             channels = channels_same channels;
@@ -247,9 +251,9 @@ module _ (m : Contents) (wf : IsWellFormed m) (w : World) (lawful : IsLawful m w
       -- it meets one that waits to send
       meets_sender : (q : ℕ) (sent : Exchange) (c : Channel) → channel_at w e.channel ≡ Some c → c.waiting ≡ Some q
           → condition_of w q ≡ Sending sent → sent.length ≡ e.length
-          → IsSound m (counted (met here q sent e c l w))
+          → Holds m (counted (met here q sent e c l w))
       meets_sender q sent c at waiting is same =
-          subst (λ x. IsSound m (counted x)) (wake_is after_copy q u.0 waits)
+          subst (λ x. Holds m (counted x)) (wake_is after_copy q u.0 waits)
           (turned m (counted gone_on) copied_holds
           (still_out (counted gone_on) (behind_ready l) refl refl refl (λ k. refl)) q
           u.0 partner (waiter_unopened (Sending sent) u.0 q u.1 u.2 (λ e. cc) (λ e. cc))
@@ -261,7 +265,7 @@ module _ (m : Contents) (wf : IsWellFormed m) (w : World) (lawful : IsLawful m w
             memory = refl;
             roles = refl;
             channels = channel_stays w.channels (cell_of sent.channel) c (record c { waiting = None }) cell refl refl;
-            kept = h.holds.kept;
+            kept = h.kept;
             fault = refl;
           }) (record {
             channels = channel_set w.channels (cell_of sent.channel) c (record c { waiting = None }) cell
@@ -314,8 +318,8 @@ module _ (m : Contents) (wf : IsWellFormed m) (w : World) (lawful : IsLawful m w
               ]
 
           -- what the sender has before the copy
-          sender : Living m waiting_in in_sound.holds q u.0
-          sender = living m waiting_in in_sound.holds q u.0 (Sending sent)
+          sender : Living m waiting_in in_holds q u.0
+          sender = living m waiting_in in_holds q u.0 (Sending sent)
               (got_other w.tasks p q (behind (Receiving e) l) other ∙ u.1) u.2 (λ e. cc) (λ e. cc)
 
           bytes : (j : ℕ) → j < sent.length → IsByte (byte_at l.memory (message_place sent j))
@@ -324,29 +328,29 @@ module _ (m : Contents) (wf : IsWellFormed m) (w : World) (lawful : IsLawful m w
           fits : length l.memory ≤ 1048576
           fits = let size = changes.own.size in omega (arith, small)
 
-          copied_holds : IsSound m (counted gone_on)
+          copied_holds : Holds m (counted gone_on)
           copied_holds =
-              turned m waiting_in in_sound (stepped_out (Receiving e) l) p (behind (Receiving e) l) in_mine unopened
+              turned m waiting_in in_holds (stepped_out (Receiving e) l) p (behind (Receiving e) l) in_mine unopened
               plain
               (counted gone_on) (behind_ready l) copy (record {
                 tasks = sym (set_twice w.tasks p (behind (Receiving e) l) (behind_ready l));
                 memory = refl;
                 roles = refl;
                 channels = channels_equal refl;
-                kept = h.holds.kept;
+                kept = h.kept;
                 fault = refl;
               }) (enabled_same refl refl (stepped_silent (Receiving e) l))
               (filled_changes (behind (Receiving e) l) sent e same fits bytes refl in_mine.lives) refl refl
-              (subst (λ u. Lives m (held (row_of in_mine).role) (row_of in_mine).start copy u (row_of in_mine).due) (as_before l)
-              (filled_lives (behind (Receiving e) l) sent e same fits bytes refl in_mine.lives))
+              (subst (λ u. Lives m (held (row_of in_mine).role) (row_of in_mine).start copy u (row_of in_mine).due)
+              (as_before l) (filled_lives (behind (Receiving e) l) sent e same fits bytes refl in_mine.lives))
 
           waits : slice_get gone_on.tasks q ≡ Some u.0
           waits = got_other w.tasks p q (behind_ready l) other ∙ u.1
 
-          partner : Living m (counted gone_on) copied_holds.holds q u.0
-          partner = living m (counted gone_on) copied_holds.holds q u.0 (Sending sent) waits u.2 (λ e. cc) (λ e. cc)
+          partner : Living m (counted gone_on) copied_holds q u.0
+          partner = living m (counted gone_on) copied_holds q u.0 (Sending sent) waits u.2 (λ e. cc) (λ e. cc)
 
-      pub moved_in : (after : World) → Moved here w (receives e l) after → IsSound m (counted after)
+      pub moved_in : (after : World) → Moved here w (receives e l) after → Holds m (counted after)
       unfolding dispatch
       moved_in after (receives_first e l c outside at none) =
           steps_to (Receiving e) l later _ (record {
@@ -355,7 +359,7 @@ module _ (m : Contents) (wf : IsWellFormed m) (w : World) (lawful : IsLawful m w
             roles = refl;
             channels = channel_stays w.channels (cell_of e.channel) c (record c { waiting = Some p })
                 (channel_there w e.channel c at) refl refl;
-            kept = h.holds.kept;
+            kept = h.kept;
             fault = refl;
           }) (comes_first c at none refl refl) refl less changes lives
       moved_in after (receives_from e l c q sent outside at waiting is same) =
@@ -363,26 +367,26 @@ module _ (m : Contents) (wf : IsWellFormed m) (w : World) (lawful : IsLawful m w
       moved_in after (receives_none e l k link found is_there none) =
           let on : e.channel ≡ input_word k = let at = link_found (input_word 0) e.channel k found in omega arith in
           on_link k link (record link { waiting = Some p }) (OnLink e 0) l.memory _ is_there refl (λ q other is. refl)
-          (λ b kept. h.holds.kept k link b is_there kept) refl refl refl refl refl refl refl nothing_changes
+          (λ b kept. h.kept k link b is_there kept) refl refl refl refl refl refl refl nothing_changes
           (none_lives (behind (Receiving e) l) k on in_mine.lives)
       moved_in after (receives_last e l k link byte found is_there kept one) =
           let on : e.channel ≡ input_word k = let at = link_found (input_word 0) e.channel k found in omega arith in
-          let few : byte < 256 = h.holds.kept k link byte is_there kept in
+          let few : byte < 256 = h.kept k link byte is_there kept in
           on_link k link (record link { kept = None }) Ready (first_in byte) _ is_there refl
           (never_theirs k link (record link { kept = None }) is_there on) (λ b no'. absurd (cc))
           (ap (λ u. slice_set w.tasks p u) (sym (as_before l))) refl refl refl refl refl refl
           (first_own byte k few on)
-          (subst (λ place. Lives m (held (row_of in_mine).role) (row_of in_mine).start (with_byte l.memory place (Some byte))
-          (behind Ready l) (row_of in_mine).due) (first_place e)
+          (subst (λ place. Lives m (held (row_of in_mine).role) (row_of in_mine).start
+          (with_byte l.memory place (Some byte)) (behind Ready l) (row_of in_mine).due) (first_place e)
           (last_lives (behind (Receiving e) l) k on in_mine.lives byte few (eqb-true e.length 1 one)))
       moved_in after (receives_one e l k link byte found is_there kept more) =
           let on : e.channel ≡ input_word k = let at = link_found (input_word 0) e.channel k found in omega arith in
-          let few : byte < 256 = h.holds.kept k link byte is_there kept in
+          let few : byte < 256 = h.kept k link byte is_there kept in
           on_link k link (record link { kept = None; waiting = Some p }) (OnLink e 1) (first_in byte) _ is_there refl
           (never_theirs k link (record link { kept = None; waiting = Some p }) is_there on) (λ b no'. absurd (cc))
           refl refl refl refl refl refl refl (first_own byte k few on)
-          (subst (λ place. Lives m (held (row_of in_mine).role) (row_of in_mine).start (with_byte l.memory place (Some byte))
-          (behind (OnLink e 1) l) (row_of in_mine).due) (first_place e)
+          (subst (λ place. Lives m (held (row_of in_mine).role) (row_of in_mine).start
+          (with_byte l.memory place (Some byte)) (behind (OnLink e 1) l) (row_of in_mine).due) (first_place e)
           (second_lives (behind (Receiving e) l) k on in_mine.lives byte few some))
 
     -- ---- a message that goes
@@ -392,54 +396,54 @@ module _ (m : Contents) (wf : IsWellFormed m) (w : World) (lawful : IsLawful m w
       abbrev waiting_out : World
       waiting_out = stepped (Sending e) l
 
-      out_sound : IsSound m waiting_out
-      out_sound = stepped_holds (Sending e) l later less changes lives
+      out_holds : Holds m waiting_out
+      out_holds = stepped_holds (Sending e) l later less changes lives
 
       out_there : slice_get waiting_out.tasks p ≡ Some (behind (Sending e) l)
       out_there = got_set w.tasks p t (behind (Sending e) l) r.here
 
-      out_mine : Living m waiting_out out_sound.holds p (behind (Sending e) l)
-      out_mine = living m waiting_out out_sound.holds p (behind (Sending e) l) (Sending e) out_there refl (λ e. cc) (λ e. cc)
+      out_mine : Living m waiting_out out_holds p (behind (Sending e) l)
+      out_mine = living m waiting_out out_holds p (behind (Sending e) l) (Sending e) out_there refl (λ e. cc) (λ e. cc)
 
       -- it goes out on a link
       pub emitted_holds : (k : ℕ) → output_link e.channel ≡ Some k
-          → IsSound m (counted (dispatch pick (leave (with_output k (record { waiting = Some p })
+          → Holds m (counted (dispatch pick (leave (with_output k (record { waiting = Some p })
           (waiting here (OnLink e 0) l w)))))
       unfolding dispatch
       emitted_holds k found =
           let at = link_found (output_word 0) e.channel k found in
           let few = link_low (output_word 0) e.channel k found in
-          turned m waiting_out out_sound (stepped_out (Sending e) l) p (behind (Sending e) l) out_mine unopened plain _
+          turned m waiting_out out_holds (stepped_out (Sending e) l) p (behind (Sending e) l) out_mine unopened plain _
           (behind (OnLink e 0) l) l.memory (record {
             tasks = sym (set_twice w.tasks p (behind (Sending e) l) (behind (OnLink e 0) l));
             memory = refl;
             roles = refl;
             channels = channels_equal refl;
-            kept = h.holds.kept;
+            kept = h.kept;
             fault = refl;
           }) (enabled_same refl refl (stepped_silent (Sending e) l)) nothing_changes refl refl
           (out_lives (behind (Sending e) l) (omega (arith, at, few)) out_mine.lives)
 
       -- it waits for one that receives, and whoever has enabled the channel is roused
       waits_to_send : (c : Channel) → channel_at w e.channel ≡ Some c → c.waiting ≡ None
-          → IsSound m (counted (dispatch pick (leave (rouse c.enabled (waits_at here (Sending e) e.channel c l w)))))
+          → Holds m (counted (dispatch pick (leave (rouse c.enabled (waits_at here (Sending e) e.channel c l w)))))
       unfolding dispatch
       waits_to_send c at none =
           let waits : World = waits_at here (Sending e) e.channel c l w in
-          let sound = steps_to (Sending e) l later (counted waits) (record {
+          let holds = steps_to (Sending e) l later (counted waits) (record {
             tasks = refl;
             memory = refl;
             roles = refl;
             channels = channel_stays w.channels (cell_of e.channel) c (record c { waiting = Some p })
                 (channel_there w e.channel c at) refl refl;
-            kept = h.holds.kept;
+            kept = h.kept;
             fault = refl;
           }) (comes_first c at none refl refl) refl less changes lives in
           let out = still_out (counted waits) (behind (Sending e) l) refl refl refl
           (owner_same w.channels (cell_of e.channel)
           c (record c { waiting = Some p }) (channel_there w e.channel c at) refl) in
           let only = rouse_only c.enabled waits in
-          roused_holds m (counted waits) sound out _ c.enabled (rouse c.enabled waits).tasks (record {
+          roused_holds m (counted waits) holds out _ c.enabled (rouse c.enabled waits).tasks (record {
             memory = only.memory;
             roles = only.roles;
             links = only.links;
@@ -455,9 +459,9 @@ module _ (m : Contents) (wf : IsWellFormed m) (w : World) (lawful : IsLawful m w
       -- it meets one that waits to receive
       meets_receiver : (q : ℕ) (wanted : Exchange) (c : Channel) → channel_at w e.channel ≡ Some c → c.waiting ≡ Some q
           → condition_of w q ≡ Receiving wanted → wanted.length ≡ e.length
-          → IsSound m (counted (met here q e wanted c l w))
+          → Holds m (counted (met here q e wanted c l w))
       meets_receiver q wanted c at waiting is same =
-          subst (λ x. IsSound m (counted x)) (wake_is after_copy q u.0 waits)
+          subst (λ x. Holds m (counted x)) (wake_is after_copy q u.0 waits)
           (turned m (counted on) on_holds
           (still_out (counted on) (behind_ready l) refl refl refl (λ k. refl)) q u.0 partner
           (waiter_unopened (Receiving wanted) u.0 q u.1 u.2 (λ e. cc) (λ e. cc))
@@ -469,7 +473,7 @@ module _ (m : Contents) (wf : IsWellFormed m) (w : World) (lawful : IsLawful m w
             memory = refl;
             roles = refl;
             channels = channel_stays w.channels (cell_of e.channel) c (record c { waiting = None }) cell refl refl;
-            kept = h.holds.kept;
+            kept = h.kept;
             fault = refl;
           }) (record {
             channels = channel_set w.channels (cell_of e.channel) c (record c { waiting = None }) cell
@@ -513,28 +517,28 @@ module _ (m : Contents) (wf : IsWellFormed m) (w : World) (lawful : IsLawful m w
           fits : length l.memory ≤ 1048576
           fits = let size = changes.own.size in omega (arith, small)
 
-          on_holds : IsSound m (counted on)
+          on_holds : Holds m (counted on)
           on_holds =
-              turned m waiting_out out_sound (stepped_out (Sending e) l) p (behind (Sending e) l) out_mine unopened
+              turned m waiting_out out_holds (stepped_out (Sending e) l) p (behind (Sending e) l) out_mine unopened
               plain
               (counted on) (behind_ready l) l.memory (record {
                 tasks = sym (set_twice w.tasks p (behind (Sending e) l) (behind_ready l));
                 memory = refl;
                 roles = refl;
                 channels = channels_equal refl;
-                kept = h.holds.kept;
+                kept = h.kept;
                 fault = refl;
               }) (enabled_same refl refl (stepped_silent (Sending e) l)) nothing_changes refl refl
-              (subst (λ u. Lives m (held (row_of out_mine).role) (row_of out_mine).start l.memory u (row_of out_mine).due) (as_before l)
-              (sent_lives (behind (Sending e) l) out_mine.lives))
+              (subst (λ u. Lives m (held (row_of out_mine).role) (row_of out_mine).start l.memory u
+              (row_of out_mine).due) (as_before l) (sent_lives (behind (Sending e) l) out_mine.lives))
 
           waits : slice_get on.tasks q ≡ Some u.0
           waits = got_other w.tasks p q (behind_ready l) other ∙ u.1
 
-          partner : Living m (counted on) on_holds.holds q u.0
-          partner = living m (counted on) on_holds.holds q u.0 (Receiving wanted) waits u.2 (λ e. cc) (λ e. cc)
+          partner : Living m (counted on) on_holds q u.0
+          partner = living m (counted on) on_holds q u.0 (Receiving wanted) waits u.2 (λ e. cc) (λ e. cc)
 
-      pub moved_out : (after : World) → Moved here w (sends e l) after → IsSound m (counted after)
+      pub moved_out : (after : World) → Moved here w (sends e l) after → Holds m (counted after)
       moved_out after (sends_first e l c outside at none) = waits_to_send c at none
       moved_out after (sends_to e l c q wanted outside at waiting is same) =
           meets_receiver q wanted c at waiting is (eqb-true wanted.length e.length same)

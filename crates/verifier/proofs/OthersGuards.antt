@@ -1,39 +1,21 @@
 -- The guards of other processes over what one process does: what it changes of channels and links leaves what they have
 -- enabled and what is ready for them, and it writes no word that names a guard of theirs.
-use Rattle.std.proofs.Common.{◌≡◌, ◌≢◌, ℕ, ◌+◌, ◌<◌, ℤ, true, false, inl, inr, List, length, Option, Some}
-use Rattle.std.proofs.Common.{refl, sym, ap, ◌∙◌, subst, arith}
+use Rattle.std.proofs.Common.{◌≡◌, ◌≢◌, ℕ, inl, inr, List, Option, Some}
+use Rattle.std.proofs.Common.{sym, ap, ◌∙◌, subst}
 use Rattle.std.proofs.lemmas.Bool.{cases_eq}
 use Rattle.std.specs.Prelude.{slice_get, slice_set}
-use Rattle.module_format.specs.Contents.{Contents}
 use Rattle.machine_state.specs.declared.link.InputLink.{InputLink}
 use Rattle.machine_state.specs.declared.process.Channel.{Channel}
-use Rattle.machine_state.specs.declared.process.Condition.{Condition}
 use Rattle.machine_state.specs.declared.process.Condition.TheVariants.{Ready, Sending}
 use Rattle.machine_state.specs.declared.process.Exchange.{Exchange}
-use Rattle.machine_state.specs.declared.process.Mode.TheVariants as modes
 use Rattle.machine_state.specs.declared.process.Task.{Task}
-use Rattle.machine_state.specs.EnabledLaws.{Alternates, HasReady, a_sender, a_byte}
-use Rattle.machine_state.specs.Holding.{Holding, may_read}
-use Rattle.machine_state.specs.Memory.{Memory, byte_at}
+use Rattle.machine_state.specs.EnabledLaws.{HasReady, a_sender, a_byte}
 use Rattle.machine_state.specs.Moves.{cell_of}
 use Rattle.machine_state.specs.World.{World}
 use Rattle.machine_state.proofs.Claims.{only_one}
 use Rattle.machine_state.proofs.Lines.{got_set, got_other, set_either}
-use Rattle.machine_state.proofs.Reading.{word_at_same}
-use Rattle.states.specs.declared.known.Guard.{Guard}
-use Rattle.states.specs.declared.known.GuardName.{GuardName}
-use Rattle.states.specs.declared.known.GuardName.TheVariants.{Constant, Word}
-use Rattle.rulings.specs.Guarding.{guard_value}
-use Rattle.rulings.specs.Meaning.{HasFrame, Words, frame_word, word_at_place, words_in}
-use Rattle.rulings.specs.Regions.{Scope}
-use Rattle.rulings.proofs.Regions.{bytes_read}
-use Rattle.rulings.proofs.Within.{scope_still}
-use Rattle.rulings.proofs.Words.{frame_word_is}
-use Rattle.certified_worlds.specs.Alternating.{EnablesAt, a_channel, a_link, AlternatesHere}
-use Rattle.certified_worlds.specs.Lives.{awaits, Lives}
-use Rattle.certified_worlds.specs.Point.{Began}
-use Rattle.certified_worlds.proofs.Carrying.{SameEnabled, alternates_on}
-use Rattle.verifier.proofs.InItsMode.{at_still}
+use Rattle.certified_worlds.specs.Alternating.{EnablesAt, a_channel, a_link}
+use Rattle.certified_worlds.proofs.Carrying.{SameEnabled}
 
 -- ---- channels and links
 
@@ -198,72 +180,3 @@ module _ (w after : World) (p : ℕ) (t u : Task) (here : slice_get w.tasks p �
           stands in
           leaves.silent k c q e other there is (waiting ∙ ap Some (sym same))
           (ap (λ (x : Task). x.condition) one ∙ sends)
-
--- ---- the values of their guards
-
--- a word that may be read has the same bytes
-same_word : {h : Holding} {size : ℕ} {words : Words} {origin depth : ℤ} {workspace : ℕ}
-    → HasFrame h size words origin depth workspace → (old new : Memory)
-    → ((place : ℕ) → may_read h place ≡ true → byte_at new place ≡ byte_at old place) → (k : ℤ)
-    → words.reads k ≡ true → frame_word new origin k ≡ frame_word old origin k
-same_word {h} {origin = origin} frame old new same k reads =
-    let w = frame.readable k reads in
-    let byte : (place n : ℕ) → n < 4 → place ≡ w.place + n → byte_at new place ≡ byte_at old place =
-    λ place n less is. same place (ap (may_read h) is ∙ bytes_read h w.place w.readable n less) in
-    frame_word_is new origin k w.place w.is
-    ∙ word_at_same new old w.place (byte w.place 0 (omega arith) (omega arith))
-    (byte (w.place + 1) 1 (omega arith) refl) (byte (w.place + 2) 2 (omega arith) refl)
-    (byte (w.place + 3) 3 (omega arith) refl)
-    ∙ sym (ap (word_at_place old) (sym w.is))
-
--- who alternates starts no branches and awaits nothing
-pub not_starting : (t : Task) → Alternates t.mode t.condition → t.mode ≡ modes.Starting → ⊥
-not_starting t (inl e) starting = let no' = sym e.0.1 ∙ starting in cc
-not_starting t (inr d) starting = let no' = sym d.0.1 ∙ starting in cc
-
-awaits_nothing : (t : Task) → Alternates t.mode t.condition → (place : ℕ) → awaits t.condition place ≡ false
-awaits_nothing t (inl e) place = ap (λ (c : Condition). awaits c place) e.1
-awaits_nothing t (inr d) place = elim d.1 [
-  | inl ready ↦ ap (λ (c : Condition). awaits c place) ready
-  | inr waits ↦ ap (λ (c : Condition). awaits c place) waits
-]
-
--- Whoever alternates does so still, where it has enabled the same, what is ready for it is so still, and the bytes that
--- it may read are the same.
-pub alternates_beside : (m : Contents) (w after : World) (q : ℕ) (v : Task) {h : Holding} {began : Began} {due : ℕ}
-    (l : Lives m h began w.memory v due) → Alternates v.mode v.condition → SameEnabled w after q
-    → (HasReady w.tasks w.channels w.links.inputs q → HasReady after.tasks after.channels after.links.inputs q)
-    → ((place : ℕ) → may_read h place ≡ true → byte_at after.memory place ≡ byte_at w.memory place)
-    → AlternatesHere m w q v l.point.state l.point.act → AlternatesHere m after q v l.point.state l.point.act
-alternates_beside m w after q v {h = h} l alternates enabled ready same old =
-    alternates_on m w after q v v l.point.state l.point.state l.point.act old
-    enabled (λ n g at. value n g at g.name refl)
-    (record { guards = refl; left = refl }) old.fit (λ distance is. is)
-    (λ must. elim (old.ready must) [
-      | inl found ↦ inl (ready found)
-      | inr skip ↦ inr skip
-    ])
-  where
-    frame : HasFrame h (length w.memory) (words_in m l.point.state.context) l.point.act.layout.origin
-        l.point.state.depth v.registers.workspace
-    frame = subst (λ (scope : Scope). HasFrame h (length w.memory) scope.words l.point.act.layout.origin
-        l.point.state.depth v.registers.workspace)
-        (scope_still m l.point.state.context l.point.state.mode l.point.act.layout
-        (at_still l (not_starting v alternates)))
-        (l.claim w.memory refl (λ place may free. refl) (λ place e.
-        let no' : true ≡ false = sym e ∙ awaits_nothing v alternates place in absurd (cc))).here.frame
-
-    value : (n : ℕ) (g : Guard) → slice_get l.point.state.guards n ≡ Some g → (name : GuardName) → g.name ≡ name
-        → guard_value after.memory l.point.act name ≡ guard_value w.memory l.point.act name
-    value n g at (Constant x) is = refl
-    value n g at (Word word) is = same_word frame w.memory after.memory same word (old.fit.read n g word at is)
-
--- So it is over what another process does.
-pub others_alternate : (m : Contents) (w after : World) (p : ℕ) (t u : Task) → slice_get w.tasks p ≡ Some t
-    → after.tasks ≡ slice_set w.tasks p u → LeavesEnabled w after p t → (q : ℕ) → p ≢ q → (v : Task) {h : Holding}
-    {began : Began} {due : ℕ} (l : Lives m h began w.memory v due) → Alternates v.mode v.condition
-    → ((place : ℕ) → may_read h place ≡ true → byte_at after.memory place ≡ byte_at w.memory place)
-    → AlternatesHere m w q v l.point.state l.point.act → AlternatesHere m after q v l.point.state l.point.act
-others_alternate m w after p t u here tasks leaves q other v l alternates same old =
-    alternates_beside m w after q v l alternates (enables_as_before w after p t u here tasks leaves q other)
-    (ready_for_others w after p t u here tasks leaves q other) same old

@@ -28,7 +28,7 @@ use Rattle.certified_worlds.proofs.OrderlyWorlds.{IsOrderly, IsAtLastByte}
 use Rattle.certified_worlds.proofs.StartsHold.{start_holds, start_passes}
 use Rattle.certified_worlds.proofs.Steps.{here_of, reaches_behind, unbroken}
 use Rattle.verifier.proofs.LawfulWorlds.{IsLawful}
-use Rattle.verifier.proofs.Tables.{IsSound, Living, row_of}
+use Rattle.verifier.proofs.Tables.{Living, row_of}
 
 -- what the laws of every module say is what proofs of starts and ends read
 pub orderly : {m : Contents} {w : World} → IsLawful m w → IsOrderly m w
@@ -47,8 +47,8 @@ orderly {m} {w} lawful = record {
 }
 
 module _ (m : Contents) (d : Decodes m) (wf : IsWellFormed m) (kept : IsKept m) (c : IsCertified m) (w : World)
-    (lawful : IsLawful m w) (h : IsSound m w) (p : ℕ) (t : Task) (ready : t.condition ≡ Ready)
-    (r : Living m w h.holds p t) (pick : ℕ) (last : r.lives.point.taken + 1 ≡ r.lives.point.instr.len)
+    (lawful : IsLawful m w) (h : Holds m w) (p : ℕ) (t : Task) (ready : t.condition ≡ Ready)
+    (r : Living m w h p t) (pick : ℕ) (last : r.lives.point.taken + 1 ≡ r.lives.point.instr.len)
     (meets : MeetsPoint m t (held (row_of r).role) (row_of r).start r.lives.point w.memory)
     (selected : r.lives.point.state.mode ≡ states_modes.Disabling (length r.lives.point.state.guards)
     → HasSelected t.mode r.lives.point.state.guards) where
@@ -64,12 +64,8 @@ module _ (m : Contents) (d : Decodes m) (wf : IsWellFormed m) (kept : IsKept m) 
   abbrev ruling : Ruling
   ruling = rule_at m t.registers.began point.instr point.state
 
-  abbrev at_last : IsAtLastByte m w h.holds p t
+  abbrev at_last : IsAtLastByte m w h p t
   at_last = record { here = r.here; ready = ready; lives = r.lives; is = r.is; last = last }
-
-  -- the world after is as calm as each is
-  sound : {after : World} → IsLawful m after → Holds m after → IsSound m after
-  sound next holds = record { holds = holds; calm = next.calm }
 
   whole : (v : Rule) → ruling ≡ breaks v → ⊥
   whole = unbroken m d wf c kept (held (row_of r).role) (row_of r).start w.memory t point meets selected
@@ -83,21 +79,21 @@ module _ (m : Contents) (d : Decodes m) (wf : IsWellFormed m) (kept : IsKept m) 
       → EndFits x point.state local r (sends e l) → ⊥
   no_end_sends unbroken (end_breaks {broken = v}) = unbroken v refl
 
-  pub started_holds : {o : Outcome} {turn : Turn} → StartFits x point.state local ruling o → IsLawful m turn.world
-      → Ends (at_here m p t pick) w o turn → IsSound m turn.world
-  started_holds fits next (at_fault refused) =
-      absurd (start_passes m d wf kept c w h.holds (orderly lawful) p t at_last pick whole
+  pub started_holds : {o : Outcome} {turn : Turn} → StartFits x point.state local ruling o
+      → Ends (at_here m p t pick) w o turn → Holds m turn.world
+  started_holds fits (at_fault refused) =
+      absurd (start_passes m d wf kept c w h (orderly lawful) p t at_last pick whole
       (reaches_behind m d wf c kept (held (row_of r).role) (row_of r).start w.memory t point meets selected) fits
       refused)
-  started_holds fits next (has_run moved) =
-      sound next (start_holds m d wf kept c w h.holds (orderly lawful) p t at_last pick whole
-      (reaches_behind m d wf c kept (held (row_of r).role) (row_of r).start w.memory t point meets selected) fits moved)
-  started_holds fits next (has_emitted e l k to same) = absurd (no_start_sends whole fits)
+  started_holds fits (has_run moved) =
+      start_holds m d wf kept c w h (orderly lawful) p t at_last pick whole
+      (reaches_behind m d wf c kept (held (row_of r).role) (row_of r).start w.memory t point meets selected) fits moved
+  started_holds fits (has_emitted e l k to same) = absurd (no_start_sends whole fits)
 
   pub ended_holds : {o : Outcome} {turn : Turn} → EndFits x point.state local ruling o → IsLawful m turn.world
-      → Ends (at_here m p t pick) w o turn → IsSound m turn.world
+      → Ends (at_here m p t pick) w o turn → Holds m turn.world
   ended_holds fits next (at_fault refused) =
-      absurd (end_passes m d wf c w h.holds (orderly lawful) p t at_last pick whole fits refused)
+      absurd (end_passes m d wf c w h (orderly lawful) p t at_last pick whole fits refused)
   ended_holds fits next (has_run moved) =
-      sound next (end_holds m d wf c w h.holds (orderly lawful) p t at_last pick whole fits moved next.stands.holders)
+      end_holds m d wf c w h (orderly lawful) p t at_last pick whole fits moved next.stands.holders
   ended_holds fits next (has_emitted e l k to same) = absurd (no_end_sends whole fits)

@@ -14,10 +14,11 @@ use Rattle.machine_state.specs.Moves.{counted, put}
 use Rattle.machine_state.specs.World.{World, held}
 use Rattle.rulings.proofs.Combining.{elsewhere}
 use Rattle.certified_worlds.specs.Point.{Point}
+use Rattle.certified_worlds.specs.Invariant.{Holds}
 use Rattle.certified_worlds.proofs.LivesAs.{LivesAs}
 use Rattle.certified_worlds.proofs.Steps.{byte_here, prefixed_point}
 use Rattle.verifier.proofs.Tables.{row_of}
-use Rattle.verifier.proofs.Tables.{channels_equal, IsSound, Living, Puts}
+use Rattle.verifier.proofs.Tables.{channels_equal, Living, Puts}
 
 -- the task one byte further, with this operand so far
 abbrev pub prefixed : Task → ℤ → Task
@@ -31,18 +32,18 @@ pub some_owed : (due : ℕ) → 1 ≤ due → (less : ℕ) × (due ≡ suc less)
 some_owed zero some = absurd (omega (arith, some))
 some_owed (suc less) some = (less, refl)
 
-module _ (m : Contents) (w : World) (h : IsSound m w) (p : ℕ) (t : Task) where
+module _ (m : Contents) (w : World) (h : Holds m w) (p : ℕ) (t : Task) where
   pub puts_prefixed : (operand : ℤ) → Puts w (world_prefixed p t operand w) p (prefixed t operand) w.memory
   puts_prefixed operand = record {
     tasks = refl;
     memory = refl;
     roles = refl;
     channels = channels_equal refl;
-    kept = h.holds.kept;
+    kept = h.kept;
     fault = refl;
   }
 
-  module _ (r : Living m w h.holds p t) where
+  module _ (r : Living m w h p t) where
     abbrev point : Point m t
     point = r.lives.point
 
@@ -79,8 +80,8 @@ module _ (m : Contents) (w : World) (h : IsSound m w) (p : ℕ) (t : Task) where
       pub prefixed_lives : (due : ℕ) → (row_of r).due ≡ suc due
           → LivesAs m (held (row_of r).role) (row_of r).start w.memory (prefixed t operand) due point.state point.act
       prefixed_lives due one =
-          subst (λ n. LivesAs m (held (row_of r).role) (row_of r).start w.memory (prefixed t n) due point.state point.act) is
-          (further_lives due one)
+          subst (λ n. LivesAs m (held (row_of r).role) (row_of r).start w.memory (prefixed t n) due point.state
+          point.act) is (further_lives due one)
 
       -- another byte follows
       pub prefix_followed : t.registers.at + 1 < length m.code

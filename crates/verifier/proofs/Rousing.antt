@@ -17,13 +17,14 @@ use Rattle.machine_state.proofs.Changes.{Roused, nobody, who_enables, who_waits,
 use Rattle.states.specs.declared.known.Mode as states
 use Rattle.rulings.specs.Meaning.{SameMode, both_plain, both_enabling, both_disabling, both_starting}
 use Rattle.rulings.specs.Guarding.{guard_value}
+use Rattle.certified_worlds.specs.Invariant.{Holds}
 use Rattle.verifier.proofs.CalmWorlds.{IsCalm, is_alternating, is_among_starts, is_plain}
 use Rattle.verifier.proofs.OthersGuards.{LeavesEnabled, enabled_same}
 use Rattle.verifier.proofs.SharedOut.{IsSharedOut, none_open}
 use Rattle.verifier.proofs.Tables.{row_of}
-use Rattle.verifier.proofs.Tables.{channels_equal, IsSound, Puts, living, roused_lives, lives_in_mode, nothing_changes}
+use Rattle.verifier.proofs.Tables.{channels_equal, Puts, living, roused_lives, lives_in_mode, nothing_changes}
 use Rattle.verifier.proofs.Tables.{holds_aside, holds_put, holds_put_alternating, lives_whatever}
-use Rattle.certified_worlds.proofs.Carrying.{alternates_on, alternates_still, enabled_as_before, ready_on}
+use Rattle.certified_worlds.proofs.Carrying.{alternates_on, enabled_as_before, ready_on}
 use Rattle.certified_worlds.specs.Lives.{awaits, it_lives}
 
 -- the state of a process that enables fits whether something is ready or not
@@ -53,7 +54,7 @@ waiting_disables t (is_alternating (inl e)) waits =
     let no' : Ready ≡ Alternating = sym e.1 ∙ waits in absurd (cc)
 waiting_disables t (is_alternating (inr d)) waits = inr (d.0.0, d.0.1)
 
-module _ (m : Contents) (w : World) (h : IsSound m w) (out : IsSharedOut m w) where
+module _ (m : Contents) (w : World) (h : Holds m w) (out : IsSharedOut m w) where
   -- the world once a process was roused
   roused_puts : (after : World) (p : ℕ) (u : Task) → OnlyTasks w after → after.tasks ≡ slice_set w.tasks p u
       → Puts w after p u w.memory
@@ -62,7 +63,7 @@ module _ (m : Contents) (w : World) (h : IsSound m w) (out : IsSharedOut m w) wh
     memory = only.memory;
     roles = only.roles;
     channels = channels_equal only.channels;
-    kept = rw only.links h.holds.kept;
+    kept = rw only.links h.kept;
     fault = only.fault;
   }
 
@@ -87,28 +88,27 @@ module _ (m : Contents) (w : World) (h : IsSound m w) (out : IsSharedOut m w) wh
 
   pub roused_holds : (after : World) (o : Option ℕ) (tasks : List Task) → OnlyTasks w after → after.tasks ≡ tasks
       → Roused w.tasks o tasks
-      → ((q : ℕ) → o ≡ Some q → HasReady w.tasks w.channels w.links.inputs q) → IsSound m after
+      → ((q : ℕ) → o ≡ Some q → HasReady w.tasks w.channels w.links.inputs q) → Holds m after
   roused_holds after o tasks only is (nobody quiet) found =
       holds_aside m w after (record {
         tasks = is;
         memory = only.memory;
         roles = only.roles;
         channels = only.channels;
-        kept = rw only.links h.holds.kept;
+        kept = rw only.links h.kept;
         counters = only.counters;
         fault = only.fault;
-      }) (λ p t s act here guards. alternates_still guards is only.channels (ap (λ links. links.inputs) only.links)
-      only.memory)
+      }) (λ q. enabled_as_before w after q only.channels (ap (λ links. links.inputs) only.links))
+      (λ q found. rw (is, only.channels, only.links) found)
       h
   roused_holds after o tasks only is (who_enables q t here enabling calm) found =
-      let ready = enabling_is_ready t (h.calm q t here) enabling in
-      let r = living m w h.holds q t Ready here ready (λ e. cc) (λ e. cc) in
+      let ready = enabling_is_ready t (out.calm q t here) enabling in
+      let r = living m w h q t Ready here ready (λ e. cc) (λ e. cc) in
       let u : Task = record t { mode = modes.Enabling true } in
       let old = r.guards (inl (enabling, ready)) in
       holds_put_alternating m w h out q t r after u w.memory (row_of r).due
       (roused_puts after q u only is) (leaves after q t only (λ e sends. let no' = sym ready ∙ sends in cc))
       nothing_changes (enables_unopened q t here enabling ready) (rw only.counters (omega arith))
-      (inl ((true, refl), ready))
       (lives_in_mode (modes.Enabling true) r.lives (still_enabling true enabling))
       (alternates_on m w after q t u r.lives.point.state r.lives.point.state r.lives.point.act old
       (enabled_as_before w after q only.channels (ap (λ links. links.inputs) only.links))
@@ -117,11 +117,11 @@ module _ (m : Contents) (w : World) (h : IsSound m w) (out : IsSharedOut m w) wh
       (λ must. inl (rw (is, only.channels, only.links) (ready_on w.tasks w.channels w.links.inputs q q t u here
       (λ e sends. let no' = sym ready ∙ sends in cc) (found q refl)))))
   roused_holds after o tasks only is (who_waits q t here waits) found =
-      let r = living m w h.holds q t Alternating here waits (λ e. cc) (λ e. cc) in
+      let r = living m w h q t Alternating here waits (λ e. cc) (λ e. cc) in
       let u : Task = record t { condition = Ready } in
       let unopened = waits_unopened q t here waits in
       let left = leaves after q t only (λ e sends. let no' = sym waits ∙ sends in cc) in
-      elim (waiting_disables t (h.calm q t here) waits) [
+      elim (waiting_disables t (out.calm q t here) waits) [
         | inl plain ↦
             holds_put m w h out q t r after u w.memory (row_of r).due (roused_puts after q u only is) left
             nothing_changes unopened (rw only.counters (omega arith)) plain
@@ -130,7 +130,7 @@ module _ (m : Contents) (w : World) (h : IsSound m w) (out : IsSharedOut m w) wh
         | inr disables ↦
             let old = r.guards (inr (disables, inr waits)) in
             holds_put_alternating m w h out q t r after u w.memory (row_of r).due (roused_puts after q u only is)
-            left nothing_changes unopened (rw only.counters (omega arith)) (inr (disables, inl refl))
+            left nothing_changes unopened (rw only.counters (omega arith))
             (roused_lives waits r.lives)
             (alternates_on m w after q t u r.lives.point.state r.lives.point.state r.lives.point.act old
             (enabled_as_before w after q only.channels (ap (λ links. links.inputs) only.links))
@@ -141,5 +141,5 @@ module _ (m : Contents) (w : World) (h : IsSound m w) (out : IsSharedOut m w) wh
       ]
 
   pub rouse_holds : (o : Option ℕ) → ((q : ℕ) → o ≡ Some q → HasReady w.tasks w.channels w.links.inputs q)
-      → IsSound m (rouse o w)
+      → Holds m (rouse o w)
   rouse_holds o found = roused_holds (rouse o w) o (rouse o w).tasks (rouse_only o w) refl (rouses o w) found

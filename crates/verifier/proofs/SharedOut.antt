@@ -1,5 +1,5 @@
 -- How what there is is shared out in a world: no two processes hold the same, holders are in order, a join counts its
--- branches that are not over, and who has one open starts branches or is over.
+-- branches that are not over, who has one open starts branches or is over, and each process is calm.
 use Rattle.std.proofs.Common.{◌≡◌, ◌≢◌, ◌⊎◌, ℕ, ◌*◌, inl, inr, List, Option, Some, None, refl, sym, ap, ◌∙◌, subst}
 use Rattle.std.specs.Prelude.{slice_get, slice_set}
 use std.Path.{fun_ext}
@@ -16,6 +16,7 @@ use Rattle.machine_state.specs.World.{World, Role, Join, held}
 use Rattle.machine_state.proofs.Claims.{only_one}
 use Rattle.machine_state.proofs.Lines.{got_other, set_either}
 use Rattle.certified_worlds.proofs.ParsStay.{opened_is}
+use Rattle.verifier.proofs.CalmWorlds.{AllCalm, IsCalm, set_calm}
 use Rattle.verifier.proofs.LawfulWorlds.{IsLawful}
 
 -- no two processes hold the same
@@ -32,6 +33,7 @@ pub record IsSharedOut (m : Contents) (w : World) : Type 0 where
   pub holders : HoldersIn m w.roles w.channels
   pub branches : Branches w.tasks w.roles
   pub starters : Starters w.tasks w.roles
+  pub calm : AllCalm w.tasks
 
 -- so it is in each world that events lead to
 pub shared_out : {m : Contents} {w : World} → IsLawful m w → IsSharedOut m w
@@ -40,6 +42,7 @@ shared_out lawful = record {
   holders = lawful.stands.holders;
   branches = lawful.branches;
   starters = lawful.starters;
+  calm = lawful.calm;
 }
 
 -- Who neither starts branches nor is over has no join open.
@@ -141,15 +144,16 @@ holders_still m roles old new same holders =
 
 -- What there is is shared out as before.
 pub shared_still : {m : Contents} (w after : World) (p : ℕ) (t u : Task) → slice_get w.tasks p ≡ Some t
-    → (t.condition ≡ Ended → ⊥) → (u.mode ≡ modes.Starting → ⊥) → opened_in w.roles p ≡ None
+    → (t.condition ≡ Ended → ⊥) → (u.mode ≡ modes.Starting → ⊥) → IsCalm u → opened_in w.roles p ≡ None
     → after.tasks ≡ slice_set w.tasks p u
     → after.roles ≡ w.roles → ((k : ℕ) → owner_in after.channels k ≡ owner_in w.channels k)
     → IsSharedOut m w → IsSharedOut m after
-shared_still {m} w after p t u here going unstarted none tasks roles owners out = record {
+shared_still {m} w after p t u here going unstarted calm none tasks roles owners out = record {
   apart = rw roles out.apart;
   holders = rw roles (holders_still m w.roles w.channels after.channels owners out.holders);
   branches = rw (tasks, roles) (branches_still w.tasks w.roles p t u here going out.branches);
   starters = rw (tasks, roles) (starters_still w.tasks w.roles p t u here going none unstarted out.starters);
+  calm = rw tasks (set_calm w.tasks p u calm out.calm);
 }
 
 -- So it is where nothing of this has changed.
@@ -160,4 +164,5 @@ shared_aside {m} w after tasks roles channels out = record {
   holders = rw (roles, channels) out.holders;
   branches = rw (tasks, roles) out.branches;
   starters = rw (tasks, roles) out.starters;
+  calm = rw tasks out.calm;
 }

@@ -25,11 +25,11 @@ use Rattle.machine_state.proofs.Claims.{only_one}
 use Rattle.rulings.specs.Meaning.{IsWellFormed}
 use Rattle.certified_worlds.specs.Lives.{IsExchanging}
 use Rattle.certified_worlds.specs.Point.{Began}
-use Rattle.certified_worlds.specs.Invariant.{LengthAgrees, at_link, at_channel}
+use Rattle.certified_worlds.specs.Invariant.{Holds, LengthAgrees, at_link, at_channel}
 use Rattle.verifier.proofs.LawfulWorlds.{IsLawful}
 use Rattle.verifier.proofs.SharedOut.{holds_own, none_open}
 use Rattle.verifier.proofs.Tables.{row_of}
-use Rattle.verifier.proofs.Tables.{IsSound, Living, living}
+use Rattle.verifier.proofs.Tables.{Living, living}
 
 -- ---- links
 
@@ -65,8 +65,8 @@ pub data AtEnd (m : Contents) (w : World) (e : End) (len : ℕ) : Type 0 where
   a_channel : (c : Channel) → slice_get w.channels (cell_of e.address) ≡ Some (Some c) → c.length ≡ len
       → IsWord e.address → AtEnd m w e len
 
--- A process that waits on an internal channel: it holds that end, is recorded there, and its message is as long as those
--- of the channel.
+-- A process that waits on an internal channel: it holds that end, is recorded there, and its message is as long as
+-- those of the channel.
 pub record Partner (w : World) (q : ℕ) (direction : Direction) (e : Exchange) : Type 0 where
   pub channel : Channel
   pub here : slice_get w.channels (cell_of e.channel) ≡ Some (Some channel)
@@ -75,7 +75,7 @@ pub record Partner (w : World) (q : ℕ) (direction : Direction) (e : Exchange) 
   pub len : channel.length ≡ e.length
   pub word : IsWord e.channel
 
-module _ (m : Contents) (wf : IsWellFormed m) (w : World) (lawful : IsLawful m w) (h : IsSound m w) where
+module _ (m : Contents) (wf : IsWellFormed m) (w : World) (lawful : IsLawful m w) (h : Holds m w) where
   -- a channel lies in a data word
   inside : (k : ℕ) (c : Channel) → slice_get w.channels k ≡ Some (Some c) → k < m.data_words
   inside k c here =
@@ -104,15 +104,16 @@ module _ (m : Contents) (wf : IsWellFormed m) (w : World) (lawful : IsLawful m w
   word_at : (p : ℕ) (role : Role) (e : End) (c : Channel) → slice_get w.roles p ≡ Some role
       → has_end role.own e ≡ true → slice_get w.channels (cell_of e.address) ≡ Some (Some c) → IsWord e.address
   word_at p role e c here own there =
-      elim (lawful.stands.holders.ends p e (subst (λ (g : Holding). has_end g e ≡ true) (sym (own_is p role here)) own)) [
+      elim (lawful.stands.holders.ends p e
+      (subst (λ (g : Holding). has_end g e ≡ true) (sym (own_is p role here)) own)) [
         | inl far ↦ let low = inside (cell_of e.address) c there in absurd (omega (arith, low, far))
         | inr near ↦ near.1
       ]
 
   pub at_end : (p : ℕ) (role : Role) (start : Began) (e : End) → slice_get w.roles p ≡ Some role
-      → slice_get h.holds.began p ≡ Some start → has_end role.own e ≡ true
+      → slice_get h.began p ≡ Some start → has_end role.own e ≡ true
       → AtEnd m w e (start.layout.lengths e.address)
-  at_end p role start e has_role has_start own = on (h.holds.lengths p role start e has_role has_start own)
+  at_end p role start e has_role has_start own = on (h.lengths p role start e has_role has_start own)
     where
       on_link : (k : ℕ) → k < 8 → e ≡ record { address = link_word k; direction = if nat_lt k 4 then Out else In }
           → link_length m k ≡ start.layout.lengths e.address → AtEnd m w e (start.layout.lengths e.address)
@@ -138,9 +139,9 @@ module _ (m : Contents) (wf : IsWellFormed m) (w : World) (lawful : IsLawful m w
 
   is_alive : (direction : Direction) (c : Condition) (e : Exchange) → WaitsTo direction c e
       → (p : ℕ) (t : Task) → slice_get w.tasks p ≡ Some t → t.condition ≡ c
-      → Living m w h.holds p t
-  is_alive In c e is p t here same = living m w h.holds p t (Receiving e) here (same ∙ is) (λ e. cc) (λ e. cc)
-  is_alive Out c e is p t here same = living m w h.holds p t (Sending e) here (same ∙ is) (λ e. cc) (λ e. cc)
+      → Living m w h p t
+  is_alive In c e is p t here same = living m w h p t (Receiving e) here (same ∙ is) (λ e. cc) (λ e. cc)
+  is_alive Out c e is p t here same = living m w h p t (Sending e) here (same ∙ is) (λ e. cc) (λ e. cc)
 
   -- who waits for a message has no join open
   waits_with_none : (direction : Direction) (c : Condition) (e : Exchange) → WaitsTo direction c e → (q : ℕ) (t : Task)
@@ -154,15 +155,17 @@ module _ (m : Contents) (wf : IsWellFormed m) (w : World) (lawful : IsLawful m w
 
   pub partner : (q : ℕ) (t : Task) (direction : Direction) (e : Exchange) → slice_get w.tasks q ≡ Some t
       → WaitsTo direction t.condition e → Partner w q direction e
-  partner q t direction e here waits = on (at_end q (row_of r).role (row_of r).start _ (row_of r).has_role (row_of r).has_start own)
+  partner q t direction e here waits = on (at_end q (row_of r).role (row_of r).start _ (row_of r).has_role
+      (row_of r).has_start own)
     where
-      r : Living m w h.holds q t
+      r : Living m w h q t
       r = is_alive direction t.condition e waits q t here refl
 
       own : has_end (row_of r).role.own (record { address = e.channel; direction = direction }) ≡ true
       own = subst (λ (g : Holding). has_end g (record { address = e.channel; direction = direction }) ≡ true)
           (holding_is q (row_of r).role (row_of r).has_role
-          ∙ holds_own w.roles q (row_of r).role (row_of r).has_role (waits_with_none direction t.condition e waits q t here refl))
+          ∙ holds_own w.roles q (row_of r).role (row_of r).has_role
+          (waits_with_none direction t.condition e waits q t here refl))
           (lawful.recorded q t direction e here waits).end
 
       on : AtEnd m w (record { address = e.channel; direction = direction }) ((row_of r).start.layout.lengths e.channel)

@@ -24,14 +24,14 @@ use Rattle.rulings.specs.Meaning.{HasFrame, frame_lo, frame_hi, from_nowhere, Me
 use Rattle.certified_worlds.specs.Point.{Began, Behind, nobody_waits, owed_behind, Decodes}
 use Rattle.certified_worlds.specs.Lives.{Meets, it_lives}
 use Rattle.rulings.proofs.Within.{is_starting}
-use Rattle.verifier.proofs.CalmWorlds.{is_plain, no_alternation}
-use Rattle.verifier.proofs.Tables.{IsSound, AreBytes}
+use Rattle.certified_worlds.proofs.StartedWorlds.{plain_beside}
+use Rattle.verifier.proofs.Tables.{AreBytes}
 use Rattle.rulings.specs.Regions.{kind_used, parameter_used}
 use Rattle.machine_state.specs.declared.holding.End.{End}
 use Rattle.machine_state.specs.declared.process.Task.{Task}
 use Rattle.machine_state.specs.declared.link.InputLink.{InputLink}
 use Rattle.module_format.specs.declared.rows.Parameter.{Parameter}
-use Rattle.certified_worlds.specs.Invariant.{LengthsAgree, at_link}
+use Rattle.certified_worlds.specs.Invariant.{Holds, LengthsAgree, at_link}
 use Rattle.verifier.proofs.RootHolds.{root_constants, root_bytes}
 use Rattle.verifier.proofs.RootEnds.{root_ends, root_lengths, root_differ, held_link}
 use Rattle.rulings.specs.Fitting.{After}
@@ -220,7 +220,7 @@ module _ (m : Contents) (d : Decodes m) (wf : IsWellFormed m) (c : IsCertified m
       at_link link.link low link.is (subst (λ (x : Began). link_length m link.link ≡ x.layout.lengths e.address) b.1
       (ap (link_length m) (let is = ap (λ (x : End). x.address) link.is in omega arith)))
 
-  pub loaded_holds : IsSound m (loaded m)
+  pub loaded_holds : Holds m (loaded m)
   loaded_holds =
       let en = enter m d wf c (root_holding m) machine_modes.Plain root_activation 0 (root_state m) begins
       wf.some_code in
@@ -230,35 +230,32 @@ module _ (m : Contents) (d : Decodes m) (wf : IsWellFormed m) (c : IsCertified m
       (entered_behind m d wf c en nobody_behind) in
       let due : ℕ = owed en.state en.act + owed_behind [] in
       record {
-        holds = record {
-          dues = due ∷ [];
-          pending_dues = 0 ∷ [];
-          began = root_began ∷ [];
-          counted = record { begun = refl; owing = refl; pending = refl };
-          table = record {
-            each = λ p t h.
-                let x = only (root_task m) t p h in
-                record {
-                  role = root_role m;
-                  has_role = ap (λ n. slice_get (root_role m ∷ []) n) x.0;
-                  start = root_began;
-                  has_start = ap (λ n. slice_get (root_began ∷ []) n) x.0;
-                  due = owed en.state en.act + owed_behind [];
-                  has_due = ap (λ n. slice_get (due ∷ []) n) x.0;
-                  root = λ none. refl;
-                  meets = subst (λ u. Meets m (root_holding m) root_began (loaded_memory m) u (due)) x.1
-                      (it_lives lives.lives);
-                  alternating = λ alternates. absurd (no_alternation t (root_plain p t h) alternates);
-                };
-          };
-          pending = λ p role j h is.
-              let no' : None ≡ Some j = ap (λ (r : Role). r.opened) (only (root_role m) role p h).1 ∙ is in absurd (cc);
-          lengths = root_agrees;
-          kept = quiet_links_keep_nothing;
-          owed = let none = nothing_due root_activation.turns in omega (arith, en.paid, none);
-          well = refl;
+        dues = due ∷ [];
+        pending_dues = 0 ∷ [];
+        began = root_began ∷ [];
+        counted = record { begun = refl; owing = refl; pending = refl };
+        table = record {
+          each = λ p t h.
+              let x = only (root_task m) t p h in
+              record {
+                role = root_role m;
+                has_role = ap (λ n. slice_get (root_role m ∷ []) n) x.0;
+                start = root_began;
+                has_start = ap (λ n. slice_get (root_began ∷ []) n) x.0;
+                due = owed en.state en.act + owed_behind [];
+                has_due = ap (λ n. slice_get (due ∷ []) n) x.0;
+                root = λ none. refl;
+                meets = subst (λ u. Meets m (root_holding m) root_began (loaded_memory m) u (due)) x.1
+                    (it_lives lives.lives);
+                alternating = λ alternates. absurd (plain_beside (root_plain p t h) alternates);
+              };
         };
-        calm = λ p t h. is_plain (root_plain p t h);
+        pending = λ p role j h is.
+            let no' : None ≡ Some j = ap (λ (r : Role). r.opened) (only (root_role m) role p h).1 ∙ is in absurd (cc);
+        lengths = root_agrees;
+        kept = quiet_links_keep_nothing;
+        owed = let none = nothing_due root_activation.turns in omega (arith, en.paid, none);
+        well = refl;
       }
     where
       root_plain : (p : ℕ) (t : Task) → slice_get (root_task m ∷ []) p ≡ Some t → t.mode ≡ machine_modes.Plain

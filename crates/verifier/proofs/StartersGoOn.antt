@@ -32,6 +32,7 @@ use Rattle.certified_worlds.specs.Certified.{IsCertified, Reaches, follows}
 use Rattle.certified_worlds.specs.Lives.{awaits}
 use Rattle.certified_worlds.specs.Pending.{IsStarter}
 use Rattle.certified_worlds.specs.Point.{Decodes, MeetsPoint, Point}
+use Rattle.certified_worlds.specs.Invariant.{Holds}
 use Rattle.certified_worlds.proofs.LivesAs.{LivesAs}
 use Rattle.certified_worlds.proofs.Steps.{here_of, site_in, task_at}
 use Rattle.verifier.proofs.AmongStarts.{FallsOn, falls_among_starts, pays_among_starts, starting_state}
@@ -52,7 +53,7 @@ use Rattle.certified_worlds.proofs.StartsLive.{owed_among, starter_lives}
 use Rattle.certified_worlds.proofs.Steps.{last_fits, longer, point_fits, unbroken}
 use Rattle.verifier.proofs.PartingTurns as parting
 use Rattle.verifier.proofs.Tables.{row_of}
-use Rattle.verifier.proofs.Tables.{Allows, IsSound, Living, channels_equal, holds_put_starting, nothing_changes}
+use Rattle.verifier.proofs.Tables.{Allows, Living, channels_equal, holds_put_starting, nothing_changes}
 
 -- ---- a process among starts
 
@@ -70,7 +71,8 @@ on_to is_landing = on_landing
 -- Among the same starts, in the same activation.
 starter_on : {m : Contents} {t u : Task} (point : Point m t) (next : Point m u) → next.state.mode ≡ point.state.mode
     → next.state.context ≡ point.state.context → next.state.depth ≡ point.state.depth → next.act ≡ point.act
-    → u.condition ≡ Ready → (par : Par) (j : Join) (act : Activation) → IsStarter m t point par j act → IsStarter m u next par j act
+    → u.condition ≡ Ready → (par : Par) (j : Join) (act : Activation) → IsStarter m t point par j act
+    → IsStarter m u next par j act
 starter_on point next mode context depth same ready par j act starter = record {
   ready = ready;
   mode = mode ∙ starter.mode;
@@ -82,8 +84,8 @@ starter_on point next mode context depth same ready par j act starter = record {
 }
 
 module _ (m : Contents) (d : Decodes m) (wf : IsWellFormed m) (kept : IsKept m) (c : IsCertified m) where
-  module _ (w : World) (lawful : IsLawful m w) (h : IsSound m w) (p : ℕ) (t : Task) (ready : t.condition ≡ Ready)
-      (starting : t.mode ≡ machine_modes.Starting) (r : Living m w h.holds p t) where
+  module _ (w : World) (lawful : IsLawful m w) (h : Holds m w) (p : ℕ) (t : Task) (ready : t.condition ≡ Ready)
+      (starting : t.mode ≡ machine_modes.Starting) (r : Living m w h p t) where
     abbrev point : Point m t
     point = r.lives.point
 
@@ -186,7 +188,7 @@ module _ (m : Contents) (d : Decodes m) (wf : IsWellFormed m) (kept : IsKept m) 
           (task_at m t q (t.registers.began + point.instr.len) new) next.number next point.act) (sym starting) lives)
 
       goes_on : (queue : Queue)
-          → IsSound m (record (counted (continued (at_here m p t 0) (t.registers.at + 1) new w)) { queue = queue })
+          → Holds m (record (counted (continued (at_here m p t 0) (t.registers.at + 1) new w)) { queue = queue })
       goes_on queue =
           holds_put_starting m w h (shared_out lawful) p t r after u new.memory next.number (record {
             tasks = ap (λ (c : Condition). slice_set w.tasks p (record {
@@ -197,11 +199,11 @@ module _ (m : Contents) (d : Decodes m) (wf : IsWellFormed m) (kept : IsKept m) 
             memory = refl;
             roles = refl;
             channels = channels_equal refl;
-            kept = h.holds.kept;
+            kept = h.kept;
             fault = refl;
           }) (enabled_same refl refl (ready_is_silent w p t ready))
           (subst (λ (memory : Memory). Allows r.lives w.memory memory) (sym falls_on.stays.memory) nothing_changes)
-          (omega (arith, last, pays, owes_number)) starting refl falls_on.stays.memory lives.lives
+          (omega (arith, last, pays, owes_number)) starting falls_on.stays.memory lives.lives
           (starter_on point lives.lives.point (ap (λ (s : State). s.mode) lives.state_is ∙ falls_on.stays.mode)
           (ap (λ (s : State). s.context) lives.state_is ∙ falls_on.same)
           (ap (λ (s : State). s.depth) lives.state_is ∙ falls_on.stays.depth) lives.act_is refl)
@@ -216,7 +218,7 @@ module _ (m : Contents) (d : Decodes m) (wf : IsWellFormed m) (kept : IsKept m) 
           lives = goes_lives
 
       ended_on : (pick : ℕ) {q : Outcome} {turn : Turn} → OnTo (t.registers.at + 1) new q
-          → Ends (at_here m p t pick) w q turn → IsSound m turn.world
+          → Ends (at_here m p t pick) w q turn → Holds m turn.world
       unfolding dispatch
       ended_on pick on_behind (has_run (it_goes l)) = goes_on w.queue
       ended_on pick on_jump (has_run (it_jumps to l)) = goes_on w.queue
@@ -227,7 +229,7 @@ module _ (m : Contents) (d : Decodes m) (wf : IsWellFormed m) (kept : IsKept m) 
       ended_on pick on_jump (at_fault (no_code_follows needs none)) = elim needs [ ]
       ended_on pick on_landing (at_fault (no_code_follows needs none)) = elim needs [ ]
 
-      pub goes_among : (pick : ℕ) {turn : Turn} → Ends (at_here m p t pick) w o turn → IsSound m turn.world
+      pub goes_among : (pick : ℕ) {turn : Turn} → Ends (at_here m p t pick) w o turn → Holds m turn.world
       goes_among pick ends =
           ended_on pick (subst (λ (n : ℕ). OnTo n new o) behind (on_to falls_on.goes)) ends
 
@@ -235,7 +237,7 @@ module _ (m : Contents) (d : Decodes m) (wf : IsWellFormed m) (kept : IsKept m) 
     pub starter_step_holds : (pick byte : ℕ) (f : Fun) {turn : Turn} → IsLawful m turn.world
         → slice_get m.code t.registers.at ≡ Some byte → fun_of (function_code byte) ≡ Some f
         → Ends (at_here m p t pick) w (local_step (site_of (at_here m p t pick) w) f
-        (with_nibble t.registers.operand (nibble byte)) (local_here t w)) turn → IsSound m turn.world
+        (with_nibble t.registers.operand (nibble byte)) (local_here t w)) turn → Holds m turn.world
     starter_step_holds pick byte f {turn} next here is ends =
         let fits = last_fits m d wf c kept (held (row_of r).role) (row_of r).start w.memory t point meets_now selected
         byte f here is in
@@ -247,10 +249,10 @@ module _ (m : Contents) (d : Decodes m) (wf : IsWellFormed m) (kept : IsKept m) 
       where
         on : {o : Outcome} → point.taken + 1 ≡ point.instr.len
             → FitsStep x point.state (local_here t w) (instruction_of point.instr.fun point.instr.operand) ruling o
-            → Ends (at_here m p t pick) w o turn → IsSound m turn.world
+            → Ends (at_here m p t pick) w o turn → Holds m turn.world
         on last (it_fits none fits) ends = goes_among none fits last pick ends
         on last (it_starts fits) ends = parting.started_holds m d wf kept c w lawful h p t ready r pick last
-            meets_now selected fits next ends
+            meets_now selected fits ends
         on last (it_joins fits) ends = parting.ended_holds m d wf kept c w lawful h p t ready r pick last
             meets_now selected fits next ends
 
@@ -258,12 +260,12 @@ module _ (m : Contents) (d : Decodes m) (wf : IsWellFormed m) (kept : IsKept m) 
     pub starter_prefix_holds : (byte : ℕ) (operand : ℤ) → slice_get m.code t.registers.at ≡ Some byte
         → fun_of (function_code byte) ≡ None
         → after_prefix (function_code byte) (with_nibble t.registers.operand (nibble byte)) ≡ operand
-        → IsSound m (world_prefixed p t operand w)
+        → Holds m (world_prefixed p t operand w)
     starter_prefix_holds byte operand here none is =
         let one = one_owed in
         let lives = prefixed_lives m w h p t r byte operand here none is one.0 one.1 in
         holds_put_starting m w h (shared_out lawful) p t r (world_prefixed p t operand w) (prefixed t operand) w.memory
         one.0 (puts_prefixed m w h p t operand) (enabled_same refl refl (ready_is_silent w p t ready)) nothing_changes
-        (let due = one.1 in omega (arith, due)) starting ready refl lives.lives
+        (let due = one.1 in omega (arith, due)) starting refl lives.lives
         (starter_on point lives.lives.point (ap (λ (s : State). s.mode) lives.state_is)
         (ap (λ (s : State). s.context) lives.state_is) (ap (λ (s : State). s.depth) lives.state_is) lives.act_is ready)

@@ -1,5 +1,5 @@
 -- What the change of one process leaves of the others, and of the invariant.
-use Rattle.std.proofs.Common.{◌≡◌, ◌≢◌, ℕ, zero, suc, ◌+◌, ◌≤◌, ◌<◌, ◌⊎◌, true, false, inl, inr, List, [], ◌∷◌, length}
+use Rattle.std.proofs.Common.{◌≡◌, ◌≢◌, ℕ, ◌+◌, ◌≤◌, ◌<◌, ◌⊎◌, true, false, inl, inr, List, length}
 use Rattle.std.proofs.Common.{Option, Some, None, refl, sym, ap, ◌∙◌, subst, arith}
 use Rattle.std.proofs.lemmas.Bool.{cases_eq}
 use Rattle.std.proofs.lemmas.List.{length-set}
@@ -12,14 +12,13 @@ use Rattle.machine_state.specs.declared.process.Condition.{Condition}
 use Rattle.machine_state.specs.declared.process.Exchange.{Exchange}
 use Rattle.machine_state.specs.declared.process.Mode.TheVariants as modes
 use Rattle.machine_state.specs.declared.link.InputLink.{InputLink}
-use Rattle.machine_state.specs.EnabledLaws.{Alternates}
+use Rattle.machine_state.specs.EnabledLaws.{Alternates, HasReady}
 use Rattle.machine_state.specs.declared.process.Condition.TheVariants.{Ready, Alternating, Stopped, Ended}
 use Rattle.machine_state.specs.Memory.{Memory, byte_at}
-use Rattle.machine_state.specs.Holding.{Holding, nothing, may_write, may_read, IsApart}
+use Rattle.machine_state.specs.Holding.{Holding, may_read, IsApart}
 use Rattle.machine_state.specs.Roles.{opened_in}
 use Rattle.machine_state.specs.Waiting.{IsGone, IsOver}
 use Rattle.machine_state.specs.World.{World, Role, Join, held}
-use Rattle.machine_state.specs.Frame.{ChangesOwn}
 use Rattle.machine_state.specs.declared.process.Channel.{Channel}
 use Rattle.machine_state.specs.Moves.{picked, dispatch, cell_of}
 use Rattle.machine_state.proofs.Claims.{only_one}
@@ -36,28 +35,25 @@ use Rattle.rulings.specs.Meaning.{SameMode}
 use Rattle.rulings.specs.Fitting.{After}
 use Rattle.machine_state.specs.Site.{Local}
 use Rattle.machine_state.specs.declared.process.Mode as machine
-use Rattle.certified_worlds.proofs.Carrying.{alternates_still}
+use Rattle.certified_worlds.proofs.Carrying.{SameEnabled, enabled_as_before}
 use Rattle.certified_worlds.proofs.BehindKeeps.{behind_in_keeps}
+use Rattle.certified_worlds.proofs.DuesAreSplit.{total_set}
 use Rattle.certified_worlds.proofs.LivesAs.{LivesAs}
 use Rattle.certified_worlds.specs.Point.{Began, Point}
-use Rattle.rulings.specs.Buffers.{message_place, IsByte}
+use Rattle.rulings.specs.Buffers.{IsByte}
 use Rattle.certified_worlds.specs.Lives.{awaits, IsExchanging, Lives, Meets, it_lives, it_stopped, it_ended}
-use Rattle.certified_worlds.specs.Invariant.{AlternatesIn, Process, Table, LengthAgrees, at_link, at_channel, LengthsAgree}
-use Rattle.certified_worlds.specs.Invariant.{Opener, total, Holds}
+use Rattle.certified_worlds.specs.Invariant.{AlternatesIn, Process, Table, LengthAgrees, at_link, at_channel}
+use Rattle.certified_worlds.specs.Invariant.{LengthsAgree}
+use Rattle.certified_worlds.specs.Invariant.{Opener, Holds}
 use Rattle.certified_worlds.specs.Pending.{IsStarter, Pending, StartsHere}
+use Rattle.certified_worlds.proofs.OrderlyWorlds.{MeetsStill, OthersMeet}
+use Rattle.certified_worlds.proofs.OthersStay.{meets_unchanged, others_meet}
+use Rattle.certified_worlds.proofs.StartedWorlds.{plain_beside, starts_beside}
 use Rattle.certified_worlds.proofs.ParsStay.{Changer, opened_is, openers_stay, step_changes}
 use Rattle.rulings.proofs.Agreeing.{agree_keeps}
-use Rattle.verifier.proofs.CalmWorlds.{IsCalm, is_plain, is_among_starts, is_alternating, no_alternation}
 use Rattle.verifier.proofs.InItsMode.{at_still}
-use Rattle.verifier.proofs.OthersGuards.{LeavesEnabled, not_starting, others_alternate}
+use Rattle.verifier.proofs.OthersGuards.{LeavesEnabled, enables_as_before, ready_for_others}
 use Rattle.verifier.proofs.SharedOut.{IsSharedOut, never_starting, over_still}
-
--- ---- one process
-
--- The invariant holds, and each process is in its mode as it should be.
-pub record IsSound (m : Contents) (w : World) : Type 0 where
-  pub holds : Holds m w
-  pub calm : (p : ℕ) (t : Task) → slice_get w.tasks p ≡ Some t → IsCalm t
 
 -- ---- a process
 
@@ -109,7 +105,8 @@ lives_on {m} {h} {began} {memory} {t} {due} new c quiet size same fewer either c
     ];
   });
   named = kept.named l.named;
-  behind = behind_in_keeps began l.point.state.mode l.point.state.context l.point.act.layout l.point.callers kept l.behind;
+  behind = behind_in_keeps began l.point.state.mode l.point.state.context l.point.act.layout l.point.callers kept
+      l.behind;
   known_length = λ e is. absurd (quiet e is);
   paid = l.paid;
 }
@@ -190,49 +187,6 @@ lives_in_mode {t = t} next l same = record {
   state_is = refl;
   act_is = refl;
 }
-
--- ---- what another process does with bytes of its own
-
--- it leaves what a process may read
-pub bytes_elsewhere : {g h : Holding} {memory new : Memory} → IsApart g h → ChangesOwn g memory new → (place : ℕ)
-    → may_read h place ≡ true → byte_at new place ≡ byte_at memory place
-bytes_elsewhere {g} apart changes place e = changes.others place (elim (bool_cases (may_write g place))
-    [ inl mine ↦ absurd (apart.written place mine e) | inr free ↦ free ])
-
--- it leaves the process alone
-unfoldable pub meets_elsewhere : {m : Contents} {g h : Holding} {began : Began} {memory new : Memory} {t : Task} {due : ℕ}
-    → IsApart g h → ChangesOwn g memory new → Meets m h began memory t due → Meets m h began new t due
-meets_elsewhere apart changes (it_stopped e) = it_stopped e
-meets_elsewhere apart changes (it_ended e) = it_ended e
-meets_elsewhere {m} {g} {h} {began} {memory} {new} apart changes (it_lives l) = it_lives (record {
-  point = l.point;
-  claim = λ later size agree bytes. l.claim later (size ∙ changes.size)
-      (λ place e w. agree place e w ∙ same place e) bytes;
-  room = λ place e. let r = l.room place e in (r.0, omega (arith, r.1, changes.size));
-  sends = λ e is j less. let sent = l.sends e is j less in
-      (sent.0, subst IsByte (sym (same (message_place e j) sent.0)) sent.1);
-  fills = l.fills;
-  named = kept.named l.named;
-  behind = behind_in_keeps began l.point.state.mode l.point.state.context l.point.act.layout l.point.callers kept l.behind;
-  known_length = l.known_length;
-  paid = l.paid;
-})
-  where
-    same : (place : ℕ) → may_read h place ≡ true → byte_at new place ≡ byte_at memory place
-    same place e = bytes_elsewhere apart changes place e
-
-    kept : Keeps m h (scope_in m l.point.state l.point.act.layout) memory new
-    kept = agree_keeps h memory new changes.size same m (scope_in m l.point.state l.point.act.layout)
-
--- and its place among the starts of a PAR
-pub starts_elsewhere : {m : Contents} {g h : Holding} {began : Began} {memory new : Memory} {t : Task} {due : ℕ}
-    (apart : IsApart g h) (changes : ChangesOwn g memory new) (meets : Meets m h began memory t due) (par : Par)
-    (j : Join) (act : Activation) → StartsHere meets par j act
-    → StartsHere (meets_elsewhere apart changes meets) par j act
-unfolding meets_elsewhere
-starts_elsewhere apart changes (it_lives l) par j act starts = starts
-starts_elsewhere apart changes (it_stopped e) par j act starts = starts
-starts_elsewhere apart changes (it_ended e) par j act starts = starts
 
 -- a process changes nothing
 pub nothing_changes : {m : Contents} {h : Holding} {scope : Scope} {memory : Memory}
@@ -340,26 +294,20 @@ pub record Puts (w after : World) (p : ℕ) (u : Task) (new : Memory) : Type 0 w
   pub kept : AreBytes after.links.inputs
   pub fault : after.fault ≡ w.fault
 
-total_set : (dues : List ℕ) (p d e : ℕ) → slice_get dues p ≡ Some d
-    → total (slice_set dues p e) + d ≡ total dues + e
-total_set [] p d e h = absurd (cc)
-total_set (x ∷ xs) zero d e h = let same : x ≡ d = cc in omega arith
-total_set (x ∷ xs) (suc p) d e h = let rest = total_set xs p d e h in omega arith
-
 -- What a process may change that lives: bytes of its own, as its activation allows.
 abbrev pub Allows : {m : Contents} {h : Holding} {began : Began} {old : Memory} {t : Task} {due : ℕ}
     → Lives m h began old t due → Memory → Memory → Type 0
 Allows {m = m} {h = h} l memory new = ChangesWithin m h (scope_in m l.point.state l.point.act.layout) memory new
 
 -- One process changes what it may, and goes on as another task.
-module _ (m : Contents) (w : World) (h : IsSound m w) (out : IsSharedOut m w) (p : ℕ) (t : Task)
-    (r : Living m w h.holds p t) (after : World) (u : Task) (new : Memory) (later : ℕ) (puts : Puts w after p u new)
+module _ (m : Contents) (w : World) (h : Holds m w) (out : IsSharedOut m w) (p : ℕ) (t : Task)
+    (r : Living m w h p t) (after : World) (u : Task) (new : Memory) (later : ℕ) (puts : Puts w after p u new)
     (leaves : LeavesEnabled w after p t) (allowed : Allows r.lives w.memory new) where
   abbrev began : List Began
-  began = h.holds.began
+  began = h.began
 
   abbrev dues_after : List ℕ
-  dues_after = slice_set h.holds.dues p later
+  dues_after = slice_set h.dues p later
 
   allowed_now : Allows r.lives w.memory after.memory
   allowed_now = subst (λ (memory : Memory). Allows r.lives w.memory memory) (sym puts.memory) allowed
@@ -380,34 +328,31 @@ module _ (m : Contents) (w : World) (h : IsSound m w) (out : IsSharedOut m w) (p
 
   -- ---- the others
 
-  -- who alternates does so still
-  alternates_elsewhere : (q : ℕ) → p ≢ q → (v : Task) {g : Holding} {start : Began} {due : ℕ}
-      (apart : IsApart (held (row_of r).role) g) (meets : Meets m g start w.memory v due)
-      → Alternates v.mode v.condition → AlternatesIn w q meets
-      → AlternatesIn after q (meets_elsewhere apart allowed_now.own meets)
-  unfolding meets_elsewhere
-  alternates_elsewhere q other v apart (it_lives l) alternates guards =
-      others_alternate m w after p t u r.here puts.tasks leaves q other v l alternates
-      (bytes_elsewhere apart allowed_now.own) guards
-  alternates_elsewhere q other v apart (it_stopped e) alternates guards = guards
-  alternates_elsewhere q other v apart (it_ended e) alternates guards = guards
+  apart_from : (q : ℕ) (role : Role) → p ≢ q → slice_get w.roles q ≡ Some role
+      → IsApart (held (row_of r).role) (held role)
+  apart_from q role other here = out.apart p q (row_of r).role role other (row_of r).has_role here
 
-  apart_from : (q : ℕ) → p ≢ q → (role : Role) → slice_get w.roles q ≡ Some role → IsApart (held (row_of r).role) (held role)
-  apart_from q other role here = out.apart p q (row_of r).role role other (row_of r).has_role here
+  -- they meet what they met
+  others : OthersMeet m w h p after
+  others = others_meet m w after (held (row_of r).role) allowed_now.own h p apart_from
+      (λ q v other there alternates. enables_as_before w after p t u r.here puts.tasks leaves q other)
+      (λ q v other there alternates. ready_for_others w after p t u r.here puts.tasks leaves q other)
 
-  elsewhere : (q : ℕ) (v : Task) → p ≢ q → Process m w began h.holds.dues q v → Process m after began dues_after q v
-  elsewhere q v other old = record {
-    role = old.role;
-    has_role = has_role_after q old.role old.has_role;
-    start = old.start;
-    has_start = old.has_start;
-    due = old.due;
-    has_due = got_other h.holds.dues p q later other ∙ old.has_due;
-    root = old.root;
-    meets = meets_elsewhere (apart_from q other old.role old.has_role) allowed_now.own old.meets;
-    alternating = λ alternates. alternates_elsewhere q other v (apart_from q other old.role old.has_role) old.meets
-        alternates (old.alternating alternates);
-  }
+  elsewhere : (q : ℕ) (v : Task) → p ≢ q → slice_get w.tasks q ≡ Some v → Process m after began dues_after q v
+  elsewhere q v other here =
+      let old = h.table.each q v here in
+      let still = others q v here other in
+      record {
+        role = old.role;
+        has_role = has_role_after q old.role old.has_role;
+        start = old.start;
+        has_start = old.has_start;
+        due = old.due;
+        has_due = got_other h.dues p q later other ∙ old.has_due;
+        root = old.root;
+        meets = still.meets;
+        alternating = λ alternates. still.guards alternates (old.alternating alternates);
+      }
 
   -- who is over for good is so still
   gone_after : (q : ℕ) (role : Role) → IsGone w.tasks role q → IsGone after.tasks role q
@@ -422,19 +367,20 @@ module _ (m : Contents) (w : World) (h : IsSound m w) (out : IsSharedOut m w) (p
   -- what they go on with is so still
   abbrev OpenersStay : Type 0
   OpenersStay = (q : ℕ) (role : Role) (j : Join) (here : slice_get w.roles q ≡ Some role) (is : role.opened ≡ Some j)
-      → let opener = h.holds.pending q role j here is in
+      → let opener = h.pending q role j here is in
       Pending m role.own q opener.start began after.memory j opener.due opener.after
 
   -- what one changes that has no join open climbs
   unopened_leaves : opened_in w.roles p ≡ None → OpenersStay
   unopened_leaves none q role j here is =
-      openers_stay m w h.holds out.branches after.memory out.holders p changer q role j here is none
+      openers_stay m w h out.branches after.memory out.holders p changer q role j here is none
     where
       still : is_starting r.lives.point.state.mode ≡ false
       still = at_still r.lives (never_starting out.starters p t r.here none)
 
       changer : Changer m w began p after.memory
-      changer = step_changes m w began p t r.here (row_of r).role (row_of r).has_role (row_of r).start (row_of r).has_start (row_of r).due
+      changer = step_changes m w began p t r.here (row_of r).role (row_of r).has_role (row_of r).start
+          (row_of r).has_start (row_of r).due
           (sym (opened_is w.roles p (row_of r).role (row_of r).has_role) ∙ none) r.going r.lives still after.memory
           allowed_now.own
           (subst (λ (scope : Scope). Keeps m (held (row_of r).role) scope w.memory after.memory)
@@ -473,7 +419,7 @@ module _ (m : Contents) (w : World) (h : IsSound m w) (out : IsSharedOut m w) (p
     placed : (q : ℕ) (v : Task) → StandsAfter q v → Process m after began dues_after q v
     placed q v (inl itself) =
         subst (λ (n : ℕ). RowAt n v) itself.0 (subst (λ (x : Task). RowAt p x) (sym itself.1) mine)
-    placed q v (inr other) = elsewhere q v other.0 (h.holds.table.each q v other.1)
+    placed q v (inr other) = elsewhere q v other.0 other.1
 
     abbrev table_after : Table m after began dues_after
     table_after = record { each = λ q v there. placed q v (stands_after q v there) }
@@ -488,26 +434,24 @@ module _ (m : Contents) (w : World) (h : IsSound m w) (out : IsSharedOut m w) (p
 
     starts_placed : StartsOn → (q : ℕ) (v : Task) (stands : StandsAfter q v) (par : Par) (j : Join) (act : Activation)
         → ((x : Task) (here : slice_get w.tasks q ≡ Some x)
-        → StartsHere (h.holds.table.each q x here).meets par j act)
+        → StartsHere (h.table.each q x here).meets par j act)
         → StartsHere (placed q v stands).meets par j act
     unfolding placed elsewhere
     starts_placed on q v (inl itself) par j act starts =
         moved_row v (subst (λ (x : Task). RowAt p x) (sym itself.1) mine) q itself.0 par j act
         (moved_task v (sym itself.1) par j act (on par j act (r.starts par j act (starts_here itself.0))))
       where
-        starts_here : p ≡ q → StartsHere (h.holds.table.each p t r.here).meets par j act
+        starts_here : p ≡ q → StartsHere (h.table.each p t r.here).meets par j act
         starts_here same = subst (λ (n : ℕ). (x : Task) (here : slice_get w.tasks n ≡ Some x)
-            → StartsHere (h.holds.table.each n x here).meets par j act) (sym same) starts t r.here
-    starts_placed on q v (inr there) par j act starts =
-        let old = h.holds.table.each q v there.1 in
-        starts_elsewhere (apart_from q there.0 old.role old.has_role) allowed_now.own old.meets par j act
-        (starts v there.1)
+            → StartsHere (h.table.each n x here).meets par j act) (sym same) starts t r.here
+    starts_placed on q v (inr other) par j act starts =
+        (others q v other.1 other.0).starts par j act (starts v other.1)
 
     opener_after : OpenersStay → StartsOn → (q : ℕ) (role : Role) (j : Join) → slice_get after.roles q ≡ Some role
-        → role.opened ≡ Some j → Opener m after began dues_after h.holds.pending_dues table_after q role j
+        → role.opened ≡ Some j → Opener m after began dues_after h.pending_dues table_after q role j
     opener_after stay on q role j here is =
         let there = had_role q role here in
-        let old = h.holds.pending q role j there is in
+        let old = h.pending q role j there is in
         record {
           start = old.start;
           has_start = old.has_start;
@@ -527,32 +471,23 @@ module _ (m : Contents) (w : World) (h : IsSound m w) (out : IsSharedOut m w) (p
 
     -- ---- all of it
 
-    calm_after : IsCalm u → (q : ℕ) (v : Task) → slice_get after.tasks q ≡ Some v → IsCalm v
-    calm_after calm q v there = elim (stands_after q v there) [
-      | inl itself ↦ subst IsCalm (sym itself.1) calm
-      | inr other ↦ h.calm q v other.1
-    ]
-
-    sound_after : OpenersStay → StartsOn → later + after.counters.executed ≤ (row_of r).due + w.counters.executed → IsCalm u
-        → IsSound m after
-    sound_after stay on paid calm = record {
-      holds = record {
-        dues = dues_after;
-        pending_dues = h.holds.pending_dues;
-        began = began;
-        counted = record {
-          begun = h.holds.counted.begun ∙ same_count;
-          owing = length-set h.holds.dues p later ∙ h.holds.counted.owing ∙ same_count;
-          pending = h.holds.counted.pending ∙ same_count;
-        };
-        table = table_after;
-        pending = opener_after stay on;
-        lengths = lengths_kept m after.roles began puts.channels (rw puts.roles h.holds.lengths);
-        kept = puts.kept;
-        owed = let t = total_set h.holds.dues p (row_of r).due later (row_of r).has_due in let o = h.holds.owed in omega arith;
-        well = puts.fault ∙ h.holds.well;
+    holds_after : OpenersStay → StartsOn → later + after.counters.executed ≤ (row_of r).due + w.counters.executed
+        → Holds m after
+    holds_after stay on paid = record {
+      dues = dues_after;
+      pending_dues = h.pending_dues;
+      began = began;
+      counted = record {
+        begun = h.counted.begun ∙ same_count;
+        owing = length-set h.dues p later ∙ h.counted.owing ∙ same_count;
+        pending = h.counted.pending ∙ same_count;
       };
-      calm = calm_after calm;
+      table = table_after;
+      pending = opener_after stay on;
+      lengths = lengths_kept m after.roles began puts.channels (rw puts.roles h.lengths);
+      kept = puts.kept;
+      owed = let t = total_set h.dues p (row_of r).due later (row_of r).has_due in let o = h.owed in omega arith;
+      well = puts.fault ∙ h.well;
     }
       where
         same_count : length w.tasks ≡ length after.tasks
@@ -567,7 +502,7 @@ module _ (m : Contents) (w : World) (h : IsSound m w) (out : IsSharedOut m w) (p
     start = (row_of r).start;
     has_start = (row_of r).has_start;
     due = later;
-    has_due = got_set h.holds.dues p (row_of r).due later (row_of r).has_due;
+    has_due = got_set h.dues p (row_of r).due later (row_of r).has_due;
     root = (row_of r).root;
     meets = meets;
     alternating = alternating;
@@ -575,38 +510,38 @@ module _ (m : Contents) (w : World) (h : IsSound m w) (out : IsSharedOut m w) (p
 
   -- The invariant holds where it goes on in plain mode, and owes less by what is counted.
   pub holds_put : opened_in w.roles p ≡ None → later + after.counters.executed ≤ (row_of r).due + w.counters.executed
-      → u.mode ≡ modes.Plain → Meets m (held (row_of r).role) (row_of r).start new u later → IsSound m after
+      → u.mode ≡ modes.Plain → Meets m (held (row_of r).role) (row_of r).start new u later → Holds m after
   holds_put none paid plain meets =
       let mine = mine_after (subst (λ (memory : Memory). Meets m (held (row_of r).role) (row_of r).start memory u later)
-      (sym puts.memory) meets) (λ alternates. absurd (no_alternation u plain alternates)) in
-      sound_after mine (unopened_leaves none) (starts_never mine none) paid (is_plain plain)
+      (sym puts.memory) meets) (λ alternates. absurd (plain_beside plain alternates)) in
+      holds_after mine (unopened_leaves none) (starts_never mine none) paid
 
   -- The same where it goes on in an alternation, as its guards say.
   pub holds_put_alternating : opened_in w.roles p ≡ None
-      → later + after.counters.executed ≤ (row_of r).due + w.counters.executed → Alternates u.mode u.condition
+      → later + after.counters.executed ≤ (row_of r).due + w.counters.executed
       → {s : State} {act : Activation} → LivesAs m (held (row_of r).role) (row_of r).start new u later s act
-      → AlternatesHere m after p u s act → IsSound m after
-  holds_put_alternating none paid alternates {s} {act} lives guards =
+      → AlternatesHere m after p u s act → Holds m after
+  holds_put_alternating none paid {s} {act} lives guards =
       let l = subst (λ (memory : Memory). LivesAs m (held (row_of r).role) (row_of r).start memory u later s act)
       (sym puts.memory) lives in
       let mine = mine_after (it_lives l.lives) (λ again.
       subst (λ (act : Activation). AlternatesHere m after p u l.lives.point.state act) (sym l.act_is)
       (subst (λ (s : State). AlternatesHere m after p u s act) (sym l.state_is) guards)) in
-      sound_after mine (unopened_leaves none) (starts_never mine none) paid (is_alternating alternates)
+      holds_after mine (unopened_leaves none) (starts_never mine none) paid
 
   -- The same where it goes on among starts, and changes no byte.
   pub holds_put_starting : later + after.counters.executed ≤ (row_of r).due + w.counters.executed
-      → u.mode ≡ modes.Starting → u.condition ≡ Ready → after.memory ≡ w.memory
+      → u.mode ≡ modes.Starting → after.memory ≡ w.memory
       → (lives : Lives m (held (row_of r).role) (row_of r).start after.memory u later)
       → ((par : Par) (j : Join) (act : Activation) → IsStarter m t r.lives.point par j act
-      → IsStarter m u lives.point par j act) → IsSound m after
+      → IsStarter m u lives.point par j act) → Holds m after
   unfolding mine_after
-  holds_put_starting paid starting ready same lives starts =
-      sound_after (mine_after (it_lives lives) (λ alternates. absurd (not_starting u alternates starting)))
+  holds_put_starting paid starting same lives starts =
+      holds_after (mine_after (it_lives lives) (λ alternates. absurd (starts_beside starting alternates)))
       (λ q role j here is.
-      let opener = h.holds.pending q role j here is in
+      let opener = h.pending q role j here is in
       subst (λ (memory : Memory). Pending m role.own q opener.start began memory j opener.due opener.after) (sym same)
-      opener.pending) starts paid (is_among_starts starting ready)
+      opener.pending) starts paid
 
 -- ---- what the invariant does not read
 
@@ -620,78 +555,53 @@ pub record Rests (w after : World) : Type 0 where
   pub counters : after.counters ≡ w.counters
   pub fault : after.fault ≡ w.fault
 
-module _ (m : Contents) (w after : World) (rests : Rests w after)
-    (still : (p : ℕ) (t : Task) (s : State) (act : Activation) → slice_get w.tasks p ≡ Some t
-    → AlternatesHere m w p t s act → AlternatesHere m after p t s act) (h : IsSound m w) where
+module _ (m : Contents) (w after : World) (rests : Rests w after) (enabled : (p : ℕ) → SameEnabled w after p)
+    (ready : (p : ℕ) → HasReady w.tasks w.channels w.links.inputs p
+    → HasReady after.tasks after.channels after.links.inputs p) (h : Holds m w) where
   stood : (p : ℕ) (t : Task) → slice_get after.tasks p ≡ Some t → slice_get w.tasks p ≡ Some t
   stood p t there = subst (λ (tasks : List Task). slice_get tasks p ≡ Some t) rests.tasks there
 
   had_role_aside : (p : ℕ) (role : Role) → slice_get after.roles p ≡ Some role → slice_get w.roles p ≡ Some role
   had_role_aside p role there = subst (λ (roles : List Role). slice_get roles p ≡ Some role) rests.roles there
 
-  -- nobody has changed memory
-  nobody : (g : Holding) → IsApart nothing g
-  nobody g = record {
-    written = λ place no' mine. cc;
-    read = λ place no' mine. cc;
-    ends = λ end no' mine. cc;
-  }
+  still_meets : (p : ℕ) (t : Task) (here : slice_get w.tasks p ≡ Some t)
+      → MeetsStill m w after p (h.table.each p t here).meets
+  still_meets p t here = meets_unchanged m w after rests.memory p (h.table.each p t here).meets (enabled p) (ready p)
 
-  unchanged : ChangesOwn nothing w.memory after.memory
-  unchanged = record {
-    size = ap (λ (memory : Memory). length memory) rests.memory;
-    others = λ place e. ap (λ (memory : Memory). byte_at memory place) rests.memory;
-  }
+  row_aside : (p : ℕ) (t : Task) → slice_get w.tasks p ≡ Some t → Process m after h.began h.dues p t
+  row_aside p t here =
+      let old = h.table.each p t here in
+      let still = still_meets p t here in
+      record {
+        role = old.role;
+        has_role = subst (λ (roles : List Role). slice_get roles p ≡ Some old.role) (sym rests.roles) old.has_role;
+        start = old.start;
+        has_start = old.has_start;
+        due = old.due;
+        has_due = old.has_due;
+        root = old.root;
+        meets = still.meets;
+        alternating = λ alternates. still.guards alternates (old.alternating alternates);
+      }
 
-  guards_aside : (p : ℕ) (t : Task) {g : Holding} {start : Began} {due : ℕ} (meets : Meets m g start w.memory t due)
-      → slice_get w.tasks p ≡ Some t → AlternatesIn w p meets
-      → AlternatesIn after p (meets_elsewhere (nobody g) unchanged meets)
-  unfolding meets_elsewhere
-  guards_aside p t (it_lives l) here guards = still p t l.point.state l.point.act here guards
-  guards_aside p t (it_stopped e) here guards = guards
-  guards_aside p t (it_ended e) here guards = guards
-
-  row_aside : (p : ℕ) (t : Task) (old : Process m w h.holds.began h.holds.dues p t) → slice_get w.tasks p ≡ Some t
-      → Process m after h.holds.began h.holds.dues p t
-  row_aside p t old here = record {
-    role = old.role;
-    has_role = subst (λ (roles : List Role). slice_get roles p ≡ Some old.role) (sym rests.roles) old.has_role;
-    start = old.start;
-    has_start = old.has_start;
-    due = old.due;
-    has_due = old.has_due;
-    root = old.root;
-    meets = meets_elsewhere (nobody (held old.role)) unchanged old.meets;
-    alternating = λ alternates. guards_aside p t old.meets here (old.alternating alternates);
-  }
-
-  abbrev table_aside : Table m after h.holds.began h.holds.dues
-  table_aside = record {
-    each = λ p t there. row_aside p t (h.holds.table.each p t (stood p t there)) (stood p t there);
-  }
-
-  starts_aside : (p : ℕ) (t : Task) (old : Process m w h.holds.began h.holds.dues p t)
-      (here : slice_get w.tasks p ≡ Some t) (par : Par) (j : Join) (act : Activation)
-      → StartsHere old.meets par j act → StartsHere (row_aside p t old here).meets par j act
-  unfolding row_aside
-  starts_aside p t old here par j act starts =
-      starts_elsewhere (nobody (held old.role)) unchanged old.meets par j act starts
+  abbrev table_aside : Table m after h.began h.dues
+  table_aside = record { each = λ p t there. row_aside p t (stood p t there) }
 
   opener_aside : (q : ℕ) (role : Role) (j : Join) → slice_get after.roles q ≡ Some role → role.opened ≡ Some j
-      → Opener m after h.holds.began h.holds.dues h.holds.pending_dues table_aside q role j
+      → Opener m after h.began h.dues h.pending_dues table_aside q role j
+  unfolding row_aside
   opener_aside q role j here is =
-      let old = h.holds.pending q role j (had_role_aside q role here) is in
+      let old = h.pending q role j (had_role_aside q role here) is in
       record {
         start = old.start;
         has_start = old.has_start;
         due = old.due;
         has_due = old.has_due;
         after = old.after;
-        pending = subst (λ (memory : Memory). Pending m role.own q old.start h.holds.began memory j old.due old.after)
+        pending = subst (λ (memory : Memory). Pending m role.own q old.start h.began memory j old.due old.after)
             (sym rests.memory) old.pending;
-        starter = λ task there.
-            starts_aside q task (h.holds.table.each q task (stood q task there)) (stood q task there) old.after.par j
-            old.after.act (old.starter task (stood q task there));
+        starter = λ task there. (still_meets q task (stood q task there)).starts old.after.par j old.after.act
+            (old.starter task (stood q task there));
         members = λ a branch first has_branch by live has_first. old.members a branch first
             (had_role_aside a branch has_branch) by (λ gone. live (rw rests.tasks gone)) has_first;
         channels = λ n channel at.
@@ -701,32 +611,29 @@ module _ (m : Contents) (w after : World) (rests : Rests w after)
       }
 
   -- Who alternates does so still.
-  pub holds_aside : IsSound m after
+  pub holds_aside : Holds m after
   holds_aside = record {
-    holds = record {
-      dues = h.holds.dues;
-      pending_dues = h.holds.pending_dues;
-      began = h.holds.began;
-      counted = rw rests.tasks h.holds.counted;
-      table = table_aside;
-      pending = opener_aside;
-      lengths = rw (rests.roles, rests.channels) h.holds.lengths;
-      kept = rests.kept;
-      owed = rw rests.counters h.holds.owed;
-      well = rests.fault ∙ h.holds.well;
-    };
-    calm = rw rests.tasks h.calm;
+    dues = h.dues;
+    pending_dues = h.pending_dues;
+    began = h.began;
+    counted = rw rests.tasks h.counted;
+    table = table_aside;
+    pending = opener_aside;
+    lengths = rw (rests.roles, rests.channels) h.lengths;
+    kept = rests.kept;
+    owed = rw rests.counters h.owed;
+    well = rests.fault ∙ h.well;
   }
 
 -- whoever is picked to run
-pub dispatch_holds : (m : Contents) (pick : ℕ) (w : World) → IsSound m w → IsSound m (dispatch pick w)
+pub dispatch_holds : (m : Contents) (pick : ℕ) (w : World) → Holds m w → Holds m (dispatch pick w)
 unfolding dispatch
 dispatch_holds m pick w h = holds_aside m w (record w { queue = picked pick w.queue }) (record {
   tasks = refl;
   memory = refl;
   roles = refl;
   channels = refl;
-  kept = h.holds.kept;
+  kept = h.kept;
   counters = refl;
   fault = refl;
-}) (λ p t s act here guards. alternates_still guards refl refl refl refl) h
+}) (λ q. enabled_as_before w _ q refl refl) (λ q found. found) h

@@ -1,4 +1,5 @@
--- What a process comes to that wants a message: it is never at fault, and whichever way its turn ends the invariant holds.
+-- What a process comes to that wants a message: it is never at fault, and whichever way its turn ends the invariant
+-- holds.
 use Rattle.std.proofs.Common.{◌≡◌, ◌≢◌, ℕ, suc, ◌+◌, true, false, inl, inr, length}
 use Rattle.std.proofs.Common.{Option, Some, None, refl, sym, ap, ◌∙◌, subst, arith}
 use Rattle.std.proofs.lemmas.Bool.Decides.{leb_tells, eqb_tells}
@@ -29,11 +30,12 @@ use Rattle.machine_state.proofs.Lines.{got_within}
 use Rattle.machine_state.proofs.Waiting.{link_found, link_low}
 use Rattle.machine_state.proofs.WhoWaitsOnLinks.{one_holds}
 use Rattle.rulings.specs.Meaning.{IsWellFormed}
+use Rattle.certified_worlds.specs.Invariant.{Holds}
 use Rattle.verifier.proofs.LawfulWorlds.{IsLawful}
 use Rattle.certified_worlds.proofs.Steps.{Talks}
 use Rattle.verifier.proofs.SharedOut.{holds_own}
 use Rattle.verifier.proofs.Tables.{row_of}
-use Rattle.verifier.proofs.Tables.{IsSound, Living}
+use Rattle.verifier.proofs.Tables.{Living}
 use Rattle.verifier.proofs.Sources.{AtEnd, an_input, an_output, a_channel, Partner, partner, no_cell, at_end}
 use Rattle.verifier.proofs.Sources.{holding_is, same_address, input_found, output_found}
 
@@ -58,8 +60,8 @@ condition_is : (w : World) (q : ℕ) (t : Task) → slice_get w.tasks q ≡ Some
 condition_is w q t here =
     ap (λ (o : Option Task). elim o as (λ o. Condition) [ None ↦ Ready | Some task ↦ task.condition ]) here
 
-module _ (m : Contents) (wf : IsWellFormed m) (w : World) (lawful : IsLawful m w) (h : IsSound m w) (p : ℕ) (t : Task)
-    (ready : t.condition ≡ Ready) (r : Living m w h.holds p t)
+module _ (m : Contents) (wf : IsWellFormed m) (w : World) (lawful : IsLawful m w) (h : Holds m w) (p : ℕ) (t : Task)
+    (ready : t.condition ≡ Ready) (r : Living m w h p t)
     (unopened : opened_in w.roles p ≡ None) where
   -- what is at the end over which it wants a message
   pub there : {direction : Direction} {e : Exchange} → Talks m (held (row_of r).role) (row_of r).start t direction e
@@ -92,7 +94,8 @@ module _ (m : Contents) (wf : IsWellFormed m) (w : World) (lawful : IsLawful m w
       theirs = partner m wf w lawful h q u direction x here waits
 
       on : AtEnd m w (record { address = e.channel; direction = direction }) e.length → ⊥
-      on (an_input k few is in_ len) = no_cell m wf w lawful h (4 + k) e.channel c (omega (arith, few)) (omega (arith, is)) at
+      on (an_input k few is in_ len) = no_cell m wf w lawful h (4 + k) e.channel c (omega (arith, few))
+          (omega (arith, is)) at
       on (an_output k few is out len) = no_cell m wf w lawful h k e.channel c (omega (arith, few)) is at
       on (a_channel d found len word) =
           let same : x.channel ≡ e.channel = same_address x.channel e.channel theirs.word word cell in
@@ -104,7 +107,8 @@ module _ (m : Contents) (wf : IsWellFormed m) (w : World) (lawful : IsLawful m w
           theirs.end)
 
   -- the messages of both are as long as those of the channel
-  same_length : {direction : Direction} {e : Exchange} (other : Direction) (q : ℕ) (u : Task) (x : Exchange) (c : Channel)
+  same_length : {direction : Direction} {e : Exchange} (other : Direction) (q : ℕ) (u : Task) (x : Exchange)
+      (c : Channel)
       → Talks m (held (row_of r).role) (row_of r).start t direction e
       → slice_get w.channels (cell_of e.channel) ≡ Some (Some c) → cell_of x.channel ≡ cell_of e.channel
       → slice_get w.tasks q ≡ Some u → WaitsTo other u.condition x → x.length ≡ e.length
@@ -145,7 +149,8 @@ module _ (m : Contents) (wf : IsWellFormed m) (w : World) (lawful : IsLawful m w
   waiter e c q at waiting = lawful.cells (cell_of e.channel) c q (channel_there w e.channel c at) waiting
 
   -- and what it waits for is a message over it
-  pub over_it : (e x : Exchange) (q : ℕ) (u : Task) (direction : Direction) (c : Channel) → channel_at w e.channel ≡ Some c
+  pub over_it : (e x : Exchange) (q : ℕ) (u : Task) (direction : Direction) (c : Channel)
+      → channel_at w e.channel ≡ Some c
       → c.waiting ≡ Some q → slice_get w.tasks q ≡ Some u → WaitsTo direction u.condition x
       → cell_of x.channel ≡ cell_of e.channel
   over_it e x q u direction c at waiting here wants = on direction wants (waiter e c q at waiting)
@@ -194,8 +199,8 @@ module _ (m : Contents) (wf : IsWellFormed m) (w : World) (lawful : IsLawful m w
       elim v.waits [
         | inl out ↦ none v.exchange (condition_is w q v.task v.here ∙ out)
         | inr in_ ↦
-            alone_there {direction = In} {e = e} q v.task v.exchange c talks (channel_there w e.channel c at) v.at v.here
-            in_
+            alone_there {direction = In} {e = e} q v.task v.exchange c talks (channel_there w e.channel c at) v.at
+            v.here in_
       ]
   never_in pick talks (receives_other_length e l c q sent outside at waiting is differ) =
       let u = wants_it w q (Sending sent) is (λ e. cc) in
@@ -229,8 +234,8 @@ module _ (m : Contents) (wf : IsWellFormed m) (w : World) (lawful : IsLawful m w
       let v = waiter e c q at waiting in
       elim v.waits [
         | inl out ↦
-            alone_there {direction = Out} {e = e} q v.task v.exchange c talks (channel_there w e.channel c at) v.at v.here
-            out
+            alone_there {direction = Out} {e = e} q v.task v.exchange c talks (channel_there w e.channel c at) v.at
+            v.here out
         | inr in_ ↦ none v.exchange (condition_is w q v.task v.here ∙ in_)
       ]
   never_out pick talks (sends_other_length e l c q wanted outside at waiting is differ) =
