@@ -24,4 +24,7 @@ pub mod Partner
 pub mod ReceivingInside
 pub mod GoingAlone
 pub mod SendingInside
+pub mod Branching
+pub mod StartingBranches
+pub mod Alternating
 pub mod TurnsAgree

@@ -9,7 +9,6 @@ use Rattle.machine_state.specs.declared.link.InputLink.{InputLink}
 use Rattle.machine_state.specs.declared.process.Condition.TheVariants.{Ready}
 use Rattle.machine_state.specs.declared.process.Exchange.{Exchange}
 use Rattle.machine_state.specs.declared.process.Task.{Task}
-use Rattle.machine_state.specs.LocalStep.{word_of}
 use Rattle.machine_state.specs.World.{World}
 use Rattle.machine_state.proofs.Claims.{only_one}
 use Rattle.machine_state.proofs.Lines.{got_set, got_other}
@@ -93,7 +92,7 @@ module _ (m : Contents) (w : World) (machine : PlainMachine) (agrees : Agrees m 
       ready = ready_is;
       parked = parked;
       channels = λ k c there. agrees.channels k c there
-          ∙ ap word_of (same_channel w q task was.here Ready c.waiting c.enabled);
+          ∙ same_channel w q task was.here Ready c.waiting c.enabled;
       messages = messages;
       alternations = alternations;
       outputs = agrees.outputs ∙ same_outputs w q task was.here Ready w.links.outputs;

@@ -4,6 +4,8 @@ pub mod Agrees
 pub mod GoingOn
 pub mod Leaving
 pub mod Inside
+pub mod Starts
+pub mod Alternating
 pub mod Loading
 pub mod Arriving
 pub mod QueueWords

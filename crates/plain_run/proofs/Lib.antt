@@ -3,3 +3,4 @@ pub mod Stepping
 pub mod Arriving
 pub mod Waking
 pub mod Exchanging
+pub mod Branching
