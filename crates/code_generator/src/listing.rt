@@ -46,6 +46,13 @@ impl Listing {
         }
     }
 
+    /// The pieces.
+    pub fn into_pieces(self) -> Vec<Piece>
+        ensures { pieces_of result.items ≡ self }
+    {
+        self.pieces
+    }
+
     /// One piece more.
     pub(crate) fn push(&mut self, piece: Piece) -> Result<(), GenFault>
         ensures { IfOk result (λ _. self.new ≡ self.old ++ piece_of piece ∷ []) }
