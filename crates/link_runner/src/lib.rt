@@ -19,4 +19,5 @@ pub use device::Failed;
 pub use reading::{LinkReader, Reading};
 pub use report::{Outcome, Report, RunError};
 pub use running::run;
+pub use sending::write_whole;
 pub use writing::{LinkWriter, Writing};

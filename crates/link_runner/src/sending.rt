@@ -15,7 +15,7 @@ use link_runs::Machine;
 use machine_state::{Event, Link};
 
 /// Writes the whole message, in as many calls as that takes. If a call fails, a part of it is written.
-pub(crate) fn write_whole<W: LinkWriter>(writer: &mut W, message: &[u8]) -> Result<(), Failed>
+pub fn write_whole<W: LinkWriter>(writer: &mut W, message: &[u8]) -> Result<(), Failed>
     requires { W.failed writer.old ≡ false }
     ensures { WritesWhole W.written W.failed writer.old writer.new message.now result }
 {
