@@ -1,0 +1,42 @@
+-- What a program becomes, by the module of its pieces.
+use Rattle.std.proofs.Common.{◌≡◌, ℕ, List, Some, refl, sym, ◌∙◌, subst}
+use Rattle.occam_parser.specs.Blocks.{ProgramItem}
+use Rattle.code_pieces.specs.Pieces.{Piece, Code}
+use Rattle.code_pieces.specs.Laying.{apart}
+use Rattle.code_pieces.specs.LaidModule.{laid_module, Says}
+use Rattle.code_pieces.proofs.ModuleSays.{module_says}
+use Rattle.certified_code.specs.CertifiedModules.{IsCertifiedModule}
+use Rattle.code_generator.specs.Programs.{code_of}
+use Rattle.compiler.specs.Compiled.{IsGenerated}
+use Rattle.compiler.specs.LinkLengths.{link_lengths}
+
+same_inside : {A : Type 0} (x y : A) → Some x ≡ Some y → x ≡ y
+same_inside x y e = cc
+
+generated : (items : List ProgramItem) (code : Code) (bytes : List ℕ) → code_of items ≡ Some code
+    → IsCertifiedModule code.pieces code.labels (link_lengths items) bytes → IsGenerated items bytes
+generated items code bytes is made =
+    let m = made.is_module in
+    let links = link_lengths items in
+    let says : Says (apart code.pieces) code.labels links bytes =
+    module_says (apart code.pieces) code.labels links bytes m.draft m.laid m.assembled in
+    record {
+      is_module = record {
+        contents = laid_module (apart code.pieces) code.labels links says.arrangement;
+        format = says.format;
+        certifies = made.certified (laid_module (apart code.pieces) code.labels links says.arrangement) says.format;
+        version = refl;
+        lengths = refl;
+      };
+      is_code = λ other has. subst (λ (c : Code). Says (apart c.pieces) c.labels links bytes)
+          (same_inside code other (sym is ∙ has)) says;
+    }
+
+-- the same of these pieces and links
+pub generated_of : (items : List ProgramItem) (code : Code) (ps : List Piece) (links bytes : List ℕ)
+    → code_of items ≡ Some code → ps ≡ code.pieces → links ≡ link_lengths items
+    → IsCertifiedModule ps code.labels links bytes → IsGenerated items bytes
+generated_of items code ps links bytes is pieces lengths made =
+    generated items code bytes is
+    (subst (λ (qs : List Piece). IsCertifiedModule qs code.labels (link_lengths items) bytes) pieces
+    (subst (λ (ls : List ℕ). IsCertifiedModule ps code.labels ls bytes) lengths made))

@@ -1,0 +1,82 @@
+-- The module that a program becomes, and why a source becomes none.
+use Rattle.std.specs.Prelude.{◌≡◌, ◌⊎◌, ℕ, List, map, Some, Err}
+use Rattle.occam_layout.specs.Tokens.{IsSource}
+use Rattle.occam_layout.specs.Fault as layout
+use Rattle.occam_layout.specs.Reading.{read, row_of}
+use Rattle.occam_layout.specs.declared.token.Line.{Line}
+use Rattle.occam_parser.specs.Blocks.{rows_of, IsProgram, ProgramItem}
+use Rattle.occam_parser.specs.Told as parsing
+use Rattle.occam_parser.specs.Told.{IsRefusal}
+use Rattle.occam_parser.specs.declared.fault.ParseFault.{ParseFault}
+use Rattle.program_uses.specs.Telling.{IsFirst}
+use Rattle.usage_checks.specs.ItemRules.{BreaksProgram, BreaksNoRule}
+use Rattle.usage_checks.specs.Telling as usage
+use Rattle.module_format.specs.declared.tables.Version.TheVariants.{Two}
+use Rattle.module_format.specs.Contents.{Contents}
+use Rattle.module_format.specs.Keeping.{Format}
+use Rattle.code_pieces.specs.Pieces.{Code}
+use Rattle.code_pieces.specs.Laying.{apart}
+use Rattle.code_pieces.specs.LaidModule.{Says}
+use Rattle.certified_code.specs.CertifiedModules.{Certifies}
+use Rattle.code_generator.specs.Programs.{code_of}
+use Rattle.compiler.specs.declared.source.CompileFault.{CompileFault}
+use Rattle.compiler.specs.declared.source.CompileFault.TheVariants as faults
+use Rattle.compiler.specs.LinkLengths.{link_lengths}
+
+-- These bytes are a module of version 2, whose links take the messages of main's. It is certified, so it runs well.
+pub record IsModuleFor (items : List ProgramItem) (bytes : List ℕ) : Type 0 where
+  pub contents : Contents
+  pub format : Format bytes contents
+  pub certifies : Certifies contents
+  pub version : contents.version ≡ Two
+  pub lengths : contents.lengths ≡ link_lengths items
+
+-- If the program has code, these bytes are the module of its pieces.
+abbrev pub IsItsCode : List ProgramItem → List ℕ → Type 0
+IsItsCode items bytes =
+    (code : Code) → code_of items ≡ Some code → Says (apart code.pieces) code.labels (link_lengths items) bytes
+
+-- what `generate` makes of a program
+pub record IsGenerated (items : List ProgramItem) (bytes : List ℕ) : Type 0 where
+  pub is_module : IsModuleFor items bytes
+  pub is_code : IsItsCode items bytes
+
+-- ---- sources
+
+-- the source has these lines of tokens
+abbrev pub HasLines : List ℕ → List Line → Type 0
+HasLines source lines = IsSource source (map row_of lines)
+
+-- The source is a program.
+pub record IsProgramIn (source : List ℕ) (items : List ProgramItem) : Type 0 where
+  pub lines : List Line
+  pub has_lines : HasLines source lines
+  pub program : IsProgram (rows_of lines) items
+
+-- The source is a program that breaks no rule, and this is its module.
+pub record IsCompiled (source bytes : List ℕ) : Type 0 where
+  pub items : List ProgramItem
+  pub program : IsProgramIn source items
+  pub unbroken : BreaksNoRule items
+  pub generated : IsGenerated items bytes
+
+-- Unless memory ran out, the source's lines are no program.
+pub record IsUnparsed (source : List ℕ) (fault : ParseFault) : Type 0 where
+  pub lines : List Line
+  pub has_lines : HasLines source lines
+  pub refusal : IsRefusal (rows_of lines) fault
+  pub none : (items : List ProgramItem) → IsProgram (rows_of lines) items → fault ≡ parsing.out_of_memory
+
+-- The source is a program of which this holds.
+pub record IsProgramWith (source : List ℕ) (holds_of : List ProgramItem → Type 0) : Type 0 where
+  pub items : List ProgramItem
+  pub program : IsProgramIn source items
+  pub holds : holds_of items
+
+-- why a source becomes no module
+abbrev pub IsRefusedFor : List ℕ → CompileFault → Type 0
+IsRefusedFor source (faults.Layout f) = (f ≡ layout.out_of_memory) ⊎ (read source ≡ Err f)
+IsRefusedFor source (faults.Syntax f) = IsUnparsed source f
+IsRefusedFor source (faults.Usage f) =
+    IsProgramWith source (λ items. (f ≡ usage.out_of_memory) ⊎ IsFirst (BreaksProgram items) (Some f))
+IsRefusedFor source (faults.Generation f) = IsProgramWith source BreaksNoRule

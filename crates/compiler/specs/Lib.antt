@@ -1,0 +1,2 @@
+pub mod LinkLengths
+pub mod Compiled

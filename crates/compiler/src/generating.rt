@@ -1,0 +1,29 @@
+//! The module of a program.
+
+ghost use Rattle.std.specs.Prelude.{IfOk, map};
+ghost use Rattle.occam_parser.specs.BlockViews.{item_of};
+ghost use Rattle.compiler.specs.Compiled.{IsGenerated};
+
+use crate::links::link_lengths;
+use certified_code::certified_module_of;
+use code_generator::code_of;
+use module_builder::GenFault;
+use std::alloc::Global;
+use usage_checks::CheckedProgram;
+
+/// The module of a program. Its bytes read as a module of version 2 that is certified, so no run of it has a fault. The
+/// links of `main` have the lengths of their messages, and the others 0.
+///
+/// # Errors
+///
+/// [`GenFault::Limit`] if the code is too large or a number is above a limit of the format; [`GenFault::Memory`] if
+/// memory runs out; [`GenFault::Invalid`] if `main` has a `PAR`, an `ALT` or an instance, which have no code yet, but
+/// for those in a loop or a choice that never happens.
+pub fn generate(alloc: Global, program: &CheckedProgram) -> Result<Vec<u8>, GenFault>
+    ensures { IfOk result (λ v. IsGenerated (map item_of program.now.program.items.items) v.items) }
+{
+    let links = link_lengths(program.program().items());
+    let code = code_of(alloc, program)?;
+    let bytes = certified_module_of(alloc, code.listing.into_pieces(), code.labels, links)?;
+    Ok(bytes)
+}
