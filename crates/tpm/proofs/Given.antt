@@ -30,8 +30,9 @@ use Rattle.clap.specs.Faults.{word_fault, other_fault, flag_word_fault, position
 use Rattle.clap.specs.Faults.{react_fault, option_fault, long_fault, short_fault, bundle_step_fault, flags_fault}
 use Rattle.clap.specs.Faults.{bundle_fault, stray_fault, defaults_fault}
 use Rattle.module_format.specs.declared.rows.Direction.TheVariants.{In, Out}
-use Rattle.tpm.specs.CommandLine.{Asked, verifies, runs, lists, module_rule, link_rule, subcommand_shape, run_shape}
-use Rattle.tpm.specs.CommandLine.{tpm, paths_given, named, entered_by, unless_faulty, line_of}
+use Rattle.tpm.specs.CommandLine.{Asked, compiles, verifies, runs, lists, path_rule, link_rule, compile_shape}
+use Rattle.tpm.specs.CommandLine.{subcommand_shape, run_shape, tpm, paths_given, named, entered_by, unless_faulty}
+use Rattle.tpm.specs.CommandLine.{compiled_by, line_of}
 
 -- ---- the arguments of a subcommand
 
@@ -358,14 +359,25 @@ is_there : (b : Bool) → check_kinds false false (not b || false) ≡ [] → b 
 is_there true fault = refl
 is_there false fault = cc
 
--- a subcommand of which nothing but the path is required
-record IsLeaf (s : Shape) : Type 0 where
-  ours : AllOurs s.rules
-  misses : (rows : List Row) → check_fault s rows false ≡ [] → is_given (codes "MOD") rows ≡ true
+-- the first and the second one of two
+first_there : (b c : Bool) → check_kinds false false (not b || (not c || false)) ≡ [] → b ≡ true
+first_there true c fault = refl
+first_there false c fault = cc
 
-path_given : (s : Shape) (words : List Text) → IsLeaf s → level_fault s [] nothing_held words false [] ≡ []
-    → (path : Text) × (first_of (codes "MOD") (rows_after s.rules [] words) ≡ Some path)
-path_given s words is fault =
+second_there : (b c : Bool) → check_kinds false false (not b || (not c || false)) ≡ [] → c ≡ true
+second_there true true fault = refl
+second_there true false fault = cc
+second_there false c fault = absurd (cc)
+
+-- a subcommand that requires this path
+record IsLeaf (id : Text) (s : Shape) : Type 0 where
+  ours : AllOurs s.rules
+  misses : (rows : List Row) → check_fault s rows false ≡ [] → is_given id rows ≡ true
+
+path_given : (id : Text) (s : Shape) (words : List Text) → IsLeaf id s
+    → level_fault s [] nothing_held words false [] ≡ []
+    → (path : Text) × (first_of id (rows_after s.rules [] words) ≡ Some path)
+path_given id s words is fault =
     let end = (walk s.rules [] nothing_held words).held in
     let outer = both_empty (walk_fault s [] (walk_from nothing_held) words) _ fault in
     let inner = both_empty (settle_fault s.rules s.args_override_self end) _ outer.1 in
@@ -374,7 +386,7 @@ path_given s words is fault =
     (valued-walk s is.ours words (walk_from nothing_held) outer.0 tt) in
     let valued : AllValued (finished s.rules end) =
     subst AllValued (sym (no_defaults s.rules is.ours (settled s.rules end).rows)) all in
-    given_value (codes "MOD") (finished s.rules end) valued (is.misses (finished s.rules end) last.1)
+    given_value id (finished s.rules end) valued (is.misses (finished s.rules end) last.1)
 
 -- ---- the subcommands
 
@@ -388,22 +400,40 @@ plain_leaf name = leaf (subcommand_shape name)
 abbrev run_leaf : Shape
 run_leaf = leaf run_shape
 
-module_ours : IsOurs (Some (with_index 1 (filled module_rule)))
-module_ours = a_value (codes "MOD") None (Some 1) 0 true
+abbrev compile_leaf : Shape
+compile_leaf = leaf compile_shape
+
+path_ours : (name : Text) (index : ℕ) → IsOurs (Some (with_index index (filled (path_rule name))))
+path_ours name index = a_value name None (Some index) 0 true
+
+compile_ours : AllOurs compile_leaf.rules
+compile_ours = (path_ours (codes "SRC") 1, (path_ours (codes "OUT") 2, (the_flag, tt)))
+
+source_is_required : IsLeaf (codes "SRC") compile_leaf
+source_is_required = record {
+  ours = compile_ours;
+  misses = λ rows. first_there (is_given (codes "SRC") rows) (is_given (codes "OUT") rows);
+}
+
+out_is_required : IsLeaf (codes "OUT") compile_leaf
+out_is_required = record {
+  ours = compile_ours;
+  misses = λ rows. second_there (is_given (codes "SRC") rows) (is_given (codes "OUT") rows);
+}
 
 option_ours : (name : Text) → IsOurs (Some (filled (link_rule name)))
 option_ours name = a_value name (Some name) None 1 false
 
-plain_is_leaf : (name : Text) → IsLeaf (plain_leaf name)
+plain_is_leaf : (name : Text) → IsLeaf (codes "MOD") (plain_leaf name)
 plain_is_leaf name = record {
-  ours = (module_ours, (the_flag, tt));
+  ours = (path_ours (codes "MOD") 1, (the_flag, tt));
   misses = λ rows. is_there (is_given (codes "MOD") rows);
 }
 
-run_is_leaf : IsLeaf run_leaf
+run_is_leaf : IsLeaf (codes "MOD") run_leaf
 run_is_leaf = record {
   ours = (
-    module_ours,
+    path_ours (codes "MOD") 1,
     (
       option_ours (codes "in0"),
       (
@@ -433,10 +463,18 @@ run_is_leaf = record {
 -- ---- the whole line
 
 -- the subcommand that has the name, by which one has
-abbrev among : Bool → Bool → Bool → Option Shape
-among b c d =
-    cond b (Some (plain_leaf (codes "verify")))
-    (cond c (Some run_leaf) (cond d (Some (plain_leaf (codes "list"))) None))
+abbrev among : Bool → Bool → Bool → Bool → Option Shape
+among a b c d =
+    cond a (Some compile_leaf)
+    (cond b (Some (plain_leaf (codes "verify")))
+    (cond c (Some run_leaf) (cond d (Some (plain_leaf (codes "list"))) None)))
+
+-- what is asked for where both paths are given
+both_given : (rows : List Row) (source out : Text) → first_of (codes "SRC") rows ≡ Some source
+    → first_of (codes "OUT") rows ≡ Some out → compiled_by rows ≡ Some (compiles source out)
+both_given rows source out is_source is_out =
+    ap (option_and_then (λ s. option_map (compiles s) (first_of (codes "OUT") rows))) is_source
+    ∙ ap (option_map (compiles source)) is_out
 
 -- the rows that a subcommand has at its words
 abbrev rows_of_leaf : Shape → List Text → List Row
@@ -446,27 +484,31 @@ entered_given : (stop : Option (Text × List Text)) → entered_fault (built tpm
     → is_some (entered (built tpm) stop) ≡ true
     → (asked : Asked) × (option_and_then entered_by (entered (built tpm) stop) ≡ Some asked)
 entered_given None fault is = absurd (cc)
-entered_given (Some p) fault is = go (answers_to p.0 (codes "verify", [])) (answers_to p.0 (codes "run", []))
-    (answers_to p.0 (codes "list", [])) fault is
+entered_given (Some p) fault is = go (answers_to p.0 (codes "compile", [])) (answers_to p.0 (codes "verify", []))
+    (answers_to p.0 (codes "run", [])) (answers_to p.0 (codes "list", [])) fault is
   where
-    go : (b c d : Bool) → option_map_or (λ s. level_fault s [] nothing_held p.1 false []) (among b c d) [] ≡ []
-        → is_some (option_map (λ s. rows_at s p.1) (among b c d)) ≡ true
-        → (asked : Asked) × (option_and_then entered_by (option_map (λ s. rows_at s p.1) (among b c d)) ≡ Some asked)
-    go true c d f e =
-        let path = path_given (plain_leaf (codes "verify")) p.1 (plain_is_leaf (codes "verify")) f in
+    go : (a b c d : Bool) → option_map_or (λ s. level_fault s [] nothing_held p.1 false []) (among a b c d) [] ≡ []
+        → is_some (option_map (λ s. rows_at s p.1) (among a b c d)) ≡ true
+        → (asked : Asked) × (option_and_then entered_by (option_map (λ s. rows_at s p.1) (among a b c d)) ≡ Some asked)
+    go true b c d f e =
+        let source = path_given (codes "SRC") compile_leaf p.1 source_is_required f in
+        let out = path_given (codes "OUT") compile_leaf p.1 out_is_required f in
+        (compiles source.0 out.0, both_given (rows_of_leaf compile_leaf p.1) source.0 out.0 source.1 out.1)
+    go false true c d f e =
+        let path = path_given (codes "MOD") (plain_leaf (codes "verify")) p.1 (plain_is_leaf (codes "verify")) f in
         let rows = rows_of_leaf (plain_leaf (codes "verify")) p.1 in
         (verifies path.0, ap (option_and_then (named (codes "verify") rows)) path.1)
-    go false true d f e =
-        let path = path_given run_leaf p.1 run_is_leaf f in
+    go false false true d f e =
+        let path = path_given (codes "MOD") run_leaf p.1 run_is_leaf f in
         let rows = rows_of_leaf run_leaf p.1 in (
           runs path.0 (paths_given In rows) (paths_given Out rows),
           ap (option_and_then (named (codes "run") rows)) path.1,
         )
-    go false false true f e =
-        let path = path_given (plain_leaf (codes "list")) p.1 (plain_is_leaf (codes "list")) f in
+    go false false false true f e =
+        let path = path_given (codes "MOD") (plain_leaf (codes "list")) p.1 (plain_is_leaf (codes "list")) f in
         let rows = rows_of_leaf (plain_leaf (codes "list")) p.1 in
         (lists path.0, ap (option_and_then (named (codes "list") rows)) path.1)
-    go false false false f e = absurd (cc)
+    go false false false false f e = absurd (cc)
 
 -- a subcommand that is not missed is there
 is_entered : (rows : List Row) (b : Bool) → check_fault (built tpm).top rows b ≡ [] → b ≡ true

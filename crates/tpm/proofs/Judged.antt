@@ -1,4 +1,4 @@
--- What is told of a module file whose run was asked for, or why nothing is.
+-- What is told of a source that was compiled, and of a module file whose run was asked for, or why nothing is.
 use Rattle.std.proofs.Common.{ℕ, Bool, List, Option, Result, Ok, Err, MatchResult, ◌⊎◌, inl, inr, refl}
 use Rattle.clap.specs.Walk.{Text}
 use Rattle.module_format.specs.Contents.{Contents}
@@ -7,7 +7,8 @@ use Rattle.link_runs.specs.ByLink.{ByLink}
 use Rattle.tpm.specs.declared.files.FileFault.{FileFault}
 use Rattle.tpm.specs.declared.report.Failure.{Failure}
 use Rattle.tpm.specs.declared.report.Failure.TheVariants as failures
-use Rattle.tpm.specs.CommandLine.{runs}
+use Rattle.tpm.specs.CommandLine.{compiles, runs}
+use Rattle.tpm.specs.Compiling.{HasCompiled, WithholdsModule}
 use Rattle.tpm.specs.Acting.{StopsIn, IsDone, WithholdsRun, HasRun, IsTold}
 use Rattle.tpm.specs.Acting.{IsHindered}
 
@@ -15,6 +16,34 @@ module _ {F R W : Type 0} (opens : F → Text → Result R FileFault → F → T
     (creates : F → Text → Result W FileFault → F → Type 0) (closes : F → W → Bool → F → Type 0)
     (left : R → Option (List ℕ)) (read_failed : R → Bool) (written : W → Option (List ℕ))
     (write_failed : W → Bool) where
+  module_withheld : (bytes : List ℕ) (source out : Text) (before after : F) (failure : Failure)
+      → WithholdsModule creates closes written bytes out before after failure
+      → IsHindered opens creates closes left read_failed written write_failed bytes (compiles source out) before after
+      failure
+  module_withheld bytes source out before after (failures.Malformed fault) why = absurd why.writes
+  module_withheld bytes source out before after (failures.Uncertified refusal) why = absurd why.writes
+  module_withheld bytes source out before after (failures.Uncompiled fault) why = why
+  module_withheld bytes source out before after (failures.Unread missing) why = why
+  module_withheld bytes source out before after (failures.Uncreated missing) why = why
+  module_withheld bytes source out before after (failures.ReadFailed link) why = why
+  module_withheld bytes source out before after (failures.WriteFailed link) why = why
+  module_withheld bytes source out before after failures.Unwritten why = absurd why.writes
+  module_withheld bytes source out before after failures.Memory why = why
+
+  -- the answer that compiling a source gives
+  pub module_judged : {S : Type 0} (text_of : S → Text) (bytes : List ℕ) (source out : Text) (before after : F)
+      (result : Result S Failure)
+      → MatchResult result
+      (λ text. HasCompiled creates closes written bytes out before after (text_of text))
+      (WithholdsModule creates closes written bytes out before after)
+      → MatchResult result
+      (λ text. IsTold opens creates closes left read_failed written write_failed bytes (compiles source out) before
+      after (text_of text))
+      (IsHindered opens creates closes left read_failed written write_failed bytes (compiles source out) before after)
+  module_judged text_of bytes source out before after (Ok text) has = has
+  module_judged text_of bytes source out before after (Err failure) why =
+      module_withheld bytes source out before after failure why
+
   module _ (bytes : List ℕ) (m : Contents) (format : Format bytes m) where
     -- what a run came to
     run_told : (path : Text) (inputs outputs : ByLink (Option Text)) (before after : F) (text : Text)
@@ -31,6 +60,7 @@ module _ {F R W : Type 0} (opens : F → Text → Result R FileFault → F → T
     run_withheld path inputs outputs before after (failures.Malformed fault) why = absurd why
     run_withheld path inputs outputs before after (failures.Uncertified refusal) why =
         (record { wanted = refl; contents = m; format = format; reported = why.0 }, why.1)
+    run_withheld path inputs outputs before after (failures.Uncompiled fault) why = absurd why
     run_withheld path inputs outputs before after (failures.Unread missing) why =
         record { contents = m; format = format; certified = λ _. why.0; holds = why.1 }
     run_withheld path inputs outputs before after (failures.Uncreated missing) why =

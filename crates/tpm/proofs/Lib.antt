@@ -1,5 +1,6 @@
 pub mod Matched
 pub mod Acts
+pub mod Answered
 pub mod Judged
 pub mod FilesClosed
 pub mod FilesRun

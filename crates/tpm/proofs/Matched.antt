@@ -1,9 +1,9 @@
 -- From what the parser's getters tell to what the words ask for.
 use Rattle.std.proofs.Common.{◌≡◌, List, [], ◌∷◌, true, Option, Some, None, option_map, option_and_then, IsSome, inl}
-use Rattle.std.proofs.Common.{inr, refl, ap, ap₂, sym, ◌∙◌, codes}
+use Rattle.std.proofs.Common.{inr, refl, ap, ap₂, sym, ◌∙◌}
 use Rattle.std.specs.Prelude.{Box}
 use Rattle.std.specs.Box.{box_value}
-use Rattle.clap.specs.Matches.{found_of, first_value}
+use Rattle.clap.specs.Matches.{found_of}
 use Rattle.clap.specs.Walk.{Text, Row, rows_of}
 use Rattle.clap.specs.Simple.{App, HasMatchesOf, is_simple, subcommand_of, subcommand_rows, subcommand_rows_of}
 use Rattle.clap.specs.Kinds.{Kinds, HasKind, IsAmong}
@@ -14,11 +14,10 @@ use Rattle.clap.specs.declared.error.kind.ErrorKind.{ErrorKind}
 use Rattle.clap.specs.declared.parser.matches.SubCommand.{SubCommand}
 use Rattle.clap.specs.declared.parser.matches.ArgMatches.TheViews.{out-ArgMatches, out-SubCommand}
 use Rattle.clap.specs.declared.parser.matches.ArgMatches.{ArgMatches}
-use Rattle.clap.proofs.WalkLemmas.{first_value-rows}
 use Rattle.tpm.specs.declared.line.Line.{Line}
 use Rattle.tpm.specs.declared.line.LineFault.{LineFault}
 use Rattle.tpm.specs.declared.line.LineFault.TheVariants as faults
-use Rattle.tpm.specs.CommandLine.{Asked, asked_of, named, entered_by, unless_faulty, line_of, tpm}
+use Rattle.tpm.specs.CommandLine.{Asked, asked_of, entered_by, unless_faulty, line_of, tpm}
 use Rattle.tpm.specs.LineFaults.{FaultOf, IsFaultAt}
 use Rattle.tpm.proofs.Given.{given}
 
@@ -34,17 +33,13 @@ entered_is None name rows a b = absurd (cc)
 entered_is (Some box) name rows a b =
     ap₂ (λ (x : Text) (y : List Row). Some (x, y)) (sym (same_inside _ _ a)) (sym (same_inside _ _ b))
 
--- what is asked for by the subcommand that was met, with this name, what was given to it, and this path
-pub asks_by : (matches given : ArgMatches) (name : Text) (path : Option Text)
+-- what is asked for by the subcommand that was met, with this name and what was given to it
+pub asks_by : (matches given : ArgMatches) (name : Text)
     → Some name ≡ option_map (λ b. (out-SubCommand (box_value b)).name.now) (out-ArgMatches matches).subcommand
     → Some (rows_of (found_of given)) ≡ option_map (λ p. p.1) (subcommand_rows_of matches)
-    → path ≡ first_value (found_of given) (codes "MOD")
-    → option_and_then (named name (rows_of (found_of given))) path
-    ≡ option_and_then entered_by (subcommand_rows_of matches)
-asks_by matches given name path called rows read =
-    ap (option_and_then (named name (rows_of (found_of given))))
-    (read ∙ first_value-rows (found_of given) (codes "MOD"))
-    ∙ sym (ap (option_and_then entered_by)
+    → entered_by (name, rows_of (found_of given)) ≡ option_and_then entered_by (subcommand_rows_of matches)
+asks_by matches given name called rows =
+    sym (ap (option_and_then entered_by)
     (entered_is (out-ArgMatches matches).subcommand name (rows_of (found_of given)) called rows))
 
 -- ---- the whole line

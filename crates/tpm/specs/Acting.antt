@@ -11,6 +11,8 @@ use Rattle.link_runs.specs.ByLink.{ByLink}
 use Rattle.link_runner.specs.declared.report.Report.{Report as RunReport}
 use Rattle.verifier.specs.declared.Refusal.{Refusal}
 use Rattle.certified_worlds.specs.Certified.{IsCertified}
+use Rattle.compiler.specs.declared.source.CompileFault.{CompileFault}
+use Rattle.compiler.specs.Compiled.{IsRefusedFor}
 use Rattle.verifier.specs.Reports.{Reports}
 use Rattle.tpm.specs.declared.files.FileFault.{FileFault}
 use Rattle.tpm.specs.declared.files.FileFault.TheVariants as file_faults
@@ -18,7 +20,8 @@ use Rattle.tpm.specs.declared.report.Report.TheVariants.{Accepted}
 use Rattle.tpm.specs.declared.report.Failure.{Failure}
 use Rattle.tpm.specs.declared.report.Failure.TheVariants as failures
 use Rattle.tpm.specs.declared.report.TheConstants.{DONE, REFUSED, MISUSED, FAILED, STARVED}
-use Rattle.tpm.specs.CommandLine.{Asked, verifies, runs, lists, path_of, wants_verdict, line_of}
+use Rattle.tpm.specs.CommandLine.{Asked, compiles, verifies, runs, lists, path_of, wants_verdict, line_of}
+use Rattle.tpm.specs.Compiling.{CompilesAndWrites, HasCompiled}
 use Rattle.tpm.specs.FilesOnLinks.{RunsTo}
 use Rattle.tpm.specs.Texts.{report_line, run_text, status_of}
 use Rattle.tpm.specs.Listing.{listing}
@@ -34,6 +37,7 @@ pub record IsAccepted (m : Contents) (text : Text) : Type 0 where
 abbrev pub WithholdsVerdict : Contents → Failure → Type 0
 WithholdsVerdict m (failures.Malformed fault) = ⊥
 WithholdsVerdict m (failures.Uncertified refusal) = Reports m refusal
+WithholdsVerdict m (failures.Uncompiled fault) = ⊥
 WithholdsVerdict m (failures.Unread path) = ⊥
 WithholdsVerdict m (failures.Uncreated path) = ⊥
 WithholdsVerdict m (failures.ReadFailed link) = ⊥
@@ -61,10 +65,16 @@ pub record IsUncertified (bytes : List ℕ) (asked : Asked) (refusal : Refusal) 
   pub format : Format bytes contents
   pub reported : Reports contents refusal
 
--- The reader or the verifier refuses the bytes.
+-- A source is asked for that becomes no module, for this reason.
+abbrev pub IsUncompiled : List ℕ → Asked → CompileFault → Type 0
+IsUncompiled bytes (compiles source out) fault = IsRefusedFor bytes fault
+IsUncompiled bytes asked fault = ⊥
+
+-- The reader, the verifier or the compiler refuses the bytes.
 pub data IsRefusedBy (bytes : List ℕ) (asked : Asked) : Type 0 where
   malformed : (fault : FormatFault) → IsMalformed bytes fault → IsRefusedBy bytes asked
   uncertified : (refusal : Refusal) → IsUncertified bytes asked refusal → IsRefusedBy bytes asked
+  uncompiled : (fault : CompileFault) → IsUncompiled bytes asked fault → IsRefusedBy bytes asked
 
 -- ---- standard output
 
@@ -99,18 +109,21 @@ module _ {F R W : Type 0} (opens : F → Text → Result R FileFault → F → T
 
   -- what is told of a module, and what was done with the files
   abbrev pub TellsOf : Contents → Asked → F → F → Text → Type 0
+  TellsOf m (compiles source out) before after text = ⊥
   TellsOf m (verifies path) before after text = IsAccepted m text × (after ≡ before)
   TellsOf m (runs path inputs outputs) before after text = HasRun m inputs outputs before after text
   TellsOf m (lists path) before after text = (text ≡ listing m) × (after ≡ before)
 
   -- a file of a link or a link failed, or memory ran out for them
   abbrev pub StopsIn : Contents → Asked → F → F → Failure → Type 0
+  StopsIn m (compiles source out) before after failure = ⊥
   StopsIn m (verifies path) before after failure = ⊥
   StopsIn m (runs path inputs outputs) before after failure = RunOf m inputs outputs before after (Err failure)
   StopsIn m (lists path) before after failure = ⊥
 
   -- what is asked for was done, but is not told
   abbrev pub IsDone : Contents → Asked → F → F → Type 0
+  IsDone m (compiles source out) before after = ⊥
   IsDone m (verifies path) before after = after ≡ before
   IsDone m (runs path inputs outputs) before after =
       (report : RunReport) × RunOf m inputs outputs before after (Ok report)
@@ -120,29 +133,46 @@ module _ {F R W : Type 0} (opens : F → Text → Result R FileFault → F → T
   abbrev pub WithholdsRun : Contents → Asked → F → F → Failure → Type 0
   WithholdsRun m asked before after (failures.Malformed fault) = ⊥
   WithholdsRun m asked before after (failures.Uncertified refusal) = Reports m refusal × (after ≡ before)
+  WithholdsRun m asked before after (failures.Uncompiled fault) = ⊥
   WithholdsRun m asked before after failures.Unwritten = ⊥
   WithholdsRun m asked before after failures.Memory =
       IsCertified m × (StopsIn m asked before after failures.Memory ⊎ IsDone m asked before after)
   WithholdsRun m asked before after failure = IsCertified m × StopsIn m asked before after failure
 
   -- The bytes are the file of a module of which this is told.
-  pub record IsTold (bytes : List ℕ) (asked : Asked) (before after : F) (text : Text) : Type 0 where
+  pub record IsToldOfModule (bytes : List ℕ) (asked : Asked) (before after : F) (text : Text) : Type 0 where
     pub contents : Contents
     pub format : Format bytes contents
     pub told : TellsOf contents asked before after text
 
-  -- the bytes are the file of a module, and what is asked for stopped by this failure
+  -- what is told of a source or of a module
+  abbrev pub IsTold : List ℕ → Asked → F → F → Text → Type 0
+  IsTold bytes (compiles source out) before after text = HasCompiled creates closes written bytes out before after text
+  IsTold bytes asked before after text = IsToldOfModule bytes asked before after text
+
+  -- The bytes are a source whose module was not written, or the file of a module, and what is asked for stopped by this
+  -- failure.
   abbrev pub IsStopped : List ℕ → Asked → F → F → Failure → Type 0
+  IsStopped bytes (compiles source out) before after failure =
+      CompilesAndWrites creates closes written bytes out before after (Err failure)
   IsStopped bytes asked before after failure = IsJudged bytes asked (λ m. StopsIn m asked before after failure)
 
-  -- why nothing is told of the module in the bytes
+  -- what is asked for was done with the bytes, but is not told
+  abbrev pub IsUntold : List ℕ → Asked → F → F → Type 0
+  IsUntold bytes (compiles source out) before after =
+      (u : ⊤) × CompilesAndWrites creates closes written bytes out before after (Ok u)
+  IsUntold bytes asked before after = IsJudged bytes asked (λ m. IsDone m asked before after)
+
+  -- why nothing is told of the source or the module in the bytes
   abbrev pub IsHindered : List ℕ → Asked → F → F → Failure → Type 0
   IsHindered bytes asked before after (failures.Malformed fault) = IsMalformed bytes fault × (after ≡ before)
   IsHindered bytes asked before after (failures.Uncertified refusal) =
       IsUncertified bytes asked refusal × (after ≡ before)
+  IsHindered bytes asked before after (failures.Uncompiled fault) =
+      IsUncompiled bytes asked fault × (after ≡ before)
   IsHindered bytes asked before after failures.Unwritten = ⊥
   IsHindered bytes asked before after failures.Memory =
-      IsStopped bytes asked before after failures.Memory ⊎ IsJudged bytes asked (λ m. IsDone m asked before after)
+      IsStopped bytes asked before after failures.Memory ⊎ IsUntold bytes asked before after
   IsHindered bytes asked before after failure = IsStopped bytes asked before after failure
 
   module _ (reads : F → List ℕ → Result (List ℕ) FileFault → F → Type 0) where
@@ -185,7 +215,7 @@ module _ {F R W : Type 0} (opens : F → Text → Result R FileFault → F → T
       told : (asked : Asked) (text : Text) → line_of words ≡ Some asked
           → Reads asked before (λ bytes next. IsTold bytes asked next after text)
           → Appends out_before out_after text → status ≡ DONE → Acts words before after out_before out_after status
-      -- the reader or the verifier refuses the bytes
+      -- the reader, the verifier or the compiler refuses the bytes, and no file is created
       refused : (asked : Asked) → line_of words ≡ Some asked
           → Reads asked before (λ bytes next. IsRefusedBy bytes asked × (after ≡ next))
           → out_after ≡ out_before → status ≡ REFUSED → Acts words before after out_before out_after status
@@ -196,7 +226,7 @@ module _ {F R W : Type 0} (opens : F → Text → Result R FileFault → F → T
       unread : (asked : Asked) → line_of words ≡ Some asked
           → reads before (path_of asked) (Err file_faults.Failed) after
           → out_after ≡ out_before → status ≡ FAILED → Acts words before after out_before out_after status
-      -- a file of a link was not opened, created or closed, or a link failed, or memory ran out for them
+      -- a file was not opened, created, written or closed, or a link failed, or memory ran out for them
       stopped : (asked : Asked) (failure : Failure) → line_of words ≡ Some asked
           → Reads asked before (λ bytes next. IsStopped bytes asked next after failure)
           → out_after ≡ out_before → status ≡ status_of failure → Acts words before after out_before out_after status
@@ -214,5 +244,5 @@ module _ {F R W : Type 0} (opens : F → Text → Result R FileFault → F → T
           → out_after ≡ out_before → status ≡ STARVED → Acts words before after out_before out_after status
       -- what was asked for was done, and then memory ran out for the text that is told
       starved_by_text : (asked : Asked) → line_of words ≡ Some asked
-          → Reads asked before (λ bytes next. IsJudged bytes asked (λ m. IsDone m asked next after))
+          → Reads asked before (λ bytes next. IsUntold bytes asked next after)
           → out_after ≡ out_before → status ≡ STARVED → Acts words before after out_before out_after status

@@ -1,6 +1,6 @@
 -- What a command line asks for: our own choice, told as the command of the argument parser `clap`.
 use Rattle.std.specs.Prelude.{Bool, List, [], ◌∷◌, ◌++◌, codes, true, false, Option, Some, None, if◌then◌else◌}
-use Rattle.std.specs.Prelude.{option_and_then}
+use Rattle.std.specs.Prelude.{option_and_then, option_map}
 use Rattle.std.specs.Str.{bytes_eq}
 use Rattle.clap.specs.Walk.{Text, Row, Rule, first_of}
 use Rattle.clap.specs.Simple.{App, Shape, new_shape, new_rule, subcommand_of}
@@ -9,37 +9,47 @@ use Rattle.clap.specs.Faults.{fault_of}
 use Rattle.machine_state.specs.declared.link.Link.TheVariants.{Zero, One, Two, Three}
 use Rattle.link_runs.specs.ByLink.{ByLink, by_link}
 use Rattle.tpm.specs.declared.line.Line.{Line}
-use Rattle.tpm.specs.declared.line.Line.TheVariants.{Verify, Run, List as Listed}
+use Rattle.tpm.specs.declared.line.Line.TheVariants.{Compile, Verify, Run, List as Listed}
 use Rattle.module_format.specs.declared.rows.Direction.{Direction}
 use Rattle.module_format.specs.declared.rows.Direction.TheVariants.{In, Out}
 use Rattle.tpm.specs.Links.{link_name, paths_of}
 
--- what is asked for: the verdict on a module file, its run with files on its input links and output links, or the
--- listing of its code
+-- what is asked for: the module of a source file, written to another file; the verdict on a module file, its run with
+-- files on its input links and output links, or the listing of its code
 pub data Asked : Type 0 where
+  compiles : Text → Text → Asked
   verifies : Text → Asked
   runs : Text → ByLink (Option Text) → ByLink (Option Text) → Asked
   lists : Text → Asked
 
+-- the file that is read first
 abbrev pub path_of : Asked → Text
+path_of (compiles source out) = source
 path_of (verifies path) = path
 path_of (runs path inputs outputs) = path
 path_of (lists path) = path
 
--- all but a listing want the module's verdict first
+-- of a module all but a listing want its verdict first
 abbrev pub wants_verdict : Asked → Bool
+wants_verdict (compiles source out) = false
 wants_verdict (verifies path) = true
 wants_verdict (runs path inputs outputs) = true
 wants_verdict (lists path) = false
 
 -- ---- the command
 
-abbrev pub module_rule : Rule
-module_rule = record (new_rule (codes "MOD")) { required = true }
+-- a path that has to be given
+abbrev pub path_rule : Text → Rule
+path_rule name = record (new_rule name) { required = true }
 
 -- a subcommand, which wants the path of a module file
 abbrev pub subcommand_shape : Text → Shape
-subcommand_shape name = record (new_shape name) { rules = module_rule ∷ [] }
+subcommand_shape name = record (new_shape name) { rules = path_rule (codes "MOD") ∷ [] }
+
+-- `compile SRC OUT`
+abbrev pub compile_shape : Shape
+compile_shape =
+    record (new_shape (codes "compile")) { rules = path_rule (codes "SRC") ∷ path_rule (codes "OUT") ∷ [] }
 
 -- an option for a link, which takes the path of a file
 abbrev pub link_rule : Text → Rule
@@ -59,7 +69,7 @@ with_links direction s =
 abbrev pub run_shape : Shape
 run_shape = with_links Out (with_links In (subcommand_shape (codes "run")))
 
--- `tpm verify MOD`, `tpm run MOD` with files on the links, and `tpm list MOD`
+-- `tpm compile SRC OUT`, `tpm verify MOD`, `tpm run MOD` with files on the links, and `tpm list MOD`
 abbrev pub tpm : App
 tpm = record {
   top = record (new_shape (codes "tpm")) {
@@ -68,7 +78,8 @@ tpm = record {
     disable_help_subcommand =
         true;
   };
-  subs = subcommand_shape (codes "verify") ∷ run_shape ∷ subcommand_shape (codes "list") ∷ [];
+  subs =
+      compile_shape ∷ subcommand_shape (codes "verify") ∷ run_shape ∷ subcommand_shape (codes "list") ∷ [];
 }
 
 -- ---- the meaning of the words
@@ -83,9 +94,20 @@ named name rows path =
     if bytes_eq name (codes "run") then Some (runs path (paths_given In rows) (paths_given Out rows)) else
     if bytes_eq name (codes "list") then Some (lists path) else None
 
+-- the module of the source, written to the file, where both paths are given
+abbrev pub compiled_by : List Row → Option Asked
+compiled_by rows =
+    option_and_then (λ source. option_map (compiles source) (first_of (codes "OUT") rows))
+    (first_of (codes "SRC") rows)
+
+-- what is asked of the module whose path is given
+abbrev pub of_module : Text → List Row → Option Asked
+of_module name rows = option_and_then (named name rows) (first_of (codes "MOD") rows)
+
 -- a subcommand's name and what was found for its arguments
 abbrev pub entered_by : Text × List Row → Option Asked
-entered_by found = option_and_then (named found.0 found.1) (first_of (codes "MOD") found.1)
+entered_by found =
+    if bytes_eq found.0 (codes "compile") then compiled_by found.1 else of_module found.0 found.1
 
 -- what is asked for, where no kind of error may come
 abbrev pub unless_faulty : Kinds → Option Asked → Option Asked
@@ -98,6 +120,7 @@ line_of words = unless_faulty (fault_of tpm words) (option_and_then entered_by (
 
 -- what a `Line` says
 abbrev pub asked_of : Line → Asked
+asked_of (Compile source out) = compiles source.now out.now
 asked_of (Verify path) = verifies path.now
 asked_of (Run path inputs outputs) = runs path.now (paths_of inputs) (paths_of outputs)
 asked_of (Listed path) = lists path.now

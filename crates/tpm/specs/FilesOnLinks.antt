@@ -42,6 +42,7 @@ module _ {F R W : Type 0} (creates : F → Text → Result W FileFault → F →
   CreatesAndRuns (Ok report) = RunsWithCreated (Ok report)
   CreatesAndRuns (Err (failures.Malformed fault)) = ⊥
   CreatesAndRuns (Err (failures.Uncertified refusal)) = ⊥
+  CreatesAndRuns (Err (failures.Uncompiled fault)) = ⊥
   CreatesAndRuns (Err (failures.Unread path)) = ⊥
   CreatesAndRuns (Err (failures.Uncreated path)) = FailsToCreate path.now file_faults.Failed
   CreatesAndRuns (Err (failures.ReadFailed link)) = RunsWithCreated (Err (run_errors.ReadFailed link))
@@ -80,6 +81,7 @@ module _ {F R W : Type 0} (creates : F → Text → Result W FileFault → F →
   RunsOpened (Ok report) = Finishes report
   RunsOpened (Err (failures.Malformed fault)) = ⊥
   RunsOpened (Err (failures.Uncertified refusal)) = ⊥
+  RunsOpened (Err (failures.Uncompiled fault)) = ⊥
   RunsOpened (Err (failures.Unread path)) = ⊥
   RunsOpened (Err (failures.Uncreated path)) = Stops (failures.Uncreated path)
   RunsOpened (Err (failures.ReadFailed link)) = Stops (failures.ReadFailed link)
@@ -107,6 +109,7 @@ module _ {F R W : Type 0} (opens : F → Text → Result R FileFault → F → T
   RunsTo (Ok report) = OpensAndRuns (Ok report)
   RunsTo (Err (failures.Malformed fault)) = ⊥
   RunsTo (Err (failures.Uncertified refusal)) = ⊥
+  RunsTo (Err (failures.Uncompiled fault)) = ⊥
   RunsTo (Err (failures.Unread path)) = FailsToOpen path.now file_faults.Failed
   RunsTo (Err (failures.Uncreated path)) = OpensAndRuns (Err (failures.Uncreated path))
   RunsTo (Err (failures.ReadFailed link)) = OpensAndRuns (Err (failures.ReadFailed link))

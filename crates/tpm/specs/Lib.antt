@@ -6,4 +6,5 @@ pub mod Names
 pub mod Listing
 pub mod FilesInOrder
 pub mod FilesOnLinks
+pub mod Compiling
 pub mod Acting

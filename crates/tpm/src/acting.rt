@@ -4,13 +4,14 @@ ghost use Rattle.std.specs.Prelude.{◌≡◌, ℕ, List, MatchResult, string_by
 ghost use Rattle.clap.specs.Walk.{texts};
 ghost use Rattle.tpm.specs.Links.{paths_of};
 ghost use Rattle.tpm.specs.FilesInOrder.{inside};
-ghost use Rattle.tpm.specs.CommandLine.{asked_of, runs};
+ghost use Rattle.tpm.specs.CommandLine.{asked_of, path_of, runs};
 ghost use Rattle.tpm.specs.LineFaults.{misuse_status};
 ghost use Rattle.tpm.specs.Texts.{status_of};
 ghost use Rattle.tpm.specs.Acting.{Acts, Answers, HasRun, IsAccepted, IsTold, IsHindered, Performs, WithholdsRun};
 ghost use Rattle.tpm.specs.Acting.{WithholdsVerdict};
 
 use crate::command_line::line;
+use crate::compiling::compile_to_file;
 use crate::files::{FileFault, Files};
 use crate::line::{Line, LineFault};
 use crate::links::LinkPaths;
@@ -57,7 +58,7 @@ fn outcome<'a, F: Files>(
     Ok(run_report(alloc, &report, inputs, outputs)?)
 }
 
-/// What is told of the module in these bytes, as text.
+/// What is told of the source or the module in these bytes, as text.
 fn judge<'a, F: Files>(
     alloc: Global,
     bytes: &[u8],
@@ -73,25 +74,44 @@ fn judge<'a, F: Files>(
         (inside F.Writer.written) (inside F.Writer.failed)
         bytes.now asked files.old files.new) }
 {
-    let module = Module::read(alloc, bytes)?;
     match line {
-        Line::Verify { .. } => verdict(alloc, &module),
+        Line::Compile { out, .. } => compile_to_file(alloc, bytes, out, files),
+        Line::Verify { .. } => {
+            let module = Module::read(alloc, bytes)?;
+            verdict(alloc, &module)
+        }
         Line::Run {
             inputs,
             outputs,
             ..
-        } => outcome(alloc, &module, inputs, outputs, files),
-        Line::List { .. } => Ok(listing(alloc, &module)?),
+        } => {
+            let module = Module::read(alloc, bytes)?;
+            outcome(alloc, &module, inputs, outputs, files)
+        }
+        Line::List { .. } => {
+            let module = Module::read(alloc, bytes)?;
+            Ok(listing(alloc, &module)?)
+        }
     }
 }
 
-/// What is told of the module in the file.
+/// The path of the file that is read first.
+fn read_path<'a>(line: Line<'a>) -> &'a str
+    ensures { result.now ≡ path_of (asked_of line.entry) }
+{
+    match line {
+        Line::Compile { source, .. } => source,
+        Line::Verify { path } | Line::Run { path, .. } | Line::List { path } => path,
+    }
+}
+
+/// What is told of the source or the module in the file.
 fn answer<'a, F: Files>(alloc: Global, line: Line<'a>, files: &mut F) -> Result<String, Failure<'a>>
     ensures { let answers = Answers F.opens F.creates F.closes (inside F.Reader.left) (inside F.Reader.failed)
         (inside F.Writer.written) (inside F.Writer.failed) F.reads (asked_of line.entry) files.old files.new in
         MatchResult result (λ text. answers (Ok (string_bytes text))) (λ failure. answers (Err failure)) }
 {
-    let (Line::Verify { path } | Line::Run { path, .. } | Line::List { path }) = line;
+    let path = read_path(line);
     match files.read(path) {
         Ok(bytes) => judge(alloc, bytes.as_slice(), line, files),
         Err(FileFault::Failed) => Err(Failure::Unread(path)),

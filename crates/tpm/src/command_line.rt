@@ -6,8 +6,8 @@ ghost use Rattle.clap.specs.Simple.{app_of, shape_of, subcommand_rows_of, with_s
 ghost use Rattle.clap.specs.declared.builder.command.Command.TheViews.{out-Command as fields_of};
 ghost use Rattle.clap.specs.Walk.{first_of, rows_of, texts};
 ghost use Rattle.tpm.specs.Links.{paths_of};
-ghost use Rattle.tpm.specs.CommandLine.{asked_of, entered_by, line_of, named, paths_given, run_shape, subcommand_shape};
-ghost use Rattle.tpm.specs.CommandLine.{tpm, with_links, with_option};
+ghost use Rattle.tpm.specs.CommandLine.{asked_of, compile_shape, compiled_by, entered_by, line_of, named, of_module};
+ghost use Rattle.tpm.specs.CommandLine.{paths_given, run_shape, subcommand_shape, tpm, with_links, with_option};
 ghost use Rattle.tpm.specs.LineFaults.{IsFaultAt};
 
 use crate::line::{Line, LineFault};
@@ -26,6 +26,23 @@ fn subcommand<'a>(alloc: Global, name: &'a str, about: &'a str) -> Result<Comman
         .required(true)
         .help("The path of a module file");
     Command::new(alloc, name).about(about).arg(module)
+}
+
+/// The subcommand that compiles a source.
+fn compile_subcommand<'a>(alloc: Global) -> Result<Command<'a>, AllocError>
+    ensures shape { IfOk result (λ c. shape_of c ≡ compile_shape) }
+    ensures local { IfOk result (λ c. (fields_of c).has_globals ≡ false) }
+{
+    let source = Arg::new(alloc, "SRC")
+        .required(true)
+        .help("The path of a source");
+    let out = Arg::new(alloc, "OUT")
+        .required(true)
+        .help("The path of the module file that is written");
+    Command::new(alloc, "compile")
+        .about("Compiles an occam program to a module")
+        .arg(source)?
+        .arg(out)
 }
 
 /// A command with one more option, which takes the path of a file.
@@ -101,14 +118,23 @@ fn with_run<'a>(alloc: Global, command: Command<'a>) -> Result<Command<'a>, Allo
     command.subcommand(run)
 }
 
+/// A command with one more subcommand, which compiles a source.
+fn with_compile<'a>(alloc: Global, command: Command<'a>) -> Result<Command<'a>, AllocError>
+    ensures { IfOk result (λ c. app_of c ≡ with_subcommand (app_of command.entry) compile_shape) }
+{
+    let compile = compile_subcommand(alloc)?;
+    command.subcommand(compile)
+}
+
 /// The program's command.
 fn command<'a>(alloc: Global) -> Result<Command<'a>, AllocError>
     ensures { IfOk result (λ c. app_of c ≡ tpm) }
 {
     let tpm = Command::new(alloc, "tpm")
-        .about("Verifies, runs and lists transputer modules")
+        .about("Compiles occam programs, and verifies, runs and lists transputer modules")
         .subcommand_required(true)
         .disable_help_subcommand(true);
+    let tpm = with_compile(alloc, tpm)?;
     let tpm = with_subcommand(alloc, tpm, "verify", "Tells whether a module is certified")?;
     let tpm = with_run(alloc, tpm)?;
     with_subcommand(alloc, tpm, "list", "Lists the instructions of a module")
@@ -149,18 +175,45 @@ fn line_named<'a>(name: &str, given: &ArgMatches<'a>, path: &'a str) -> Option<L
     }
 }
 
+/// The module of a source, written to a file.
+fn compile_line<'a>(given: &ArgMatches<'a>) -> Option<Line<'a>>
+    ensures { option_map asked_of result ≡ compiled_by (rows_of (found_of given.now)) }
+{
+    let source = path_given(given, "SRC")?;
+    let out = path_given(given, "OUT")?;
+    Some(Line::Compile { source, out })
+}
+
+/// What the subcommand of this name asks of a module.
+fn module_line<'a>(name: &str, given: &ArgMatches<'a>) -> Option<Line<'a>>
+    ensures { option_map asked_of result ≡ of_module name.now (rows_of (found_of given.now)) }
+{
+    let path = path_given(given, "MOD")?;
+    line_named(name, given, path)
+}
+
+/// What the subcommand of this name asks for.
+fn entered<'a>(name: &str, given: &ArgMatches<'a>) -> Option<Line<'a>>
+    ensures { option_map asked_of result ≡ entered_by (name.now, rows_of (found_of given.now)) }
+{
+    if name == "compile" {
+        compile_line(given)
+    } else {
+        module_line(name, given)
+    }
+}
+
 /// What the matches ask for.
 fn asked<'a>(matches: &ArgMatches<'a>) -> Option<Line<'a>>
     ensures { let found = subcommand_rows_of matches.now in
         option_map asked_of result ≡ option_and_then entered_by found }
 {
     let (name, given) = matches.subcommand()?;
-    let path = given.get_str("MOD")?;
-    line_named(name, given, path)
+    entered(name, given)
 }
 
-/// What the words of a command line ask for, of which the first is the program's name: `verify MOD`, `list MOD`, or
-/// `run MOD` with the options `--in0 F` to `--in3 F` and `--out0 F` to `--out3 F`.
+/// What the words of a command line ask for, of which the first is the program's name: `compile SRC OUT`, `verify MOD`,
+/// `list MOD`, or `run MOD` with the options `--in0 F` to `--in3 F` and `--out0 F` to `--out3 F`.
 pub fn line<'a>(alloc: Global, words: &'a [&'a str]) -> Result<Line<'a>, LineFault>
     ensures asked { IfOk result (λ l. line_of (texts words.entry.now) ≡ Some (asked_of l)) }
     // A body that always reports that memory ran out meets this too, since no clause can say that memory
@@ -168,6 +221,6 @@ pub fn line<'a>(alloc: Global, words: &'a [&'a str]) -> Result<Line<'a>, LineFau
     ensures fault { IfErr result (IsFaultAt (texts words.entry.now)) }
 {
     let matches = command(alloc)?.try_get_matches_from(words)?;
-    // The parser takes no words without a subcommand and its path.
+    // The parser takes no words without a subcommand and its paths.
     Ok(asked(&matches).unwrap())
 }

@@ -11,6 +11,11 @@ use thiserror::Error;
 /// What a command line asks for.
 #[derive(Clone, Copy)]
 pub enum Line<'a> {
+    /// The module of the source in a file, written to another file.
+    Compile {
+        source: &'a str,
+        out: &'a str,
+    },
     /// Whether the module in the file of this path is certified.
     Verify {
         path: &'a str,

@@ -1,8 +1,9 @@
-//! `tpm`: verifies, runs and lists transputer modules.
+//! `tpm`: compiles occam programs, and verifies, runs and lists transputer modules.
 #![tactic(auto)]
 
 mod acting;
 mod command_line;
+mod compiling;
 mod files;
 mod line;
 mod links;

@@ -1,9 +1,10 @@
-//! What is told of a module, and why there is nothing to tell.
+//! What is told of a module or a source, and why there is nothing to tell.
 
 ghost use Rattle.std.specs.Prelude.{◌≡◌, Some};
 ghost use Rattle.tpm.specs.Texts.{report_text, status_of};
 
 use certificate::FormatFault;
+use compiler::CompileFault;
 use machine_state::Link;
 use std::alloc::AllocError;
 use std::fmt;
@@ -12,18 +13,20 @@ use verifier::Refusal;
 
 /// All that was asked for was done.
 pub const DONE: u8 = 0;
-/// The module is refused.
+/// The module or the source is refused.
 pub const REFUSED: u8 = 1;
 /// The words are no command, or they ask for help.
 pub const MISUSED: u8 = 2;
 /// A file, a link or standard output failed.
 pub const FAILED: u8 = 3;
-/// Memory ran out, other than in the reading or the verdict of a module.
+/// Memory ran out, other than in the reading or the verdict of a module, or in compiling a source.
 pub const STARVED: u8 = 4;
 
-/// What is told of a module that is certified.
+/// What is told of a module that was made, or that is certified.
 #[derive(Clone, Copy)]
 pub enum Report {
+    /// How many bytes the file of the module has.
+    Compiled { bytes: usize },
     /// The most bytes that a run executes.
     Accepted { budget: u64 },
     /// The module's end was reached, after so many bytes.
@@ -37,6 +40,7 @@ impl fmt::Display for Report {
 
     fn fmt<W: fmt::Write>(&self, f: &mut fmt::Formatter<W>) -> fmt::Result {
         match self {
+            Report::Compiled { bytes } => write!(f, "compiled {bytes} bytes"),
             Report::Accepted { budget } => write!(f, "accepted, budget {budget}"),
             Report::Ended { executed } => write!(f, "ended, {executed} bytes executed"),
             Report::Idle { executed } => write!(f, "idle, {executed} bytes executed"),
@@ -44,7 +48,7 @@ impl fmt::Display for Report {
     }
 }
 
-/// Why nothing is told of a module.
+/// Why nothing is told of a module or a source.
 #[derive(Debug, Drop, Error)]
 pub enum Failure<'a> {
     /// The file is no module file.
@@ -53,10 +57,13 @@ pub enum Failure<'a> {
     /// The module is not certified.
     #[error("refused V{} at {}", .0.number, .0.offset)]
     Uncertified(Refusal),
+    /// The source becomes no module.
+    #[error("refused {0}")]
+    Uncompiled(CompileFault),
     /// The file of this path was not read or opened.
     #[error("cannot read {0}")]
     Unread(&'a str),
-    /// The file of this path was not created.
+    /// The file of this path was not created, or not written.
     #[error("cannot write {0}")]
     Uncreated(&'a str),
     /// A read of this input link failed.
@@ -93,6 +100,16 @@ impl From<Refusal> for Failure<'_> {
     }
 }
 
+impl From<CompileFault> for Failure<'_> {
+    ghost use Rattle.tpm.specs.declared.report.Failure.TheVariants as failures;
+
+    ghost from_gives = { λ fault failure. failure ≡ failures.Uncompiled fault };
+
+    fn from(fault: CompileFault) -> Self {
+        Failure::Uncompiled(fault)
+    }
+}
+
 impl From<AllocError> for Failure<'_> {
     ghost use Rattle.tpm.specs.declared.report.Failure.TheVariants as failures;
 
@@ -109,7 +126,7 @@ impl Failure<'_> {
         ensures { result ≡ status_of self.now }
     {
         match self {
-            Failure::Malformed(_) | Failure::Uncertified(_) => REFUSED,
+            Failure::Malformed(_) | Failure::Uncertified(_) | Failure::Uncompiled(_) => REFUSED,
             Failure::Unread(_)
             | Failure::Uncreated(_)
             | Failure::ReadFailed(_)

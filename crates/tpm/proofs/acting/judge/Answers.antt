@@ -1,13 +1,20 @@
 use Rattle.std.proofs.Common.{string_bytes}
 use Rattle.tpm.specs.FilesInOrder.{inside}
 use Rattle.tpm.specs.Links.{paths_of}
-use Rattle.tpm.proofs.Judged.{run_judged}
+use Rattle.tpm.proofs.Judged.{module_judged, run_judged}
 use Rattle.tpm.proofs.acting.judge.Goals as goal
 
-pub returns-in-Run : goal.returns-in-Run
-returns-in-Run g c =
+pub returns-in-Compile : goal.returns-in-Compile
+returns-in-Compile g c =
+    rw c.in-Compile.is (module_judged g.F.Files.opens g.F.Files.creates g.F.Files.closes
+    (inside g.F.Reader.LinkReader.left) (inside g.F.Reader.LinkReader.failed) (inside g.F.Writer.LinkWriter.written)
+    (inside g.F.Writer.LinkWriter.failed) string_bytes c.args.bytes.now c.in-Compile.source.now c.in-Compile.out.now _ _
+    c.compile_to_file.result c.compile_to_file.ensures)
+
+pub returns-in_ok-module-in-Run : goal.returns-in_ok-module-in-Run
+returns-in_ok-module-in-Run g c =
     rw c.in-Run.is (run_judged g.F.Files.opens g.F.Files.creates g.F.Files.closes
     (inside g.F.Reader.LinkReader.left) (inside g.F.Reader.LinkReader.failed) (inside g.F.Writer.LinkWriter.written)
-    (inside g.F.Writer.LinkWriter.failed) c.args.bytes.now c.in_ok-module.module c.in_ok-module.ensures.found
-    string_bytes c.in-Run.path.now (paths_of c.in-Run.inputs) (paths_of c.in-Run.outputs) _ _ c.outcome.result
-    c.outcome.ensures)
+    (inside g.F.Writer.LinkWriter.failed) c.args.bytes.now c.in_ok-module-in-Run.module
+    c.in_ok-module-in-Run.ensures.found string_bytes c.in-Run.path.now (paths_of c.in-Run.inputs)
+    (paths_of c.in-Run.outputs) _ _ c.outcome.result c.outcome.ensures)
