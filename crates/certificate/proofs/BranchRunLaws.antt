@@ -91,7 +91,7 @@ visit_fits c keeps places are visits i v h lt is =
 
 -- ---- looked up
 
-some_item : {X : Type 0} (xs : List X) (i : ℕ) → i < length xs → slice_get xs i ≡ None → ⊥
+pub some_item : {X : Type 0} (xs : List X) (i : ℕ) → i < length xs → slice_get xs i ≡ None → ⊥
 some_item [] i lt none = absurd (omega arith)
 some_item (x ∷ xs) zero lt none = absurd cc
 some_item (x ∷ xs) (suc i) lt none = some_item xs i (omega arith) none

@@ -6,3 +6,6 @@ pub mod RunLaws
 pub mod BranchRunLaws
 pub mod AroundLaws
 pub mod SiblingLaws
+pub mod WordLaws
+pub mod SpanLaws
+pub mod EntryLaws

@@ -1,8 +1,8 @@
 -- What branches have in common: lists of intervals that rise are gone over together, and the branches of rows keep the
 -- rules.
-use Rattle.std.proofs.Common.{◌≡◌, ℕ, zero, suc, ◌+◌, ◌<◌, ◌≤◌, ℤ, ◌≤ℤ◌, Bool, true, false, ◌||◌, List, [], ◌∷◌, length}
+use Rattle.std.proofs.Common.{◌≡◌, ℕ, zero, suc, ◌+◌, ◌-◌, ◌<◌, ◌≤◌, ℤ, ◌≤ℤ◌, true, false, List, [], ◌∷◌, length}
 use Rattle.std.proofs.Common.{map, take, get_or, ◌++◌, Option, Some, None, refl, sym, ap, subst, ◌∙◌, arith, w32, FitsSigned}
-use Rattle.std.specs.Prelude.{◌<ℤ◌, int_lt, int_le, slice_get}
+use Rattle.std.specs.Prelude.{int_lt, int_le, slice_get}
 use Rattle.std.specs.List.{AllByRecursion, list_any}
 use Rattle.std.proofs.Math.Bool.{and-false}
 use Rattle.std.proofs.lemmas.Int.{ints}
@@ -11,7 +11,7 @@ use Rattle.module_format.specs.declared.rows.EndKey.{EndKey}
 use Rattle.module_format.specs.declared.rows.EndRow.{EndRow}
 use Rattle.module_format.specs.Rows.{BranchRow, ParRow}
 use Rattle.module_format.specs.declared.tables.Tables.{Tables}
-use Rattle.module_format.specs.Contents.{Branch, Par, Contents, branch_of, par_of, contents_of}
+use Rattle.module_format.specs.Contents.{Par, Contents, branch_of, par_of, contents_of}
 use Rattle.module_format.specs.Contexts.{first_branch}
 use Rattle.module_format.specs.Order.{InOrder}
 use Rattle.module_format.specs.Pars.{IntervalKeeps, behind_interval, meet}
@@ -276,18 +276,18 @@ module _ (t : Tables) (c : Contents) (row count : ℕ) (par : ParRow) (contents 
     pub all_kept : Keeps c → AllByRecursion (λ row. GiftsKeep (branch_of row)) rows
     all_kept keeps = rows_kept rows (kept_here keeps)
 
--- ---- one branch more is judged
+-- ---- one more of a list, and one branch more that is judged
 
-one_more : (P : ℕ → Judged → Type 0) (xs : List Judged) (x : Judged) (from : ℕ)
-    → ((i : ℕ) (d : Judged) → i < length xs → P (from + i) (get_or xs i d)) → P (from + length xs) x
-    → (i : ℕ) (d : Judged) → i < length (xs ++ x ∷ []) → P (from + i) (get_or (xs ++ x ∷ []) i d)
+pub one_more : {X : Type 0} (P : ℕ → X → Type 0) (xs : List X) (x : X) (from : ℕ)
+    → ((i : ℕ) (d : X) → i < length xs → P (from + i) (get_or xs i d)) → P (from + length xs) x
+    → (i : ℕ) (d : X) → i < length (xs ++ x ∷ []) → P (from + i) (get_or (xs ++ x ∷ []) i d)
 one_more P [] x from h last zero d lt = last
 one_more P [] x from h last (suc i) d lt = absurd (omega (arith, lt))
 one_more P (y ∷ xs) x from h last zero d lt = h 0 d (omega arith)
-one_more P (y ∷ xs) x from h last (suc i) d lt =
+one_more {X} P (y ∷ xs) x from h last (suc i) d lt =
     let here : from + 1 + i ≡ from + suc i = omega arith in
     let end : from + length (y ∷ xs) ≡ from + 1 + length xs = omega arith in
-    let later : (k : ℕ) (e : Judged) → k < length xs → P (from + 1 + k) (get_or xs k e) =
+    let later : (k : ℕ) (e : X) → k < length xs → P (from + 1 + k) (get_or xs k e) =
     λ k e less. (let there : from + suc k ≡ from + 1 + k = omega arith in
     subst (λ (n : ℕ). P n (get_or xs k e)) there (h (suc k) e (omega (arith, less)))) in
     subst (λ (n : ℕ). P n (get_or (xs ++ x ∷ []) i d)) here
@@ -298,3 +298,12 @@ pub judged_more : (c : Contents) (xs : List Judged) (x : Judged) (n : ℕ) → A
 judged_more c xs x n h at is = record {
   each = one_more (λ m y. IsJudged c m y) xs x (first_branch c) h.each (subst (λ (m : ℕ). IsJudged c m x) at is);
 }
+
+-- what was judged of the branch that is context n is found
+pub judged_there : (c : Contents) (all : List Judged) (n : ℕ) (judged : Judged) → AreJudged c all → first_branch c ≤ n
+    → n - first_branch c < length all → judged ≡ get_or all (n - first_branch c) judged → IsJudged c n judged
+judged_there c all n judged h ge lt is =
+    let at : first_branch c + (n - first_branch c) ≡ n = omega arith in
+    subst (λ (m : ℕ). IsJudged c m judged) at
+    (subst (λ (j : Judged). IsJudged c (first_branch c + (n - first_branch c)) j) (sym is)
+    (h.each (n - first_branch c) judged lt))

@@ -1,4 +1,5 @@
 -- What look-ups need beside the tables.
+use Rattle.std.specs.Prelude.{length}
 use Rattle.certificate.specs.declared.index.Index.{Index}
 use Rattle.module_format.specs.Contents.{Contents}
 use Rattle.module_format.specs.Contexts.{branch_count}
@@ -6,7 +7,9 @@ use Rattle.certificate.specs.Starts.{AreStarts}
 use Rattle.module_format.specs.Places.{ArePlaces}
 use Rattle.certificate.specs.Branches.{AreNumbers}
 use Rattle.certificate.specs.BranchRuns.{AreBranchRuns}
-use Rattle.certificate.specs.Judged.{AreJudged}
+use Rattle.certificate.specs.Judged.{AreJudged, AreRowsJudged}
+use Rattle.certificate.specs.Owned.{AreAllOwn}
+use Rattle.certificate.specs.Written.{AreWritten}
 
 -- the index of these contents
 pub record IsIndex (c : Contents) (index : Index) : Type 0 where
@@ -14,4 +17,7 @@ pub record IsIndex (c : Contents) (index : Index) : Type 0 where
   pub places : ArePlaces c (branch_count c.pars) index.places.items
   pub numbers : AreNumbers c index.numbers.items
   pub runs : AreBranchRuns c index.runs.items
+  pub own : AreAllOwn c (branch_count c.pars) index.own.items
+  pub written : AreWritten c (length c.pars) index.written.items
   pub judged : AreJudged c index.judged.items
+  pub judged_rows : AreRowsJudged c index.judged_rows.items

@@ -7,3 +7,7 @@ pub mod Around
 pub mod BranchRuns
 pub mod Siblings
 pub mod Judged
+pub mod Words
+pub mod Starting
+pub mod Written
+pub mod Owned

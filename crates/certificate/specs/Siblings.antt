@@ -1,6 +1,6 @@
 -- What the row of a branch says of it: what it has in common with others of its PAR, and what is there to be given.
 use Rattle.std.specs.Prelude.{ℕ, ◌==◌, ◌&&◌, ◌||◌, not, Bool, true, false, pos, ◌+ℤ◌, List, [], take, slice_get}
-use Rattle.std.specs.Prelude.{Option, Some, None, is_some}
+use Rattle.std.specs.Prelude.{Some, None, is_some}
 use Rattle.std.specs.List.{list_any, list_all}
 use Rattle.module_format.specs.declared.rows.ChannelRow.{ChannelRow}
 use Rattle.module_format.specs.declared.rows.EndRow.{EndRow}

@@ -9,11 +9,14 @@ ghost use Rattle.certificate.specs.Index.{IsIndex};
 
 use crate::branch_runs::branch_runs_of;
 use crate::judged::Judged;
+use crate::judged_rows::JudgedRow;
 use crate::marks::Marks;
 use crate::numbers::numbers_of;
+use crate::owned::{OwnWords, own_words_of};
 use crate::runs::ChannelRun;
 use crate::starts::starts_of;
-use module_format::{Place, Tables};
+use crate::written::written_of;
+use module_format::{Interval, Place, Tables};
 use std::alloc::{AllocError, Global};
 
 /// Tables that are made once, so that each look-up is short.
@@ -27,12 +30,18 @@ pub(crate) struct Index {
     pub numbers: Vec<u32>,
     /// For each branch and each end of a frame word that it has, the run of channels from that word on.
     pub runs: Vec<Vec<ChannelRun>>,
+    /// For each branch, the words that it has.
+    pub own: Vec<OwnWords>,
+    /// For each PAR row, the words that its branches write, as joined intervals.
+    pub written: Vec<Vec<Interval>>,
     /// What was judged of branches, in the order of their contexts.
     pub judged: Vec<Judged>,
+    /// What was judged of PAR rows.
+    pub judged_rows: Vec<JudgedRow>,
 }
 
 impl Index {
-    /// The index of tables, of which the places of the branches are known, with no branch judged. It takes memory in
+    /// The index of tables, of which the places of the branches are known, with nothing judged. It takes memory in
     /// proportion to the code and the rows, and time that is n log n in them.
     pub(crate) fn new(
         alloc: Global,
@@ -46,12 +55,17 @@ impl Index {
         let starts = starts_of(alloc, tables)?;
         let numbers = numbers_of(alloc, tables, &places)?;
         let runs = branch_runs_of(alloc, tables, &places)?;
+        let own = own_words_of(alloc, tables, &places)?;
+        let written = written_of(alloc, tables)?;
         Ok(Index {
             starts,
             places,
             numbers,
             runs,
+            own,
+            written,
             judged: Vec::new(alloc),
+            judged_rows: Vec::new(alloc),
         })
     }
 }

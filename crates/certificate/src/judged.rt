@@ -29,6 +29,10 @@ pub(crate) struct Judged {
     pub has_ends: bool,
     /// Whether it has no word of the block of its PAR, and none of a channel of it.
     pub leaves_hidden_words: bool,
+    /// Whether the context of its PAR has its words.
+    pub has_words: bool,
+    /// Whether its label says something only of words that it may read, and that scheduling does not take.
+    pub label_is_seen: bool,
 }
 
 /// Whether a PAR brings the channel of an end.
@@ -211,11 +215,13 @@ impl Module<'_> {
             has_other_ends: self.judge_other_ends(context, row, number),
             has_ends: self.judge_ends(giver, context),
             leaves_hidden_words: self.judge_hidden_words(context),
+            has_words: self.judge_words(giver, context),
+            label_is_seen: self.judge_label(context),
         }
     }
 
     /// Judges all branches, in the order of their contexts.
-    pub(crate) fn judge_all(
+    pub(crate) fn judge_branches(
         &self,
         alloc: Global,
         places: &[Place],

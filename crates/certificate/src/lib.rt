@@ -5,15 +5,22 @@
 mod around;
 mod branch_runs;
 mod branches;
+mod entries;
 mod index;
+mod joining;
 mod judged;
+mod judged_rows;
 mod marks;
 mod modules;
 mod numbers;
+mod owned;
 mod rights;
 mod runs;
 mod siblings;
+mod spans;
+mod starting;
 mod starts;
+mod written;
 
 pub use module_format::{
     BranchRow, ChannelRow, Context, Direction, EndKind, EndRow, Ends, Entry, Fact, FormatFault,

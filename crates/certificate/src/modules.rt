@@ -3,11 +3,13 @@
 use crate::branches::numbered_branch;
 use crate::index::Index;
 use crate::judged::Judged;
+use crate::judged_rows::JudgedRow;
 use crate::numbers::number_at;
+use crate::owned::OwnWords;
 use crate::runs::ChannelRun;
 use module_format::{
-    BranchRow, Context, Contexts, FormatFault, LabelRow, ParRow, Parameter, ProcedureRow, Tables,
-    read, row_at,
+    BranchRow, Context, Contexts, FormatFault, Interval, LabelRow, ParRow, Parameter, ProcedureRow,
+    Tables, read, row_at,
 };
 use std::alloc::{AllocError, Global};
 use std::marker::Model;
@@ -35,7 +37,7 @@ impl<'a> Model for Module<'a> {
 
 impl<'a> Module<'a> {
     ghost use Rattle.std.specs.Prelude.{◌≡◌, ◌≢◌, ◌⊎◌, IfOk, IfErr, MatchResult, Ok, Err, MatchOption, IfSome, Some};
-    ghost use Rattle.std.specs.Prelude.{None};
+    ghost use Rattle.std.specs.Prelude.{None, ℤ};
     ghost use Rattle.module_format.specs.Contents.{Contents, contents_of, label_of, procedure_of, label_at};
     ghost use Rattle.module_format.specs.Contents.{par_of, branch_of};
     ghost use Rattle.module_format.specs.Contexts.{context_at, parameters_at};
@@ -43,9 +45,14 @@ impl<'a> Module<'a> {
     ghost use Rattle.certificate.specs.Starts.{procedure_at, is_start};
     ghost use Rattle.certificate.specs.Branches.{numbered_branch, branch_at};
     ghost use Rattle.certificate.specs.BranchRuns.{AreRunsAt};
-    ghost use Rattle.certificate.specs.Judged.{IsJudged};
+    ghost use Rattle.certificate.specs.Judged.{IsJudged, IsRowJudged};
+    ghost use Rattle.certificate.specs.Owned.{AreOwnAt};
+    ghost use Rattle.certificate.specs.Rights.{is_among};
+    ghost use Rattle.certificate.specs.Starting.{is_written_in};
+    ghost use Rattle.certificate.specs.Words.{AreJoined, beyond_interval};
     ghost use Rattle.module_format.specs.Order.{InOrder, least_word};
-    ghost use Rattle.module_format.specs.Pars.{GiftsKeep, ChannelKeeps, behind_channel};
+    ghost use Rattle.module_format.specs.Pars.{GiftsKeep, ChannelKeeps, behind_channel, IntervalKeeps};
+    ghost use Rattle.module_format.specs.Pars.{behind_interval};
     ghost use Rattle.module_format.specs.Keeping.{Format, Keeps};
     ghost use Rattle.module_format.specs.Reading.{out_of_memory};
     ghost use Rattle.module_format.specs.ReadingFile.{read_contents};
@@ -72,16 +79,18 @@ impl<'a> Module<'a> {
             tables,
             index,
         };
-        module.judge_branches(alloc)?;
+        module.judge_rows(alloc)?;
         Ok(module)
     }
 
-    /// Judges all branches.
-    fn judge_branches(&mut self, alloc: Global) -> Result<(), AllocError>
+    /// Judges all branches and PAR rows.
+    fn judge_rows(&mut self, alloc: Global) -> Result<(), AllocError>
         ensures { self.new ≡ self.old }
     {
-        let judged = self.judge_all(alloc, &self.index.places)?;
+        let judged = self.judge_branches(alloc, &self.index.places)?;
+        let judged_rows = self.judge_pars(alloc)?;
         self.index.judged = judged;
+        self.index.judged_rows = judged_rows;
         Ok(())
     }
 
@@ -177,7 +186,44 @@ impl<'a> Module<'a> {
         ensures { IfSome result (IsJudged self.now context) }
     {
         let number = (context as usize).checked_sub(self.tables.first_branch())?;
-        self.index.judged.get(number).copied()
+        let judged = self.index.judged.get(number)?;
+        Some(*judged)
+    }
+
+    /// The words that a branch has.
+    pub(crate) fn own_words(&self, context: u32) -> Option<&OwnWords>
+        ensures { AreOwnAt self.now context result }
+    {
+        let number = (context as usize).checked_sub(self.tables.first_branch())?;
+        let own = self.index.own.get(number)?;
+        Some(own)
+    }
+
+    /// What was judged of a PAR row.
+    pub(crate) fn judged_row(&self, row: usize) -> Option<JudgedRow>
+        ensures { IfSome result (IsRowJudged self.now row) }
+    {
+        self.index.judged_rows.get(row).copied()
+    }
+
+    /// The words that branches of a PAR row write, as joined intervals.
+    fn joined_writes(&self, row: usize) -> &[Interval]
+        ensures { AreJoined (is_written_in self.now row) result.now }
+    {
+        match self.index.written.get(row) {
+            Some(words) => words,
+            None => &[],
+        }
+    }
+
+    /// The words that some branch of a PAR row writes, as intervals that rise, of which no two touch; none where there
+    /// is no such row. It takes constant time, since they were joined when the module was read.
+    pub fn written_words(&self, row: usize) -> &[Interval]
+        ensures words { (k : ℤ) → is_among result.now k ≡ is_written_in self.now row k }
+        ensures order { InOrder IntervalKeeps behind_interval least_word result.now }
+        ensures apart { InOrder IntervalKeeps beyond_interval least_word result.now }
+    {
+        self.joined_writes(row)
     }
 
     /// The branch that begins at a code offset, with the number of its context and its PAR row, found in

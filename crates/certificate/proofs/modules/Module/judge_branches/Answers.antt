@@ -3,7 +3,7 @@ use Rattle.std.proofs.lemmas.List.{length-append}
 use Rattle.module_format.specs.Contexts.{first_branch}
 use Rattle.certificate.proofs.NumberLaws.{contexts_fit}
 use Rattle.certificate.proofs.SiblingLaws.{judged_more}
-use Rattle.certificate.proofs.modules.Module.judge_all.Goals as goal
+use Rattle.certificate.proofs.modules.Module.judge_branches.Goals as goal
 
 pub overflow_add-context : goal.overflow_add-context
 overflow_add-context c =

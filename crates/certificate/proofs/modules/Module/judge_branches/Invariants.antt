@@ -1,7 +1,7 @@
 use Rattle.std.proofs.Common.{◌≡◌, ◌+◌, length}
 use Rattle.module_format.specs.Contexts.{first_branch}
 use Rattle.certificate.specs.Judged.{AreJudged}
-use Rattle.certificate.proofs.modules.Module.judge_all.Given as goal
+use Rattle.certificate.proofs.modules.Module.judge_branches.Given as goal
 
 abbrev pub invariant-loop-place : goal.invariant-loop-place
 invariant-loop-place l = record {
