@@ -41,7 +41,8 @@ use Rattle.rulings.specs.Meaning.{IsReadableWord, HasFrame, words_in, frame_lo, 
 use Rattle.module_format.specs.declared.contexts.Context.{Context}
 use Rattle.rulings.specs.Regions.{IsByteOf, Scope, scope_of, IsRegion, IsNamed, HoldsNamed, channel_address}
 use Rattle.rulings.specs.Regions.{IsWrittenAt, IsNamedAt}
-use Rattle.states.specs.Spans.{all_words, together}
+use Rattle.certificate.specs.Words.{all_words}
+use Rattle.states.specs.Spans.{together}
 use Rattle.rulings.specs.Reach.{word_of_byte, words_touched, lie_in, readable_size, writable_size, readable_bytes}
 use Rattle.rulings.specs.Reach.{writable_bytes, may_read_bytes, may_write_bytes, is_listed, kept_range}
 use Rattle.call_rules.specs.CallRules as rule

@@ -25,7 +25,8 @@ use Rattle.states.specs.declared.span.Leaving.{Leaving}
 use Rattle.states.specs.declared.span.Leaving.TheVariants.{Become}
 use Rattle.states.specs.declared.rule.Rule.TheVariants as rules
 use Rattle.states.specs.State.{State, Facts, Change, written, changed, unknown}
-use Rattle.states.specs.Spans.{all_words, on_span, after_change}
+use Rattle.certificate.specs.Words.{all_words}
+use Rattle.states.specs.Spans.{on_span, after_change}
 use Rattle.states.specs.declared.state.State.{State as InMemory}
 use Rattle.states.specs.Views.{BelongsTo, CanWriteSpan}
 use Rattle.states.proofs.RowFacts.{and-parts, and-both}

@@ -26,7 +26,8 @@ use Rattle.states.specs.State.{State, Facts, Change, unknown, is_word, plain, ch
 use Rattle.states.specs.Below.{lies_within, implies}
 use Rattle.states.specs.declared.span.Together.{Together}
 use Rattle.states.specs.declared.span.Leaving.TheVariants.{Become}
-use Rattle.states.specs.Spans.{all_words, together, on_span}
+use Rattle.certificate.specs.Words.{all_words}
+use Rattle.states.specs.Spans.{together, on_span}
 use Rattle.rulings.specs.Reach.{word_of_byte, may_read_bytes, may_write_bytes, constant_range}
 use Rattle.rulings.specs.Channels.{message_length, channel_of, channels_meet, further, has_direction, is_length}
 use Rattle.rulings.specs.Rulings.{Ruling, Site, calls, returns, breaks, alone, pays, wants}

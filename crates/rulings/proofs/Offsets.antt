@@ -12,7 +12,7 @@ use Rattle.module_format.specs.Order.{is_stepped}
 use Rattle.machine_state.specs.Memory.{Memory, place_of, data_start, byte_at, word_at, joined}
 use Rattle.states.proofs.RowFacts.{and-parts}
 use Rattle.rulings.specs.Meaning.{word_of}
-use Rattle.states.specs.Spans.{all_words}
+use Rattle.certificate.specs.Words.{all_words}
 use Rattle.rulings.specs.Reach.{word_of_byte, words_touched}
 
 -- ---- words as addresses

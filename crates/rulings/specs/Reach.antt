@@ -12,7 +12,7 @@ use Rattle.module_format.specs.Contents.{Contents}
 use Rattle.module_format.specs.Contexts.{parameters_at}
 use Rattle.certificate.specs.Branches.{numbered_branch}
 use Rattle.certificate.specs.Rights.{may_write_word, may_read_word}
-use Rattle.states.specs.Spans.{all_words}
+use Rattle.certificate.specs.Words.{all_words}
 
 -- ---- words of the frame
 

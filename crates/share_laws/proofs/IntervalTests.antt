@@ -8,7 +8,7 @@ use Rattle.module_format.specs.declared.rows.Interval.{Interval}
 use Rattle.module_format.specs.Pars.{meet}
 use Rattle.certificate.specs.Rights.{is_among}
 use Rattle.machine_state.proofs.SpanLaws.{both_true, or_true, or_left, or_right}
-use Rattle.states.specs.Spans.{all_words}
+use Rattle.certificate.specs.Words.{all_words}
 use Rattle.states.proofs.RowFacts.{and-parts, le-from, lt-from, lt-yes}
 use Rattle.rulings.proofs.Offsets.{all_words_at}
 use Rattle.share_laws.proofs.LeftBytes.{is_false}

@@ -46,7 +46,7 @@ says-unknown fact = implies-unknown (by_itself fact)
 -- ---- the words of an entry
 
 -- a word of an entry is its first word, or another one
-first-test : (word : ℤ) (n : ℕ) → is_word word (word +ℤ pos n) ≡ eqb n 0
+pub first-test : (word : ℤ) (n : ℕ) → is_word word (word +ℤ pos n) ≡ eqb n 0
 first-test word zero = is_word-same word (word +ℤ pos 0) (omega (arith, ints))
 first-test word (suc n) =
     let no : eqb (suc n) 0 ≡ false = grind (arith, nat_tests) in

@@ -70,7 +70,7 @@ implied-plain (CodeAddress offset) (CodeAddress other) h = refl
 implied-plain ReturnAddress ReturnAddress h = refl
 implied-plain fact wanted h = absurd (cc)
 
-plain-by : (facts : Facts) (entry : Entry) (fact : Fact) → entry.fact ≡ fact → loop_of fact ≡ None
+pub plain-by : (facts : Facts) (entry : Entry) (fact : Fact) → entry.fact ≡ fact → loop_of fact ≡ None
     → (is_whole facts entry ≡ true) × (price facts entry ≡ 0)
 plain-by facts entry Unknown is h = (rw is refl, rw is refl)
 plain-by facts entry (Number lo hi) is h = (rw is refl, rw is refl)

@@ -14,3 +14,5 @@ pub mod States
 pub mod OwnWords
 pub mod FrameBounds
 pub mod IntervalWords
+pub mod CutEntries
+pub mod LoopPairs

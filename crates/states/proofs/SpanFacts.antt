@@ -22,7 +22,8 @@ use Rattle.states.specs.declared.frame.Frame.{Frame}
 use Rattle.states.specs.declared.state.State.{State as InMemory}
 use Rattle.states.specs.Views.{CanWriteSpan}
 use Rattle.states.specs.Frames.{frame_facts, with_alone, with_span, is_loop_word, parted, HasRoom, SameRoom, HasRoomForSpan}
-use Rattle.states.specs.Spans.{is_in_span, all_words, left_of, on_span, of_none, with_one, with_silent, together, after_change}
+use Rattle.certificate.specs.Words.{all_words}
+use Rattle.states.specs.Spans.{is_in_span, left_of, on_span, of_none, with_one, with_silent, together, after_change}
 use Rattle.states.proofs.RowFacts.{le-yes, le-no, lt-yes, lt-no, and-both, and-parts}
 use Rattle.states.proofs.Loops.{room-known}
 use Rattle.states.proofs.FrameFacts.{is_word-same, is_word-below, is_word-above, distance}

@@ -7,5 +7,6 @@ pub mod Rows
 pub mod Blocks
 pub mod Frames
 pub mod Comparing
+pub mod Cutting
 pub mod Views
 pub mod Room

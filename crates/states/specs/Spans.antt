@@ -15,11 +15,6 @@ use Rattle.states.specs.State.{State, Facts, Change, plain, is_alone, forgets, c
 abbrev pub is_in_span : ℤ → ℕ → ℤ → Bool
 is_in_span first count k = int_le first k && int_lt k (first +ℤ pos count)
 
--- each of them passes the test
-abbrev pub all_words : (ℤ → Bool) → ℤ → ℕ → Bool
-all_words test first zero = true
-all_words test first (suc more) = test (first +ℤ pos more) && all_words test first more
-
 -- ---- what is known of some words together
 
 -- of no words

@@ -1,13 +1,14 @@
 -- A state in memory, as the state that it is, and the module that it is one of.
 use Rattle.std.specs.Prelude.{◌≡◌, ℕ, ℤ, pos, ◌+ℤ◌, ◌≤ℤ◌, ◌<ℤ◌, Bool, true, Option, IfSome, is_some}
+use Rattle.std.specs.Prelude.{vec_capacity}
 use Rattle.module_format.specs.Contents.{Contents}
 use Rattle.module_format.specs.Contexts.{context_at}
 use Rattle.module_format.specs.Keeping.{Keeps}
 use Rattle.certificate.specs.Rights.{has_word}
+use Rattle.certificate.specs.Words.{all_words}
 use Rattle.states.specs.declared.state.State.{State as InMemory}
 use Rattle.states.specs.State.{State}
 use Rattle.states.specs.Frames.{frame_facts, HasRoom}
-use Rattle.states.specs.Spans.{all_words}
 
 abbrev pub state_of : InMemory → State
 state_of s = record {
@@ -47,3 +48,10 @@ pub record AreUsable (may_use : Contents → ℕ → ℤ → Bool) (s : InMemory
     (usable : Bool) : Type 0 where
   pub allowed : (m : Contents) → BelongsTo m s → usable ≡ all_words (may_use m s.context) first count
   pub room : (m : Contents) → BelongsTo m s → usable ≡ true → CanWriteSpan s first count
+
+-- The state is what it was, and belongs to what it did; there is the same room for words and for guards.
+pub record IsLeft (old new : InMemory) : Type 0 where
+  pub state : state_of new ≡ state_of old
+  pub belongs : (m : Contents) → BelongsTo m old → BelongsTo m new
+  pub room : (k : ℤ) → CanWrite old k → CanWrite new k
+  pub guards : vec_capacity new.guards ≡ vec_capacity old.guards

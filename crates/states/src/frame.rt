@@ -75,6 +75,13 @@ impl<'a> Frame<'a> {
         })
     }
 
+    /// How many words can be written.
+    pub(crate) fn room(&self) -> usize
+        ensures { result ≡ vec_len self.now.overlay.places }
+    {
+        self.overlay.places.len()
+    }
+
     /// What was written to a word since the last label.
     pub(crate) fn written(&self, word: i64) -> Option<Fact>
         ensures { result ≡ fact_of_index self.now.overlay.written.items (word -ℤ self.now.lo) }

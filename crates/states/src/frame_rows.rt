@@ -10,6 +10,7 @@ ghost use Rattle.states.specs.Blocks.{block_words, first_of};
 ghost use Rattle.states.specs.Comparing.{WrittenSaysAll, BlockSaysAll, LeftSaysAll, loop_of, IsDue, AreKept, IsOver};
 ghost use Rattle.states.specs.Comparing.{EntryHolds, IsEntered, AreEntered, IsWalk, WalksOn};
 ghost use Rattle.states.specs.Comparing.{IsKeptLoop, IsPair, IsConstantAt, IsInto, IsBase, SaysEntry};
+ghost use Rattle.states.specs.Cutting.{AreLoopsApart};
 ghost use Rattle.states.specs.Frames.{frame_facts};
 ghost use Rattle.states.specs.Lookup.{lookup};
 ghost use Rattle.states.specs.Rows.{AreApart, LoopFits};
@@ -21,8 +22,8 @@ use crate::frame::Frame;
 use crate::implication::{implies, is_constant, says};
 use crate::known::{Loop, WordFact};
 use crate::row::{
-    alone_holds, end_of, has_at_most, is_over, past_saying, row_fact, start_of, steps_to_find,
-    without_ended,
+    alone_holds, end_of, has_at_most, have_loops_apart, is_over, loop_of, past_saying, row_fact,
+    start_of, steps_to_find, without_ended,
 };
 use certificate::{Entry, Fact};
 
@@ -39,25 +40,6 @@ struct Walk<'a> {
 struct Entering {
     count: usize,
     paid: u128,
-}
-
-/// The loop of a fact, if it is of one.
-#[inline(always)]
-fn loop_of(fact: Fact) -> Option<Loop>
-    ensures { result ≡ loop_of fact }
-{
-    match fact {
-        Fact::Loop {
-            base,
-            count,
-            weight,
-        } => Some(Loop {
-            base,
-            count,
-            weight,
-        }),
-        _ => None,
-    }
 }
 
 /// What it costs to enter a loop: its weight for each turn but the first.
@@ -434,5 +416,14 @@ impl Frame<'_> {
         }
         let paid = self.row_paid(row)?;
         Some(paid)
+    }
+
+    /// Whether no word is one of a loop by what is known and by what a row wants. The time goes with the entries of the
+    /// label's row and of this one.
+    pub(crate) fn has_loops_apart(&self, row: &[Entry]) -> bool
+        requires { AreApart row.now }
+        ensures { IsTrue result → AreLoopsApart (frame_facts self.now) (entry_fact row.now) }
+    {
+        have_loops_apart(self.row, row)
     }
 }

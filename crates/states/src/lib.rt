@@ -3,6 +3,7 @@
 
 mod blocks;
 mod comparison;
+mod cutting;
 mod frame;
 mod frame_rows;
 mod frame_spans;

@@ -1,12 +1,13 @@
 //! The entries of a label row.
 
-ghost use Rattle.std.specs.Prelude.{◌≡◌, ℤ, pos, ◌≤ℤ◌, ◌<ℤ◌, ◌^◌, IsTrue, IfSome, IfNone};
+ghost use Rattle.std.specs.Prelude.{◌≡◌, ℤ, pos, ◌≤ℤ◌, ◌<ℤ◌, ◌^◌, IsTrue, IfSome, IfNone, true};
 ghost use Rattle.module_format.specs.Facts.{end_of};
 ghost use Rattle.module_format.specs.declared.fact.Fact.TheVariants.{Unknown};
 ghost use Rattle.states.specs.Below.{says};
-ghost use Rattle.states.specs.Comparing.{IsOver, IsPast};
+ghost use Rattle.states.specs.Comparing.{IsOver, IsPast, loop_of};
+ghost use Rattle.states.specs.Cutting.{AreLoopsApart, IsApartFrom};
 ghost use Rattle.states.specs.Rows.{AreApart};
-ghost use Rattle.states.specs.State.{is_about, is_word, said_of, entry_fact};
+ghost use Rattle.states.specs.State.{is_about, is_word, is_alone, said_of, entry_fact};
 ghost use Rattle.states.specs.declared.known.WordFact.TheVariants.{Alone};
 
 use crate::implication::{implies, is_constant};
@@ -36,6 +37,25 @@ fn is_about(entry: &Entry, word: i64) -> bool
     ensures { result ≡ is_about entry.now word }
 {
     start_of(entry) <= word && word < end_of(entry)
+}
+
+/// The loop of a fact, if it is of one.
+#[inline(always)]
+pub(crate) fn loop_of(fact: Fact) -> Option<Loop>
+    ensures { result ≡ loop_of fact }
+{
+    match fact {
+        Fact::Loop {
+            base,
+            count,
+            weight,
+        } => Some(Loop {
+            base,
+            count,
+            weight,
+        }),
+        _ => None,
+    }
 }
 
 /// What an entry's fact says of one of its words, which is the first or another one.
@@ -201,4 +221,57 @@ pub(crate) fn past_saying<'a>(row: &'a [Entry], word: i64, end: i64, wanted: Fac
         row: rest,
         word: next,
     }
+}
+
+/// Whether no entry that begins before a word is of a loop.
+fn begins_no_loop(row: &[Entry], end: i64) -> bool
+    requires { AreApart row.now }
+    ensures { IsTrue result → (k : ℤ) → k <ℤ end → is_alone (entry_fact row.now k) ≡ true }
+{
+    let mut rest = row;
+    while let Some((entry, later)) = rest.split_first() {
+        if end <= start_of(entry) {
+            return true;
+        }
+        if loop_of(entry.fact).is_some() {
+            return false;
+        }
+        rest = later;
+    }
+    true
+}
+
+/// What is left of a row from the first word of an entry on, if no word of this one is one of a loop by both.
+fn past_apart<'a>(row: &'a [Entry], entry: &Entry) -> Option<&'a [Entry]>
+    requires { AreApart row.now }
+    ensures apart { IfSome result (λ left. AreApart left.now) }
+    ensures same { IfSome result (λ left. (k : ℤ) → entry.now.word ≤ℤ k → entry_fact left.now k ≡ entry_fact row.now k) }
+    ensures alone { IfSome result (λ left. IsApartFrom entry.now row.now) }
+{
+    if loop_of(entry.fact).is_none() {
+        return Some(row);
+    }
+    let left = without_ended(row, start_of(entry));
+    if !begins_no_loop(left, end_of(entry)) {
+        return None;
+    }
+    Some(left)
+}
+
+/// Whether no word is one of a loop by both of two rows. The time goes with their entries.
+pub(crate) fn have_loops_apart(row: &[Entry], other: &[Entry]) -> bool
+    requires row { AreApart row.now }
+    requires other { AreApart other.now }
+    ensures { IsTrue result → AreLoopsApart (entry_fact row.now) (entry_fact other.now) }
+{
+    let mut rest = row;
+    let mut left = other;
+    while let Some((entry, later)) = rest.split_first() {
+        let Some(next) = past_apart(left, entry) else {
+            return false;
+        };
+        left = next;
+        rest = later;
+    }
+    true
 }

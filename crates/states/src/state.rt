@@ -1,26 +1,32 @@
 //! What is known of a process at a place of its code.
 
 ghost use Rattle.std.specs.Prelude.{◌≡◌, ◌≤◌, ◌<◌, ◌-◌, ◌≤ℤ◌, ◌<ℤ◌, ℤ, true, false, IfOk, Some, SomeIff, IsTrue};
-ghost use Rattle.std.specs.Prelude.{slice_get, IsFalse, FitsSigned};
+ghost use Rattle.std.specs.Prelude.{slice_get, IsFalse, FitsSigned, IfSome, sum_by};
+ghost use Rattle.std.specs.List.{list_all};
 ghost use Rattle.std.specs.Int.{w32};
 ghost use Rattle.module_format.specs.Contents.{Contents, contents_of, procedure_of, label_of};
 ghost use Rattle.module_format.specs.Contexts.{context_at};
 ghost use Rattle.certificate.specs.Rights.{has_word, may_write_word, may_read_word};
 ghost use Rattle.module_format.specs.Keeping.{Keeps};
+ghost use Rattle.module_format.specs.Order.{InOrder, least_word};
+ghost use Rattle.module_format.specs.Pars.{IntervalKeeps, behind_interval};
 ghost use Rattle.module_format.specs.Stack.{pushed, popped, reversed};
 ghost use Rattle.states.specs.State.{unknown, known, is_at, without_source, forgets, written, begun, root_state};
-ghost use Rattle.states.specs.State.{is_silent, procedure_state, label_state};
+ghost use Rattle.states.specs.State.{is_silent, entry_fact, procedure_state, label_state};
 ghost use Rattle.states.specs.Frames.{with_alone};
-ghost use Rattle.states.specs.Rows.{LoopFits, IsRowOf};
-ghost use Rattle.states.specs.Views.{state_of, CanWrite, CanWriteSpan, BelongsTo, IsUsable, AreUsable};
+ghost use Rattle.states.specs.Rows.{AreApart, LoopFits, IsRowOf};
+ghost use Rattle.states.specs.Views.{state_of, CanWrite, CanWriteSpan, BelongsTo, IsLeft, IsUsable, AreUsable};
 ghost use Rattle.states.specs.Room.{Covers, HasRoomForGuards};
-ghost use Rattle.states.specs.Spans.{is_in_span, all_words, together, on_span, after_change};
+ghost use Rattle.states.specs.Below.{entries_hold, is_whole, price};
+ghost use Rattle.states.specs.Cutting.{SaysOutside, SaysInside, AreLoopsApart};
+ghost use Rattle.states.specs.Spans.{is_in_span, together, on_span, after_change};
 
+use crate::cutting::{Side, cut};
 use crate::frame::Frame;
 use crate::intervals::have_words;
 use crate::known::{Guard, Known, Mode, Source, WordFact};
 use crate::span::{Leaving, Together};
-use certificate::{Fact, LabelRow, Module, ProcedureRow, Stack, Tables};
+use certificate::{Entry, Fact, Interval, LabelRow, Module, ProcedureRow, Stack, Tables};
 use std::alloc::{AllocError, Global};
 
 /// How many guards an alternation may have.
@@ -40,6 +46,8 @@ pub struct State<'a> {
     pub number: u64,
     pub mode: Mode,
     pub guards: Vec<Guard>,
+    /// A place for entries that are cut. What it has means nothing.
+    pub(crate) pieces: Vec<Entry>,
 }
 
 /// The source, once a word is written.
@@ -154,6 +162,7 @@ impl<'a> State<'a> {
             number: tables.budget,
             mode: Mode::Plain,
             guards: Vec::with_capacity(alloc, MAX_GUARDS)?,
+            pieces: Vec::with_capacity(alloc, room)?,
         })
     }
 
@@ -300,6 +309,58 @@ impl<'a> State<'a> {
         self.stack.c = forgets_span(first, count, self.stack.c);
     }
 
+    /// What is paid for the loops that entries want and that are entered, where of each word at least that is known which
+    /// the entries want, and no loop that they want is half known. None: one of these fails, or too many words were
+    /// changed since the last label. The time goes as that of `cost_below`.
+    pub fn paid(&self, entries: &[Entry]) -> Option<u128>
+        requires { AreApart entries.now }
+        ensures hold { IfSome result (λ _. entries_hold (state_of self.now).frame entries.now ≡ true) }
+        ensures whole { IfSome result (λ _. list_all (is_whole (state_of self.now).frame) entries.now ≡ true) }
+        ensures paid { IfSome result (λ paid. sum_by (price (state_of self.now).frame) entries.now ≡ paid) }
+    {
+        self.frame.paid(entries)
+    }
+
+    /// The same, but only the words are asked that no interval has. None: an interval has a word of a loop, or one of
+    /// the others fails, or too many words were changed. The time goes with the intervals besides.
+    pub fn paid_outside(&mut self, entries: &[Entry], intervals: &[Interval]) -> Option<u128>
+        requires apart { AreApart entries.now }
+        requires order { InOrder IntervalKeeps behind_interval least_word intervals.now }
+        ensures says { IfSome result
+            (λ _. SaysOutside intervals.now (state_of self.old).frame (entry_fact entries.now)) }
+        ensures whole { IfSome result (λ _. list_all (is_whole (state_of self.old).frame) entries.now ≡ true) }
+        ensures paid { IfSome result (λ paid. sum_by (price (state_of self.old).frame) entries.now ≡ paid) }
+        ensures left { IsLeft self.old self.new }
+    {
+        cut(&mut self.pieces, Side::Outside, entries, intervals)?;
+        let paid = self.frame.paid(&self.pieces)?;
+        Some(paid)
+    }
+
+    /// Whether of each word that an interval has at least that is known which entries want, and no interval has a word
+    /// of a loop that they want. False: one of these fails, or too many words were changed. The time goes with the
+    /// entries and the intervals, and as that of `cost_below`.
+    pub fn holds_inside(&mut self, entries: &[Entry], intervals: &[Interval]) -> bool
+        requires apart { AreApart entries.now }
+        requires order { InOrder IntervalKeeps behind_interval least_word intervals.now }
+        ensures says { IsTrue result → SaysInside intervals.now (state_of self.old).frame (entry_fact entries.now) }
+        ensures left { IsLeft self.old self.new }
+    {
+        if cut(&mut self.pieces, Side::Inside, entries, intervals).is_none() {
+            return false;
+        }
+        self.frame.paid(&self.pieces).is_some()
+    }
+
+    /// Whether no word is one of a loop by what is known and by what entries want. The time goes with the entries of the
+    /// label before and with these.
+    pub fn has_loops_apart(&self, entries: &[Entry]) -> bool
+        requires { AreApart entries.now }
+        ensures { IsTrue result → AreLoopsApart (state_of self.now).frame (entry_fact entries.now) }
+    {
+        self.frame.has_loops_apart(entries)
+    }
+
     /// A value comes on top of the registers.
     pub fn push(&mut self, value: Known)
         ensures state { state_of self.new ≡ record (state_of self.old) { stack = pushed value self.old.stack } }
@@ -393,6 +454,7 @@ impl<'a> State<'a> {
             number: self.number,
             mode: self.mode,
             guards,
+            pieces: Vec::with_capacity(alloc, self.frame.room())?,
         })
     }
 }
