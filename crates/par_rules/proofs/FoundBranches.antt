@@ -76,6 +76,7 @@ pub record IsFound (m : Contents) (target : ℕ) (f : Forked) (before : ℕ) : T
   pub context : f.context ≡ context_of m found
   pub par : found.par ≡ f.par
   pub branch : found.branch ≡ f.branch
+  pub row : slice_get m.pars found.row ≡ Some found.par
   pub place : place_from 0 m.pars before ≡ Some (record { row = found.row; number = found.number })
   pub small : (found.row < 2 ^ 32) × (found.number + 1 < 2 ^ 32)
   pub by_context : BranchesAreContexts
@@ -103,6 +104,7 @@ branch_is_found m target f before keeps alike is at = on (branch_at m target) (f
           context = context;
           par = ap (λ (g : Forked). g.par) same;
           branch = ap (λ (g : Forked). g.branch) same;
+          row = row;
           place = place-in-row 0 m.pars found.row found.number found.par row
               (slice_get_within found.par.branches found.number found.branch branch) before here
               ∙ ap (λ (n : ℕ). Some (record { row = n; number = found.number })) row_is;
@@ -138,6 +140,7 @@ pub record IsHere (m : Contents) (target context : ℕ) (par : Par) (branch : Br
       ≡ Some (record { row = place.row; par = par; number = place.number; branch = branch })
   pub numbered : context
       ≡ context_of m (record { row = place.row; par = par; number = place.number; branch = branch })
+  pub row : slice_get m.pars place.row ≡ Some par
   pub small : (place.row < 2 ^ 32) × (place.number + 1 < 2 ^ 32)
   pub by_context : BranchesAreContexts → numbered_branch m context ≡ Some (par, branch)
 
@@ -168,6 +171,7 @@ branch_is_answered m target context par branch p q alike keeps is place same =
         subst (Answered m target context par branch) (sym q_is) (record {
           is = found.is ∙ ap (λ (y : Found). Some y) there;
           numbered = found.context ∙ ap (λ (y : Found). context_of m y) there;
+          row = found.row ∙ ap (λ (y : Par). Some y) found.par;
           small = found.small;
           by_context = λ law. ap (numbered_branch m) found.context ∙ found.by_context law
               ∙ ap (λ (y : Par). Some (y, x.branch)) found.par ∙ ap (λ (y : Branch). Some (par, y)) found.branch;

@@ -1,5 +1,7 @@
+pub mod BranchCosts
 pub mod EndsToGive
 pub mod FoundBranches
+pub mod KnownCosts
 pub mod Mapped
 pub mod PairJudged
 pub mod Paying

@@ -1,17 +1,17 @@
 -- What the labels of a PAR are compared with: at the start of a branch the label at its first byte, at the first start
 -- the one after the PAR, and the latter again where a branch ends.
-use Rattle.std.specs.Prelude.{ℕ, zero, suc, ◌+◌, ◌==◌, ◌&&◌, ◌||◌, not, Bool, true, false, if◌then◌else◌, ℤ, pos}
-use Rattle.std.specs.Prelude.{◌+ℤ◌, int_le, int_lt, sum_by, Option, Some, None}
+use Rattle.std.specs.Prelude.{ℕ, zero, suc, ◌+◌, ◌==◌, ◌&&◌, ◌||◌, not, Bool, true, if◌then◌else◌, ℤ, pos}
+use Rattle.std.specs.Prelude.{◌+ℤ◌, sum_by, Option, Some, None}
 use Rattle.std.specs.List.{list_any, list_all}
-use Rattle.module_format.specs.Rows.{Fact, Entry}
-use Rattle.module_format.specs.declared.fact.Fact.TheVariants.{Unknown, Loop}
-use Rattle.module_format.specs.declared.rows.ChannelRow.{ChannelRow}
+use Rattle.module_format.specs.Rows.{Entry}
+use Rattle.module_format.specs.declared.fact.Fact.TheVariants.{Unknown}
 use Rattle.module_format.specs.Stack.{of_empty}
 use Rattle.module_format.specs.Contents.{Contents, Par, Branch, Label}
-use Rattle.certificate.specs.Rights.{may_write_word, may_read_word, is_among}
+use Rattle.certificate.specs.Rights.{may_write_word}
+use Rattle.certificate.specs.Starting.{is_seen, is_written, says_of_hidden}
 use Rattle.states.specs.declared.known.WordFact.{WordFact}
 use Rattle.states.specs.declared.known.WordFact.TheVariants.{Alone}
-use Rattle.states.specs.State.{State, Facts, plain, is_word, is_alone, is_silent, is_about, said_of}
+use Rattle.states.specs.State.{State, Facts, plain, is_word, is_alone, is_silent, said_of}
 use Rattle.states.specs.Below.{View, says, price, is_whole}
 
 -- ---- words of a label, by a test
@@ -28,15 +28,11 @@ label_passes test t = list_all (λ entry. words_pass test entry entry.span) t.en
 
 -- ---- where a branch begins
 
--- word k is one of the three below a workspace
-abbrev pub is_scheduling_word : ℤ → ℤ → Bool
-is_scheduling_word workspace k = int_lt k workspace && int_le workspace (k +ℤ pos 3)
-
 -- what a branch, which is this context, knows of words: of those that it may read what reading tells, but nothing of
 -- those that scheduling takes
 abbrev pub branch_facts : Contents → ℕ → ℤ → Facts → Facts
 branch_facts m context workspace facts = λ k.
-    if may_read_word m context k && not (is_scheduling_word workspace k) then Alone (plain (facts k)) else Alone Unknown
+    if is_seen m context workspace k then Alone (plain (facts k)) else Alone Unknown
 
 -- what the label of a branch is compared with
 abbrev pub branch_view : Contents → ℕ → Branch → State → View
@@ -49,26 +45,6 @@ branch_view m context b s = record {
 }
 
 -- ---- after the PAR
-
--- a branch of the PAR writes word k
-abbrev pub is_written : Par → ℤ → Bool
-is_written par k = list_any (λ (b : Branch). is_among b.writes k) par.branches
-
-abbrev pub is_loop : Fact → Bool
-is_loop (Loop base count weight) = true
-is_loop fact = false
-
--- the entry is of a loop of which a branch writes a word
-abbrev pub is_written_loop : Par → Entry → Bool
-is_written_loop par entry =
-    is_loop entry.fact && (is_written par entry.word || is_written par (entry.word +ℤ pos 1))
-
--- the entry says something of a word of the block, or of a channel of the PAR
-abbrev pub says_of_hidden : Par → Entry → Bool
-says_of_hidden par entry =
-    not (is_silent (Alone entry.fact))
-    && (is_about entry par.block || is_about entry (par.block +ℤ pos 1)
-    || list_any (λ (c : ChannelRow). is_about entry c.word) par.channels)
 
 -- The label is where the PAR leads, and says nothing of the registers, the block and the channels.
 abbrev pub is_after : Par → Label → Bool

@@ -1,5 +1,6 @@
 -- A branch that was found, as the definitions have it.
-use Rattle.std.specs.Prelude.{◌≡◌, ℕ, ◌+◌, ◌-◌, nat_lt, if◌then◌else◌, List, [], ◌∷◌, length, Option, Some, None}
+use Rattle.std.specs.Prelude.{◌≡◌, ℕ, ◌+◌, ◌-◌, nat_lt, if◌then◌else◌, List, [], ◌∷◌, length, slice_get, Option}
+use Rattle.std.specs.Prelude.{Some, None}
 use Rattle.module_format.specs.Contents.{branch_of, par_of, Par, Contents}
 use Rattle.certificate.specs.Branches.{numbered_branch}
 use Rattle.machine_state.specs.JoinLookups.{Found}
@@ -12,6 +13,10 @@ found_view f = record { row = f.row; par = par_of f.par.now; number = f.number; 
 -- the branch that was found is the one of its context
 abbrev pub IsNumbered : Contents → kept.Found → Type 0
 IsNumbered m f = numbered_branch m f.context ≡ Some (par_of f.par.now, branch_of f.branch.now)
+
+-- its row is the one of this number
+abbrev pub IsInRow : Contents → kept.Found → Type 0
+IsInRow m f = slice_get m.pars f.row ≡ Some (par_of f.par.now)
 
 -- where the branch is that has so many before it, in rows of which the first has number r
 abbrev pub place_from : ℕ → List Par → ℕ → Option InRow

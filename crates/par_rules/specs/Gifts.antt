@@ -1,15 +1,13 @@
 -- What a branch of a PAR is given: what is started already, and whether there is something to give. What it has in
 -- common with others is in `Siblings` of `certificate`.
-use Rattle.std.specs.Prelude.{ℕ, ◌&&◌, ◌||◌, Bool, ℤ, pos, ◌-ℤ◌, nat_abs, List, [], is_some}
+use Rattle.std.specs.Prelude.{ℕ, ◌&&◌, ◌||◌, Bool, pos, ◌-ℤ◌, List, [], is_some}
 use Rattle.std.specs.List.{list_all}
 use Rattle.module_format.specs.declared.rows.EndRow.{EndRow}
-use Rattle.module_format.specs.declared.rows.Interval.{Interval}
 use Rattle.module_format.specs.Contents.{Contents, Par, Branch}
-use Rattle.certificate.specs.Rights.{may_write_word, may_read_word, has_end}
+use Rattle.certificate.specs.Rights.{may_write_word, has_end}
 use Rattle.certificate.specs.Siblings.{first_branches}
 use Rattle.states.specs.declared.known.Mode.{Mode}
 use Rattle.states.specs.declared.known.Mode.TheVariants.{Starting}
-use Rattle.states.specs.Spans.{all_words}
 use Rattle.rulings.specs.Reach.{readable_bytes, writable_bytes}
 use Rattle.rulings.specs.Remaining.{is_own_end}
 
@@ -26,17 +24,7 @@ has_end_to_give m context par e = has_end m context e || is_own_end par e.kind
 
 -- ---- words and parameters
 
--- each word of an interval passes the test
-abbrev pub all_within : (ℤ → Bool) → Interval → Bool
-all_within test i = all_words test i.lo (nat_abs (i.hi -ℤ i.lo))
-
--- the context may write the words that the branch writes, and read those that it reads
-abbrev pub may_give_words : Contents → ℕ → Branch → Bool
-may_give_words m context b =
-    list_all (all_within (may_write_word m context)) b.writes
-    && list_all (all_within (may_read_word m context)) b.reads
-
--- it may write what the parameters name that the branch writes, and read what those name that it reads
+-- the context may write what the parameters name that the branch writes, and read what those name that it reads
 abbrev pub may_give_parameters : Contents → ℕ → Branch → Bool
 may_give_parameters m context b =
     list_all (λ j. is_some (writable_bytes m context j)) b.written_parameters

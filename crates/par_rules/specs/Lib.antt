@@ -1,4 +1,5 @@
 pub mod Comparisons
+pub mod Costs
 pub mod Finding
 pub mod Gifts
 pub mod Openings

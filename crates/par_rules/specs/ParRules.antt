@@ -2,12 +2,13 @@
 -- Their tests are in rising order of the numbers of rules.
 use Rattle.std.specs.Prelude.{ℕ, ◌+◌, ◌-◌, nat_lt, ◌==◌, ◌&&◌, ◌||◌, not, Bool, true, false, if◌then◌else◌, ℤ, pos}
 use Rattle.std.specs.Prelude.{◌*ℤ◌, List, [], ◌∷◌, length, slice_get, Option, Some, None, option_map}
-use Rattle.std.specs.List.{list_any, list_all}
+use Rattle.std.specs.List.{list_all}
 use Rattle.module_format.specs.Rows.{Fact}
 use Rattle.module_format.specs.declared.fact.Fact.TheVariants.{Number, Pointer}
 use Rattle.module_format.specs.declared.fact.Step.TheVariants.{Word}
 use Rattle.module_format.specs.Contents.{Contents, Par, Label, label_at}
 use Rattle.certificate.specs.Branches.{numbered_branch}
+use Rattle.certificate.specs.Starting.{may_give_words, leaves_loops}
 use Rattle.certificate.specs.Siblings.{is_beside, has_other_ends, leaves_hidden_words}
 use Rattle.machine_state.specs.BranchContexts.{context_of}
 use Rattle.machine_state.specs.JoinLookups.{Found, found_at}
@@ -20,10 +21,10 @@ use Rattle.states.specs.Below.{is_plain, step_implies, cost, agrees}
 use Rattle.rulings.specs.Rulings.{Ruling, Site, starts, ends, breaks, uses, wants, outside_alternation, pays}
 use Rattle.rulings.specs.Rulings.{without_registers}
 use Rattle.rulings.specs.Pointers.{is_near_pointer}
-use Rattle.par_rules.specs.Gifts.{started_in, has_end_to_give, may_give_words, may_give_parameters}
+use Rattle.par_rules.specs.Gifts.{started_in, has_end_to_give, may_give_parameters}
 use Rattle.par_rules.specs.Gifts.{has_scheduling_words}
 use Rattle.par_rules.specs.Openings.{is_prepared}
-use Rattle.par_rules.specs.Comparisons.{branch_view, is_written_loop, is_after, agrees_after, cost_after, ends_below}
+use Rattle.par_rules.specs.Comparisons.{branch_view, is_after, agrees_after, cost_after, ends_below}
 
 -- ---- what registers name
 
@@ -80,13 +81,6 @@ may_give m s found =
 -- what is wanted at the first start of a PAR alone, which a process begins in the middle of nothing
 abbrev pub at_first : Mode → Bool → Bool
 at_first mode holds = not (is_plain mode) || holds
-
--- no branch writes a word of a loop that the label after the PAR has, if there is that label
-abbrev pub leaves_loops : Contents → Par → Bool
-leaves_loops m par = elim (label_at m par.successor) [
-  | None ↦ true
-  | Some t ↦ not (list_any (is_written_loop par) t.entries)
-]
 
 -- All is prepared that the PAR wants, and there is a label after it.
 abbrev pub may_open : Contents → State → Par → Bool

@@ -7,7 +7,7 @@ ghost use Rattle.machine_state.specs.BranchContexts.{context_of};
 ghost use Rattle.machine_state.specs.JoinLookups.{found_at};
 ghost use Rattle.rulings.specs.Places.{site_of};
 ghost use Rattle.par_rules.specs.ParRules.{named_branch};
-ghost use Rattle.par_rules.specs.Finding.{place_from, found_view, IsNumbered};
+ghost use Rattle.par_rules.specs.Finding.{place_from, found_view, IsNumbered, IsInRow};
 
 use certificate::{BranchRow, Fact, Module, ParRow};
 use machine_state::branches_are_contexts;
@@ -61,6 +61,7 @@ fn found_at<'s>(module: &'s Module, target: u32) -> Option<Found<'s>>
         (λ f. found_at «module».now target ≡ Some (found_view f)) }
     ensures context { IfSome result (λ f. f.context ≡ context_of «module».now (found_view f)) }
     ensures numbered { IfSome result (IsNumbered «module».now) }
+    ensures in_row { IfSome result (IsInRow «module».now) }
     ensures small { IfSome result (λ f. (f.row < 2 ^ 32) × (f.number + 1 < 2 ^ 32)) }
 {
     branches_are_contexts();
@@ -82,6 +83,7 @@ pub(crate) fn named_branch<'s>(place: &Place<'s, '_>, fact: Fact) -> Option<Foun
         (λ f. named_branch (site_of place.now) fact ≡ Some (found_view f)) }
     ensures context { IfSome result (λ f. f.context ≡ context_of place.now.module.now (found_view f)) }
     ensures numbered { IfSome result (IsNumbered place.now.module.now) }
+    ensures in_row { IfSome result (IsInRow place.now.module.now) }
     ensures small { IfSome result (λ f. (f.row < 2 ^ 32) × (f.number + 1 < 2 ^ 32)) }
 {
     let Fact::Number { lo, hi } = fact else {

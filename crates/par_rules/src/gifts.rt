@@ -3,14 +3,12 @@
 ghost use Rattle.std.specs.Prelude.{◌≡◌, pos, ◌-ℤ◌, is_some, Some, None, slice_get, MatchOption};
 ghost use Rattle.std.specs.List.{list_all};
 ghost use Rattle.module_format.specs.Contents.{branch_of, contents_of, par_of};
-ghost use Rattle.certificate.specs.Rights.{may_write_word, may_read_word};
-ghost use Rattle.states.specs.Views.{state_of, BelongsTo};
+ghost use Rattle.certificate.specs.Rights.{may_write_word};
 ghost use Rattle.rulings.specs.Reach.{readable_bytes, writable_bytes};
-ghost use Rattle.par_rules.specs.Gifts.{all_within, may_give_words, may_give_parameters, has_scheduling_words};
+ghost use Rattle.par_rules.specs.Gifts.{may_give_parameters, has_scheduling_words};
 
-use certificate::{BranchRow, Interval, Module, ParRow, Tables};
+use certificate::{BranchRow, Module, ParRow, Tables};
 use rulings::Place;
-use states::State;
 
 /// The row of a PAR, if there is one of this number.
 pub(crate) fn par_at<'t>(tables: &'t Tables, row: u32) -> Option<&'t ParRow>
@@ -18,52 +16,6 @@ pub(crate) fn par_at<'t>(tables: &'t Tables, row: u32) -> Option<&'t ParRow>
         MatchOption result (found ≡ None) (λ par. found ≡ Some (par_of par.now)) }
 {
     tables.pars.get(row as usize)
-}
-
-/// Whether the state's context may write the words of an interval.
-fn writes_interval(place: &Place, state: &State, interval: &Interval) -> bool
-    requires { BelongsTo place.now.module.now state.now }
-    ensures { result ≡ all_within (may_write_word place.now.module.now (state_of state.now).context) interval.now }
-{
-    state.writes_words(interval.lo, interval.hi.abs_diff(interval.lo))
-}
-
-/// Whether the state's context may read the words of an interval.
-fn reads_interval(place: &Place, state: &State, interval: &Interval) -> bool
-    requires { BelongsTo place.now.module.now state.now }
-    ensures { result ≡ all_within (may_read_word place.now.module.now (state_of state.now).context) interval.now }
-{
-    state.reads_words(interval.lo, interval.hi.abs_diff(interval.lo))
-}
-
-/// Whether the state's context may write the words of all these intervals.
-fn writes_intervals(place: &Place, state: &State, intervals: &[Interval]) -> bool
-    requires { BelongsTo place.now.module.now state.now }
-    ensures { let may = may_write_word place.now.module.now (state_of state.now).context in
-        result ≡ list_all (all_within may) intervals.now }
-{
-    intervals
-        .iter()
-        .all(|interval| writes_interval(place, state, interval))
-}
-
-/// Whether the state's context may read the words of all these intervals.
-fn reads_intervals(place: &Place, state: &State, intervals: &[Interval]) -> bool
-    requires { BelongsTo place.now.module.now state.now }
-    ensures { let may = may_read_word place.now.module.now (state_of state.now).context in
-        result ≡ list_all (all_within may) intervals.now }
-{
-    intervals
-        .iter()
-        .all(|interval| reads_interval(place, state, interval))
-}
-
-/// Whether the state's context may write the words that a branch writes, and read those that it reads.
-pub(crate) fn may_give_words(place: &Place, state: &State, branch: &BranchRow) -> bool
-    requires { BelongsTo place.now.module.now state.now }
-    ensures { result ≡ may_give_words place.now.module.now (state_of state.now).context (branch_of branch.now) }
-{
-    writes_intervals(place, state, &branch.writes) && reads_intervals(place, state, &branch.reads)
 }
 
 /// Whether a context may write what all these parameters name.

@@ -1,6 +1,7 @@
 //! The rules of the instructions that start the branches of a PAR and end them.
 #![tactic(auto)]
 
+mod costs;
 mod ends;
 mod found;
 mod gifts;

@@ -7,12 +7,13 @@ ghost use Rattle.states.specs.Below.{is_whole, price};
 ghost use Rattle.states.specs.Rows.{LoopFits};
 ghost use Rattle.states.specs.State.{said_of};
 ghost use Rattle.states.specs.Views.{state_of};
-ghost use Rattle.par_rules.specs.Comparisons.{words_pass, label_passes, is_scheduling_word, keeps};
-ghost use Rattle.par_rules.specs.Sights.{facts_in, passes};
+ghost use Rattle.certificate.specs.Starting.{is_scheduling_word};
+ghost use Rattle.par_rules.specs.Comparisons.{words_pass, label_passes, keeps};
+ghost use Rattle.par_rules.specs.Sights.{facts_in, passes, IsOrdered};
 
-use crate::labels::is_written;
+use crate::labels::is_among;
 use crate::openings::holds_constant;
-use certificate::{Entry, Fact, LabelRow, Module, ParRow};
+use certificate::{Entry, Fact, Interval, LabelRow, Module};
 use states::{Loop, State, WordFact, says};
 
 /// Where something is known of words.
@@ -38,9 +39,9 @@ pub(crate) enum Asked<'s, 'm, 't> {
     Implied {
         sight: Sight<'s, 'm, 't>,
     },
-    /// What the label says is known of words that no branch of the PAR writes.
+    /// What the label says is known of words that no interval has of those that the branches of the PAR write.
     Left {
-        par: &'s ParRow,
+        written: &'s [Interval],
         state: &'s State<'t>,
     },
     /// What the label says is known of words that the state's context writes, and no loop is entered.
@@ -124,15 +125,16 @@ impl Asked<'_, '_, '_> {
     ghost use Rattle.std.specs.List.{list_all};
     ghost use Rattle.module_format.specs.Contents.{label_of};
     ghost use Rattle.par_rules.specs.Comparisons.{words_pass, label_passes};
-    ghost use Rattle.par_rules.specs.Sights.{passes};
+    ghost use Rattle.par_rules.specs.Sights.{passes, IsOrdered};
 
     /// Whether a word passes, of which a label wants this.
     fn passes(&self, word: i64, wanted: WordFact) -> bool
+        requires { IsOrdered self.now }
         ensures { result ≡ passes self.now word wanted }
     {
         match *self {
             Asked::Implied { sight } => says(sight.fact_at(word), wanted),
-            Asked::Left { par, state } => is_written(par, word)
+            Asked::Left { written, state } => is_among(written, word)
                 || says(state.fact_of(word), wanted),
             Asked::Kept { module, state } => {
                 !module.may_write_word(state.context, word) || keeps(state.fact_of(word), wanted)
@@ -142,6 +144,7 @@ impl Asked<'_, '_, '_> {
 
     /// Whether each word of an entry passes.
     fn entry_passes(&self, entry: &Entry) -> bool
+        requires { IsOrdered self.now }
         ensures { result ≡ words_pass (passes self.now) entry.now entry.now.span }
     {
         let word = i64::from(entry.word);
@@ -155,6 +158,7 @@ impl Asked<'_, '_, '_> {
 
     /// Whether each word passes of which a label says something.
     pub(crate) fn label_passes(&self, row: &LabelRow) -> bool
+        requires { IsOrdered self.now }
         ensures { result ≡ label_passes (passes self.now) (label_of row.now) }
     {
         row.entries.iter().all(|entry| self.entry_passes(entry))

@@ -1,27 +1,31 @@
 //! The rule of `startp`.
 
-ghost use Rattle.std.specs.Prelude.{◌≡◌, ◌∷◌, ◌&&◌, ◌+◌, ◌-◌, ◌≤◌, ◌<◌, ◌^◌, ℕ, Some, SomeIff};
+ghost use Rattle.std.specs.Prelude.{◌≡◌, ◌∷◌, ◌&&◌, ◌+◌, ◌-◌, ◌≤◌, ◌<◌, ◌^◌, ℕ, Some, SomeIff, IfSome, IfOk};
 ghost use Rattle.std.specs.List.{list_all};
-ghost use Rattle.module_format.specs.Contents.{Contents, label_of, par_of};
+ghost use Rattle.module_format.specs.Contents.{Contents, label_of, label_at, par_of};
+ghost use Rattle.module_format.specs.Keeping.{Keeps};
+ghost use Rattle.certificate.specs.Starting.{leaves_loops};
 ghost use Rattle.certificate.specs.Siblings.{has_other_ends, leaves_hidden_words};
 ghost use Rattle.machine_state.specs.BranchContexts.{context_of};
 ghost use Rattle.states.specs.Below.{cost, agrees, entries_hold, is_whole};
-ghost use Rattle.states.specs.Views.{state_of, BelongsTo};
+ghost use Rattle.states.specs.Views.{state_of, BelongsTo, IsLeft};
 ghost use Rattle.rulings.specs.Places.{site_of};
 ghost use Rattle.rulings.specs.Telling.{Gives};
-ghost use Rattle.par_rules.specs.Finding.{found_view, IsNumbered};
+ghost use Rattle.par_rules.specs.Finding.{found_view, IsNumbered, IsInRow};
 ghost use Rattle.par_rules.specs.Gifts.{started_in, has_end_to_give};
 ghost use Rattle.par_rules.specs.Sights.{begins_there, facts_in};
+ghost use Rattle.par_rules.specs.Costs.{IsCostOf, IsCostAfter, AreCosts};
 ghost use Rattle.par_rules.specs.ParRules.{is_apart, ends_are_free, is_next, is_in_turn, may_give, at_first};
-ghost use Rattle.par_rules.specs.ParRules.{leaves_loops, may_open, label_after, cost_of_start, start_agrees};
+ghost use Rattle.par_rules.specs.ParRules.{may_open, label_after, cost_of_start, start_agrees};
 ghost use Rattle.par_rules.specs.ParRules.{offset_after, after_start, pays_labels, with_label};
 ghost use Rattle.par_rules.specs.ParRules.{starts_branch, startp_rule};
 ghost use Rattle.par_rules.specs.Comparisons.{branch_facts, branch_view, cost_after, agrees_after};
 ghost use Rattle.par_rules.specs.Telling.{Starts, label_view, labels_of};
 
+use crate::costs::{Costs, cost_after, cost_of_branch, left_of};
 use crate::found::{Found, named_branch};
-use crate::gifts::{has_scheduling_words, may_give_parameters, may_give_words};
-use crate::labels::{is_after, leaves_loops};
+use crate::gifts::{has_scheduling_words, may_give_parameters};
+use crate::labels::is_after;
 use crate::openings::is_prepared;
 use crate::pointers::is_workspace;
 use crate::sights::{Asked, Sight};
@@ -125,25 +129,25 @@ fn leaves_hidden_words(place: &Place, found: &Found) -> bool
 
 /// Whether the context has the words and the parameters that the branch is given, and none of them is hidden.
 fn may_give(place: &Place, state: &State, found: &Found) -> bool
-    requires belongs { BelongsTo place.now.module.now state.now }
     requires context { found.now.context ≡ context_of place.now.module.now (found_view found.now) }
     requires numbered { IsNumbered place.now.module.now found.now }
     ensures { result ≡ may_give place.now.module.now (state_of state.now) (found_view found.now) }
 {
-    may_give_words(place, state, found.branch)
+    place.module.gives_words(state.context, found.context)
         && may_give_parameters(place, state.context, found.branch)
         && leaves_hidden_words(place, found)
 }
 
 /// Whether all is prepared that the PAR wants, and there is a label after it.
-fn may_open(module: &Module, state: &State, par: &ParRow) -> bool
-    ensures { result ≡ may_open «module».now (state_of state.now) (par_of par.now) }
+fn may_open(module: &Module, state: &State, found: &Found) -> bool
+    requires { IsInRow «module».now found.now }
+    ensures { result ≡ may_open «module».now (state_of state.now) (par_of found.now.par.now) }
 {
-    if !is_prepared(module, state, par) {
+    if !is_prepared(module, state, found.par) {
         return false;
     }
-    match module.label_at(par.successor) {
-        Some(row) => is_after(par, row),
+    match module.label_at(found.par.successor) {
+        Some(row) => is_after(module, found, row),
         None => false,
     }
 }
@@ -180,31 +184,57 @@ fn sight_of<'s, 'm, 't>(
     }
 }
 
-/// What is left of a number once the label of a branch is paid, which a state starts, and the loops that it enters.
+/// What is left of a number once the label of a branch is paid, which a state starts, and the loops that it enters, where
+/// it may be known what that costs.
 fn left_of_branch(
     place: &Place,
     state: &State,
     found: &Found,
     number: u64,
     row: &LabelRow,
+    known: Option<u128>,
 ) -> Option<u64>
-    requires { found.now.context ≡ context_of place.now.module.now (found_view found.now) }
+    requires context { found.now.context ≡ context_of place.now.module.now (found_view found.now) }
+    requires known { let m = place.now.module.now in
+        let f = found_view found.now in
+        IfSome known (IsCostOf (branch_view m (context_of m f) f.branch (state_of state.now)) (label_of row.now)) }
     ensures { let m = place.now.module.now in
         let f = found_view found.now in
         let price = cost (branch_view m (context_of m f) f.branch (state_of state.now)) (label_of row.now) in
         SomeIff result (price ≤ number) (number - price) }
 {
-    sight_of(place, state, found).left_of(number, row)
+    match known {
+        Some(cost) => left_of(number, cost),
+        None => sight_of(place, state, found).left_of(number, row),
+    }
 }
 
 /// What is left of a number once the label after a PAR is paid, and the loops that it enters, if it is compared.
-fn left_after(state: &State, number: u64, after: Option<&LabelRow>) -> Option<u64>
+fn left_after_asking(state: &State, number: u64, after: Option<&LabelRow>) -> Option<u64>
     ensures { let price = cost_after (state_of state.now) (label_view after.entry) in
         SomeIff result (price ≤ number) (number - price) }
 {
     match after {
         Some(row) => Sight::InState { state }.left_of(number, row),
         None => Some(number),
+    }
+}
+
+/// The same where it may be known what that costs.
+fn left_after(
+    state: &State,
+    number: u64,
+    found: &Found,
+    after: Option<&LabelRow>,
+    known: Option<u128>,
+) -> Option<u64>
+    requires { IfSome known (IsCostAfter (par_of found.now.par.now) (state_of state.now) (label_view after)) }
+    ensures { let price = cost_after (state_of state.now) (label_view after.entry) in
+        SomeIff result (price ≤ number) (number - price) }
+{
+    match known {
+        Some(cost) => left_of(number, cost),
+        None => left_after_asking(state, number, after),
     }
 }
 
@@ -264,20 +294,64 @@ fn branch_agrees(place: &Place, state: &State, found: &Found, row: &LabelRow) ->
     begins_and_says(place, state, found, row) && branch_is_whole(place, state, found, row)
 }
 
-/// Whether a state knows what a label says of words that no branch of a PAR writes.
-fn agrees_with(state: &State, par: &ParRow, row: &LabelRow) -> bool
-    ensures { result ≡ agrees_after (par_of par.now) (state_of state.now) (Some (label_of row.now)) }
+/// The same where it may be known what the label costs.
+fn branch_agrees_if(
+    place: &Place,
+    state: &State,
+    found: &Found,
+    row: &LabelRow,
+    known: Option<u128>,
+) -> bool
+    requires context { found.now.context ≡ context_of place.now.module.now (found_view found.now) }
+    requires known { let m = place.now.module.now in
+        let f = found_view found.now in
+        IfSome known (IsCostOf (branch_view m (context_of m f) f.branch (state_of state.now)) (label_of row.now)) }
+    ensures { let m = place.now.module.now in
+        let f = found_view found.now in
+        let view = branch_view m (context_of m f) f.branch (state_of state.now) in
+        result ≡ agrees view (label_of row.now) }
 {
-    Asked::Left { par, state }.label_passes(row) && Sight::InState { state }.are_whole(row)
+    match known {
+        Some(_) => begins_there(found, row),
+        None => branch_agrees(place, state, found, row),
+    }
+}
+
+/// Whether a state knows what a label says of words that no branch of a PAR writes.
+fn agrees_with(module: &Module, state: &State, found: &Found, row: &LabelRow) -> bool
+    requires { IsInRow «module».now found.now }
+    ensures { result ≡ agrees_after (par_of found.now.par.now) (state_of state.now) (Some (label_of row.now)) }
+{
+    let written = module.written_words(found.row);
+    Asked::Left { written, state }.label_passes(row) && Sight::InState { state }.are_whole(row)
 }
 
 /// Whether a state knows what the label after a PAR says of words that no branch writes, if it is compared.
-fn agrees_after(state: &State, par: &ParRow, after: Option<&LabelRow>) -> bool
-    ensures { result ≡ agrees_after (par_of par.now) (state_of state.now) (label_view after.entry) }
+fn agrees_after(module: &Module, state: &State, found: &Found, after: Option<&LabelRow>) -> bool
+    requires { IsInRow «module».now found.now }
+    ensures { result ≡ agrees_after (par_of found.now.par.now) (state_of state.now) (label_view after.entry) }
 {
     match after {
-        Some(row) => agrees_with(state, par, row),
+        Some(row) => agrees_with(module, state, found, row),
         None => true,
+    }
+}
+
+/// The same where it may be known what the label costs.
+fn agrees_after_if(
+    module: &Module,
+    state: &State,
+    found: &Found,
+    after: Option<&LabelRow>,
+    known: Option<u128>,
+) -> bool
+    requires in_row { IsInRow «module».now found.now }
+    requires known { IfSome known (IsCostAfter (par_of found.now.par.now) (state_of state.now) (label_view after)) }
+    ensures { result ≡ agrees_after (par_of found.now.par.now) (state_of state.now) (label_view after.entry) }
+{
+    match known {
+        Some(_) => true,
+        None => agrees_after(module, state, found, after),
     }
 }
 
@@ -289,16 +363,19 @@ fn left_of_start(
     found: &Found,
     row: &LabelRow,
     after: Option<&LabelRow>,
+    known: Costs,
 ) -> Option<u64>
     requires context { found.now.context ≡ context_of place.now.module.now (found_view found.now) }
     requires after { label_view after
         ≡ label_after place.now.module.now (state_of state.now).mode (par_of found.now.par.now) }
+    requires known { AreCosts place.now.module.now (state_of state.now) (found_view found.now) (label_of row.now)
+        (label_view after) known }
     ensures { let s = state_of state.now in
         let price = cost_of_start place.now.module.now s (found_view found.now) (label_of row.now) in
         SomeIff result (price ≤ s.number) (s.number - price) }
 {
-    let left = left_of_branch(place, state, found, state.number, row)?;
-    left_after(state, left, after)
+    let left = left_of_branch(place, state, found, state.number, row, known.branch)?;
+    left_after(state, left, found, after, known.after)
 }
 
 /// Whether what is known implies what the labels of a start say.
@@ -308,14 +385,19 @@ fn start_agrees(
     found: &Found,
     row: &LabelRow,
     after: Option<&LabelRow>,
+    known: Costs,
 ) -> bool
     requires context { found.now.context ≡ context_of place.now.module.now (found_view found.now) }
+    requires in_row { IsInRow place.now.module.now found.now }
     requires after { label_view after
         ≡ label_after place.now.module.now (state_of state.now).mode (par_of found.now.par.now) }
+    requires known { AreCosts place.now.module.now (state_of state.now) (found_view found.now) (label_of row.now)
+        (label_view after) known }
     ensures { let s = state_of state.now in
         result ≡ start_agrees place.now.module.now s (found_view found.now) (label_of row.now) }
 {
-    branch_agrees(place, state, found, row) && agrees_after(state, found.par, after)
+    branch_agrees_if(place, state, found, row, known.branch)
+        && agrees_after_if(place.module, state, found, after, known.after)
 }
 
 /// The labels at which others go on.
@@ -348,49 +430,107 @@ fn go_on(state: &mut State, found: &Found, left: u64)
     };
 }
 
-/// The labels are paid, and what they say is known.
+/// What the labels of a start cost, as far as one pass over the entries of each tells it.
+fn known_costs(
+    place: &Place,
+    state: &mut State,
+    found: &Found,
+    row: &LabelRow,
+    after: Option<&LabelRow>,
+) -> Costs
+    requires kept { Keeps place.now.module.now }
+    requires context { found.now.context ≡ context_of place.now.module.now (found_view found.now) }
+    requires numbered { IsNumbered place.now.module.now found.now }
+    requires in_row { IsInRow place.now.module.now found.now }
+    requires label { label_at place.now.module.now found.now.branch.now.entry ≡ Some (label_of row.now) }
+    requires after { label_view after
+        ≡ label_after place.now.module.now (state_of state.old).mode (par_of found.now.par.now) }
+    ensures costs { AreCosts place.now.module.now (state_of state.old) (found_view found.now) (label_of row.now)
+        (label_view after.entry) result }
+    ensures left { IsLeft state.old state.new }
+{
+    let branch = cost_of_branch(place, state, found, row);
+    let successor = cost_after(place.module, state, found, after);
+    Costs {
+        branch,
+        after: successor,
+    }
+}
+
+/// The labels are paid, and what they say is known, where it may be known what they cost.
 #[tactic(auto, unfolding(crate::specs::ParRules::pays_labels))]
+fn pays_knowing(
+    place: &Place,
+    state: &mut State,
+    found: &Found,
+    row: &LabelRow,
+    after: Option<&LabelRow>,
+    known: Costs,
+) -> Result<Started, Rule>
+    requires context { found.now.context ≡ context_of place.now.module.now (found_view found.now) }
+    requires in_row { IsInRow place.now.module.now found.now }
+    requires small { (found.now.row < 2 ^ 32) × (found.now.number + 1 < 2 ^ 32) }
+    requires after { label_view after
+        ≡ label_after place.now.module.now (state_of state.old).mode (par_of found.now.par.now) }
+    requires known { AreCosts place.now.module.now (state_of state.old) (found_view found.now) (label_of row.now)
+        (label_view after) known }
+    ensures ruling { let ruling = pays_labels (site_of place.now) (found_view found.now) (label_of row.now) in
+        Starts result (state_of state.new) (ruling (state_of state.old)) }
+    ensures belongs { (m : Contents) → BelongsTo m state.old → BelongsTo m state.new }
+{
+    let left = left_of_start(place, state, found, row, after, known).ok_or(Rule::Budget)?;
+    let agrees = start_agrees(place, state, found, row, after, known);
+    wants(agrees, Rule::Label)?;
+    go_on(state, found, left);
+    Ok(report(found, after))
+}
+
+/// The labels are paid, and what they say is known.
 fn pays_labels(
     place: &Place,
     state: &mut State,
     found: &Found,
     row: &LabelRow,
 ) -> Result<Started, Rule>
+    requires kept { Keeps place.now.module.now }
     requires context { found.now.context ≡ context_of place.now.module.now (found_view found.now) }
+    requires numbered { IsNumbered place.now.module.now found.now }
+    requires in_row { IsInRow place.now.module.now found.now }
+    requires label { label_at place.now.module.now found.now.branch.now.entry ≡ Some (label_of row.now) }
     requires small { (found.now.row < 2 ^ 32) × (found.now.number + 1 < 2 ^ 32) }
     ensures ruling { let ruling = pays_labels (site_of place.now) (found_view found.now) (label_of row.now) in
         Starts result (state_of state.new) (ruling (state_of state.old)) }
     ensures belongs { (m : Contents) → BelongsTo m state.old → BelongsTo m state.new }
 {
     let after = label_after(place.module, state.mode, found.par);
-    let left = left_of_start(place, state, found, row, after).ok_or(Rule::Budget)?;
-    let agrees = start_agrees(place, state, found, row, after);
-    wants(agrees, Rule::Label)?;
-    go_on(state, found, left);
-    Ok(report(found, after))
+    let known = known_costs(place, state, found, row, after);
+    pays_knowing(place, state, found, row, after, known)
 }
 
 /// The label at a code offset, unless there is none.
 #[tactic(auto, unfolding(crate::specs::ParRules::with_label))]
 fn with_label<'s>(place: &Place<'s, '_>, at: u32) -> Result<&'s LabelRow, Rule>
-    ensures { Gives (λ row. label_of row.now) result (with_label (site_of place.now) at) }
+    ensures gives { Gives (λ row. label_of row.now) result (with_label (site_of place.now) at) }
+    ensures label { IfOk result (λ row. label_at place.now.module.now at ≡ Some (label_of row.now)) }
 {
     place.module.label_at(at).ok_or(Rule::Par)
 }
 
 /// Whether no branch writes a word of a loop that the label after the PAR has, which is asked at the first start.
-fn leaves_loops_at_first(module: &Module, mode: Mode, par: &ParRow) -> bool
-    ensures { result ≡ at_first mode (leaves_loops «module».now (par_of par.now)) }
+fn leaves_loops_at_first(module: &Module, mode: Mode, found: &Found) -> bool
+    requires { IsInRow «module».now found.now }
+    ensures { result ≡ at_first mode (leaves_loops «module».now (par_of found.now.par.now)) }
 {
-    mode != Mode::Plain || leaves_loops(module, par)
+    mode != Mode::Plain || module.leaves_loops_of(found.row)
 }
 
 /// Whether all is there that the PAR wants at the first start.
-fn may_open_at_first(module: &Module, state: &State, par: &ParRow) -> bool
+fn may_open_at_first(module: &Module, state: &State, found: &Found) -> bool
+    requires { IsInRow «module».now found.now }
     ensures { let s = state_of state.now in
-        result ≡ at_first s.mode (may_open «module».now s (par_of par.now)) }
+        result ≡ at_first s.mode (may_open «module».now s (par_of found.now.par.now)) }
 {
-    state.mode != Mode::Plain || may_open(module, state, par)
+    state.mode != Mode::Plain || may_open(module, state, found)
 }
 
 /// This branch is started, with its workspace in A.
@@ -399,6 +539,7 @@ fn starts_branch(place: &Place, state: &mut State, a: Fact, found: &Found) -> Re
     requires belongs { BelongsTo place.now.module.now state.old }
     requires context { found.now.context ≡ context_of place.now.module.now (found_view found.now) }
     requires numbered { IsNumbered place.now.module.now found.now }
+    requires in_row { IsInRow place.now.module.now found.now }
     requires small { (found.now.row < 2 ^ 32) × (found.now.number + 1 < 2 ^ 32) }
     ensures ruling { let ruling = starts_branch (site_of place.now) (state_of state.old) a (found_view found.now) in
         Starts result (state_of state.new) ruling }
@@ -407,11 +548,11 @@ fn starts_branch(place: &Place, state: &mut State, a: Fact, found: &Found) -> Re
     wants(is_apart(place, state, found), Rule::RegionsMeet)?;
     wants(ends_are_free(place, state, found), Rule::Channel)?;
     outside_alternation(state.mode)?;
-    let leaves_loops = leaves_loops_at_first(place.module, state.mode, found.par);
+    let leaves_loops = leaves_loops_at_first(place.module, state.mode, found);
     wants(leaves_loops, Rule::Forward)?;
     wants(is_in_turn(state, a, found), Rule::Par)?;
     wants(may_give(place, state, found), Rule::Par)?;
-    wants(may_open_at_first(place.module, state, found.par), Rule::Par)?;
+    wants(may_open_at_first(place.module, state, found), Rule::Par)?;
     let row = with_label(place, found.branch.entry)?;
     let has_scheduling_words = has_scheduling_words(place.module, found.context, found.branch);
     wants(has_scheduling_words, Rule::OwnWord)?;

@@ -13,6 +13,7 @@ use Rattle.module_format.specs.declared.stack.Stack.{Stack}
 use Rattle.module_format.specs.Stack.{of_empty}
 use Rattle.module_format.specs.Contents.{Par, Branch, Label}
 use Rattle.certificate.specs.Rights.{is_among}
+use Rattle.certificate.specs.Starting.{is_unknown, is_written, is_loop, is_written_loop, says_of_hidden}
 use Rattle.machine_state.proofs.SpanLaws.{or_true, or_left, or_right, both_true}
 use Rattle.states.specs.declared.known.WordFact.TheVariants.{Alone}
 use Rattle.states.specs.State.{is_word, is_about, is_alone, is_silent, said_of, entry_fact}
@@ -21,7 +22,7 @@ use Rattle.rulings.specs.Meaning.{IsSpan, ArePairs}
 use Rattle.rulings.specs.Remaining.{is_hidden, is_channel_word, word_given_to_write}
 use Rattle.rulings.proofs.Entering.{entry_here, entry_later}
 use Rattle.rulings.proofs.Words.{bool_cases, same_word_by, int_le_tells, word_test}
-use Rattle.par_rules.specs.Comparisons.{is_written, is_loop, is_written_loop, says_of_hidden, is_after}
+use Rattle.par_rules.specs.Comparisons.{is_after}
 use Rattle.share_laws.proofs.LeftBytes.{is_false, was_false}
 use Rattle.start_laws.proofs.Given.{neither}
 
@@ -45,6 +46,14 @@ silent_is (Pointer region lo hi step) h = absurd (cc)
 silent_is (CodeAddress offset) h = absurd (cc)
 silent_is (Loop base count weight) h = absurd (cc)
 silent_is ReturnAddress h = absurd (cc)
+
+unknown_is : (fact : Fact) → is_unknown fact ≡ true → fact ≡ Unknown
+unknown_is Unknown h = refl
+unknown_is (Number lo hi) h = absurd (cc)
+unknown_is (Pointer region lo hi step) h = absurd (cc)
+unknown_is (CodeAddress offset) h = absurd (cc)
+unknown_is (Loop base count weight) h = absurd (cc)
+unknown_is ReturnAddress h = absurd (cc)
 
 -- What the test of a label after a PAR tells.
 pub record IsAfter (par : Par) (t : Label) : Type 0 where
@@ -76,8 +85,8 @@ after_tells par t h =
 
 -- an entry that is about a hidden word says nothing
 entry_silent : (par : Par) (entry : Entry) (k : ℤ) → says_of_hidden par entry ≡ false → is_hidden par k ≡ true
-    → is_about entry k ≡ true → is_silent (Alone entry.fact) ≡ true
-entry_silent par entry k quiet hides about = on (is_silent (Alone entry.fact)) refl
+    → is_about entry k ≡ true → is_unknown entry.fact ≡ true
+entry_silent par entry k quiet hides about = on (is_unknown entry.fact) refl
   where
     channel : (channels : List ChannelRow) → list_any (λ (c : ChannelRow). is_word c.word k) channels ≡ true
         → list_any (λ (c : ChannelRow). is_about entry c.word) channels ≡ true
@@ -103,7 +112,7 @@ entry_silent par entry k quiet hides about = on (is_silent (Alone entry.fact)) r
       | inl block ↦ or_left _ _ (of_block block)
     ]
 
-    on : (b : Bool) → is_silent (Alone entry.fact) ≡ b → is_silent (Alone entry.fact) ≡ true
+    on : (b : Bool) → is_unknown entry.fact ≡ b → is_unknown entry.fact ≡ true
     on true e = e
     on false e =
         let loud : says_of_hidden par entry ≡ true = both_true _ _ (ap not e) meets in
@@ -120,7 +129,7 @@ says_nothing_hidden par (entry ∷ entries) k quiet hides =
     let both = neither (says_of_hidden par entry) (list_any (says_of_hidden par) entries) quiet in
     elim (bool_cases (is_about entry k)) [
       | inl e ↦ entry_here entry entries k e
-          ∙ unknown_said entry.fact (is_word entry.word k) (silent_is entry.fact
+          ∙ unknown_said entry.fact (is_word entry.word k) (unknown_is entry.fact
           (entry_silent par entry k both.0 hides e))
       | inr e ↦ entry_later entry entries k e ∙ says_nothing_hidden par entries k both.1 hides
     ]

@@ -7,6 +7,7 @@ use Rattle.std.proofs.lemmas.Int.{ints}
 use Rattle.std.specs.Prelude.{int_le, int_lt}
 use Rattle.module_format.specs.declared.fact.Fact.TheVariants.{Unknown}
 use Rattle.module_format.specs.Contents.{Contents, Label, label_at}
+use Rattle.certificate.specs.Starting.{is_scheduling_word}
 use Rattle.certificate.specs.Rights.{may_read_word}
 use Rattle.machine_state.specs.BranchContexts.{context_of}
 use Rattle.machine_state.specs.declared.process.Mode.TheVariants as machine
@@ -24,7 +25,7 @@ use Rattle.rulings.specs.Meaning.{dues_from, dues, farthest_word, label_turns}
 use Rattle.rulings.proofs.Dues.{label_owed}
 use Rattle.rulings.proofs.Entering.{below_tells, label_after}
 use Rattle.rulings.proofs.Words.{plain_means}
-use Rattle.par_rules.specs.Comparisons.{is_scheduling_word, branch_facts, branch_view}
+use Rattle.par_rules.specs.Comparisons.{branch_facts, branch_view}
 use Rattle.share_laws.specs.GoingOn.{BeginsAs}
 use Rattle.share_laws.specs.Taking.{IsScheduling}
 use Rattle.share_laws.proofs.BranchBegins.{branches_begin}

@@ -12,6 +12,7 @@ use Rattle.module_format.specs.Contents.{Contents, Par, Label, label_at}
 use Rattle.module_format.specs.Contexts.{context_at}
 use Rattle.module_format.specs.Keeping.{Keeps}
 use Rattle.certificate.specs.Rights.{may_read_word, has_word}
+use Rattle.certificate.specs.Starting.{leaves_loops, is_written_loop, is_written}
 use Rattle.machine_state.specs.BranchContexts.{context_of}
 use Rattle.machine_state.specs.JoinLookups.{Found}
 use Rattle.machine_state.specs.Site.{Local}
@@ -29,10 +30,10 @@ use Rattle.rulings.specs.Regions.{Scope, scope_of, scope_among}
 use Rattle.rulings.proofs.Dues.{label_owed}
 use Rattle.rulings.proofs.Entering.{label_words}
 use Rattle.rulings.proofs.Words.{means_same}
-use Rattle.par_rules.specs.Comparisons.{branch_view, words_pass, is_left, is_after, is_written_loop, is_written}
+use Rattle.par_rules.specs.Comparisons.{branch_view, words_pass, is_left, is_after}
 use Rattle.par_rules.specs.Comparisons.{agrees_after, cost_after}
 use Rattle.par_rules.specs.Openings.{is_prepared}
-use Rattle.par_rules.specs.ParRules.{leaves_loops, may_open, label_after, labels_of_start, offset_after, after_start}
+use Rattle.par_rules.specs.ParRules.{may_open, label_after, labels_of_start, offset_after, after_start}
 use Rattle.par_rules.specs.ParRules.{cost_of_start}
 use Rattle.share_laws.specs.GoingOn.{act_with}
 use Rattle.share_laws.specs.Opening.{held_by_opener, CanOpen, HasNoEndsInside}

@@ -15,6 +15,7 @@ use Rattle.module_format.specs.Contents.{Contents, Par, Branch}
 use Rattle.module_format.specs.Contexts.{context_at, parameters_at}
 use Rattle.module_format.specs.Keeping.{Keeps}
 use Rattle.module_format.specs.Pars.{key_of}
+use Rattle.certificate.specs.Starting.{may_give_words}
 use Rattle.certificate.specs.Branches.{numbered_branch}
 use Rattle.certificate.specs.Rights.{may_write_word, may_read_word, has_word, is_among, is_same_end, has_end}
 use Rattle.certificate.specs.Rights.{gives_link, gives_parameter}
@@ -30,7 +31,7 @@ use Rattle.states.proofs.RowFacts.{and-parts}
 use Rattle.rulings.specs.Reach.{is_listed, may_write_parameter, may_read_parameter, writable_size, readable_size}
 use Rattle.rulings.specs.Remaining.{is_hidden, is_channel_word}
 use Rattle.rulings.proofs.Words.{same_word_by}
-use Rattle.par_rules.specs.Gifts.{started_in, has_end_to_give, has_scheduling_words, may_give_words}
+use Rattle.par_rules.specs.Gifts.{started_in, has_end_to_give, has_scheduling_words}
 use Rattle.par_rules.specs.Gifts.{may_give_parameters}
 use Rattle.par_rules.specs.ParRules.{is_apart, ends_are_free, may_give}
 use Rattle.share_laws.specs.GivenOnce.{IsBeside, IsWritable, IsGivenOnce}

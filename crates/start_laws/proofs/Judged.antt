@@ -6,6 +6,7 @@ use Rattle.module_format.specs.Rows.{Fact}
 use Rattle.module_format.specs.declared.fact.Fact.TheVariants.{Unknown, Number, Pointer, CodeAddress, Loop}
 use Rattle.module_format.specs.declared.fact.Fact.TheVariants.{ReturnAddress}
 use Rattle.module_format.specs.Contents.{Label, label_at}
+use Rattle.certificate.specs.Starting.{leaves_loops}
 use Rattle.machine_state.specs.BranchContexts.{context_of}
 use Rattle.machine_state.specs.JoinLookups.{Found}
 use Rattle.states.specs.declared.rule.Rule.{Rule}
@@ -18,7 +19,7 @@ use Rattle.rulings.specs.Pointers.{is_near_pointer}
 use Rattle.rulings.specs.Rulings.{Ruling, Site, starts, breaks, uses, wants, outside_alternation, pays}
 use Rattle.par_rules.specs.Gifts.{has_scheduling_words}
 use Rattle.par_rules.specs.ParRules.{startp_rule, starts_branch, with_label, pays_labels, named_branch}
-use Rattle.par_rules.specs.ParRules.{is_apart, ends_are_free, at_first, leaves_loops, is_in_turn, may_give, may_open}
+use Rattle.par_rules.specs.ParRules.{is_apart, ends_are_free, at_first, is_in_turn, may_give, may_open}
 use Rattle.par_rules.specs.ParRules.{cost_of_start, start_agrees, after_start, labels_of_start}
 
 -- a rule is broken, or this is so of the ruling

@@ -5,6 +5,7 @@ use Rattle.std.specs.Prelude.{IsTrue, slice_get}
 use Rattle.module_format.specs.Order.{is_stepped}
 use Rattle.module_format.specs.Contents.{Branch}
 use Rattle.module_format.specs.Keeping.{Keeps}
+use Rattle.certificate.specs.Starting.{leaves_loops}
 use Rattle.machine_state.specs.declared.op.Op.TheVariants.{StartProcess}
 use Rattle.machine_state.specs.BranchContexts.{context_of}
 use Rattle.machine_state.specs.LocalStep as step
@@ -24,7 +25,7 @@ use Rattle.rulings.proofs.Words.{same_word_by}
 use Rattle.par_rules.specs.Comparisons.{branch_view}
 use Rattle.par_rules.specs.Gifts.{started_in}
 use Rattle.par_rules.specs.ParRules.{startp_rule, is_next, is_workspace, after_start, cost_of_start}
-use Rattle.par_rules.specs.ParRules.{leaves_loops, may_open, at_first}
+use Rattle.par_rules.specs.ParRules.{may_open, at_first}
 use Rattle.share_laws.proofs.Rows.{workspace_fits}
 use Rattle.share_laws.proofs.ShareBytes.{frame_channel}
 use Rattle.start_laws.specs.Starting.{StartsBranch, StartFits, to_start_next, to_start_first, start_breaks}

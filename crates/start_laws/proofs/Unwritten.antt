@@ -15,6 +15,7 @@ use Rattle.module_format.specs.declared.fact.Step.{Step}
 use Rattle.module_format.specs.declared.fact.Step.TheVariants.{Byte, Word}
 use Rattle.module_format.specs.Facts.{end_of}
 use Rattle.module_format.specs.Contents.{Par}
+use Rattle.certificate.specs.Starting.{is_written, is_loop, is_written_loop}
 use Rattle.machine_state.proofs.Shares.{number_itself}
 use Rattle.machine_state.proofs.SpanLaws.{both_true}
 use Rattle.states.specs.declared.known.WordFact.{WordFact}
@@ -27,7 +28,7 @@ use Rattle.states.proofs.RowFacts.{and-parts, le-yes, rise-parts, about-within, 
 use Rattle.rulings.specs.Meaning.{ArePairs, loop_due, dues_from, dues, farthest_word}
 use Rattle.rulings.proofs.Entering.{first_word, entry_here, entry_later}
 use Rattle.rulings.proofs.Words.{bool_cases}
-use Rattle.par_rules.specs.Comparisons.{words_pass, is_written, is_loop, is_written_loop, is_left}
+use Rattle.par_rules.specs.Comparisons.{words_pass, is_left}
 use Rattle.share_laws.proofs.HiddenWords.{is_itself}
 use Rattle.share_laws.proofs.LeftBytes.{is_false}
 use Rattle.start_laws.proofs.AfterPars.{written_alone}

@@ -1,4 +1,8 @@
+use Rattle.std.proofs.Common.{rules}
 use Rattle.local_rules.proofs.memory.load_non_local.Goals as goal
+
+pub returns-clause-ruling : goal.returns-clause-ruling
+returns-clause-ruling c = search rules
 
 pub returns-clause-belongs : goal.returns-clause-belongs
 returns-clause-belongs c =

@@ -31,3 +31,9 @@ returns-clause-numbered c =
     (branch_is_answered c.args.module.now c.args.target c.in_ok-context.context _ _ c.place_in.result
     (Some c.in_ok-row.field-0) c.branches_are_contexts.ensures.found c.tables-tables.ensures.kept
     c.in_ok-context.ensures c.place_in.ensures c.in_ok-row.was).by_context c.branches_are_contexts.ensures.contexts
+
+pub returns-clause-in_row : goal.returns-clause-in_row
+returns-clause-in_row c =
+    (branch_is_answered c.args.module.now c.args.target c.in_ok-context.context _ _ c.place_in.result
+    (Some c.in_ok-row.field-0) c.branches_are_contexts.ensures.found c.tables-tables.ensures.kept
+    c.in_ok-context.ensures c.place_in.ensures c.in_ok-row.was).row
