@@ -30,5 +30,4 @@ pub mod Start
 pub mod Kept
 pub mod CertifiedRuns
 pub mod Examples
-pub mod EchoIsCertified
 pub mod ChoiceIsCertified

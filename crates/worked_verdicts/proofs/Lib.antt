@@ -1,1 +1,2 @@
+pub mod EchoIsJudged
 pub mod ParsAreJudged

@@ -1,1 +1,2 @@
+pub mod SmallMessages
 pub mod SmallPars

@@ -3,4 +3,4 @@
 
 mod laws;
 
-pub use laws::{a_small_channel_is_judged, a_small_par_is_judged};
+pub use laws::{a_small_channel_is_judged, a_small_echo_is_judged, a_small_par_is_judged};
