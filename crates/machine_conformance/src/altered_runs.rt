@@ -94,7 +94,7 @@ fn next_event<'t>(words: &mut Words<'t>, text: &'t str) -> Option<Event> {
 }
 
 /// The events of a text, again and again.
-fn repeated(alloc: Global, text: &str) -> Result<Vec<Event>, Outcome> {
+pub(crate) fn repeated(alloc: Global, text: &str) -> Result<Vec<Event>, Outcome> {
     let mut events = Vec::new(alloc);
     let mut words = Words::of(text);
     for _ in 0..EVENTS {

@@ -2,6 +2,7 @@
 
 use crate::alterations::{Ways, altered_sums, cuts};
 use crate::altered_runs::altered_runs;
+use crate::altered_verdicts::altered_verdicts;
 use crate::assembling::ask_draft;
 use crate::following::follow;
 use crate::lookups::look_up;
@@ -44,6 +45,25 @@ fn ask_file(alloc: Global, setting: &Setting, statement: Statement, out: &mut An
     }
 }
 
+/// What is asked of the files that a file becomes in these ways: runs, verdicts, or how many are read.
+fn ask_altered(
+    alloc: Global,
+    setting: &mut Setting,
+    word: &str,
+    ways: Ways,
+    expected: &str,
+    out: &mut Answer,
+) -> Outcome {
+    match word {
+        "run_bits" | "run_bytes" => altered_runs(alloc, setting, ways, expected, out),
+        "judge_bits" | "judge_bytes" => altered_verdicts(alloc, setting, ways, expected, out),
+        _ => {
+            altered_sums(alloc, &mut setting.file, ways, out);
+            judged(out, expected)
+        }
+    }
+}
+
 /// What is asked of the files with a byte altered: `FROM TO = ANSWER`.
 fn ask_bytes(
     alloc: Global,
@@ -58,11 +78,7 @@ fn ask_bytes(
         return Outcome::Unreadable;
     }
     let ways = Ways::Bytes { from, to };
-    if statement.word == "run_bytes" {
-        return altered_runs(alloc, setting, ways, expected, out);
-    }
-    altered_sums(alloc, &mut setting.file, ways, out);
-    judged(out, expected)
+    ask_altered(alloc, setting, statement.word, ways, expected, out)
 }
 
 /// What is asked of a file or a draft, and else of a module.
@@ -70,9 +86,11 @@ fn ask(alloc: Global, setting: &mut Setting, statement: Statement, out: &mut Ans
     match statement.word {
         "read" => read(alloc, &setting.file, out),
         "cuts" => cuts(alloc, &setting.file, out),
-        "bits" => altered_sums(alloc, &mut setting.file, Ways::Bits, out),
-        "run_bits" => return altered_runs(alloc, setting, Ways::Bits, statement.rest, out),
-        "bytes" | "run_bytes" => return ask_bytes(alloc, setting, statement, out),
+        "bits" | "run_bits" | "judge_bits" => {
+            let Statement { word, rest, .. } = statement;
+            return ask_altered(alloc, setting, word, Ways::Bits, rest, out);
+        }
+        "bytes" | "run_bytes" | "judge_bytes" => return ask_bytes(alloc, setting, statement, out),
         "assemble" | "spell" => return ask_draft(alloc, &setting.file, statement, out),
         _ => return ask_file(alloc, setting, statement, out),
     }

@@ -7,6 +7,7 @@
 
 mod alterations;
 mod altered_runs;
+mod altered_verdicts;
 mod asking;
 mod assembling;
 mod draft_code;

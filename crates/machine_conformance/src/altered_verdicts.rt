@@ -1,0 +1,125 @@
+//! A file altered in many ways, and the verdicts on the altered files that are read.
+
+use crate::alterations::{Tally, Ways, alter};
+use crate::altered_runs::repeated;
+use crate::setting::Setting;
+use certificate::{MEMORY, Module};
+use conformance::{Answer, Outcome, judged};
+use machine::{Checked, Stop};
+use machine_state::Event;
+use std::alloc::Global;
+use verifier::verify;
+
+/// How many rules there are: V1 to V16.
+const RULES: usize = 16;
+
+/// How many altered files are accepted, and how many are refused by each rule.
+#[derive(Drop)]
+struct Verdicts<'e> {
+    events: &'e [Event],
+    accepted: u64,
+    refused: [u64; RULES],
+    /// The sum of the offsets at which files are refused.
+    offsets: u64,
+    /// How many accepted files have a run with a fault, or one of more bytes than their budget.
+    odd: u64,
+    is_out_of_memory: bool,
+}
+
+impl<'e> Verdicts<'e> {
+    fn of(events: &'e [Event]) -> Self {
+        Verdicts {
+            events,
+            accepted: 0,
+            refused: [0; RULES],
+            offsets: 0,
+            odd: 0,
+            is_out_of_memory: false,
+        }
+    }
+
+    /// Counts an accepted file whose run came to this.
+    fn accept(&mut self, outcome: Outcome) {
+        self.accepted = self.accepted.wrapping_add(1);
+        match outcome {
+            Outcome::Held => {}
+            Outcome::OutOfMemory => self.is_out_of_memory = true,
+            _ => self.odd = self.odd.wrapping_add(1),
+        }
+    }
+
+    /// Counts a file that this rule refuses at an offset. Any other number says that memory ran out.
+    fn refuse(&mut self, number: u8, offset: u32) {
+        match self.refused.get_mut(usize::from(number).wrapping_sub(1)) {
+            Some(count) => {
+                *count = count.wrapping_add(1);
+                self.offsets = self.offsets.wrapping_add(u64::from(offset));
+            }
+            None => self.is_out_of_memory = true,
+        }
+    }
+
+    /// The counts, and the sum of the offsets.
+    fn put(&self, out: &mut Answer) {
+        out.great(self.accepted);
+        for count in self.refused {
+            out.put(" ");
+            out.great(count);
+        }
+        out.put(" at ");
+        out.great(self.offsets);
+        if self.odd > 0 {
+            out.put(", odd: ");
+            out.great(self.odd);
+        }
+        if self.is_out_of_memory {
+            out.fail();
+        }
+    }
+}
+
+impl Tally for Verdicts<'_> {
+    fn count(&mut self, alloc: Global, file: &[u8], _at: usize) {
+        match Module::read(alloc, file) {
+            Ok(module) => match verify(alloc, &module) {
+                Ok(_) => self.accept(run(alloc, &module, self.events)),
+                Err(refusal) => self.refuse(refusal.number, refusal.offset),
+            },
+            Err(fault) => self.is_out_of_memory |= fault.number == MEMORY,
+        }
+    }
+}
+
+/// What comes of the events on the machine of an accepted module: it has no fault, and keeps to its budget.
+fn run(alloc: Global, module: &Module, events: &[Event]) -> Outcome {
+    let Ok(mut machine) = Checked::load(alloc, module) else {
+        return Outcome::OutOfMemory;
+    };
+    for event in events {
+        match machine.apply(*event) {
+            Ok(_) => {}
+            Err(Stop::Fault(_)) => return Outcome::Differs,
+            Err(Stop::Memory) => return Outcome::OutOfMemory,
+        }
+    }
+    Outcome::of(machine.executed() <= module.tables().budget)
+}
+
+/// How many of the altered files are accepted, how many are refused by each rule, and how many accepted ones have an
+/// odd run. The file is as before afterwards.
+pub(crate) fn altered_verdicts(
+    alloc: Global,
+    setting: &mut Setting,
+    ways: Ways,
+    expected: &str,
+    out: &mut Answer,
+) -> Outcome {
+    let events = match repeated(alloc, setting.events.as_str()) {
+        Ok(events) => events,
+        Err(outcome) => return outcome,
+    };
+    let mut verdicts = Verdicts::of(&events);
+    alter(alloc, &mut setting.file, ways, &mut verdicts);
+    verdicts.put(out);
+    judged(out, expected)
+}
