@@ -24,7 +24,16 @@ pub mod Partner
 pub mod ReceivingInside
 pub mod GoingAlone
 pub mod SendingInside
+pub mod Names
 pub mod Branching
 pub mod StartingBranches
+pub mod JoinWords
+pub mod ClosingJoins
+pub mod EndingBranches
 pub mod Alternating
+pub mod WaitingForGuards
+pub mod DisablingGuards
+pub mod TellingGuards
+pub mod EnablingChannels
+pub mod DisablingChannels
 pub mod TurnsAgree

@@ -507,7 +507,7 @@ module _ (site : Site) (original : Local) (state : PlainState) (start : agree.Fi
   operation ops.Alternate = alone _ (λ p. schedules before _ (λ own. followed _
       (asks _ (asked flow.Begin _ before.registers.stack forgotten start.matches.stack))))
   operation ops.EnableChannel = enabling _ (two _ (channel found.b In _ (λ end. asks _
-      (asked flow.EnableChannel _ _ memory (record { a = refl; b = tt; c = tt }), refl, refl))))
+      (asked flow.EnableChannel _ _ memory (record { a = refl; b = tt; c = tt }), refl, refl, end))))
   operation ops.EnableSkip = enabling _ (one _ (followed _ (asks _
       (asked flow.EnableSkip _ _ memory (record { a = refl; b = tt; c = tt }), refl))))
   operation ops.AlternationWait = enabling _ (schedules before _ (λ own. writes _ None _ _ (λ again. followed _
@@ -519,6 +519,7 @@ module _ (site : Site) (original : Local) (state : PlainState) (start : agree.Fi
         refl,
         refl,
         refl,
+        end,
       )))))
   operation ops.DisableSkip = disabling s.mode _ (λ selection is. two _ (writes _ None before _ (λ own. followed _
       (asks _ (

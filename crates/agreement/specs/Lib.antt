@@ -5,6 +5,7 @@ pub mod GoingOn
 pub mod Leaving
 pub mod Inside
 pub mod Starts
+pub mod Ends
 pub mod Alternating
 pub mod Loading
 pub mod Arriving

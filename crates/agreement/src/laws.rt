@@ -32,10 +32,10 @@ pub fn going_on_agrees()
 /// Whatever a module that keeps the format does, a Step that reports no fault finds a byte on the plain machine that
 /// agrees: a prefix, or the last one of an instruction that is safe. It changes no link of a ready process. If the
 /// process that runs goes on, goes to the back of the ready list, stops, receives or sends a message, starts a branch,
-/// begins an alternation, enables a skip or ends the alternation, and the next ready process runs where it leaves, the
-/// machine agrees with the world after the Step, and has the message that it sent over a link. Over a channel inside the
-/// first to come waits, and with the second the message is copied. The words in which processes are parked and linked
-/// for that lie in memory, no two of them meet, and the queue may use the links.
+/// ends in a join or has part in an alternation, and the next ready process runs where it leaves, the machine agrees
+/// with the world after the Step, and has the message that it sent over a link. Over a channel inside the first to come
+/// waits, and with the second the message is copied. With the last member of a join its opener goes on. The words in
+/// which processes are parked and linked for that lie in memory, no two of them meet, and the queue may use the links.
 pub fn turns_agree()
     ensures { TurnsAgree }
 {}

@@ -4,3 +4,5 @@ pub mod Arriving
 pub mod Waking
 pub mod Exchanging
 pub mod Branching
+pub mod Ending
+pub mod Alternating

@@ -82,7 +82,7 @@ row_even base (c ∷ rows) a even (inr there) = row_even base rows a even there
 
 -- ---- which joins are open once a role was changed
 
-on_role_tells : (q : ℕ) (f : Role → Role) (w : World) (p : ℕ) (j : Join) → opened_in (on_role q f w).roles p ≡ Some j
+pub on_role_tells : (q : ℕ) (f : Role → Role) (w : World) (p : ℕ) (j : Join) → opened_in (on_role q f w).roles p ≡ Some j
     → (opened_in w.roles p ≡ Some j)
     ⊎ ((r : Role) × (slice_get w.roles q ≡ Some r) × (q ≡ p) × ((f r).opened ≡ Some j))
 on_role_tells q f w p j = on (slice_get w.roles q) refl
@@ -99,7 +99,7 @@ on_role_tells q f w p j = on (slice_get w.roles q) refl
           | inr old ↦ inl (field_at (λ (r : Role). r.opened) None w.roles p x.0 old.1 ∙ x.2)
         ]
 
-pushed_tells : (roles : List Role) (new : Role) (p : ℕ) (j : Join) → new.opened ≡ None
+pub pushed_tells : (roles : List Role) (new : Role) (p : ℕ) (j : Join) → new.opened ≡ None
     → opened_in (roles ++ new ∷ []) p ≡ Some j → opened_in roles p ≡ Some j
 pushed_tells roles new p j shut is =
     let x = told_of (λ (r : Role). r.opened) (roles ++ new ∷ []) p j is in
@@ -110,7 +110,7 @@ pushed_tells roles new p j shut is =
     ]
 
 -- a role was changed that has the same open
-opened_kept : (q : ℕ) (f : Role → Role) (w : World) → ((r : Role) → (f r).opened ≡ r.opened) → (p : ℕ)
+pub opened_kept : (q : ℕ) (f : Role → Role) (w : World) → ((r : Role) → (f r).opened ≡ r.opened) → (p : ℕ)
     → opened_in (on_role q f w).roles p ≡ opened_in w.roles p
 opened_kept q f w kept p = on (slice_get w.roles q) refl
   where
@@ -431,11 +431,12 @@ module _ (m : Contents) (w : World) (g : Ground w) (even : AllEven w.tasks)
 abbrev pub KeptIsBlank : World → Type 0
 KeptIsBlank w = (p x : ℕ) → Kept w.roles w.channels p x → byte_at w.memory x ≡ None
 
-module _ (m : Contents) (format : Keeps m) where
-  nothing_open : (p : ℕ) (j : Join) → opened_in (loaded m).roles p ≡ Some j → ⊥
-  nothing_open zero j is = cc
-  nothing_open (suc p) j is = cc
+-- no join is open at first
+pub nothing_open : (m : Contents) (p : ℕ) (j : Join) → opened_in (loaded m).roles p ≡ Some j → ⊥
+nothing_open m zero j is = cc
+nothing_open m (suc p) j is = cc
 
+module _ (m : Contents) (format : Keeps m) where
   pub all_kept : (es : List Event) → KeptIsBlank (world_after m es)
   all_kept = every_world m KeptIsBlank first (λ es e blank p x k.
       let w = world_after m es in
@@ -449,10 +450,10 @@ module _ (m : Contents) (format : Keeps m) where
       ])
     where
       first : KeptIsBlank (loaded m)
-      first p x (in_block j is inside) = absurd (nothing_open p j is)
+      first p x (in_block j is inside) = absurd (nothing_open m p j is)
       first p x (in_channel owned) =
           let j = (all_stand m (format_is_small m format) []).holders.opens (x / 4) p owned in
-          absurd (nothing_open p j.0 j.1)
+          absurd (nothing_open m p j.0 j.1)
 
   pub kept_blank : (es : List Event) (p x : ℕ) → let w = world_after m es in Kept w.roles w.channels p x
       → IsBlankData m w.memory x

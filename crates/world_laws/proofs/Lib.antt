@@ -9,3 +9,4 @@ pub mod ParkedLaws
 pub mod HeldNow
 pub mod ParkedSteps
 pub mod KeptWords
+pub mod JoinMembers

@@ -2,3 +2,4 @@ pub mod InsideMemory
 pub mod TasksCounted
 pub mod Parked
 pub mod KeptWords
+pub mod Members

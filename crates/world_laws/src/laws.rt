@@ -2,6 +2,7 @@
 
 ghost use Rattle.world_laws.specs.InsideMemory.{HoldingsLieInMemory, WrittenIsData};
 ghost use Rattle.world_laws.specs.KeptWords.{BlocksAreBlank, ChannelWordsAreBlank};
+ghost use Rattle.world_laws.specs.Members.{JoinsHaveMembers};
 ghost use Rattle.world_laws.specs.Parked.{WhoIsReadyIsParked, WhoWaitsIsParked, WhoIsParkedIsAtRest};
 ghost use Rattle.world_laws.specs.Parked.{ParkedWordsAreBlank, SelectionsAreBlank, BuffersAreHeld};
 ghost use Rattle.world_laws.specs.Parked.{ArrivalsFollow, WorkspacesDiffer};
@@ -59,4 +60,10 @@ pub fn workspaces_differ()
 pub fn kept_words_are_blank()
     ensures blocks { BlocksAreBlank }
     ensures channels { ChannelWordsAreBlank }
+{}
+
+/// The members of an open join differ and are processes: who has opened it and the branches that are started, at most. No
+/// more branches are started than the PAR has, and all of them once the process that has opened the join is no member.
+pub fn joins_have_members()
+    ensures { JoinsHaveMembers }
 {}

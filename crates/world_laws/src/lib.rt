@@ -4,6 +4,7 @@
 mod laws;
 
 pub use laws::{
-    buffers_are_held, holdings_lie_in_memory, kept_words_are_blank, parked_processes_are_at_rest,
-    parked_words_are_blank, tasks_are_counted, waiting_processes_are_parked, workspaces_differ,
+    buffers_are_held, holdings_lie_in_memory, joins_have_members, kept_words_are_blank,
+    parked_processes_are_at_rest, parked_words_are_blank, tasks_are_counted,
+    waiting_processes_are_parked, workspaces_differ,
 };
