@@ -4,4 +4,6 @@ pub mod TableLaws
 pub mod PlacedLabels
 pub mod RowLaws
 pub mod ModuleLaws
+pub mod ContextsNumbered
 pub mod ModuleSays
+pub mod WorkedModules

@@ -9,21 +9,16 @@ use Rattle.module_builder.specs.Layouts.{IsLeast}
 use Rattle.module_builder.specs.Assembled.{Assembles, IsTooLarge}
 use Rattle.module_builder.proofs.Places.{one_least}
 use Rattle.code_pieces.specs.declared.piece.Piece as code_piece
-use Rattle.code_pieces.specs.Pieces.{Piece, Direct, Jump, JumpUnless, LoopBack, TableAddress, Row}
+use Rattle.code_pieces.specs.Pieces.{Piece}
 use Rattle.code_pieces.specs.PieceViews.{piece_of, pieces_of}
 use Rattle.code_pieces.specs.Needed.{NeedsAreWithin}
-use Rattle.code_pieces.specs.Laying.{draft_code, sizes_of, without_one, without_two}
+use Rattle.code_pieces.specs.Laying.{draft_code, lengths_behind, sizes_of}
 use Rattle.code_pieces.specs.Laid.{IsLaid, IsLaidOut, AreTooLarge}
 
 -- each piece has its bytes
 pub length-sizes_of : (ps : List Piece) (lengths : List ℕ) → length (sizes_of ps lengths) ≡ length ps
 length-sizes_of [] lengths = refl
-length-sizes_of (Row l entries ∷ ps) lengths = ap (λ n. suc n) (length-sizes_of ps lengths)
-length-sizes_of (LoopBack head behind ∷ ps) lengths = ap (λ n. suc n) (length-sizes_of ps (without_two lengths))
-length-sizes_of (Direct f n ∷ ps) lengths = ap (λ n. suc n) (length-sizes_of ps (without_one lengths))
-length-sizes_of (Jump to ∷ ps) lengths = ap (λ n. suc n) (length-sizes_of ps (without_one lengths))
-length-sizes_of (JumpUnless to ∷ ps) lengths = ap (λ n. suc n) (length-sizes_of ps (without_one lengths))
-length-sizes_of (TableAddress values ∷ ps) lengths = ap (λ n. suc n) (length-sizes_of ps (without_one lengths))
+length-sizes_of (p ∷ ps) lengths = ap (λ n. suc n) (length-sizes_of ps (lengths_behind p lengths))
 
 pub as_many_sizes : (ps : List code_piece.Piece) (sizes lengths : List ℕ) → sizes ≡ sizes_of (pieces_of ps) lengths
     → length sizes ≡ length ps

@@ -1,33 +1,15 @@
 -- Pieces that are gone over one after the other: what is to be said of the first of the rest.
-use Rattle.std.proofs.Common.{◌≡◌, ℕ, ◌+◌, ◌<◌, Bool, true, false, List, ◌∷◌, ◌++◌, length, drop, get_or, refl, sym, ap}
-use Rattle.std.proofs.Common.{◌∙◌}
+use Rattle.std.proofs.Common.{◌≡◌, ℕ, ◌+◌, ◌<◌, List, ◌∷◌, length, drop, get_or, sym, ap, ◌∙◌}
 use Rattle.std.proofs.lemmas.List.{at_drop_more, drop-map}
 use Rattle.code_pieces.specs.declared.piece.Piece as code_piece
 use Rattle.code_pieces.specs.PieceViews.{piece_of, pieces_of}
 use Rattle.code_pieces.specs.Numbers.{needed_before, needs_of}
-use Rattle.code_pieces.specs.Pieces.{Piece, Direct, Jump, JumpUnless, LoopBack, TableAddress, Row}
-use Rattle.code_pieces.specs.Laying.{apart_from, is_row, apart_piece}
+use Rattle.code_pieces.specs.Pieces.{Piece}
 
 -- what a function gives for the rest of a list, of which this is the first element
 pub at_first : {X Y : Type 0} (F : List X → Y) (xs : List X) (i : ℕ) (x : X) → i < length xs → x ≡ get_or xs i x
     → F (drop i xs) ≡ F (x ∷ drop (i + 1) xs)
 at_first F xs i x h is = at_drop_more F xs i x h ∙ ap (λ y. F (y ∷ drop (i + 1) xs)) (sym is)
-
--- the first piece, and the others apart from it
-pub apart_first : (at_row : Bool) (p : Piece) (ps : List Piece)
-    → apart_from at_row (p ∷ ps) ≡ apart_piece at_row p ++ apart_from (is_row p) ps
-apart_first true (Row l entries) ps = refl
-apart_first false (Row l entries) ps = refl
-apart_first true (Direct f n) ps = refl
-apart_first true (Jump to) ps = refl
-apart_first true (JumpUnless to) ps = refl
-apart_first true (LoopBack head behind) ps = refl
-apart_first true (TableAddress values) ps = refl
-apart_first false (Direct f n) ps = refl
-apart_first false (Jump to) ps = refl
-apart_first false (JumpUnless to) ps = refl
-apart_first false (LoopBack head behind) ps = refl
-apart_first false (TableAddress values) ps = refl
 
 -- what is needed from a piece on, by what is needed behind it
 pub needed_first : (ps : List code_piece.Piece) (sizes : List ℕ) (i : ℕ) (p : code_piece.Piece) (n : ℕ)

@@ -5,7 +5,8 @@ use Rattle.std.specs.Cmp.Lexicographic.{pointwise}
 use Rattle.std.specs.Ordering.{int_eq}
 use Rattle.std.proofs.lemmas.List.{length-append}
 use Rattle.std.proofs.lemmas.List.Sums.{sum_by-append}
-use Rattle.code_pieces.specs.Pieces.{Piece, Direct, Jump, JumpUnless, LoopBack, TableAddress, Row}
+use Rattle.code_pieces.specs.Pieces.{Piece, Direct, Jump, JumpUnless, LoopBack, Distance, StartBranch, Select}
+use Rattle.code_pieces.specs.Pieces.{TableAddress, Row, Place, Within, Par}
 use Rattle.code_pieces.specs.Laying.{are_same, with_table, tables_before}
 use Rattle.code_pieces.specs.Tables.{has_table, value_count, TablesAreWithin}
 
@@ -73,4 +74,10 @@ within_before ts (Direct f n ∷ ps) w = within_before ts ps w
 within_before ts (Jump to ∷ ps) w = within_before ts ps w
 within_before ts (JumpUnless to ∷ ps) w = within_before ts ps w
 within_before ts (LoopBack head behind ∷ ps) w = within_before ts ps w
+within_before ts (Distance from to ∷ ps) w = within_before ts ps w
+within_before ts (StartBranch entry successor ∷ ps) w = within_before ts ps w
+within_before ts (Select targets ∷ ps) w = within_before ts ps w
 within_before ts (Row l entries ∷ ps) w = within_before ts ps w
+within_before ts (Place l ∷ ps) w = within_before ts ps w
+within_before ts (Within workspace ∷ ps) w = within_before ts ps w
+within_before ts (Par par ∷ ps) w = within_before ts ps w

@@ -7,9 +7,11 @@ use Rattle.module_format.specs.declared.rows.LabelRow.{LabelRow}
 use Rattle.module_format.specs.declared.stack.Stack.{Stack}
 use Rattle.module_builder.specs.declared.item.Label.{Label}
 use Rattle.module_builder.specs.declared.draft.ContextName.{ContextName}
-use Rattle.module_builder.specs.declared.draft.ContextName.TheVariants.{Root}
 use Rattle.code_pieces.specs.declared.piece.RowEntry.{RowEntry}
+use Rattle.code_pieces.specs.declared.piece.Workspace.{Workspace}
 use Rattle.code_pieces.specs.declared.saying.Said.{Said}
+use Rattle.code_pieces.specs.Pars.{Par}
+use Rattle.code_pieces.specs.Contexts.{context_name}
 use Rattle.code_pieces.specs.Numbers.{Needs, number_at}
 use Rattle.code_pieces.specs.Laying.{label, said, SaidRow}
 
@@ -41,20 +43,28 @@ shown_row row = record {
   entries = row.entries.items;
 }
 
--- in the root's context at depth 0, with nothing known of registers
-abbrev pub row_with : Label → ℕ → List (Entry Label) → ShownRow
-row_with l number entries = record {
+-- nothing is known of registers
+abbrev pub row_with : Label → ContextName → ℤ → ℕ → List (Entry Label) → ShownRow
+row_with l context depth number entries = record {
   offset = l;
-  context = Root;
-  depth = pos 0;
+  context = context;
+  depth = depth;
   number = number;
   stack = record { a = facts.Unknown; b = facts.Unknown; c = facts.Unknown };
   entries = entries;
 }
 
-abbrev pub drafted_row : SaidRow → ShownRow
-drafted_row row = row_with (label row.label) row.number (map drafted_entry row.entries)
+-- the row in a draft with these PARs
+abbrev pub drafted_row : List Par → SaidRow → ShownRow
+drafted_row ps row =
+    row_with (label row.label) (context_name ps row.workspace.context) row.workspace.depth row.number
+    (map drafted_entry row.entries)
 
 -- what a row says at a label
-abbrev pub said_row : Needs → ℕ → List RowEntry → SaidRow
-said_row n l entries = record { label = l; number = number_at l n.labels; entries = said n.weights entries }
+abbrev pub said_row : Workspace → Needs → ℕ → List RowEntry → SaidRow
+said_row workspace n l entries = record {
+  label = l;
+  workspace = workspace;
+  number = number_at l n.labels;
+  entries = said n.weights entries;
+}

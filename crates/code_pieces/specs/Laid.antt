@@ -10,9 +10,11 @@ use Rattle.code_pieces.specs.declared.needs.Needs as vectors
 use Rattle.code_pieces.specs.Pieces.{Piece}
 use Rattle.code_pieces.specs.Numbers.{Needs, needs_of}
 use Rattle.code_pieces.specs.Needed.{IsKnown, NeedsAreWithin}
-use Rattle.code_pieces.specs.Laying.{apart, label, tables_before, draft_code, sizes_of, said_rows, words_taken}
+use Rattle.code_pieces.specs.Laying.{apart, label, tables_before, draft_code, sizes_of, said_rows, pars_of}
+use Rattle.code_pieces.specs.Laying.{words_taken}
 use Rattle.code_pieces.specs.Tables.{TablesAreWithin, constants_of, table_rows_from}
 use Rattle.code_pieces.specs.DraftedRows.{shown_row, drafted_row}
+use Rattle.code_pieces.specs.DraftedPars.{AreRows}
 
 -- what is known before the first piece, where items have these lengths
 abbrev pub needs_in : List Piece → List ℕ → Needs
@@ -29,14 +31,14 @@ pub record IsDraftOf (ps : List Piece) (labels : ℕ) (links : List ℕ) (d : Dr
   pub lengths : d.lengths ≡ links
   pub no_long_operations : d.has_long_operations ≡ false
   pub procedures : d.procedures.items ≡ []
-  pub pars : d.pars.items ≡ []
+  pub pars : AreRows (pars_of ps) (pars_of ps) d.pars.items
   pub table_rows : d.table_rows.items ≡ table_rows_from 0 (tables_before [] ps)
 
 -- the same with the budget and the label rows that follow from the lengths of the items
 pub record IsLaid (ps : List Piece) (labels : ℕ) (links : List ℕ) (lengths : List ℕ) (d : Draft) : Type 0 where
   pub draft : IsDraftOf ps labels links d
   pub budget : d.budget ≡ (needs_in ps lengths).need
-  pub rows : map shown_row d.labels.items ≡ map drafted_row (said_rows (needs_in ps lengths) ps)
+  pub rows : map shown_row d.labels.items ≡ map (drafted_row (pars_of ps)) (said_rows (needs_in ps lengths) ps)
 
 -- the lengths are those of the least layout
 pub record IsLaidOut (ps : List Piece) (labels : ℕ) (links : List ℕ) (d : Draft) : Type 0 where

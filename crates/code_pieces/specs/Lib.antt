@@ -1,3 +1,4 @@
+pub mod Pars
 pub mod Pieces
 pub mod PieceViews
 pub mod Numbers
@@ -5,6 +6,10 @@ pub mod Laying
 pub mod Needed
 pub mod Tables
 pub mod Placing
+pub mod Contexts
 pub mod DraftedRows
+pub mod DraftedPars
 pub mod Laid
 pub mod LaidModule
+pub mod SmallPar
+pub mod SmallAlternation

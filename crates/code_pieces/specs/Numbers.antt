@@ -1,16 +1,15 @@
 -- The numbers of a program: how many bytes are executed at most from each label on, and what a turn of each loop costs.
 -- They are found from the last piece to the first, apart from what is known of words.
-use Rattle.std.specs.Prelude.{ℕ, ◌+◌, ◌-◌, ◌*◌, max, nat_eq, Bool, false, List, [], ◌∷◌, if◌then◌else◌, Option}
-use Rattle.std.specs.Prelude.{Some, None}
+use Rattle.std.specs.Prelude.{ℕ, ◌+◌, ◌-◌, ◌*◌, max, nat_eq, ◌||◌, ℤ, Bool, false, List, [], ◌∷◌, if◌then◌else◌}
+use Rattle.std.specs.Prelude.{Option, Some, None}
 use Rattle.prefix_decoder.specs.declared.function.Fun.{Fun}
 use Rattle.prefix_decoder.specs.declared.function.Fun.TheVariants as fun
 use Rattle.std.specs.Ordering.{int_eq}
-use Rattle.code_pieces.specs.declared.operations.TheConstants.{STOP_PROCESS}
+use Rattle.code_pieces.specs.declared.operations.TheConstants.{STOP_PROCESS, END_PROCESS}
 use Rattle.code_pieces.specs.declared.piece.WordFact.{WordFact}
 use Rattle.code_pieces.specs.declared.piece.WordFact.TheVariants.{Between, Turning}
 use Rattle.code_pieces.specs.declared.piece.RowEntry.{RowEntry}
-use Rattle.code_pieces.specs.Pieces.{Piece, Direct, Jump, JumpUnless, LoopBack}
-use Rattle.code_pieces.specs.Pieces.{TableAddress, Row}
+use Rattle.code_pieces.specs.Pieces.{Piece, Direct, Jump, JumpUnless, LoopBack, StartBranch, Select, Row}
 
 -- a number for a label
 pub record Numbered : Type 0 where
@@ -40,10 +39,14 @@ nothing_needed = record { need = 0; labels = []; ends = []; weights = [] }
 abbrev pub needs : ℕ → Needs → Needs
 needs n after = record after { need = n }
 
--- `stopp` has nothing behind it
-abbrev pub is_stop : Fun → Bool → Bool
-is_stop fun.Operate stops = stops
-is_stop f stops = false
+-- `stopp` and `endp`
+abbrev pub stops : ℤ → Bool
+stops operation = int_eq operation STOP_PROCESS || int_eq operation END_PROCESS
+
+-- nothing is behind an instruction
+abbrev pub is_stop : Fun → ℤ → Bool
+is_stop fun.Operate operand = stops operand
+is_stop f operand = false
 
 -- how many turns a loop has, if it has its head at this label; or else what others say
 abbrev pub turns_of : ℕ → WordFact → Option ℕ → Option ℕ
@@ -65,20 +68,37 @@ at_head label (Some count) after =
       weights = with_number label weight after.weights;
     }
 
+-- the largest number of these labels
+abbrev pub largest_at : List ℕ → List Numbered → ℕ
+largest_at [] ns = 0
+largest_at (label ∷ labels) ns = max (number_at label ns) (largest_at labels ns)
+
+-- what the opener of a PAR executes behind it, which is paid at the first start
+abbrev pub successor_need : Option ℕ → List Numbered → ℕ
+successor_need None ns = 0
+successor_need (Some label) ns = number_at label ns
+
+-- what is executed behind a start, by the branch too
+abbrev pub start_need : ℕ → Option ℕ → Needs → ℕ
+start_need entry successor after =
+    after.need + number_at entry after.labels + successor_need successor after.labels
+
 -- before a piece of so many bytes
 abbrev pub needed_before : Piece → ℕ → Needs → Needs
 needed_before (Direct f operand) bytes after =
-    if is_stop f (int_eq operand STOP_PROCESS) then needs bytes after else needs (bytes + after.need) after
+    if is_stop f operand then needs bytes after else needs (bytes + after.need) after
 needed_before (Jump to) bytes after = needs (bytes + number_at to after.labels) after
 needed_before (JumpUnless to) bytes after = needs (bytes + max after.need (number_at to after.labels)) after
 needed_before (LoopBack head behind) bytes after = record after {
   need = bytes + after.need;
   ends = with_number head after.need after.ends;
 }
-needed_before (TableAddress values) bytes after = needs (bytes + after.need) after
+needed_before (StartBranch entry successor) bytes after = needs (bytes + start_need entry successor after) after
+needed_before (Select targets) bytes after = needs (bytes + largest_at targets after.labels) after
 needed_before (Row label entries) bytes after =
     at_head label (turns_at label entries)
     (record after { labels = with_number label after.need after.labels })
+needed_before p bytes after = needs (bytes + after.need) after
 
 -- how many bytes are executed at most from the first of these pieces on, each of so many bytes
 abbrev pub needs_of : List Piece → List ℕ → Needs

@@ -5,7 +5,9 @@ use Rattle.word_arithmetic.specs.Word.{least_word}
 use Rattle.prefix_decoder.specs.declared.function.Fun.{Fun}
 use Rattle.prefix_decoder.specs.declared.function.Fun.TheVariants as fun
 use Rattle.code_pieces.specs.declared.piece.RowEntry.{RowEntry}
+use Rattle.code_pieces.specs.declared.piece.Workspace.{Workspace}
 use Rattle.code_pieces.specs.declared.operations.TheConstants.{REVERSE, MOVE, MINIMUM_INTEGER}
+use Rattle.code_pieces.specs.Pars as pars
 
 pub data Piece : Type 0 where
   -- an instruction, by its function and its operand
@@ -15,10 +17,22 @@ pub data Piece : Type 0 where
   JumpUnless : (to : ℕ) → Piece
   -- `ldc` with the distance between both labels, and `lend`: back to the head, or on behind it
   LoopBack : (head behind : ℕ) → Piece
+  -- `ldc` with the distance from one label to another
+  Distance : (from to : ℕ) → Piece
+  -- `startp` of the branch with this entry; the first of a PAR has the label behind the PAR too
+  StartBranch : (entry : ℕ) → (successor : Option ℕ) → Piece
+  -- `altend`, which goes on at one of these labels
+  Select : (targets : List ℕ) → Piece
   -- the address of a table with these values, each in a word of the constants
   TableAddress : (values : List ℤ) → Piece
   -- a label, and what is known at it
   Row : (label : ℕ) → (entries : List RowEntry) → Piece
+  -- a label alone
+  Place : (label : ℕ) → Piece
+  -- what follows has its workspace there
+  Within : (workspace : Workspace) → Piece
+  -- somewhere in the code is this PAR
+  Par : (par : pars.Par) → Piece
 
 -- ---- single pieces
 

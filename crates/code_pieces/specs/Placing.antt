@@ -1,7 +1,7 @@
 -- Labels that are placed while code is written.
 use Rattle.std.specs.Prelude.{◌≡◌, ℕ, List, length, slice_index_or, Option, Some, None, unwrap_or}
 use Rattle.module_builder.specs.Drafts.{Code}
-use Rattle.code_pieces.specs.Pieces.{Piece, Row}
+use Rattle.code_pieces.specs.Pieces.{Piece, Row, Place}
 use Rattle.code_pieces.specs.Numbers.{Numbered, number_at}
 use Rattle.code_pieces.specs.Laying.{placed_from}
 
@@ -10,7 +10,8 @@ pub record IsPlacing (code : Code) (left : List Piece) (placed : List Numbered) 
   pub each : (label : ℕ) → unwrap_or (slice_index_or code.labels label None)
       (number_at label (placed_from (length code.items) left)) ≡ number_at label placed
 
--- the label of a row
-abbrev pub row_label : Piece → Option ℕ
-row_label (Row l entries) = Some l
-row_label p = None
+-- the label that a piece places
+abbrev pub label_in : Piece → Option ℕ
+label_in (Row l entries) = Some l
+label_in (Place l) = Some l
+label_in p = None

@@ -1,20 +1,21 @@
 //! From pieces to the instructions of a draft.
 
 ghost use Rattle.std.specs.Prelude.{◌≡◌, ◌≢◌, ◌<◌, ◌+◌, ◌++◌, ◌∷◌, [], ℕ, List, length, replicate, slice_set};
-ghost use Rattle.std.specs.Prelude.{slice_index_or};
+ghost use Rattle.std.specs.Prelude.{slice_index_or, pos};
 ghost use Rattle.std.specs.Prelude.{IfOk, IfErr, Err, IsTrue, None, Some, IsSome};
 ghost use Rattle.module_builder.specs.declared.item.Item.TheVariants.{Instruction};
 ghost use Rattle.module_builder.specs.Drafts.{IsMade, OfOperand};
-ghost use Rattle.code_pieces.specs.declared.piece.RowEntry.{RowEntry};
 ghost use Rattle.code_pieces.specs.Pieces as pieces;
 ghost use Rattle.code_pieces.specs.PieceViews.{piece_of, pieces_of};
 ghost use Rattle.code_pieces.specs.Numbers.{Numbered};
-ghost use Rattle.code_pieces.specs.Laying.{label, items_in, items_of, tables_before, draft_code};
-ghost use Rattle.code_pieces.specs.Placing.{IsPlacing, row_label};
+ghost use Rattle.code_pieces.specs.Laying.{label, operand_at, operation, distance, items_in, items_of};
+ghost use Rattle.code_pieces.specs.Laying.{tables_before, draft_code};
+ghost use Rattle.code_pieces.specs.Placing.{IsPlacing, label_in};
 
-use crate::operations::LOOP_END;
+use crate::operations::{ALTERNATION_END, LOOP_END, START_PROCESS};
 use crate::piece::Piece;
 use crate::tables::ConstantTables;
+use crate::workspaces::{in_root, workspace_behind};
 use module_builder::{GenFault, Instructions, Item, Label, Operand};
 use prefix_decoder::Fun;
 use std::alloc::Global;
@@ -57,60 +58,107 @@ fn push_jump(code: &mut Instructions, fun: Fun, to: usize) -> Result<(), GenFaul
     Ok(())
 }
 
-/// Appends the end of a loop.
-fn push_loop_end(code: &mut Instructions, head: usize, behind: usize) -> Result<(), GenFault>
+/// Appends an operation.
+fn push_operation(code: &mut Instructions, op: i32) -> Result<(), GenFault>
     ensures ok { IfOk result (λ _. code.new
-        ≡ record code.old { items = code.old.items ++ items_in [] (pieces.LoopBack head behind) }) }
+        ≡ record code.old { items = code.old.items ++ operation op ∷ [] }) }
+    ensures err { IfErr result (λ e. e ≡ GenFault.Memory) }
+{
+    push_instruction(code, Fun::Operate, Operand::Number(op))
+}
+
+/// Appends `ldc` with the distance from one label to another.
+fn push_distance(code: &mut Instructions, from: usize, to: usize) -> Result<(), GenFault>
+    ensures ok { IfOk result (λ _. code.new
+        ≡ record code.old { items = code.old.items ++ distance from to ∷ [] }) }
     ensures limit { result ≢ Err GenFault.Limit }
 {
-    let from = made(code, head)?;
-    let to = made(code, behind)?;
+    let from = made(code, from)?;
+    let to = made(code, to)?;
     push_instruction(code, Fun::LoadConstant, Operand::Between { from, to })?;
-    push_instruction(code, Fun::Operate, Operand::Number(LOOP_END))?;
     Ok(())
 }
 
-/// Appends the items of a piece.
+/// Appends the end of a loop.
+fn push_loop_end(code: &mut Instructions, head: usize, behind: usize) -> Result<(), GenFault>
+    ensures ok { IfOk result (λ _. code.new
+        ≡ record code.old { items = code.old.items ++ items_in [] (pos 0) (pieces.LoopBack head behind) }) }
+    ensures limit { result ≢ Err GenFault.Limit }
+{
+    push_distance(code, head, behind)?;
+    push_operation(code, LOOP_END)?;
+    Ok(())
+}
+
+/// The operand of an instruction, where the workspace has this depth.
+fn operand_at(depth: i32, fun: Fun, operand: i32) -> Result<i32, GenFault>
+    ensures ok { IfOk result (λ n. n ≡ operand_at depth fun operand) }
+    ensures err { IfErr result (λ e. e ≡ GenFault.Invalid) }
+{
+    match fun {
+        Fun::LoadLocal | Fun::StoreLocal | Fun::LoadLocalPointer => {
+            operand.checked_sub(depth).ok_or(GenFault::Invalid)
+        }
+        _ => Ok(operand),
+    }
+}
+
+/// Appends an instruction, where the workspace has this depth.
+fn push_direct(code: &mut Instructions, depth: i32, fun: Fun, operand: i32) -> Result<(), GenFault>
+    ensures ok { IfOk result (λ _. code.new
+        ≡ record code.old { items = code.old.items ++ items_in [] depth (pieces.Direct fun operand) }) }
+    ensures limit { result ≢ Err GenFault.Limit }
+{
+    let operand = operand_at(depth, fun, operand)?;
+    push_instruction(code, fun, Operand::Number(operand))?;
+    Ok(())
+}
+
+/// Appends the items of a piece, where the workspace has this depth.
 fn push_items(
     code: &mut Instructions,
     tables: &ConstantTables,
+    depth: i32,
     piece: &Piece,
 ) -> Result<(), GenFault>
     ensures ok { IfOk result (λ _. code.new
-        ≡ record code.old { items = code.old.items ++ items_in tables.now (piece_of piece.now) }) }
+        ≡ record code.old { items = code.old.items ++ items_in tables.now depth (piece_of piece.now) }) }
     ensures limit { result ≢ Err GenFault.Limit }
 {
     match *piece {
-        Piece::Direct { fun, operand } => push_instruction(code, fun, Operand::Number(operand))?,
+        Piece::Direct { fun, operand } => push_direct(code, depth, fun, operand)?,
         Piece::Jump { to } => push_jump(code, Fun::Jump, to)?,
         Piece::JumpUnless { to } => push_jump(code, Fun::ConditionalJump, to)?,
         Piece::LoopBack { head, behind } => push_loop_end(code, head, behind)?,
+        Piece::Distance { from, to } => push_distance(code, from, to)?,
+        Piece::StartBranch { .. } => push_operation(code, START_PROCESS)?,
+        Piece::Select { .. } => push_operation(code, ALTERNATION_END)?,
         Piece::TableAddress(ref values) => {
             let offset = tables.offset(values);
             code.push(Item::ConstantAddress { offset })?;
         }
-        Piece::Row { .. } => {}
+        Piece::Row { .. } | Piece::Place { .. } | Piece::Within(_) | Piece::Par(_) => {}
     }
     Ok(())
 }
 
-/// The label of a row.
-fn row_label(piece: &Piece) -> Option<usize>
-    ensures { result ≡ row_label (piece_of piece.now) }
+/// The label that a piece places.
+fn label_in(piece: &Piece) -> Option<usize>
+    ensures { result ≡ label_in (piece_of piece.now) }
 {
     match *piece {
-        Piece::Row { label, .. } => Some(label),
+        Piece::Row { label, .. } | Piece::Place { label } => Some(label),
         _ => None,
     }
 }
 
-/// Places the label of a row, if it is not placed yet.
+/// Places a label, if it is not placed yet.
 #[tactic(auto, using(crate::proofs::PlacedLabels::placed_before, crate::proofs::PlacedLabels::placed_now))]
-fn place_row(code: &mut Instructions, number: usize) -> Result<(), GenFault>
+fn place(code: &mut Instructions, number: usize) -> Result<(), GenFault>
     ensures items { IfOk result (λ _. code.new.items ≡ code.old.items) }
     ensures count { IfOk result (λ _. length code.new.labels ≡ length code.old.labels) }
-    ensures placing { IfOk result (λ _. (entries : List RowEntry) (left : List pieces.Piece) (placed : List Numbered)
-        → IsPlacing code.old (pieces.Row number entries ∷ left) placed → IsPlacing code.new left placed) }
+    ensures placing { IfOk result (λ _. (left : List pieces.Piece) (placed : List Numbered)
+        → IsPlacing code.old (pieces.Place number ∷ left) placed → IsPlacing code.new left placed) }
     ensures err { IfErr result (λ e. e ≡ GenFault.Invalid) }
 {
     let label = made(code, number)?;
@@ -121,26 +169,27 @@ fn place_row(code: &mut Instructions, number: usize) -> Result<(), GenFault>
     Ok(())
 }
 
-/// Appends the items of a piece, and places the label of a row.
+/// Appends the items of a piece, where the workspace has this depth, or places its label.
 fn push_piece(
     code: &mut Instructions,
     tables: &ConstantTables,
+    depth: i32,
     piece: &Piece,
 ) -> Result<(), GenFault>
     ensures items { IfOk result (λ _. code.new.items
-        ≡ code.old.items ++ items_in tables.now (piece_of piece.now)) }
+        ≡ code.old.items ++ items_in tables.now depth (piece_of piece.now)) }
     ensures count { IfOk result (λ _. length code.new.labels ≡ length code.old.labels) }
     ensures placing { IfOk result (λ _. (left : List pieces.Piece) (placed : List Numbered)
         → IsPlacing code.old (piece_of piece.now ∷ left) placed → IsPlacing code.new left placed) }
     ensures limit { result ≢ Err GenFault.Limit }
 {
-    match row_label(piece) {
+    match label_in(piece) {
         Some(label) => {
-            place_row(code, label)?;
+            place(code, label)?;
             Ok(())
         }
         None => {
-            push_items(code, tables, piece)?;
+            push_items(code, tables, depth, piece)?;
             Ok(())
         }
     }
@@ -160,7 +209,7 @@ fn with_labels(alloc: Global, count: usize) -> Result<Instructions, GenFault>
     Ok(code)
 }
 
-/// Appends pieces, and places the labels of rows.
+/// Appends pieces, and places their labels.
 fn push_pieces(
     code: &mut Instructions,
     tables: &ConstantTables,
@@ -173,8 +222,10 @@ fn push_pieces(
         → IsPlacing code.old (pieces_of pieces.now) placed → IsPlacing code.new [] placed) }
     ensures limit { result ≢ Err GenFault.Limit }
 {
+    let mut workspace = in_root();
     for piece in pieces {
-        push_piece(code, tables, piece)?;
+        push_piece(code, tables, workspace.depth, piece)?;
+        workspace = workspace_behind(piece, workspace);
     }
     Ok(())
 }
@@ -212,7 +263,8 @@ fn place_end(code: &mut Instructions, labels: usize) -> Result<(), GenFault>
 ///
 /// # Errors
 ///
-/// `Invalid` if a piece names a label that is not there, or a label has no row; `Memory` if memory runs out.
+/// `Invalid` if a piece names a label that is not there, a label is placed nowhere, or an operand is no word; `Memory`
+/// if memory runs out.
 pub fn draft_code(
     alloc: Global,
     pieces: &[Piece],

@@ -5,12 +5,15 @@ ghost use Rattle.module_builder.specs.Drafts.{IsComplete};
 ghost use Rattle.module_builder.specs.Layouts.{IsLeast};
 ghost use Rattle.code_pieces.specs.PieceViews.{pieces_of};
 ghost use Rattle.code_pieces.specs.Needed.{NeedsAreWithin};
-ghost use Rattle.code_pieces.specs.Laying.{apart, tables_before, draft_code, sizes_of};
+ghost use Rattle.code_pieces.specs.Laying.{apart, tables_before, draft_code, sizes_of, pars_of};
 ghost use Rattle.code_pieces.specs.Tables.{TablesAreWithin};
+ghost use Rattle.code_pieces.specs.Contexts.{AreNames};
 ghost use Rattle.code_pieces.specs.Laid.{IsDraftOf, IsLaidOut, AreNeeded, IsModuleOf, AreTooLarge};
 
+use crate::contexts::ContextNames;
 use crate::drafting::{draft_code, made};
 use crate::needs::Needs;
+use crate::pars::par_rows;
 use crate::piece::Piece;
 use crate::saying::rows_of;
 use crate::separating::apart;
@@ -24,13 +27,15 @@ use std::alloc::Global;
 /// The data word at which the workspace of the root begins.
 pub const BASE: u32 = 3;
 
-/// A draft with the code and the tables of pieces. Its budget is 0, and it has no label rows.
+/// A draft with the code, the tables and the PARs of pieces. Its budget is 0, and it has no label rows.
 fn unnumbered(
     alloc: Global,
     pieces: &[Piece],
+    contexts: &ContextNames,
     labels: usize,
     links: [u32; 8],
 ) -> Result<Draft, GenFault>
+    requires { AreNames contexts.now (pars_of (pieces_of pieces.now)) }
     ensures ok { IfOk result (λ d. IsDraftOf (pieces_of pieces.now) labels links d) }
     ensures limit { result ≡ Err GenFault.Limit → ¬ TablesAreWithin (tables_before [] (pieces_of pieces.now)) }
 {
@@ -39,6 +44,7 @@ fn unnumbered(
     let end = made(&code, labels)?;
     let constants = tables.constants(alloc)?;
     let table_rows = tables.rows(alloc)?;
+    let pars = par_rows(alloc, &code, contexts, pieces)?;
     Ok(Draft {
         code,
         version: Version::Two,
@@ -51,7 +57,7 @@ fn unnumbered(
         has_long_operations: false,
         procedures: Vec::new(alloc),
         labels: Vec::new(alloc),
-        pars: Vec::new(alloc),
+        pars,
         table_rows,
     })
 }
@@ -84,12 +90,13 @@ fn draft_of(
     ensures ok { IfOk result (λ d. IsLaidOut (pieces_of pieces.now) labels links d) }
     ensures limit { result ≡ Err GenFault.Limit → AreTooLarge (pieces_of pieces.now) labels links }
 {
-    let mut draft = unnumbered(alloc, pieces, labels, links)?;
+    let contexts = ContextNames::of(alloc, pieces, labels)?;
+    let mut draft = unnumbered(alloc, pieces, &contexts, labels, links)?;
     if !draft.code.is_complete() {
         return Err(GenFault::Invalid);
     }
     let needs = needs_in(alloc, &draft, pieces, labels)?;
-    let rows = rows_of(alloc, &draft.code, &needs, pieces)?;
+    let rows = rows_of(alloc, &draft.code, &contexts, &needs, pieces)?;
     draft.budget = needs.need();
     draft.labels = rows;
     Ok(draft)
@@ -102,7 +109,8 @@ fn draft_of(
 /// # Errors
 ///
 /// `Limit` if no layout fits or a number is above a limit of the format; `Invalid` if a label that is named is not
-/// there or has no row, or if the tables are not valid otherwise; `Memory` if memory runs out.
+/// there or is placed nowhere, if a branch that is named is of no PAR, or if the tables are not valid otherwise;
+/// `Memory` if memory runs out.
 pub fn module_of(
     alloc: Global,
     pieces: Vec<Piece>,

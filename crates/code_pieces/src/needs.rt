@@ -1,17 +1,15 @@
 //! How many bytes are executed at most.
 
 ghost use Rattle.std.specs.Prelude.{◌≡◌, ◌≢◌, ◌<◌, ◌+◌, ◌*◌, IfOk, IfErr, Err, List, length};
-ghost use Rattle.std.specs.Ordering.{int_eq};
 ghost use Rattle.module_format.specs.declared.limits.TheConstants.{MAX_BUDGET};
-ghost use Rattle.code_pieces.specs.declared.operations.TheConstants.{STOP_PROCESS};
 ghost use Rattle.code_pieces.specs.PieceViews.{piece_of, pieces_of};
 ghost use Rattle.code_pieces.specs.Numbers.{Numbered, number_at, with_number, nothing_needed, is_stop, turns_at};
-ghost use Rattle.code_pieces.specs.Numbers.{at_head, needed_before, needs_of};
+ghost use Rattle.code_pieces.specs.Numbers.{at_head, largest_at, successor_need, start_need, needed_before, needs_of};
 ghost use Rattle.code_pieces.specs.Numbers as numbers;
 ghost use Rattle.code_pieces.specs.Pieces.{Row};
 ghost use Rattle.code_pieces.specs.Needed.{Tells, IsKnown, NeedsAreWithin};
 
-use crate::operations::STOP_PROCESS;
+use crate::operations::{END_PROCESS, STOP_PROCESS};
 use crate::piece::{Piece, RowEntry, WordFact};
 use module_builder::GenFault;
 use module_format::MAX_BUDGET;
@@ -75,12 +73,35 @@ fn set_number(numbers: &mut [u64], label: usize, number: u64) -> Result<(), GenF
     Ok(())
 }
 
-/// Whether an instruction has nothing behind it.
+/// The largest number of labels.
+fn largest_at(numbers: &[u64], labels: &[usize]) -> Result<u64, GenFault>
+    ensures ok { IfOk result (λ n. (ns : List Numbered) → Tells numbers.now ns → n ≡ largest_at labels.now ns) }
+    ensures err { IfErr result (λ e. e ≡ GenFault.Invalid) }
+{
+    let mut largest = 0u64;
+    for label in labels {
+        largest = largest.max(number_at(numbers, *label)?);
+    }
+    Ok(largest)
+}
+
+/// What is executed behind a PAR, if the start is its first.
+fn successor_need(numbers: &[u64], successor: Option<usize>) -> Result<u64, GenFault>
+    ensures ok { IfOk result (λ n. (ns : List Numbered) → Tells numbers.now ns → n ≡ successor_need successor ns) }
+    ensures err { IfErr result (λ e. e ≡ GenFault.Invalid) }
+{
+    match successor {
+        Some(label) => number_at(numbers, label),
+        None => Ok(0),
+    }
+}
+
+/// Whether nothing is behind an instruction.
 fn is_stop(fun: Fun, operand: i32) -> bool
-    ensures { result ≡ is_stop fun (int_eq operand STOP_PROCESS) }
+    ensures { result ≡ is_stop fun operand }
 {
     match fun {
-        Fun::Operate => operand == STOP_PROCESS,
+        Fun::Operate => operand == STOP_PROCESS || operand == END_PROCESS,
         _ => false,
     }
 }
@@ -151,6 +172,19 @@ impl Needs {
         Ok(())
     }
 
+    /// What is executed behind a start, by the branch too.
+    fn start_need(&self, entry: usize, successor: Option<usize>) -> Result<u64, GenFault>
+        ensures ok { IfOk result (λ number. (n : numbers.Needs) → IsKnown self.now n
+            → number ≡ start_need entry successor n) }
+        ensures limit { result ≡ Err GenFault.Limit → (n : numbers.Needs) → IsKnown self.now n
+            → MAX_BUDGET < start_need entry successor n }
+        ensures memory { result ≢ Err GenFault.Memory }
+    {
+        let branch = number_at(&self.labels, entry)?;
+        let behind = successor_need(&self.labels, successor)?;
+        sum(sum(self.need, branch)?, behind)
+    }
+
     /// Goes from behind a piece of so many bytes to before it.
     fn enter(&mut self, piece: &Piece, size: u32) -> Result<(), GenFault>
         ensures ok { IfOk result (λ _. (n : numbers.Needs) → IsKnown self.old n
@@ -171,8 +205,14 @@ impl Needs {
                 set_number(&mut self.ends, head, self.need)?;
                 self.need = sum(size, self.need)?;
             }
-            Piece::Direct { .. } | Piece::TableAddress(_) => self.need = sum(size, self.need)?,
+            Piece::StartBranch { entry, successor } => {
+                self.need = sum(size, self.start_need(entry, successor)?)?;
+            }
+            Piece::Select { ref targets } => {
+                self.need = sum(size, largest_at(&self.labels, targets)?)?;
+            }
             Piece::Row { label, ref entries } => self.enter_row(label, entries)?,
+            _ => self.need = sum(size, self.need)?,
         }
         Ok(())
     }

@@ -1,5 +1,6 @@
 //! The pieces of code, before they are laid out.
 
+use module_format::{ChannelRow, EndRow, Interval};
 use prefix_decoder::Fun;
 use std::rc::Rc;
 
@@ -21,7 +22,51 @@ pub struct RowEntry {
     pub fact: WordFact,
 }
 
-/// A piece of code. Labels go by their numbers, from 0 on.
+/// A context.
+#[derive(Clone, Copy)]
+pub enum CodeContext {
+    /// The root.
+    Root,
+    /// The branch of a PAR that has its entry at this label.
+    Branch { entry: usize },
+}
+
+/// The workspace of a process: its context, and the word of the frame at which it is.
+#[derive(Clone, Copy)]
+pub struct Workspace {
+    pub context: CodeContext,
+    pub depth: i32,
+}
+
+/// A branch of a PAR. Its lists rise.
+#[derive(Drop)]
+pub struct ParBranch {
+    /// The label at which its code begins.
+    pub entry: usize,
+    /// The word of the frame at which its workspace is.
+    pub depth: i32,
+    /// The words that it writes.
+    pub writes: Vec<Interval>,
+    /// The words that it reads alone.
+    pub reads: Vec<Interval>,
+    /// The ends of channels that it has.
+    pub ends: Vec<EndRow>,
+}
+
+/// A PAR.
+#[derive(Drop)]
+pub struct Par {
+    /// The workspace of the process that starts it. The PAR's block is there.
+    pub opener: Workspace,
+    /// The label behind it, at which the opener goes on.
+    pub successor: usize,
+    /// The channels whose ends its branches have and its opener does not, by rising words.
+    pub channels: Vec<ChannelRow>,
+    pub branches: Vec<ParBranch>,
+}
+
+/// A piece of code. Labels go by their numbers, from 0 on, and words by those of the frame. Code begins in the root, with
+/// its workspace at word 0.
 #[derive(Drop)]
 pub enum Piece {
     /// An instruction.
@@ -42,6 +87,20 @@ pub enum Piece {
         head: usize,
         behind: usize,
     },
+    /// `ldc` with the distance from one label to another.
+    Distance {
+        from: usize,
+        to: usize,
+    },
+    /// `startp` of the branch with this entry. The first one of a PAR has the label behind the PAR too.
+    StartBranch {
+        entry: usize,
+        successor: Option<usize>,
+    },
+    /// `altend`, which goes on at one of these labels.
+    Select {
+        targets: Vec<usize>,
+    },
     /// The address of a table of the constants with these values, each in a word.
     TableAddress(Rc<Vec<i32>>),
     /// A label, and what is known of words there, in rising order.
@@ -49,4 +108,12 @@ pub enum Piece {
         label: usize,
         entries: Vec<RowEntry>,
     },
+    /// A label of which nothing is said, as distances are counted from.
+    Place {
+        label: usize,
+    },
+    /// What follows has its workspace there.
+    Within(Workspace),
+    /// A PAR that is somewhere in the code.
+    Par(Par),
 }

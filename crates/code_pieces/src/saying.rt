@@ -1,16 +1,20 @@
 //! What rows say, with numbers.
 
-ghost use Rattle.std.specs.Prelude.{◌≡◌, ◌≢◌, map, reverse, IfOk, IfErr, Err, ◌+◌};
+ghost use Rattle.std.specs.Prelude.{◌≡◌, ◌≢◌, List, map, reverse, IfOk, IfErr, Err, ◌+◌};
+ghost use Rattle.code_pieces.specs.Pars.{Par};
 ghost use Rattle.code_pieces.specs.PieceViews.{pieces_of};
+ghost use Rattle.code_pieces.specs.Contexts.{AreNames};
 ghost use Rattle.code_pieces.specs.Numbers as numbers;
 ghost use Rattle.code_pieces.specs.Needed.{IsKnown};
 ghost use Rattle.code_pieces.specs.Laying.{said_fact, is_same_range, joins, with_said, said, said_rows};
 ghost use Rattle.code_pieces.specs.DraftedRows.{drafted_fact, drafted_entry, shown_row, row_with};
 ghost use Rattle.code_pieces.specs.DraftedRows.{drafted_row, said_row};
 
+use crate::contexts::ContextNames;
 use crate::drafting::made;
 use crate::needs::Needs;
-use crate::piece::{Piece, RowEntry, WordFact};
+use crate::piece::{Piece, RowEntry, WordFact, Workspace};
+use crate::workspaces::{in_root, workspace_behind};
 use module_builder::{ContextName, GenFault, Instructions, Label};
 use module_format::{Entry, Fact, LabelRow, Stack};
 use std::alloc::Global;
@@ -168,18 +172,20 @@ fn drafted_entries(alloc: Global, said: &[Said]) -> Result<Vec<Entry<Label>>, Ge
     Ok(entries)
 }
 
-/// The row of a draft at a label, with its number.
+/// The row of a draft at a label, with its context, its depth and its number.
 fn drafted_row(
     label: Label,
+    context: ContextName,
+    depth: i32,
     number: u64,
     entries: Vec<Entry<Label>>,
 ) -> LabelRow<Label, ContextName>
-    ensures { shown_row result ≡ row_with label number entries.items }
+    ensures { shown_row result ≡ row_with label context depth number entries.items }
 {
     LabelRow {
         offset: label,
-        context: ContextName::Root,
-        depth: 0,
+        context,
+        depth,
         number,
         stack: Stack {
             a: Fact::Unknown,
@@ -194,40 +200,50 @@ fn drafted_row(
 fn row_at(
     alloc: Global,
     code: &Instructions,
+    contexts: &ContextNames,
     needs: &Needs,
+    workspace: Workspace,
     label: usize,
     entries: &[RowEntry],
 ) -> Result<LabelRow<Label, ContextName>, GenFault>
-    ensures ok { IfOk result (λ row. (n : numbers.Needs) → IsKnown needs.now n
-        → shown_row row ≡ drafted_row (said_row n label entries.now)) }
+    ensures ok { IfOk result (λ row. (ps : List Par) (n : numbers.Needs) → AreNames contexts.now ps
+        → IsKnown needs.now n → shown_row row ≡ drafted_row ps (said_row workspace n label entries.now)) }
     ensures limit { result ≢ Err GenFault.Limit }
 {
+    let context = contexts.name(workspace.context)?;
     let number = needs.at_label(label)?;
     let words = said_words(alloc, needs, entries)?;
     let entries = drafted_entries(alloc, &words)?;
-    Ok(drafted_row(made(code, label)?, number, entries))
+    let label = made(code, label)?;
+    Ok(drafted_row(label, context, workspace.depth, number, entries))
 }
 
 /// The rows of a draft, which has the labels in its code.
 ///
 /// # Errors
 ///
-/// `Invalid` if a row names a label that is not there, or words that no frame has; `Memory` if memory runs out.
+/// `Invalid` if a row or the branch that it is in has a label that is not there, or it names words that no frame has;
+/// `Memory` if memory runs out.
 pub fn rows_of(
     alloc: Global,
     code: &Instructions,
+    contexts: &ContextNames,
     needs: &Needs,
     pieces: &[Piece],
 ) -> Result<Vec<LabelRow<Label, ContextName>>, GenFault>
-    ensures ok { IfOk result (λ v. (n : numbers.Needs) → IsKnown needs.now n
-        → map shown_row v.items ≡ map drafted_row (said_rows n (pieces_of pieces.now))) }
+    ensures ok { IfOk result (λ v. (ps : List Par) (n : numbers.Needs) → AreNames contexts.now ps
+        → IsKnown needs.now n
+        → map shown_row v.items ≡ map (drafted_row ps) (said_rows n (pieces_of pieces.now))) }
     ensures limit { result ≢ Err GenFault.Limit }
 {
     let mut rows = Vec::new(alloc);
+    let mut workspace = in_root();
     for piece in pieces {
         if let Piece::Row { label, ref entries } = *piece {
-            rows.push(row_at(alloc, code, needs, label, entries)?)?;
+            let row = row_at(alloc, code, contexts, needs, workspace, label, entries)?;
+            rows.push(row)?;
         }
+        workspace = workspace_behind(piece, workspace);
     }
     Ok(rows)
 }

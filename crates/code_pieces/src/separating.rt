@@ -2,7 +2,7 @@
 
 ghost use Rattle.std.specs.Prelude.{◌≡◌, ◌++◌, IfOk, IfErr};
 ghost use Rattle.code_pieces.specs.PieceViews.{piece_of, pieces_of};
-ghost use Rattle.code_pieces.specs.Laying.{is_row, apart_piece, apart};
+ghost use Rattle.code_pieces.specs.Laying.{is_row, at_row_behind, apart_piece, apart};
 
 use crate::piece::Piece;
 use module_builder::GenFault;
@@ -14,6 +14,17 @@ fn is_row(piece: &Piece) -> bool
     ensures { result ≡ is_row (piece_of piece.now) }
 {
     matches!(*piece, Piece::Row { .. })
+}
+
+/// Whether a row may be right before what is behind a piece.
+fn at_row_behind(piece: &Piece, at_row: bool) -> bool
+    ensures { result ≡ at_row_behind (piece_of piece.now) at_row }
+{
+    match *piece {
+        Piece::Row { .. } => true,
+        Piece::Place { .. } | Piece::Within(_) | Piece::Par(_) => at_row,
+        _ => false,
+    }
 }
 
 /// Appends a piece, and `ldc 0` before a row that would stand at another one.
@@ -45,9 +56,9 @@ pub fn apart(alloc: Global, pieces: Vec<Piece>) -> Result<Vec<Piece>, GenFault>
     let mut separate = Vec::with_capacity(alloc, pieces.len())?;
     let mut at_row = true;
     for piece in pieces {
-        let is_row = is_row(&piece);
+        let behind = at_row_behind(&piece, at_row);
         push_apart(&mut separate, at_row, piece)?;
-        at_row = is_row;
+        at_row = behind;
     }
     Ok(separate)
 }

@@ -27,7 +27,7 @@ fn size_of<'a>(piece: &Piece, lengths: &'a [u8]) -> (u32, &'a [u8])
     ensures rest { result.1.now ≡ lengths_behind (piece_of piece.now) lengths.now }
 {
     match *piece {
-        Piece::Row { .. } => (0, lengths),
+        Piece::Row { .. } | Piece::Place { .. } | Piece::Within(_) | Piece::Par(_) => (0, lengths),
         Piece::LoopBack { .. } => {
             let (load, rest) = first_one(lengths);
             let (loop_end, rest) = first_one(rest);

@@ -1,4 +1,4 @@
-//! The words that code names.
+//! The words that code takes.
 
 ghost use Rattle.std.specs.Prelude.{◌≡◌, ◌≤◌};
 ghost use Rattle.code_pieces.specs.PieceViews.{pieces_of};
@@ -6,6 +6,9 @@ ghost use Rattle.code_pieces.specs.Laying.{word_above, words_taken};
 
 use crate::piece::Piece;
 use prefix_decoder::Fun;
+
+/// The words at a workspace: for the block of a PAR, or the selection of an alternation.
+pub const WORKSPACE_WORDS: u32 = 2;
 
 /// One above the word that an instruction names; 0 if it names none.
 fn word_above(fun: Fun, operand: i32) -> u32
@@ -18,15 +21,21 @@ fn word_above(fun: Fun, operand: i32) -> u32
     }
 }
 
-/// One above the highest word that code names; 0 if it names none.
+/// One above the highest word that code names or that is at a workspace.
 pub fn words_taken(pieces: &[Piece]) -> u32
     ensures value { result ≡ words_taken (pieces_of pieces.now) }
-    ensures small { result ≤ 2_147_483_649 }
+    ensures small { result ≤ 2_147_483_650 }
 {
-    let mut words = 0u32;
+    let mut words = WORKSPACE_WORDS;
     for piece in pieces {
-        if let Piece::Direct { fun, operand } = *piece {
-            words = words.max(word_above(fun, operand));
+        match *piece {
+            Piece::Direct { fun, operand } => {
+                words = words.max(word_above(fun, operand));
+            }
+            Piece::Within(workspace) => {
+                words = words.max(workspace.depth.unsigned_abs() + WORKSPACE_WORDS);
+            }
+            _ => {}
         }
     }
     words

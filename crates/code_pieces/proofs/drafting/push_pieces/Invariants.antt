@@ -1,13 +1,13 @@
 use Rattle.std.proofs.Common.{◌≡◌, ◌++◌, List, length, drop}
 use Rattle.code_pieces.specs.PieceViews.{pieces_of}
 use Rattle.code_pieces.specs.Numbers.{Numbered}
-use Rattle.code_pieces.specs.Laying.{items_of}
+use Rattle.code_pieces.specs.Laying.{items_from, items_of}
 use Rattle.code_pieces.specs.Placing.{IsPlacing}
 use Rattle.code_pieces.proofs.drafting.push_pieces.Given as goal
 
 abbrev pub invariant-loop-piece : goal.invariant-loop-piece
 invariant-loop-piece l = record {
-  items : l.code.items ++ items_of l.tables (pieces_of (drop l.piece-index l.pieces))
+  items : l.code.items ++ items_from l.workspace l.tables (pieces_of (drop l.piece-index l.pieces))
       ≡ l.initial.code.items ++ items_of l.tables (pieces_of l.pieces);
   count : length l.code.labels ≡ length l.initial.code.labels;
   placing : (placed : List Numbered) → IsPlacing l.initial.code (pieces_of l.pieces) placed

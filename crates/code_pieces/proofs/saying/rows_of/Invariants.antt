@@ -1,13 +1,16 @@
-use Rattle.std.proofs.Common.{◌≡◌, ◌++◌, map, drop}
+use Rattle.std.proofs.Common.{◌≡◌, ◌++◌, List, map, drop}
+use Rattle.code_pieces.specs.Pars.{Par}
 use Rattle.code_pieces.specs.PieceViews.{pieces_of}
+use Rattle.code_pieces.specs.Contexts.{AreNames}
 use Rattle.code_pieces.specs.Numbers.{Needs}
 use Rattle.code_pieces.specs.Needed.{IsKnown}
-use Rattle.code_pieces.specs.Laying.{said_rows}
+use Rattle.code_pieces.specs.Laying.{said_rows_from, said_rows}
 use Rattle.code_pieces.specs.DraftedRows.{shown_row, drafted_row}
 use Rattle.code_pieces.proofs.saying.rows_of.Given as goal
 
 abbrev pub invariant-loop-piece : goal.invariant-loop-piece
 invariant-loop-piece l =
-    (n : Needs) → IsKnown l.needs n
-    → map shown_row l.rows.items ++ map drafted_row (said_rows n (pieces_of (drop l.piece-index l.pieces)))
-    ≡ map drafted_row (said_rows n (pieces_of l.pieces))
+    (ps : List Par) (n : Needs) → AreNames l.contexts ps → IsKnown l.needs n
+    → map shown_row l.rows.items
+    ++ map (drafted_row ps) (said_rows_from l.workspace n (pieces_of (drop l.piece-index l.pieces)))
+    ≡ map (drafted_row ps) (said_rows n (pieces_of l.pieces))
