@@ -12,9 +12,8 @@ use Rattle.occam_parser.proofs.SeenBlocks.{all_push}
 use Rattle.scalar_ranges.specs.declared.scope.Scope as code_scope
 use Rattle.scalar_ranges.specs.Moves.{begin, next, end}
 use Rattle.scalar_ranges.specs.Scopes.{known_of}
-use Rattle.program_uses.specs.declared.actions.Around as code_around
-use Rattle.program_uses.specs.ActionViews.{around_of}
-use Rattle.program_uses.specs.Actions.{Around}
+use Rattle.code_generator.specs.declared.calling.Surroundings as calling
+use Rattle.code_generator.specs.CallViews.{surroundings_of}
 use Rattle.program_uses.proofs.Adding.{taken_one}
 use Rattle.usage_checks.specs.AfterProcesses.{inside, after_components, after_component, chosen}
 use Rattle.code_pieces.specs.declared.operations.TheConstants.{STOP_PROCESS}
@@ -22,7 +21,7 @@ use Rattle.code_generator.specs.declared.processes.ProcessWriter.{ProcessWriter}
 use Rattle.code_pieces.specs.Pieces.{Piece, Jump, operates, Code, closed_by}
 use Rattle.code_generator.specs.FrameViews.{frame_seen}
 use Rattle.code_generator.specs.Actions.{test_code}
-use Rattle.code_generator.specs.Processes.{Site, at_place, row_of, is_true, in_choice, tested_choice, last_choice}
+use Rattle.code_generator.specs.Processes.{Site, Surroundings, at_place, row_of, is_true, in_choice, tested_choice, last_choice}
 use Rattle.code_generator.specs.Processes.{process_code, choices_code, tested_code, choice_code, last_code}
 use Rattle.code_generator.specs.Written.{site_of, Appends, Writes, if_code, chosen_code}
 use Rattle.code_generator.specs.Written.{WritesIf, WritesChoices, WritesChoice, WritesPart, WritesChosen}
@@ -32,38 +31,40 @@ use Rattle.code_generator.proofs.PartsWritten.{appends_before, appends_closed, a
 -- ---- one choice after the other
 
 -- some choices, and whether they are all of an IF
-abbrev pub upto_code : {part : Part} → Around → ℕ → Bool → Components part → Site → Option Code
-upto_code a end true cs s = choices_code a end cs s
-upto_code a end false cs s = tested_code a end cs s
+abbrev pub upto_code : {part : Part} → Surroundings → ℕ → Bool → Components part → Site → Option Code
+upto_code here end true cs s = choices_code here end cs s
+upto_code here end false cs s = tested_code here end cs s
 
-abbrev pub WritesUpTo : {part : Part} → (s t : ProcessWriter) → code_around.Around → ℕ → Bool → Components part
+abbrev pub WritesUpTo : {part : Part} → (s t : ProcessWriter) → calling.Surroundings → ℕ → Bool → Components part
     → Type 0
 WritesUpTo s t a end is_all cs =
-    Writes s t (upto_code (around_of a) end is_all cs (site_of s))
-    (after_components (around_of a) (Mark mark.If) cs (known_of s.scope))
+    Writes s t (upto_code (surroundings_of a) end is_all cs (site_of s))
+    (after_components (surroundings_of a).around (Mark mark.If) cs (known_of s.scope))
 
-choices_more : {part : Part} (is_last : Bool) (around : code_around.Around) (end : ℕ) (cs : Components part)
+choices_more : {part : Part} (is_last : Bool) (around : calling.Surroundings) (end : ℕ) (cs : Components part)
     (c : Component part) {s t w : ProcessWriter} → WritesUpTo s t around end false cs
     → WritesPart t w around end is_last c → WritesUpTo s w around end is_last (Further cs c)
 choices_more true around end cs c {s} {t} {w} first one =
-    let a = around_of around in
+    let here = surroundings_of around in
+    let a = here.around in
     record {
-      code = appends_then (tested_code a end cs (site_of s))
-          (λ label. last_code a end c
+      code = appends_then (tested_code here end cs (site_of s))
+          (λ label. last_code here end c
           (at_place (after_components a (Mark mark.If) cs (known_of s.scope)) label (site_of s)))
           s.listing t.listing w.listing t.label w.label first.code
-          (subst (λ z. Appends t.listing w.listing w.label (last_code a end c z)) (site_after first) one.code);
+          (subst (λ z. Appends t.listing w.listing w.label (last_code here end c z)) (site_after first) one.code);
       known = one.known ∙ ap (after_component a (Mark mark.If) c) first.known;
       frame = one.frame ∙ first.frame;
     }
 choices_more false around end cs c {s} {t} {w} first one =
-    let a = around_of around in
+    let here = surroundings_of around in
+    let a = here.around in
     record {
-      code = appends_then (tested_code a end cs (site_of s))
-          (λ label. choice_code a end c
+      code = appends_then (tested_code here end cs (site_of s))
+          (λ label. choice_code here end c
           (at_place (after_components a (Mark mark.If) cs (known_of s.scope)) label (site_of s)))
           s.listing t.listing w.listing t.label w.label first.code
-          (subst (λ z. Appends t.listing w.listing w.label (choice_code a end c z)) (site_after first) one.code);
+          (subst (λ z. Appends t.listing w.listing w.label (choice_code here end c z)) (site_after first) one.code);
       known = one.known ∙ ap (after_component a (Mark mark.If) c) first.known;
       frame = one.frame ∙ first.frame;
     }
@@ -75,12 +76,12 @@ pub same_number : (a b : ℕ) → a ≡ b → nat_eq a b ≡ true
 same_number a b h = grind (arith, nat_tests)
 
 -- nothing is written yet
-pub choices_start : (around : code_around.Around) (end n : ℕ) (part : Part) (s : ProcessWriter) → 0 < n
+pub choices_start : (around : calling.Surroundings) (end n : ℕ) (part : Part) (s : ProcessWriter) → 0 < n
     → WritesUpTo s s around end (nat_eq 0 n) (all_of {part = part} [])
 choices_start around end n part s h =
     subst (λ b. WritesUpTo s s around end b (all_of {part = part} [])) (sym (other_number 0 n h)) (writes_none s)
 
-pub choices_next : {part : Part} {A : Type 0} (around : code_around.Around) (end : ℕ) (f : A → Component part)
+pub choices_next : {part : Part} {A : Type 0} (around : calling.Surroundings) (end : ℕ) (f : A → Component part)
     (xs : List A) (i : ℕ) (x : A) (is_last : Bool) {s t w : ProcessWriter} → i < length xs → x ≡ get_or xs i x
     → is_last ≡ nat_eq (i + 1) (length xs)
     → WritesUpTo s t around end (nat_eq i (length xs)) (all_of (map f (take i xs)))
@@ -94,7 +95,7 @@ choices_next around end f xs i x is_last {s} {t} {w} h is last before one =
     (sym (all_push f (take i xs) (take (i + 1) xs) x (taken_one xs i x x h is)))
     (subst (λ b. WritesUpTo s w around end b (Further (all_of (map f (take i xs))) (f x))) last more)
 
-pub choices_done : {part : Part} {A : Type 0} (around : code_around.Around) (end : ℕ) (f : A → Component part)
+pub choices_done : {part : Part} {A : Type 0} (around : calling.Surroundings) (end : ℕ) (f : A → Component part)
     (xs : List A) (i : ℕ) {s t : ProcessWriter} → i ≡ length xs
     → WritesUpTo s t around end (nat_eq i (length xs)) (all_of (map f (take i xs)))
     → WritesChoices s t around end (all_of (map f xs))
@@ -103,7 +104,7 @@ choices_done around end f xs i {s} {t} h x =
     subst (λ ys. WritesChoices s t around end (all_of (map f ys))) (take_all i xs (omega arith)) whole
 
 -- an IF without a choice
-pub no_choices : {part : Part} {A U E : Type 0} (around : code_around.Around) (end : ℕ) (f : A → Component part)
+pub no_choices : {part : Part} {A U E : Type 0} (around : calling.Surroundings) (end : ℕ) (f : A → Component part)
     (xs : List A) (s : ProcessWriter) (listing : List Piece) (r : Result U E) → length xs ≡ 0
     → IfOk r (λ _. listing ≡ s.listing ++ operates STOP_PROCESS ∷ [])
     → IfOk r (λ _. WritesChoices s (record s { listing = listing }) around end (all_of (map f xs)))
@@ -113,22 +114,23 @@ no_choices around end f xs s listing (Err e) none stops = tt
 
 -- ---- the last choice
 
-pub writes_always : (around : code_around.Around) (end line : ℕ) (e : Expression) (p : Process) {s t : ProcessWriter}
+pub writes_always : (around : calling.Surroundings) (end line : ℕ) (e : Expression) (p : Process) {s t : ProcessWriter}
     → is_true e ≡ true → WritesChosen s t around (Chosen line e p) → WritesPart s t around end true (Chosen line e p)
 writes_always around end line e p {s} {t} holds x =
-    let a = around_of around in
+    let here = surroundings_of around in
+    let a = here.around in
     let z = site_of s in
     record {
       code = subst (λ b. Appends s.listing t.listing t.label
-          (last_choice b (process_code a p (at_place (chosen e z.known) z.label z))
+          (last_choice b (process_code here p (at_place (chosen e z.known) z.label z))
           (tested_choice z e end (after_component a (Mark mark.If) (Chosen line e p) z.known)
-          (process_code a p (in_choice e z))))) (sym holds) x.code;
+          (process_code here p (in_choice e z))))) (sym holds) x.code;
       known = x.known;
       frame = x.frame;
     }
 
 -- so it is wherever that succeeds
-pub always_written : {U E : Type 0} (around : code_around.Around) (end line : ℕ) (e : Expression) (p : Process)
+pub always_written : {U E : Type 0} (around : calling.Surroundings) (end line : ℕ) (e : Expression) (p : Process)
     (c : Component Choices) (s t : ProcessWriter) (r : Result U E) → Chosen line e p ≡ c → is_true e ≡ true
     → IfOk r (λ _. WritesChosen s t around c) → IfOk r (λ _. WritesPart s t around end true c)
 always_written around end line e p c s t (Ok u) is holds x =
@@ -136,19 +138,20 @@ always_written around end line e p c s t (Ok u) is holds x =
     (writes_always around end line e p holds (subst (λ y. WritesChosen s t around y) (sym is) x))
 always_written around end line e p c s t (Err x) is holds h = tt
 
-pub writes_stopped : (around : code_around.Around) (end line : ℕ) (e : Expression) (p : Process) {s t : ProcessWriter}
+pub writes_stopped : (around : calling.Surroundings) (end line : ℕ) (e : Expression) (p : Process) {s t : ProcessWriter}
     (listing : List Piece) → is_true e ≡ false → WritesChoice s t around end (Chosen line e p)
     → listing ≡ t.listing ++ operates STOP_PROCESS ∷ []
     → WritesPart s (record t { listing = listing }) around end true (Chosen line e p)
 writes_stopped around end line e p {s} {t} listing other x stops =
-    let a = around_of around in
+    let here = surroundings_of around in
+    let a = here.around in
     let z = site_of s in
     record {
       code = subst (λ b. Appends s.listing listing t.label
-          (last_choice b (process_code a p (at_place (chosen e z.known) z.label z))
+          (last_choice b (process_code here p (at_place (chosen e z.known) z.label z))
           (tested_choice z e end (after_component a (Mark mark.If) (Chosen line e p) z.known)
-          (process_code a p (in_choice e z))))) (sym other)
-          (appends_closed (choice_code a end (Chosen line e p) z) s.listing t.listing listing
+          (process_code here p (in_choice e z))))) (sym other)
+          (appends_closed (choice_code here end (Chosen line e p) z) s.listing t.listing listing
           (operates STOP_PROCESS ∷ []) t.label x.code stops);
       known = x.known;
       frame = x.frame;
@@ -157,21 +160,22 @@ writes_stopped around end line e p {s} {t} listing other x stops =
 -- ---- a choice
 
 -- without its test
-pub writes_chosen : (around : code_around.Around) (line : ℕ) (e : Expression) (p : Process) (s t : ProcessWriter)
+pub writes_chosen : (around : calling.Surroundings) (line : ℕ) (e : Expression) (p : Process) (s t : ProcessWriter)
     (inner after : code_scope.Scope) → known_of inner ≡ chosen e (known_of s.scope)
     → WritesProcess (record s { scope = inner }) t around p → known_of after ≡ next (known_of t.scope)
     → WritesChosen s (record t { scope = after }) around (Chosen line e p)
 writes_chosen around line e p s t inner after narrowed x ends =
-    let a = around_of around in
+    let here = surroundings_of around in
+    let a = here.around in
     record {
-      code = subst (λ k. Appends s.listing t.listing t.label (process_code a p (at_place k s.label (site_of s))))
+      code = subst (λ k. Appends s.listing t.listing t.label (process_code here p (at_place k s.label (site_of s))))
           narrowed x.code;
       known = ends ∙ ap next (x.known ∙ ap (inside a p) narrowed);
       frame = x.frame;
     }
 
 -- with its test, which jumps to the label that was free
-pub writes_tested : (around : code_around.Around) (end line : ℕ) (e : Expression) (p : Process)
+pub writes_tested : (around : calling.Surroundings) (end line : ℕ) (e : Expression) (p : Process)
     (s tested within after : ProcessWriter) (jumped : List Piece)
     → tested.listing ≡ s.listing ++ test_code (site_of s).frame.homes (site_of s).known.entries s.frame.top e s.label
     → site_of tested ≡ at_place (known_of s.scope) (s.label + 1) (site_of s)
@@ -179,15 +183,16 @@ pub writes_tested : (around : code_around.Around) (end line : ℕ) (e : Expressi
     → after.listing ≡ jumped ++ row_of s.label (frame_seen within.frame) (known_of within.scope) ∷ []
     → site_of after ≡ site_of within → WritesChoice s after around end (Chosen line e p)
 writes_tested around end line e p s tested within after jumped test place x jumps row still =
-    let a = around_of around in
+    let here = surroundings_of around in
+    let a = here.around in
     let z = site_of s in
     let done = after_component a (Mark mark.If) (Chosen line e p) z.known in
     let known : known_of within.scope ≡ done =
     x.known ∙ ap (λ (y : Site). after_component a (Mark mark.If) (Chosen line e p) y.known) place in
     let frame : frame_seen within.frame ≡ z.frame = x.frame ∙ ap (λ (y : Site). y.frame) place in
-    let process = process_code a p (in_choice e z) in
+    let process = process_code here p (in_choice e z) in
     let inner : Appends tested.listing within.listing within.label process =
-    subst (λ (y : Site). Appends tested.listing within.listing within.label (chosen_code a (Chosen line e p) y)) place
+    subst (λ (y : Site). Appends tested.listing within.listing within.label (chosen_code here (Chosen line e p) y)) place
     x.code in
     let rest : after.listing ≡ within.listing ++ Jump end ∷ row_of s.label z.frame done ∷ [] =
     row ∙ (λ j. jumps j ++ row_of s.label (frame j) (known j) ∷ [])
@@ -205,29 +210,30 @@ writes_tested around end line e p s tested within after jumped test place x jump
 
 -- ---- an IF
 
-pub writes_if : {part : Part} (around : code_around.Around) (cs : Components part)
+pub writes_if : {part : Part} (around : calling.Surroundings) (cs : Components part)
     (s begun within after : ProcessWriter) (ended : code_scope.Scope) → begun.listing ≡ s.listing
     → site_of begun ≡ at_place (begin (known_of s.scope)) (s.label + 1) (site_of s)
     → WritesChoices begun within around s.label cs → known_of ended ≡ end (known_of within.scope)
     → after.listing ≡ within.listing ++ row_of s.label (frame_seen within.frame) (known_of ended) ∷ []
     → site_of after ≡ site_of (record within { scope = ended }) → WritesIf s after around cs
 writes_if around cs s begun within after ended same place x ends row still =
-    let a = around_of around in
+    let here = surroundings_of around in
+    let a = here.around in
     let z = site_of s in
     let inner = at_place (begin z.known) (s.label + 1) z in
     let done = end (after_components a (Mark mark.If) cs (begin z.known)) in
     let known : known_of ended ≡ done =
     ends ∙ ap end (x.known ∙ ap (λ (y : Site). after_components a (Mark mark.If) cs y.known) place) in
     let frame : frame_seen within.frame ≡ z.frame = x.frame ∙ ap (λ (y : Site). y.frame) place in
-    let code : Appends s.listing within.listing within.label (choices_code a s.label cs inner) =
-    subst (λ (v : List Piece × Site). Appends v.0 within.listing within.label (choices_code a s.label cs v.1))
+    let code : Appends s.listing within.listing within.label (choices_code here s.label cs inner) =
+    subst (λ (v : List Piece × Site). Appends v.0 within.listing within.label (choices_code here s.label cs v.1))
     (λ i. (same i, place i)) x.code in
     let rest : after.listing ≡ within.listing ++ row_of s.label z.frame done ∷ [] =
     row ∙ (λ j. within.listing ++ row_of s.label (frame j) (known j) ∷ []) in
     let labels : after.label ≡ within.label = ap (λ (y : Site). y.label) still in
     record {
-      code = subst (λ n. Appends s.listing after.listing n (if_code a cs z)) (sym labels)
-          (appends_closed (choices_code a s.label cs inner) s.listing within.listing after.listing
+      code = subst (λ n. Appends s.listing after.listing n (if_code here cs z)) (sym labels)
+          (appends_closed (choices_code here s.label cs inner) s.listing within.listing after.listing
           (row_of s.label z.frame done ∷ []) within.label code rest);
       known = ap (λ (y : Site). y.known) still ∙ known;
       frame = ap (λ (y : Site). y.frame) still ∙ frame;

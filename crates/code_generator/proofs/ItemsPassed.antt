@@ -2,7 +2,8 @@
 use Rattle.std.proofs.Common.{◌≡◌, ℕ, ◌+◌, ◌<◌, ◌≤◌, Bool, true, false, cond, List, [], ◌∷◌, ◌++◌, length, map}
 use Rattle.std.proofs.Common.{take, get_or, max, nat_eq, Option, Some, None, inl, inr, refl, sym, ap, subst, ◌∙◌, arith}
 use Rattle.std.proofs.Math.Seq.{take-append_seam}
-use Rattle.std.proofs.lemmas.List.{length-append, map-append, take_all}
+use Rattle.std.proofs.lemmas.List.{length-append, length-map, map-append, take_all}
+use Rattle.std.specs.Global.{Vec}
 use Rattle.std.specs.List.{AllByRecursion}
 use Rattle.word_arithmetic.specs.Range.{Ends}
 use Rattle.occam_parser.specs.declared.tree.Item.{Item}
@@ -24,7 +25,12 @@ use Rattle.program_uses.specs.Constants.{size_in}
 use Rattle.program_uses.specs.Declaring.{table_of, constant_meaning, range_of_items, range_of_bytes}
 use Rattle.program_uses.specs.InTurn.{in_turn}
 use Rattle.program_uses.specs.Signatures.{Parameter, parameters_of, signatures_of}
-use Rattle.program_uses.specs.declared.actions.Around as code_around
+use Rattle.code_generator.specs.declared.calling.Surroundings as calling
+use Rattle.code_generator.specs.declared.calling.Callee as code_callee
+use Rattle.code_generator.specs.declared.program.Start.{Start}
+use Rattle.code_generator.specs.Calls.{Callee, where_called}
+use Rattle.code_generator.specs.CallViews.{callee_of, callees_of, surroundings_of}
+use Rattle.code_generator.specs.Processes.{Site}
 use Rattle.program_uses.specs.declared.signature.Signature.{Signature}
 use Rattle.program_uses.specs.ActionViews.{around_of}
 use Rattle.program_uses.proofs.NextInTurn.{seen_more, last_in_turn}
@@ -44,8 +50,8 @@ use Rattle.usage_checks.proofs.RangesStay.{ranges_stay}
 use Rattle.code_pieces.specs.Pieces.{Piece, Code}
 use Rattle.code_generator.specs.declared.processes.ProcessWriter.{ProcessWriter}
 use Rattle.code_generator.specs.Declarations.{Frame}
-use Rattle.code_generator.specs.Programs.{last_item_code, items_code, main_code, code_of}
-use Rattle.code_generator.specs.MainWritten.{behind_item, procedures_behind, Globals, with_item, globals_of, Precedes}
+use Rattle.code_generator.specs.Programs.{callable, last_item_code, items_code, main_code, code_of}
+use Rattle.code_generator.specs.MainWritten.{behind_item, Globals, with_item, globals_of, Precedes}
 use Rattle.code_generator.specs.MainWritten.{WritesMain}
 use Rattle.code_generator.specs.Written.{site_of, first_site, Appends}
 
@@ -192,67 +198,80 @@ known_behind (GlobalProcedure p) g count outside counted =
       label = 0;
     }
 
-counted_behind : (item : ProgramItem) (g : Globals) (count : ℕ) → count ≡ length g.outside.signatures
-    → procedures_behind item count ≡ length (with_item item g).outside.signatures
-counted_behind (GlobalConstant c) g count counted =
+counted_behind : (item : ProgramItem) (g : Globals) (names : ℕ) (cs : List Callee)
+    → length cs ≡ length g.outside.signatures
+    → length (callable item names cs) ≡ length (with_item item g).outside.signatures
+counted_behind (GlobalConstant c) g names cs counted =
     counted ∙ ap length (sym (weighed_signatures (GlobalConstant c) g.outside))
-counted_behind (GlobalProcedure p) g count counted =
+counted_behind (GlobalProcedure p) g names cs counted =
     let w = weighed (GlobalProcedure p) g.outside in
     let long = length-append w.signatures (signature_of (around_in w) p w.known ∷ []) in
+    let more = length-append cs (record { procedure = p; names = names } ∷ []) in
     let same = ap length (weighed_signatures (GlobalProcedure p) g.outside) in
-    omega (arith, counted, long, same)
+    omega (arith, counted, long, more, same)
 
 -- ---- some items
 
--- with how many procedures are among them
-pub record Passes (w : ProcessWriter) (procedures : ℕ) (items : List ProgramItem) : Type 0 where
-  pub precedes : Precedes w items
-  pub count : procedures ≡ length (globals_of items).outside.signatures
+-- with the procedures among them
+pub record Passes (w : ProcessWriter) (cs : List code_callee.Callee) (items : List ProgramItem) : Type 0 where
+  pub listing : w.listing ≡ []
+  pub site : site_of w
+      ≡ record { frame = (globals_of items).frame; known = (globals_of items).outside.known; label = 0 }
+  pub callees : callees_of cs ≡ (globals_of items).callees
+  pub count : length cs ≡ length (globals_of items).outside.signatures
 
-pub passes_none : (w : ProcessWriter) → w.listing ≡ [] → site_of w ≡ first_site → Passes w 0 []
-passes_none w none first = record { precedes = record { listing = none; site = first }; count = refl }
+pub passes_none : (w : ProcessWriter) (cs : List code_callee.Callee) → w.listing ≡ [] → site_of w ≡ first_site
+    → cs ≡ [] → Passes w cs []
+passes_none w cs none first empty =
+    record { listing = none; site = first; callees = ap callees_of empty; count = ap length empty }
 
-pub passes_more : (xs : List Item) (i : ℕ) (x : Item) (v w : ProcessWriter) (count more : ℕ) → i < length xs
-    → x ≡ get_or xs i x → Passes v count (map item_of (take i xs)) → w.listing ≡ v.listing
-    → site_of w ≡ behind_item (item_of x) count (site_of v) → more ≡ procedures_behind (item_of x) count
-    → Passes w more (map item_of (take (i + 1) xs))
-passes_more xs i x v w count more h is before listing site counted =
+pub passes_more : (xs : List Item) (i : ℕ) (x : Item) (v w : ProcessWriter) (cs ds : List code_callee.Callee)
+    → i < length xs → x ≡ get_or xs i x → Passes v cs (map item_of (take i xs)) → w.listing ≡ v.listing
+    → site_of w ≡ behind_item (item_of x) (length cs) (site_of v)
+    → callees_of ds ≡ callable (item_of x) (length (site_of v).frame.homes) (callees_of cs)
+    → Passes w ds (map item_of (take (i + 1) xs))
+passes_more xs i x v w cs ds h is before listing site called =
     let items = map item_of (take i xs) in
     let item = item_of x in
     let g = globals_of items in
     let outside = outside_behind items (globals_of []) (record { blocks = refl; still = tt }) in
     let next : with_item item g ≡ globals_of (items ++ item ∷ []) =
     sym (last_in_turn with_item items item (globals_of [])) in
-    subst (Passes w more) (seen_more item_of xs i x x h is) (record {
-      precedes = record {
-        listing = listing ∙ before.precedes.listing;
-        site = site ∙ ap (behind_item item count) before.precedes.site ∙ known_behind item g count outside before.count
-            ∙ (λ j. record { frame = (next j).frame; known = (next j).outside.known; label = 0 });
-      };
-      count = counted ∙ counted_behind item g count before.count
+    let names = ap (λ (z : Site). length z.frame.homes) before.site in
+    let seen : length (callees_of cs) ≡ length g.outside.signatures = length-map cs callee_of ∙ before.count in
+    subst (Passes w ds) (seen_more item_of xs i x x h is) (record {
+      listing = listing ∙ before.listing;
+      site = site ∙ ap (behind_item item (length cs)) before.site ∙ known_behind item g (length cs) outside before.count
+          ∙ (λ j. record { frame = (next j).frame; known = (next j).outside.known; label = 0 });
+      callees = called ∙ (λ j. callable item (names j) (before.callees j)) ∙ ap (λ (g : Globals). g.callees) next;
+      count = sym (length-map ds callee_of) ∙ ap length called
+          ∙ counted_behind item g (length (site_of v).frame.homes) (callees_of cs) seen
           ∙ ap (λ (g : Globals). length g.outside.signatures) next;
     })
 
-pub passes_all : (xs : List Item) (i : ℕ) (w : ProcessWriter) (count : ℕ) → length xs ≤ i
-    → Passes w count (map item_of (take i xs)) → Precedes w (map item_of xs)
-passes_all xs i w count h x = subst (λ ys. Precedes w (map item_of ys)) (take_all i xs h) x.precedes
+pub passes_all : (xs : List Item) (i : ℕ) (w : ProcessWriter) (cs : Vec code_callee.Callee) → length xs ≤ i
+    → Passes w cs.items (map item_of (take i xs)) → Precedes (record { writer = w; callees = cs }) (map item_of xs)
+passes_all xs i w cs h x =
+    subst (λ ys. Precedes (record { writer = w; callees = cs }) (map item_of ys)) (take_all i xs h)
+    (record { listing = x.listing; site = x.site; callees = x.callees })
 
 -- ---- main
 
 -- the code of items, where these are known
-abbrev code_behind : List ProgramItem → Outside → Frame → Option Code
-code_behind [] o f = None
-code_behind (item ∷ items) o f = items_code item items o f
+abbrev code_behind : List ProgramItem → List Callee → Outside → Frame → Option Code
+code_behind [] cs o f = None
+code_behind (item ∷ items) cs o f = items_code item items cs o f
 
 code_of_last : (items : List ProgramItem) (last : ProgramItem) (g : Globals)
-    → code_behind (items ++ last ∷ []) g.outside g.frame
-    ≡ last_item_code last (weighed last (in_turn with_item items g).outside) (in_turn with_item items g).frame
+    → code_behind (items ++ last ∷ []) g.callees g.outside g.frame
+    ≡ last_item_code last (in_turn with_item items g).callees (weighed last (in_turn with_item items g).outside)
+    (in_turn with_item items g).frame
 code_of_last [] last g = refl
 code_of_last (item ∷ []) last g = refl
 code_of_last (item ∷ next ∷ items) last g = code_of_last (next ∷ items) last (with_item item g)
 
 whole_code : (items : List ProgramItem)
-    → code_of items ≡ code_behind items (globals_of []).outside (globals_of []).frame
+    → code_of items ≡ code_behind items [] (globals_of []).outside (globals_of []).frame
 whole_code [] = refl
 whole_code (item ∷ items) = refl
 
@@ -322,12 +341,14 @@ signed_before before p all rest x signed is =
     ∙ ap (λ (o : Outside). o.signatures) (sym (outside_of before (globals_of [])))
 
 -- The code of main behind the items before it is that of the program.
-main_is_whole : (before : List ProgramItem) (p : Procedure) (w t : ProcessWriter) (around : code_around.Around)
-    → BreaksNoRule (before ++ GlobalProcedure p ∷ []) → Precedes w before
-    → (around_of around).signatures ≡ (globals_of before).outside.signatures → around.uncounted ≡ None
-    → WritesMain w t around p
+main_is_whole : (before : List ProgramItem) (p : Procedure) (s : Start) (t : ProcessWriter)
+    (around : calling.Surroundings) → BreaksNoRule (before ++ GlobalProcedure p ∷ []) → Precedes s before
+    → (around_of around.around).signatures ≡ (globals_of before).outside.signatures → around.around.uncounted ≡ None
+    → around.callees.now ≡ s.callees.items → around.count ≡ length s.callees.items
+    → WritesMain s.writer t around p
     → code_of (before ++ GlobalProcedure p ∷ []) ≡ Some (record { pieces = t.listing; labels = t.label })
-main_is_whole before p w t around unbroken precedes signed uncounted x =
+main_is_whole before p s t around unbroken precedes signed uncounted those all x =
+    let w = s.writer in
     let item = GlobalProcedure p in
     let g = globals_of before in
     let m = weighed item g.outside in
@@ -337,24 +358,30 @@ main_is_whole before p w t around unbroken precedes signed uncounted x =
     let signatures = weighed_signatures item g.outside ∙ sym signed in
     let none = counted ∙ sym uncounted in
     let site = (λ i. record { frame = g.frame; known = known i; label = 0 }) ∙ sym precedes.site in
-    let written = subst (λ old. Appends old t.listing t.label (main_code (around_of around) p (site_of w)))
+    let callees : g.callees ≡ callees_of around.callees.now = sym precedes.callees ∙ ap callees_of (sym those) in
+    let count : length g.callees ≡ around.count =
+    ap length (sym precedes.callees) ∙ length-map s.callees.items callee_of ∙ sym all in
+    let written = subst (λ old. Appends old t.listing t.label (main_code (surroundings_of around) p (site_of w)))
     precedes.listing x in
     whole_code (before ++ item ∷ []) ∙ code_of_last before item (globals_of [])
-    ∙ (λ i. main_code (record { signatures = signatures i; uncounted = none i }) p (site i))
-    ∙ appended (main_code (around_of around) p (site_of w)) t.listing t.label written
+    ∙ (λ i. main_code (where_called (callees i) (record { signatures = signatures i; uncounted = none i }) (count i)) p
+    (site i))
+    ∙ appended (main_code (surroundings_of around) p (site_of w)) t.listing t.label written
 
 pub program_written : (all before : List Item) (p : code_proc.Proc) (signatures rest : List Signature) (x : Signature)
-    (w t : ProcessWriter) (around : code_around.Around) → all ≡ before ++ Proc p ∷ []
+    (s : Start) (t : ProcessWriter) (around : calling.Surroundings) → all ≡ before ++ Proc p ∷ []
     → BreaksNoRule (map item_of all) → signatures_of signatures ≡ (after_items (map item_of all)).signatures
-    → signatures ≡ rest ++ x ∷ [] → around.signatures.now ≡ rest → around.uncounted ≡ None
-    → Precedes w (map item_of before) → WritesMain w t around (procedure_of p)
+    → signatures ≡ rest ++ x ∷ [] → around.around.signatures.now ≡ rest → around.around.uncounted ≡ None
+    → around.callees.now ≡ s.callees.items → around.count ≡ length s.callees.items
+    → Precedes s (map item_of before) → WritesMain s.writer t around (procedure_of p)
     → code_of (map item_of all) ≡ Some (record { pieces = t.listing; labels = t.label })
-program_written all before p signatures rest x w t around is unbroken signed split those uncounted precedes written =
+program_written all before p signatures rest x s t around is unbroken signed split those uncounted callees count
+    precedes written =
     let items = map item_of before in
     let main = procedure_of p in
     let seen : map item_of all ≡ items ++ GlobalProcedure main ∷ [] =
     ap (map item_of) is ∙ map-append item_of before (Proc p ∷ []) in
     let before_main = ap signatures_of those ∙ signed_before items main signatures rest x
     (subst (λ ys. signatures_of signatures ≡ (after_items ys).signatures) seen signed) split in
-    ap code_of seen ∙ main_is_whole items main w t around (subst BreaksNoRule seen unbroken) precedes before_main
-    uncounted written
+    ap code_of seen ∙ main_is_whole items main s t around (subst BreaksNoRule seen unbroken) precedes before_main
+    uncounted callees count written

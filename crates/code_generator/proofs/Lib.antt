@@ -1,3 +1,5 @@
+pub mod ActsWritten
+pub mod CallsFound
 pub mod ChainCode
 pub mod ChoicesWritten
 pub mod DeclarationsWritten
@@ -6,8 +8,10 @@ pub mod LinksNumbered
 pub mod LoopsWritten
 pub mod NamesTold
 pub mod OperandsBelow
+pub mod OutermostNames
 pub mod PartsWritten
 pub mod RowsSay
 pub mod SpreadOut
+pub mod TablesRead
 pub mod TurnsWritten
 pub mod WorkedCode

@@ -34,10 +34,10 @@ links_more : (fs : List Formal) (f : Formal) (start : Frame)
 links_more fs f start =
     let homes = append_assoc start.homes (map home_for fs) (home_for f ∷ [])
     ∙ ap (λ hs. start.homes ++ hs) (sym (map-append home_for fs (f ∷ []))) in
-    λ i. record { homes = homes i; top = start.top }
+    λ i. record start { homes = homes i }
 
 pub links_none : (start : Frame) → start ≡ with_links [] start
-links_none start = λ i. record { homes = sym (append-nil start.homes) i; top = start.top }
+links_none start = λ i. record start { homes = sym (append-nil start.homes) i }
 
 pub links_next : (xs : List code_formal.Formal) (i : ℕ) (x : code_formal.Formal) (start before after : Frame)
     → i < length xs → x ≡ get_or xs i x → before ≡ with_links (map formal_of (take i xs)) start

@@ -12,8 +12,8 @@ use Rattle.scalar_ranges.specs.declared.scope.Scope as code_scope
 use Rattle.scalar_ranges.specs.Entries.{Meaning}
 use Rattle.scalar_ranges.specs.Moves.{Known, Block, begun_with, widen, begin_loop, after_block, end}
 use Rattle.scalar_ranges.specs.Scopes.{known_of, meaning_of}
-use Rattle.program_uses.specs.declared.actions.Around as code_around
-use Rattle.program_uses.specs.ActionViews.{around_of}
+use Rattle.code_generator.specs.declared.calling.Surroundings as calling
+use Rattle.code_generator.specs.CallViews.{surroundings_of}
 use Rattle.program_uses.specs.Actions.{Around, is_before}
 use Rattle.program_uses.specs.Changes.{changed_by_construct}
 use Rattle.program_uses.specs.Declaring.{add}
@@ -27,7 +27,7 @@ use Rattle.code_generator.specs.declared.processes.ProcessWriter.{ProcessWriter}
 use Rattle.code_generator.specs.Homes as homes
 use Rattle.code_generator.specs.HomeViews.{home_seen}
 use Rattle.code_generator.specs.FrameViews.{frame_seen}
-use Rattle.code_generator.specs.Processes.{Site, row_of, in_loop, value_or_zero, loop_start, loop_end, loop_code}
+use Rattle.code_generator.specs.Processes.{Site, Surroundings, row_of, in_loop, value_or_zero, loop_start, loop_end, loop_code}
 use Rattle.code_generator.specs.Processes.{repeated_seq, process_code, construct_code}
 use Rattle.code_generator.specs.Processes.{component_code}
 use Rattle.code_generator.specs.Written.{site_of, Appends, Writes, after_loop, in_turning, EntersLoop, behind_loop}
@@ -60,17 +60,17 @@ after_loop_is a line r p k =
 
 -- ---- the code of a loop
 
-pub loop_code_is : (a : Around) (line : ℕ) (r : Replicator) (p : Process) (s : Site)
-    → construct_code a line (under_seq r p) s
-    ≡ looped_code a line r (changed_by_construct a.signatures s.known.entries (under_seq r p)) p s
-loop_code_is a line r p s =
-    let changed = changed_by_construct a.signatures s.known.entries (under_seq r p) in
-    let repeats = repeats_of (is_before line a.uncounted) s.known.entries true r in
+pub loop_code_is : (here : Surroundings) (line : ℕ) (r : Replicator) (p : Process) (s : Site)
+    → construct_code here line (under_seq r p) s
+    ≡ looped_code here line r (changed_by_construct here.around.signatures s.known.entries (under_seq r p)) p s
+loop_code_is here line r p s =
+    let changed = changed_by_construct here.around.signatures s.known.entries (under_seq r p) in
+    let repeats = repeats_of (is_before line here.around.uncounted) s.known.entries true r in
     let inner = in_loop s (begin_loop changed s.known) r.name (index_in repeats 0) in
     let base = value_or_zero s.known.entries r.base in
     let count = value_or_zero s.known.entries r.count in
-    ap (λ after. repeated_seq s changed after base (loop_code s inner after base count (process_code a p inner)) count)
-    (after_loop_is a line r p s.known)
+    ap (λ after. repeated_seq s changed after base (loop_code s inner after base count (process_code here p inner)) count)
+    (after_loop_is here.around line r p s.known)
 
 with_turns : (s : Site) (changed : List ℕ) (after : Known) (base : ℤ) (loop : Option Code) (count : ℤ)
     → count ≢ pos 0 → repeated_seq s changed after base loop count ≡ loop
@@ -81,18 +81,19 @@ with_turns s changed after base loop (negsuc n) some = refl
 -- ---- writing it
 
 -- with turns
-pub writes_turning : (around : code_around.Around) (p : Process) (l : Turning) (changed : List ℕ)
+pub writes_turning : (around : calling.Surroundings) (p : Process) (l : Turning) (changed : List ℕ)
     {s t u w : ProcessWriter} (names word head : ℕ) → EntersLoop s t l changed → WritesOne t u around (Plain p)
     → LeavesLoop u w names word head → names ≡ length s.frame.homes.items → word ≡ s.frame.top → head ≡ s.label
     → (let inner = in_turning (site_of s) l changed in
     let after = after_loop changed (known_of s.scope) in
-    Writes s w (loop_code (site_of s) inner after l.base l.count (process_code (around_of around) p inner)) after)
+    Writes s w (loop_code (site_of s) inner after l.base l.count (process_code (surroundings_of around) p inner)) after)
 writes_turning around p l changed {s} {t} {u} {w} names word head enters one leaves names_are word_is head_is =
-    let a = around_of around in
+    let here = surroundings_of around in
+    let a = here.around in
     let z = site_of s in
     let inner = in_turning z l changed in
     let after = after_loop changed z.known in
-    let body = process_code a p inner in
+    let body = process_code here p inner in
     let start = loop_start z.frame.top l.base l.count ++ row_of z.label inner.frame inner.known ∷ [] in
     let behind = loop_end z.frame.top z.label (row_of (z.label + 1) z.frame after) in
     let known : known_of u.scope ≡ after_component a (Mark mark.Seq) (Plain p) inner.known =
@@ -104,9 +105,13 @@ writes_turning around p l changed {s} {t} {u} {w} names word head enters one lea
     let ended : end (known_of u.scope) ≡ after =
     ap end known ∙ loop_ends a p l.name.now (meaning_of l.index) changed z.known in
     let left : behind_loop names word (site_of u) ≡ record { frame = z.frame; known = after; label = u.label } =
-    λ i. record { frame = record { homes = left_homes i; top = word_is i }; known = ended i; label = u.label } in
+    λ i. record {
+      frame = record { homes = left_homes i; top = word_is i; outer = (frame i).outer };
+      known = ended i;
+      label = u.label;
+    } in
     let written : Appends t.listing u.listing u.label body =
-    subst (λ (y : Site). Appends t.listing u.listing u.label (component_code a (Plain p) y)) enters.site one.code in
+    subst (λ (y : Site). Appends t.listing u.listing u.label (component_code here (Plain p) y)) enters.site one.code in
     let rest : w.listing ≡ u.listing ++ behind =
     leaves.code
     ∙ (λ i. u.listing ++ loop_end (word_is i) (head_is i) (row_of (head_is i + 1) (left i).frame (left i).known)) in
@@ -119,27 +124,28 @@ writes_turning around p l changed {s} {t} {u} {w} names word head enters one lea
       frame = ap (λ (y : Site). y.frame) (leaves.site ∙ left);
     }
 
-pub writes_loop : (around : code_around.Around) (line : ℕ) (r : Replicator) (p : Process) (l : Turning)
+pub writes_loop : (around : calling.Surroundings) (line : ℕ) (r : Replicator) (p : Process) (l : Turning)
     (changed : List ℕ) (s w : ProcessWriter) → l.name.now ≡ r.name
-    → meaning_of l.index ≡ index_in (repeats_of (is_before line (around_of around).uncounted)
+    → meaning_of l.index ≡ index_in (repeats_of (is_before line (surroundings_of around).around.uncounted)
     (known_of s.scope).entries true r) 0
     → l.base ≡ value_or_zero (known_of s.scope).entries r.base
     → l.count ≡ value_or_zero (known_of s.scope).entries r.count → l.count ≢ pos 0
     → (let inner = in_turning (site_of s) l changed in
     let after = after_loop changed (known_of s.scope) in
-    Writes s w (loop_code (site_of s) inner after l.base l.count (process_code (around_of around) p inner)) after)
+    Writes s w (loop_code (site_of s) inner after l.base l.count (process_code (surroundings_of around) p inner)) after)
     → WritesLoop s w around line r changed p
 writes_loop around line r p l changed s w name index base count some x =
-    let a = around_of around in
+    let here = surroundings_of around in
+    let a = here.around in
     let z = site_of s in
     let after = after_loop changed z.known in
     let inner = in_turning z l changed in
-    let loop = loop_code z inner after l.base l.count (process_code a p inner) in
-    let same : loop ≡ looped_code a line r changed p z =
+    let loop = loop_code z inner after l.base l.count (process_code here p inner) in
+    let same : loop ≡ looped_code here line r changed p z =
     sym (with_turns z changed after l.base loop l.count some)
     ∙ (λ i. repeated_seq z changed after (base i)
     (loop_code z (in_loop z (begin_loop changed z.known) (name i) (index i)) after (base i) (count i)
-    (process_code a p (in_loop z (begin_loop changed z.known) (name i) (index i)))) (count i)) in
+    (process_code here p (in_loop z (begin_loop changed z.known) (name i) (index i)))) (count i)) in
     record {
       code = subst (λ o. Appends s.listing w.listing w.label o) same x.code;
       known = x.known;
@@ -147,20 +153,21 @@ writes_loop around line r p l changed s w name index base count some x =
     }
 
 -- where the variables were found that the body changes
-pub writes_replicated : (around : code_around.Around) (line : ℕ) (r : Replicator) (p : Process) (c : Construct)
+pub writes_replicated : (around : calling.Surroundings) (line : ℕ) (r : Replicator) (p : Process) (c : Construct)
     (changed : List ℕ) (scope : code_scope.Scope) {s t : ProcessWriter} → under_seq r p ≡ c
     → known_of scope ≡ known_of s.scope
-    → changed ≡ changed_by_construct (around_of around).signatures (known_of s.scope).entries c
+    → changed ≡ changed_by_construct (surroundings_of around).around.signatures (known_of s.scope).entries c
     → WritesLoop (record s { scope = scope }) t around line r changed p → WritesConstruct s t around line c
 writes_replicated around line r p c changed scope {s} {t} is same found x =
-    let a = around_of around in
+    let here = surroundings_of around in
+    let a = here.around in
     let z = site_of s in
     let all : changed ≡ changed_by_construct a.signatures z.known.entries (under_seq r p) =
     found ∙ ap (changed_by_construct a.signatures z.known.entries) (sym is) in
-    let code : looped_code a line r changed p (site_of (record s { scope = scope }))
-    ≡ construct_code a line (under_seq r p) z =
-    (λ i. looped_code a line r (all i) p (record { frame = z.frame; known = same i; label = z.label }))
-    ∙ sym (loop_code_is a line r p z) in
+    let code : looped_code here line r changed p (site_of (record s { scope = scope }))
+    ≡ construct_code here line (under_seq r p) z =
+    (λ i. looped_code here line r (all i) p (record { frame = z.frame; known = same i; label = z.label }))
+    ∙ sym (loop_code_is here line r p z) in
     subst (WritesConstruct s t around line) is (record {
       code = subst (λ o. Appends s.listing t.listing t.label o) code x.code;
       known = x.known ∙ (λ i. after_loop (all i) (same i)) ∙ sym (after_loop_is a line r p z.known);

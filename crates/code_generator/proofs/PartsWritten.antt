@@ -3,6 +3,7 @@ use Rattle.std.proofs.Common.{◌≡◌, ℕ, ◌+◌, ◌<◌, ◌≤◌, List,
 use Rattle.std.proofs.Common.{get_or, Option, Some, None, refl, sym, ap, subst, ◌∙◌}
 use Rattle.std.proofs.Math.Seq.{take-append_seam}
 use Rattle.std.proofs.lemmas.List.{append_assoc, append-nil, take_all, length-map}
+use Rattle.std.specs.Global.{Vec}
 use Rattle.occam_layout.specs.declared.mark.Mark.TheVariants as mark
 use Rattle.occam_parser.specs.Terminals.{Mark}
 use Rattle.occam_parser.specs.Lines.{Declaration, Constants, Variables, Channels}
@@ -15,20 +16,21 @@ use Rattle.scalar_ranges.specs.declared.scope.Scope as code_scope
 use Rattle.scalar_ranges.specs.Entries.{Entry}
 use Rattle.scalar_ranges.specs.Moves.{Known}
 use Rattle.scalar_ranges.specs.Scopes.{known_of}
-use Rattle.program_uses.specs.declared.actions.Around as code_around
-use Rattle.program_uses.specs.ActionViews.{around_of}
+use Rattle.code_generator.specs.declared.calling.Surroundings as calling
+use Rattle.code_generator.specs.CallViews.{surroundings_of}
 use Rattle.program_uses.specs.Actions.{Around}
 use Rattle.program_uses.specs.InTurn.{in_turn}
 use Rattle.program_uses.proofs.Adding.{taken_one}
 use Rattle.usage_checks.specs.AfterProcesses.{inside, after_construct, after_components, after_component}
 use Rattle.code_generator.specs.declared.frame.Frame as code_frame
 use Rattle.code_generator.specs.declared.processes.ProcessWriter.{ProcessWriter}
+use Rattle.code_pieces.specs.declared.piece.RowEntry.{RowEntry}
 use Rattle.code_pieces.specs.Pieces.{Piece, Code, no_code, before, then_code, closed_by}
 use Rattle.code_generator.specs.Homes.{Home, Word}
 use Rattle.code_generator.specs.HomeViews.{homes_seen, home_seen}
 use Rattle.code_generator.specs.Declarations.{Frame, with_words, with_names, declared, words_in, channels_in, home_for}
 use Rattle.code_generator.specs.Declarations.{declaration_code}
-use Rattle.code_generator.specs.Processes.{Site, with_declaration, at_place, process_code, construct_code}
+use Rattle.code_generator.specs.Processes.{Site, Surroundings, with_declaration, at_place, process_code, construct_code}
 use Rattle.code_generator.specs.Processes.{components_code, component_code}
 use Rattle.code_generator.specs.Written.{site_of, Appends, Writes, DeclaresAll, declarations_code}
 use Rattle.code_generator.specs.Written.{WritesProcess, WritesConstruct, WritesSeq, WritesOne}
@@ -97,6 +99,20 @@ homes_left ds s =
     let r = grows_all ds s in
     ap (take (length s.frame.homes)) r.1 ∙ take-append_seam s.frame.homes r.0
 
+-- what is known outside stays
+outer_names : (count : ℕ) (names : List (List ℕ)) (f : Frame) → (with_names count names f).outer ≡ f.outer
+outer_names count [] f = refl
+outer_names count (name ∷ names) f = outer_names count names (with_words count f)
+
+outer_declared : (es : List Entry) (d : Declaration) (f : Frame) → (declared es d f).outer ≡ f.outer
+outer_declared es (Constants c) f = refl
+outer_declared es (Variables n) f = outer_names (words_in es n.value_type n.size) (as_list n.names) f
+outer_declared es (Channels n) f = outer_names (channels_in es n.size) (as_list n.names) f
+
+outer_left : (ds : List Declaration) (s : Site) → (in_turn with_declaration ds s).frame.outer ≡ s.frame.outer
+outer_left [] s = refl
+outer_left (d ∷ ds) s = outer_left ds (with_declaration d s) ∙ outer_declared s.known.entries d s.frame
+
 -- ---- declarations, and then a construct
 
 before_none : (code : Option Code) → before [] code ≡ code
@@ -108,14 +124,14 @@ before_both ps qs None = refl
 before_both ps qs (Some c) =
     ap (λ l. Some (record { pieces = l; labels = c.labels })) (sym (append_assoc ps qs c.pieces))
 
-code_behind : (a : Around) (ds : List Declaration) (line : ℕ) (c : Construct) (s : Site)
-    → process_code a (with_declarations ds (Does line c)) s
-    ≡ before (declarations_code ds s) (construct_code a line c (in_turn with_declaration ds s))
-code_behind a [] line c s = sym (before_none (construct_code a line c s))
-code_behind a (d ∷ ds) line c s =
-    ap (before (declaration_code s.known.entries d s.frame.top)) (code_behind a ds line c (with_declaration d s))
+code_behind : (here : Surroundings) (ds : List Declaration) (line : ℕ) (c : Construct) (s : Site)
+    → process_code here (with_declarations ds (Does line c)) s
+    ≡ before (declarations_code ds s) (construct_code here line c (in_turn with_declaration ds s))
+code_behind here [] line c s = sym (before_none (construct_code here line c s))
+code_behind here (d ∷ ds) line c s =
+    ap (before (declaration_code s.known.entries d s.frame.top)) (code_behind here ds line c (with_declaration d s))
     ∙ before_both (declaration_code s.known.entries d s.frame.top) (declarations_code ds (with_declaration d s))
-    (construct_code a line c (in_turn with_declaration ds (with_declaration d s)))
+    (construct_code here line c (in_turn with_declaration ds (with_declaration d s)))
 
 known_behind : (a : Around) (ds : List Declaration) (line : ℕ) (c : Construct) (s : Site)
     → inside a (with_declarations ds (Does line c)) s.known
@@ -123,51 +139,56 @@ known_behind : (a : Around) (ds : List Declaration) (line : ℕ) (c : Construct)
 known_behind a [] line c s = refl
 known_behind a (d ∷ ds) line c s = known_behind a ds line c (with_declaration d s)
 
-pub writes_behind : {s t w : ProcessWriter} (around : code_around.Around) (ds : List Declaration) (line : ℕ)
+pub writes_behind : {s t w : ProcessWriter} (around : calling.Surroundings) (ds : List Declaration) (line : ℕ)
     (c : Construct) (p : Process) (left : code_frame.Frame) (count : ℕ) → with_declarations ds (Does line c) ≡ p
     → DeclaresAll s t ds → WritesConstruct t w around line c → count ≡ length s.frame.homes.items
     → homes_seen left.homes.items ≡ take count (homes_seen w.frame.homes.items) → left.top ≡ s.frame.top
-    → WritesProcess s (record w { frame = left }) around p
-writes_behind {s} {t} {w} around ds line c p left count is declares rest long homes top =
-    let a = around_of around in
+    → left.outer ≡ w.frame.outer → WritesProcess s (record w { frame = left }) around p
+writes_behind {s} {t} {w} around ds line c p left count is declares rest long homes top same =
+    let here = surroundings_of around in
+    let a = here.around in
     let final = in_turn with_declaration ds (site_of s) in
     let long_seen : count ≡ length (site_of s).frame.homes = long ∙ sym (length-map s.frame.homes.items home_seen) in
     let all_homes : homes_seen w.frame.homes.items ≡ final.frame.homes =
     ap (λ (f : Frame). f.homes) rest.frame ∙ ap (λ (z : Site). z.frame.homes) declares.site in
     let kept : homes_seen left.homes.items ≡ homes_seen s.frame.homes.items =
     homes ∙ (λ i. take (long_seen i) (all_homes i)) ∙ homes_left ds (site_of s) in
+    let outer : left.outer.items ≡ s.frame.outer.items =
+    ap (λ (v : Vec RowEntry). v.items) same ∙ ap (λ (f : Frame). f.outer) rest.frame
+    ∙ ap (λ (z : Site). z.frame.outer) declares.site ∙ outer_left ds (site_of s) in
     record {
-      code = subst (λ q. Appends s.listing w.listing w.label (process_code a q (site_of s))) is
-          (subst (λ o. Appends s.listing w.listing w.label o) (sym (code_behind a ds line c (site_of s)))
-          (appends_before (construct_code a line c final) s.listing t.listing w.listing
+      code = subst (λ q. Appends s.listing w.listing w.label (process_code here q (site_of s))) is
+          (subst (λ o. Appends s.listing w.listing w.label o) (sym (code_behind here ds line c (site_of s)))
+          (appends_before (construct_code here line c final) s.listing t.listing w.listing
           (declarations_code ds (site_of s)) w.label declares.code
-          (subst (λ z. Appends t.listing w.listing w.label (construct_code a line c z)) declares.site rest.code)));
+          (subst (λ z. Appends t.listing w.listing w.label (construct_code here line c z)) declares.site rest.code)));
       known = rest.known ∙ ap (λ (z : Site). after_construct a line c z.known) declares.site
           ∙ sym (known_behind a ds line c (site_of s)) ∙ ap (λ q. inside a q (known_of s.scope)) is;
-      frame = λ i. record { homes = kept i; top = top i };
+      frame = λ i. record { homes = kept i; top = top i; outer = outer i };
     }
 
 -- ---- components of a SEQ
 
-pub seq_next : {part : Part} {A : Type 0} (around : code_around.Around) (f : A → Component part) (xs : List A) (i : ℕ)
+pub seq_next : {part : Part} {A : Type 0} (around : calling.Surroundings) (f : A → Component part) (xs : List A) (i : ℕ)
     (x : A) {s t w : ProcessWriter} → i < length xs → x ≡ get_or xs i x
     → WritesSeq s t around (all_of (map f (take i xs))) → WritesOne t w around (f x)
     → WritesSeq s w around (all_of (map f (take (i + 1) xs)))
 seq_next around f xs i x {s} {t} {w} h is first one =
-    let a = around_of around in
+    let here = surroundings_of around in
+    let a = here.around in
     let cs = all_of (map f (take i xs)) in
     subst (λ cs. WritesSeq s w around cs) (sym (all_push f (take i xs) (take (i + 1) xs) x (taken_one xs i x x h is)))
     (record {
-      code = appends_then (components_code a cs (site_of s))
-          (λ label. component_code a (f x)
+      code = appends_then (components_code here cs (site_of s))
+          (λ label. component_code here (f x)
           (at_place (after_components a (Mark mark.Seq) cs (known_of s.scope)) label (site_of s)))
           s.listing t.listing w.listing t.label w.label first.code
-          (subst (λ z. Appends t.listing w.listing w.label (component_code a (f x) z)) (site_after first) one.code);
+          (subst (λ z. Appends t.listing w.listing w.label (component_code here (f x) z)) (site_after first) one.code);
       known = one.known ∙ ap (after_component a (Mark mark.Seq) (f x)) first.known;
       frame = one.frame ∙ first.frame;
     })
 
-pub seq_done : {part : Part} {A : Type 0} (around : code_around.Around) (f : A → Component part) (xs : List A) (i : ℕ)
+pub seq_done : {part : Part} {A : Type 0} (around : calling.Surroundings) (f : A → Component part) (xs : List A) (i : ℕ)
     {s t : ProcessWriter} → length xs ≤ i → WritesSeq s t around (all_of (map f (take i xs)))
     → WritesSeq s t around (all_of (map f xs))
 seq_done around f xs i {s} {t} h x = subst (λ ys. WritesSeq s t around (all_of (map f ys))) (take_all i xs h) x

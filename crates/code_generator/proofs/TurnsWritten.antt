@@ -3,6 +3,7 @@ use Rattle.std.proofs.Common.{◌≡◌, ℕ, suc, ◌+◌, ◌<◌, Bool, true,
 use Rattle.std.proofs.Common.{length, take, Option, None, refl, sym, ap, subst, ◌∙◌, add-one}
 use Rattle.std.proofs.Math.Seq.{take-append_seam}
 use Rattle.std.proofs.lemmas.List.{length-map}
+use Rattle.std.specs.Global.{Vec}
 use Rattle.occam_layout.specs.declared.mark.Mark.TheVariants as mark
 use Rattle.occam_parser.specs.Terminals.{Mark}
 use Rattle.occam_parser.specs.Lines.{Replicator}
@@ -11,8 +12,8 @@ use Rattle.scalar_ranges.specs.declared.scope.Scope as code_scope
 use Rattle.scalar_ranges.specs.Entries.{Meaning}
 use Rattle.scalar_ranges.specs.Moves.{Known, begin, end}
 use Rattle.scalar_ranges.specs.Scopes.{known_of}
-use Rattle.program_uses.specs.declared.actions.Around as code_around
-use Rattle.program_uses.specs.ActionViews.{around_of}
+use Rattle.code_generator.specs.declared.calling.Surroundings as calling
+use Rattle.code_generator.specs.CallViews.{surroundings_of}
 use Rattle.program_uses.specs.Actions.{Around, is_before}
 use Rattle.program_uses.specs.Changes.{changed_by_construct, changed_by_component}
 use Rattle.program_uses.specs.Declaring.{add}
@@ -20,13 +21,15 @@ use Rattle.program_uses.specs.Indices.{Repeats, repeats_of, index_in, index_mean
 use Rattle.usage_checks.specs.AfterProcesses.{begun_body, repeated, after_construct, after_component}
 use Rattle.usage_checks.specs.NameRules.{with_entries}
 use Rattle.usage_checks.proofs.RangesStay.{covers_itself, turns_turned, component_stays}
+use Rattle.code_pieces.specs.declared.piece.RowEntry.{RowEntry}
 use Rattle.code_pieces.specs.Pieces.{Piece, Code, closed_by}
 use Rattle.code_generator.specs.declared.frame.Frame as code_frame
 use Rattle.code_generator.specs.declared.processes.ProcessWriter.{ProcessWriter}
 use Rattle.code_generator.specs.Homes.{Nowhere}
+use Rattle.code_generator.specs.Declarations.{Frame}
 use Rattle.code_generator.specs.HomeViews.{home_seen, homes_seen}
 use Rattle.code_generator.specs.FrameViews.{frame_seen}
-use Rattle.code_generator.specs.Processes.{Site, row_of, times, before_turns, turned, turn_site, tested_turns}
+use Rattle.code_generator.specs.Processes.{Site, Surroundings, row_of, times, before_turns, turned, turn_site, tested_turns}
 use Rattle.code_generator.specs.Processes.{under_if, construct_code, choice_code, last_code}
 use Rattle.code_generator.specs.Written.{site_of, Appends, Writes, WritesConstruct, WritesPart, turns_written}
 use Rattle.code_generator.specs.Written.{WritesTurns}
@@ -37,57 +40,59 @@ use Rattle.code_generator.proofs.LoopsWritten.{ended_block}
 -- ---- one turn after the other
 
 -- a choice in some turns, and whether they are all
-abbrev pub upto_turns : Around → ℕ → List ℕ → Repeats → Component Choices → Bool → ℕ → Site → Option Code
-upto_turns a end name repeats c true n s = turns_written a end name c repeats n s
-upto_turns a end name repeats c false n s =
-    tested_turns n s.label (λ m label. choice_code a end c (turn_site a (Mark mark.If) name c repeats s m label))
+abbrev pub upto_turns : Surroundings → ℕ → List ℕ → Repeats → Component Choices → Bool → ℕ → Site → Option Code
+upto_turns here end name repeats c true n s = turns_written here end name c repeats n s
+upto_turns here end name repeats c false n s =
+    tested_turns n s.label (λ m label. choice_code here end c (turn_site here.around (Mark mark.If) name c repeats s m label))
 
-abbrev pub WritesSome : (s t : ProcessWriter) → code_around.Around → ℕ → List ℕ → Repeats → Component Choices → Bool
+abbrev pub WritesSome : (s t : ProcessWriter) → calling.Surroundings → ℕ → List ℕ → Repeats → Component Choices → Bool
     → ℕ → Type 0
 WritesSome s t a end name repeats c is_all n =
-    Writes s t (upto_turns (around_of a) end name repeats c is_all n (site_of s))
-    (turn_by_turn (turned (around_of a) (Mark mark.If) name c repeats) n (known_of s.scope))
+    Writes s t (upto_turns (surroundings_of a) end name repeats c is_all n (site_of s))
+    (turn_by_turn (turned (surroundings_of a).around (Mark mark.If) name c repeats) n (known_of s.scope))
 
-turn_more : (is_last : Bool) (around : code_around.Around) (end : ℕ) (name : List ℕ) (repeats : Repeats)
+turn_more : (is_last : Bool) (around : calling.Surroundings) (end : ℕ) (name : List ℕ) (repeats : Repeats)
     (c : Component Choices) (n : ℕ) {s t w : ProcessWriter} (scope : code_scope.Scope)
     → known_of scope ≡ with_entries (add name (index_in repeats n)) (known_of t.scope)
     → WritesSome s t around end name repeats c false n
     → WritesPart (record t { scope = scope }) w around end is_last c
     → WritesSome s w around end name repeats c is_last (suc n)
 turn_more true around end name repeats c n {s} {t} {w} scope enters first one =
-    let a = around_of around in
+    let here = surroundings_of around in
+    let a = here.around in
     let known = enters ∙ ap (with_entries (add name (index_in repeats n))) first.known in
     record {
       code = appends_then (tested_turns n s.label
-          (λ m label. choice_code a end c (turn_site a (Mark mark.If) name c repeats (site_of s) m label)))
-          (λ label. last_code a end c (turn_site a (Mark mark.If) name c repeats (site_of s) n label)) s.listing
+          (λ m label. choice_code here end c (turn_site a (Mark mark.If) name c repeats (site_of s) m label)))
+          (λ label. last_code here end c (turn_site a (Mark mark.If) name c repeats (site_of s) n label)) s.listing
           t.listing w.listing t.label w.label first.code
-          (subst (λ (z : Site). Appends t.listing w.listing w.label (last_code a end c z))
+          (subst (λ (z : Site). Appends t.listing w.listing w.label (last_code here end c z))
           (λ i. record { frame = first.frame i; known = known i; label = t.label }) one.code);
       known = one.known ∙ ap (after_component a (Mark mark.If) c) known;
       frame = one.frame ∙ first.frame;
     }
 turn_more false around end name repeats c n {s} {t} {w} scope enters first one =
-    let a = around_of around in
+    let here = surroundings_of around in
+    let a = here.around in
     let known = enters ∙ ap (with_entries (add name (index_in repeats n))) first.known in
     record {
       code = appends_then (tested_turns n s.label
-          (λ m label. choice_code a end c (turn_site a (Mark mark.If) name c repeats (site_of s) m label)))
-          (λ label. choice_code a end c (turn_site a (Mark mark.If) name c repeats (site_of s) n label)) s.listing
+          (λ m label. choice_code here end c (turn_site a (Mark mark.If) name c repeats (site_of s) m label)))
+          (λ label. choice_code here end c (turn_site a (Mark mark.If) name c repeats (site_of s) n label)) s.listing
           t.listing w.listing t.label w.label first.code
-          (subst (λ (z : Site). Appends t.listing w.listing w.label (choice_code a end c z))
+          (subst (λ (z : Site). Appends t.listing w.listing w.label (choice_code here end c z))
           (λ i. record { frame = first.frame i; known = known i; label = t.label }) one.code);
       known = one.known ∙ ap (after_component a (Mark mark.If) c) known;
       frame = one.frame ∙ first.frame;
     }
 
 -- nothing is written yet
-pub turns_start : (around : code_around.Around) (end : ℕ) (name : List ℕ) (repeats : Repeats) (c : Component Choices)
+pub turns_start : (around : calling.Surroundings) (end : ℕ) (name : List ℕ) (repeats : Repeats) (c : Component Choices)
     (count : ℕ) (s : ProcessWriter) → 0 < count → WritesSome s s around end name repeats c (nat_eq 0 count) 0
 turns_start around end name repeats c count s h =
     subst (λ b. WritesSome s s around end name repeats c b 0) (sym (other_number 0 count h)) (writes_none s)
 
-pub turns_next : (around : code_around.Around) (end : ℕ) (name : List ℕ) (repeats : Repeats) (c : Component Choices)
+pub turns_next : (around : calling.Surroundings) (end : ℕ) (name : List ℕ) (repeats : Repeats) (c : Component Choices)
     (count n : ℕ) (m : Meaning) {s t w : ProcessWriter} (scope : code_scope.Scope) → n < count
     → m ≡ index_in repeats n → known_of scope ≡ with_entries (add name m) (known_of t.scope)
     → WritesSome s t around end name repeats c (nat_eq n count) n
@@ -99,7 +104,7 @@ turns_next around end name repeats c count n m {s} {t} {w} scope h means enters 
     let more = turn_more (nat_eq (n + 1) count) around end name repeats c n scope known first one in
     subst (λ k. WritesSome s w around end name repeats c (nat_eq (n + 1) count) k) (sym (add-one n)) more
 
-pub turns_done : (around : code_around.Around) (end : ℕ) (name : List ℕ) (repeats : Repeats) (c : Component Choices)
+pub turns_done : (around : calling.Surroundings) (end : ℕ) (name : List ℕ) (repeats : Repeats) (c : Component Choices)
     (count n : ℕ) {s t : ProcessWriter} → n ≡ count
     → WritesSome s t around end name repeats c (nat_eq n count) n → WritesTurns s t around end name repeats count c
 turns_done around end name repeats c count n {s} {t} h x =
@@ -139,44 +144,46 @@ turns_end a line r c k = by_happens (repeats_of (is_before line a.uncounted) k.e
 
 -- ---- an IF under a replicator
 
-repeated_if_is : (a : Around) (line : ℕ) (r : Replicator) (c : Component Choices) (s : Site)
-    → (let repeats = repeats_of (is_before line a.uncounted) s.known.entries false r in
-    construct_code a line (under_if r c) s
-    ≡ closed_by (row_of s.label s.frame (after_construct a line (under_if r c) s.known) ∷ [])
-    (turns_written a s.label r.name c repeats (times repeats) (before_turns s (begin s.known))))
-repeated_if_is a line r c s =
-    ap (closed_by (row_of s.label s.frame (after_construct a line (under_if r c) s.known) ∷ []))
-    (by_happens (repeats_of (is_before line a.uncounted) s.known.entries false r).happens)
+repeated_if_is : (here : Surroundings) (line : ℕ) (r : Replicator) (c : Component Choices) (s : Site)
+    → (let repeats = repeats_of (is_before line here.around.uncounted) s.known.entries false r in
+    construct_code here line (under_if r c) s
+    ≡ closed_by (row_of s.label s.frame (after_construct here.around line (under_if r c) s.known) ∷ [])
+    (turns_written here s.label r.name c repeats (times repeats) (before_turns s (begin s.known))))
+repeated_if_is here line r c s =
+    ap (closed_by (row_of s.label s.frame (after_construct here.around line (under_if r c) s.known) ∷ []))
+    (by_happens (repeats_of (is_before line here.around.uncounted) s.known.entries false r).happens)
   where
     repeats : Repeats
-    repeats = repeats_of (is_before line a.uncounted) s.known.entries false r
+    repeats = repeats_of (is_before line here.around.uncounted) s.known.entries false r
 
     changed : List ℕ
-    changed = changed_by_construct a.signatures s.known.entries (under_if r c)
+    changed = changed_by_construct here.around.signatures s.known.entries (under_if r c)
 
     by_happens : (happens : Bool)
-        → turns_written a s.label r.name c repeats (cond happens repeats.turns.count 0)
+        → turns_written here s.label r.name c repeats (cond happens repeats.turns.count 0)
         (before_turns s (begun_body (Mark mark.If) changed happens s.known))
-        ≡ turns_written a s.label r.name c repeats (cond happens repeats.turns.count 0)
+        ≡ turns_written here s.label r.name c repeats (cond happens repeats.turns.count 0)
         (before_turns s (begin s.known))
     by_happens true = refl
     by_happens false = refl
 
-pub writes_repeated_if : (around : code_around.Around) (line names : ℕ) (r : Replicator) (c : Component Choices)
+pub writes_repeated_if : (around : calling.Surroundings) (line names : ℕ) (r : Replicator) (c : Component Choices)
     (repeats : Repeats) (s begun within after : ProcessWriter) (left : code_frame.Frame) (ended : code_scope.Scope)
-    → repeats ≡ repeats_of (is_before line (around_of around).uncounted) (known_of s.scope).entries false r
+    → repeats ≡ repeats_of (is_before line (surroundings_of around).around.uncounted) (known_of s.scope).entries false r
     → begun.listing ≡ s.listing
     → site_of begun ≡ before_turns (site_of s) (begin (known_of s.scope))
     → WritesTurns begun within around s.label r.name repeats (times repeats) c
     → names ≡ length s.frame.homes.items
     → homes_seen left.homes.items ≡ take names (homes_seen within.frame.homes.items) → left.top ≡ s.frame.top
+    → left.outer ≡ within.frame.outer
     → known_of ended ≡ end (known_of within.scope)
     → after.listing ≡ within.listing ++ row_of s.label (frame_seen left) (known_of ended) ∷ []
     → site_of after ≡ site_of (record within { scope = ended; frame = left })
     → WritesConstruct s after around line (under_if r c)
-writes_repeated_if around line names r c repeats s begun within after left ended is same place x long homes top ends row
+writes_repeated_if around line names r c repeats s begun within after left ended is same place x long homes top hidden ends row
     still =
-    let a = around_of around in
+    let here = surroundings_of around in
+    let a = here.around in
     let z = site_of s in
     let first = before_turns z (begin z.known) in
     let done = after_construct a line (under_if r c) z.known in
@@ -190,17 +197,19 @@ writes_repeated_if around line names r c repeats s begun within after left ended
     let grown : frame_seen within.frame ≡ first.frame = x.frame ∙ ap (λ (y : Site). y.frame) place in
     let kept : homes_seen left.homes.items ≡ z.frame.homes =
     homes ∙ (λ i. take (long_seen i) (grown i).homes) ∙ take-append_seam z.frame.homes (Nowhere ∷ []) in
-    let frame : frame_seen left ≡ z.frame = λ i. record { homes = kept i; top = top i } in
-    let turns = turns_written a z.label r.name c counted (times counted) first in
+    let outer : left.outer.items ≡ z.frame.outer =
+    ap (λ (v : Vec RowEntry). v.items) hidden ∙ ap (λ (f : Frame). f.outer) grown in
+    let frame : frame_seen left ≡ z.frame = λ i. record { homes = kept i; top = top i; outer = outer i } in
+    let turns = turns_written here z.label r.name c counted (times counted) first in
     let code : Appends s.listing within.listing within.label turns =
     subst (λ (v : List Piece × Repeats × Site).
-    Appends v.0 within.listing within.label (turns_written a z.label r.name c v.1 (times v.1) v.2))
+    Appends v.0 within.listing within.label (turns_written here z.label r.name c v.1 (times v.1) v.2))
     (λ i. (same i, is i, place i)) x.code in
     let rest : after.listing ≡ within.listing ++ row_of z.label z.frame done ∷ [] =
     row ∙ (λ i. within.listing ++ row_of z.label (frame i) (known i) ∷ []) in
     let labels : after.label ≡ within.label = ap (λ (y : Site). y.label) still in
     record {
-      code = subst (λ o. Appends s.listing after.listing after.label o) (sym (repeated_if_is a line r c z))
+      code = subst (λ o. Appends s.listing after.listing after.label o) (sym (repeated_if_is here line r c z))
           (subst (λ n. Appends s.listing after.listing n (closed_by (row_of z.label z.frame done ∷ []) turns))
           (sym labels)
           (appends_closed turns s.listing within.listing after.listing (row_of z.label z.frame done ∷ [])

@@ -17,6 +17,6 @@ sums_have_code = record {
 
 pub pieces_follow : PiecesFollow
 unfolding binary.computed binary.result_range
-pieces_follow = record { echo = refl; element = refl; quotient = refl; picked = refl; no_turn = refl }
+pieces_follow = record { echo = refl; element = refl; quotient = refl; picked = refl; called = refl; no_turn = refl }
 
 pub ruleset worked_code = (sums_have_code, pieces_follow)

@@ -6,7 +6,6 @@ use Rattle.occam_parser.specs.declared.tree.ValueType.{ValueType}
 use Rattle.occam_parser.specs.declared.tree.ValueType.TheVariants as value_type
 use Rattle.occam_parser.specs.Expressions.{Expression}
 use Rattle.occam_parser.specs.Lines.{Place, Action, Skip, Stop, Assign, Input, Output, Instance}
-use Rattle.scalar_ranges.specs.declared.scope.ScalarKind.TheVariants as kinds
 use Rattle.scalar_ranges.specs.Entries.{Meaning, Scalar, Array, Channel, Channels, Entry, meaning_in}
 use Rattle.scalar_ranges.specs.Bounds.{bound_of, range_found}
 use Rattle.scalar_ranges.specs.Narrowing.{Tested, test_of}
@@ -14,8 +13,8 @@ use Rattle.code_pieces.specs.declared.operations.TheConstants.{LOAD_BYTE, INPUT,
 use Rattle.code_pieces.specs.declared.operations.TheConstants.{MINIMUM_INTEGER}
 use Rattle.code_pieces.specs.Pieces.{Piece, Direct, JumpUnless, Row, operates, stores, points, constant}
 use Rattle.code_pieces.specs.Pieces.{moves, below, Code, written}
-use Rattle.code_generator.specs.Homes.{Home, Word, Link, home_of, facts_of}
-use Rattle.code_generator.specs.Declarations.{Frame}
+use Rattle.code_generator.specs.Homes.{Home, Word, Link, Passed, home_of}
+use Rattle.code_generator.specs.Declarations.{Frame, facts_in}
 use Rattle.code_generator.specs.Expressions.{expression_code, known_address, subscript_code, single}
 
 -- ---- what a place is
@@ -30,8 +29,8 @@ pub data Target : Type 0 where
 
 -- A parameter that is a variable is an array of one element.
 abbrev pub whole_target : Option Home → Option Meaning → Target
-whole_target (Some (Word w)) (Some (Scalar kinds.Reference type range)) = KnownElement type w 0
 whole_target (Some (Word w)) (Some (Scalar kind type range)) = OwnWord type w
+whole_target (Some (Passed w)) (Some (Scalar kind type range)) = KnownElement type w 0
 whole_target h m = NoTarget
 
 abbrev pub by_number : ValueType → ℕ → Option ℤ → List Piece → Target
@@ -40,6 +39,7 @@ by_number type w None subscript = OtherElement type w subscript
 
 abbrev pub element_target : Option Home → Option Meaning → Option ℤ → List Piece → Target
 element_target (Some (Word w)) (Some (Array kind type size range)) value subscript = by_number type w value subscript
+element_target (Some (Passed w)) (Some (Array kind type size range)) value subscript = by_number type w value subscript
 element_target h m value subscript = NoTarget
 
 -- where the words from t on are free
@@ -86,11 +86,13 @@ link_code n =
 abbrev pub channel_code : Option Home → List Piece
 channel_code (Some (Link n)) = link_code n
 channel_code (Some (Word w)) = points w ∷ []
+channel_code (Some (Passed w)) = points w ∷ []
 channel_code h = []
 
 -- the element of an array of channels, whose subscript is a constant
 abbrev pub element_home : Option ℤ → Option Home → Option Home
 element_home (Some c) (Some (Word w)) = Some (Word (w + unsigned_abs c))
+element_home (Some c) (Some (Passed w)) = Some (Passed (w + unsigned_abs c))
 element_home c h = h
 
 abbrev pub channel_home : List Home → List Entry → Place → Option Home
@@ -136,16 +138,16 @@ output_code hs es t channel value =
 -- ---- actions
 
 -- the process stops here; a row says what is known where code goes on that nothing reaches
-abbrev pub stop_code : List Home → List Entry → ℕ → Option Code
-stop_code hs es n = Some (record {
-  pieces = operates STOP_PROCESS ∷ Row n (facts_of hs es) ∷ [];
+abbrev pub stop_code : Frame → List Entry → ℕ → Option Code
+stop_code f es n = Some (record {
+  pieces = operates STOP_PROCESS ∷ Row n (facts_in f es) ∷ [];
   labels = n + 1;
 })
 
 -- where labels from n on are free; none for an instance
 abbrev pub action_code : Frame → List Entry → ℕ → Action → Option Code
 action_code f es n Skip = written [] n
-action_code f es n Stop = stop_code f.homes es n
+action_code f es n Stop = stop_code f es n
 action_code f es n (Assign target value) = written (assign_code f.homes es f.top target value) n
 action_code f es n (Input channel target) = written (input_code f.homes es f.top channel target) n
 action_code f es n (Output channel value) = written (output_code f.homes es f.top channel value) n

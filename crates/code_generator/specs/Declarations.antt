@@ -9,24 +9,31 @@ use Rattle.scalar_ranges.specs.Entries.{Entry}
 use Rattle.scalar_ranges.specs.Types.{type_of_values}
 use Rattle.program_uses.specs.Constants.{value_as, size_in}
 use Rattle.code_pieces.specs.Pieces.{Piece, constant, stores, moves}
+use Rattle.code_pieces.specs.declared.piece.RowEntry.{RowEntry}
 use Rattle.code_generator.specs.Homes as home
-use Rattle.code_generator.specs.Homes.{Home, Nowhere, Word, Block, words_for}
+use Rattle.code_generator.specs.Homes.{Home, Nowhere, Word, Block, words_for, facts_of}
 
--- what names stand for, from the outermost one on, and the first word that is free
+-- Where names are, from the outermost one on, the first word that is free, and what is known of the words of those that
+-- called the procedure.
 pub record Frame : Type 0 where
   pub homes : List Home
   pub top : ℕ
+  pub outer : List RowEntry
+
+-- what a row says: what is known of words outside, and what a scope knows
+abbrev pub facts_in : Frame → List Entry → List RowEntry
+facts_in f es = f.outer ++ facts_of f.homes es
 
 -- one name more, which takes so many words
 abbrev pub with_words : ℕ → Frame → Frame
-with_words count f = record { homes = f.homes ++ Word f.top ∷ []; top = f.top + count }
+with_words count f = record f { homes = f.homes ++ Word f.top ∷ []; top = f.top + count }
 
 abbrev pub with_home : Home → Frame → Frame
-with_home h f = record { homes = f.homes ++ h ∷ []; top = f.top }
+with_home h f = record f { homes = f.homes ++ h ∷ [] }
 
 -- the index of a loop with its head at this label, in two words
 abbrev pub with_block : ℕ → Frame → Frame
-with_block head f = record { homes = f.homes ++ Block f.top head ∷ []; top = f.top + 2 }
+with_block head f = record f { homes = f.homes ++ Block f.top head ∷ []; top = f.top + 2 }
 
 abbrev pub with_names : ℕ → List (List ℕ) → Frame → Frame
 with_names count [] f = f

@@ -22,6 +22,7 @@ use Rattle.occam_parser.specs.declared.tree.Logic.TheVariants as logic
 use Rattle.occam_parser.specs.Expressions.{Expression, Alone, Prefixed, Paired, Chained, Terms, Two, Then, Term}
 use Rattle.occam_parser.specs.Expressions.{Number, Byte, Truth, MostPos, MostNeg, Named, Element, Bracketed, Converted}
 use Rattle.scalar_ranges.specs.declared.scope.ScalarKind.TheVariants as kinds
+use Rattle.scalar_ranges.specs.declared.scope.ArrayKind.TheVariants as arrays
 use Rattle.scalar_ranges.specs.Entries.{Meaning, Scalar, Array, Entry, meaning_in}
 use Rattle.scalar_ranges.specs.Bounds.{bound_of, bound_of_term, exact_value, range_found}
 use Rattle.scalar_ranges.specs.Fronts.{Front, count_of, front_in}
@@ -32,7 +33,7 @@ use Rattle.code_pieces.specs.declared.operations.TheConstants.{SHIFT_LEFT, AND, 
 use Rattle.code_generator.specs.declared.expressions.Pushes.{Pushes}
 use Rattle.code_generator.specs.declared.expressions.Pushes.TheVariants as pushes
 use Rattle.code_pieces.specs.Pieces.{Piece, Direct, TableAddress, operates, loads, stores, points, constant, below}
-use Rattle.code_generator.specs.Homes.{Home, Word, Block, Table, home_of}
+use Rattle.code_generator.specs.Homes.{Home, Word, Block, Table, Passed, home_of}
 
 -- ---- operations
 
@@ -82,8 +83,9 @@ is_byte_reference (Some (Scalar kinds.Reference value_type.Byte range)) = true
 is_byte_reference m = false
 
 abbrev pub scalar_code : Bool → Option Home → List Piece
-scalar_code true (Some (Word w)) = points w ∷ operates LOAD_BYTE ∷ []
-scalar_code false (Some (Word w)) = loads w ∷ []
+scalar_code true (Some (Passed w)) = points w ∷ operates LOAD_BYTE ∷ []
+scalar_code false (Some (Passed w)) = loads w ∷ []
+scalar_code reference (Some (Word w)) = loads w ∷ []
 scalar_code reference (Some (Block w head)) = loads w ∷ []
 scalar_code reference h = []
 
@@ -151,9 +153,26 @@ element_of_table values (Some c) subscript = TableAddress values ∷ loads_at c 
 element_of_table values None subscript =
     subscript ++ TableAddress values ∷ operates WORD_SUBSCRIPT ∷ loads_at (pos 0) ∷ []
 
+-- the lowest byte of an element
+abbrev pub byte_of_table : List ℤ → Option ℤ → List Piece → List Piece
+byte_of_table values (Some c) subscript =
+    TableAddress values ∷ Direct fun.LoadNonLocalPointer c ∷ operates LOAD_BYTE ∷ []
+byte_of_table values None subscript =
+    subscript ++ TableAddress values ∷ operates WORD_SUBSCRIPT ∷ operates LOAD_BYTE ∷ []
+
+-- Of the elements of a table that is passed no more is known than their type. So of a BYTE the byte alone is read.
+abbrev pub are_passed_bytes : Option Meaning → Bool
+are_passed_bytes (Some (Array arrays.Value value_type.Byte size range)) = true
+are_passed_bytes m = false
+
+abbrev pub table_element : (bytes : Bool) → List ℤ → Option ℤ → List Piece → List Piece
+table_element true values c subscript = byte_of_table values c subscript
+table_element false values c subscript = element_of_table values c subscript
+
 abbrev pub element_code : Option Home → Option Meaning → Option ℤ → List Piece → List Piece
 element_code (Some (Word w)) (Some (Array kind type size range)) c subscript = element_of_words type w c subscript
-element_code (Some (Table values)) m c subscript = element_of_table values c subscript
+element_code (Some (Passed w)) (Some (Array kind type size range)) c subscript = element_of_words type w c subscript
+element_code (Some (Table values)) m c subscript = table_element (are_passed_bytes m) values c subscript
 element_code h m c subscript = []
 
 -- ---- two operands

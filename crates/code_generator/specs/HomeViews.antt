@@ -2,7 +2,7 @@
 use Rattle.std.specs.Prelude.{List, map}
 use Rattle.code_generator.specs.declared.home.Home as code_home
 use Rattle.code_generator.specs.declared.home.Home.TheVariants as homes
-use Rattle.code_generator.specs.Homes.{Home, Nowhere, Word, Block, Link, Table}
+use Rattle.code_generator.specs.Homes.{Home, Nowhere, Word, Block, Link, Table, Passed}
 
 abbrev pub home_seen : code_home.Home → Home
 home_seen homes.Nowhere = Nowhere
@@ -10,6 +10,7 @@ home_seen (homes.Word w) = Word w
 home_seen (homes.Block w head) = Block w head
 home_seen (homes.Link n) = Link n
 home_seen (homes.Table values) = Table values.value.items
+home_seen (homes.Passed w) = Passed w
 
 abbrev pub homes_seen : List code_home.Home → List Home
 homes_seen hs = map home_seen hs

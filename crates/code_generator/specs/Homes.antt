@@ -20,6 +20,9 @@ pub data Home : Type 0 where
   Link : (number : ℕ) → Home
   -- a table, with a word for each value
   Table : (values : List ℤ) → Home
+  -- In a procedure, the word of a variable or a channel that is passed to it, or the first word of an array. What is
+  -- known of it is known outside.
+  Passed : (word : ℕ) → Home
 
 abbrev pub home_of : List Home → List Entry → List ℕ → Option Home
 home_of hs es name = option_and_then (slice_get hs) (number_in name es)

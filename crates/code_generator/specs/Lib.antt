@@ -2,6 +2,10 @@ pub mod Homes
 pub mod Expressions
 pub mod Declarations
 pub mod Actions
+pub mod Instances
+pub mod Calls
+pub mod CallViews
+pub mod PassedViews
 pub mod MainWritten
 pub mod Processes
 pub mod Programs

@@ -1,32 +1,35 @@
--- The code of processes: a definition over the tree, with what is known at each place. A PAR, an ALT and an instance
--- have none here.
+-- The code of processes: a definition over the tree, with what is known at each place. A PAR and an ALT have none here.
 use Rattle.std.specs.Prelude.{ℕ, zero, suc, ◌+◌, ℤ, pos, Bool, true, false, List, [], ◌∷◌, ◌++◌}
 use Rattle.std.specs.Prelude.{if◌then◌else◌, Option, Some, None, unwrap_or, option_map}
 use Rattle.std.specs.List.{list_any}
 use Rattle.occam_layout.specs.declared.mark.Mark.TheVariants as mark
 use Rattle.occam_parser.specs.Terminals.{Terminal, Mark}
 use Rattle.occam_parser.specs.Expressions.{Expression, Alone, Truth, Bracketed}
-use Rattle.occam_parser.specs.Lines.{Declaration, Replicator, block_word}
+use Rattle.occam_parser.specs.Lines.{Declaration, Replicator, block_word, Action, Skip, Stop, Assign, Input, Output}
+use Rattle.occam_parser.specs.Lines.{Instance}
 use Rattle.occam_parser.specs.Constructs.{in_if}
 use Rattle.occam_parser.specs.Blocks.{Process, Declared, Does, Construct, Act, Block, Replicated, Body, One, Part}
 use Rattle.occam_parser.specs.Blocks.{Choices, Components, NoComponent, Further, Component, Plain, Chosen, Guarded}
 use Rattle.scalar_ranges.specs.declared.types.ExprType.TheVariants as types
-use Rattle.scalar_ranges.specs.Entries.{Meaning, Scalar, Entry, entry_at}
+use Rattle.scalar_ranges.specs.Entries.{Meaning, Scalar, Procedure, Entry, entry_at, meaning_in}
 use Rattle.scalar_ranges.specs.Moves.{Known}
 use Rattle.program_uses.specs.Actions.{Around, is_before}
 use Rattle.program_uses.specs.Changes.{changed_by_body}
 use Rattle.program_uses.specs.Constants.{value_as}
+use Rattle.program_uses.specs.Signatures.{Parameter, parameters_in}
 use Rattle.program_uses.specs.Declaring.{add, add_declaration}
 use Rattle.program_uses.specs.Indices.{Repeats, repeats_of, index_in, is_seq, turn_by_turn}
+use Rattle.usage_checks.specs.Following.{after_action}
 use Rattle.usage_checks.specs.NameRules.{with_entries}
 use Rattle.usage_checks.specs.AfterProcesses.{begun, ended, begun_body, chosen, after_components}
 use Rattle.usage_checks.specs.AfterProcesses.{after_component, after_body}
 use Rattle.code_pieces.specs.declared.operations.TheConstants.{STOP_PROCESS}
 use Rattle.code_pieces.specs.Pieces.{Piece, Jump, LoopBack, Row, operates, stores, points, constant, Code, no_code}
 use Rattle.code_pieces.specs.Pieces.{written, before, then_code, closed_by}
-use Rattle.code_generator.specs.Homes.{Nowhere, facts_of}
-use Rattle.code_generator.specs.Declarations.{Frame, with_home, with_block, declared, declaration_code}
+use Rattle.code_generator.specs.Homes.{Nowhere}
+use Rattle.code_generator.specs.Declarations.{Frame, facts_in, with_home, with_block, declared, declaration_code}
 use Rattle.code_generator.specs.Actions.{action_code, test_code}
+use Rattle.code_generator.specs.Instances.{is_finer}
 
 -- ---- places
 
@@ -39,9 +42,9 @@ pub record Site : Type 0 where
 abbrev pub entries_at : Site → List Entry
 entries_at s = s.known.entries
 
--- a label, and what a scope knows there
+-- a label, and what a row says there
 abbrev pub row_of : ℕ → Frame → Known → Piece
-row_of label f k = Row label (facts_of f.homes k.entries)
+row_of label f k = Row label (facts_in f k.entries)
 
 abbrev pub with_declaration : Declaration → Site → Site
 with_declaration d s = record {
@@ -52,6 +55,37 @@ with_declaration d s = record {
 
 abbrev pub at_place : Known → ℕ → Site → Site
 at_place k label s = record { frame = s.frame; known = k; label = label }
+
+-- The code of an instance at a site: of the procedure with this number, whose parameters are these, and which is passed
+-- these. There may be none.
+abbrev pub Calls : Type 0
+Calls = ℕ → List Parameter → List Expression → Site → Option Code
+
+-- what is around a process: the procedures before it, and the code of their instances
+pub record Surroundings : Type 0 where
+  pub around : Around
+  pub calls : Calls
+
+-- ---- actions
+
+abbrev pub called : Surroundings → Option Meaning → List Expression → Site → Option Code
+called w (Some (Procedure number)) actuals s =
+    w.calls number (parameters_in w.around.signatures (Some (Procedure number))) actuals s
+called w m actuals s = None
+
+abbrev pub line_code : Surroundings → Action → Site → Option Code
+line_code w (Instance name actuals) s = called w (meaning_in name s.known.entries) actuals s
+line_code w action s = action_code s.frame s.known.entries s.label action
+
+-- A row says that less is known than the machine knows.
+abbrev pub with_row : Bool → Frame → Known → Option Code → Option Code
+with_row false f k code = code
+with_row true f k code = then_code code (λ label. written (row_of label f k ∷ []) (label + 1))
+
+abbrev pub act_code : Surroundings → Action → Site → Option Code
+act_code w action s =
+    with_row (is_finer s.frame.homes s.known.entries s.frame.top action) s.frame
+    (with_entries (after_action w.around.signatures action) s.known) (line_code w action s)
 
 -- ---- choices
 
@@ -173,75 +207,75 @@ abbrev pub under_if : Replicator → Component Choices → Construct
 under_if r c = repeated_block r (in_if (Further NoComponent c))
 
 abbrev mutual
-  pub process_code : Around → Process → Site → Option Code
-  process_code a (Declared d p) s =
-      before (declaration_code s.known.entries d s.frame.top) (process_code a p (with_declaration d s))
-  process_code a (Does line c) s = construct_code a line c s
+  pub process_code : Surroundings → Process → Site → Option Code
+  process_code w (Declared d p) s =
+      before (declaration_code s.known.entries d s.frame.top) (process_code w p (with_declaration d s))
+  process_code w (Does line c) s = construct_code w line c s
 
-  pub construct_code : Around → ℕ → Construct → Site → Option Code
-  construct_code a line (Act action) s = action_code s.frame s.known.entries s.label action
-  construct_code a line (Block kind cs) s =
+  pub construct_code : Surroundings → ℕ → Construct → Site → Option Code
+  construct_code w line (Act action) s = act_code w action s
+  construct_code w line (Block kind cs) s =
       let word = block_word kind in
       let inner = at_place (begun word s.known) (s.label + 1) s in
-      by_block word (components_code a cs s)
-      (closed_by (row_of s.label s.frame (ended word (after_components a word cs (begun word s.known))) ∷ [])
-      (choices_code a s.label cs inner))
-  construct_code a line (Replicated r b) s = body_code a line r b s
+      by_block word (components_code w cs s)
+      (closed_by (row_of s.label s.frame (ended word (after_components w.around word cs (begun word s.known))) ∷ [])
+      (choices_code w s.label cs inner))
+  construct_code w line (Replicated r b) s = body_code w line r b s
 
-  pub body_code : Around → ℕ → Replicator → Body → Site → Option Code
-  body_code a line r (One kind c) s =
+  pub body_code : Surroundings → ℕ → Replicator → Body → Site → Option Code
+  body_code w line r (One kind c) s =
       let word = block_word kind in
-      let changed = changed_by_body a.signatures s.known.entries r (One kind c) in
-      let repeats = repeats_of (is_before line a.uncounted) s.known.entries (is_seq word) r in
+      let changed = changed_by_body w.around.signatures s.known.entries r (One kind c) in
+      let repeats = repeats_of (is_before line w.around.uncounted) s.known.entries (is_seq word) r in
       let start = begun_body word changed repeats.happens s.known in
-      let after = after_body a line r (One kind c) s.known in
+      let after = after_body w.around line r (One kind c) s.known in
       let base = value_or_zero s.known.entries r.base in
       let count = value_or_zero s.known.entries r.count in
       let inner = in_loop s start r.name (index_in repeats 0) in
       let turns = before_turns s start in
       by_block word
-      (repeated_seq s changed after base (loop_code s inner after base count (component_code a c inner)) count)
+      (repeated_seq s changed after base (loop_code s inner after base count (component_code w c inner)) count)
       (closed_by (row_of s.label s.frame after ∷ []) (turns_code (times repeats) turns.label
-      (λ n label. choice_code a s.label c (turn_site a word r.name c repeats turns n label))
-      (λ n label. last_code a s.label c (turn_site a word r.name c repeats turns n label))))
+      (λ n label. choice_code w s.label c (turn_site w.around word r.name c repeats turns n label))
+      (λ n label. last_code w s.label c (turn_site w.around word r.name c repeats turns n label))))
 
   -- one after the other
-  pub components_code : {part : Part} → Around → Components part → Site → Option Code
-  components_code a NoComponent s = no_code s.label
-  components_code a (Further cs c) s =
-      then_code (components_code a cs s)
-      (λ label. component_code a c (at_place (after_components a (Mark mark.Seq) cs s.known) label s))
+  pub components_code : {part : Part} → Surroundings → Components part → Site → Option Code
+  components_code w NoComponent s = no_code s.label
+  components_code w (Further cs c) s =
+      then_code (components_code w cs s)
+      (λ label. component_code w c (at_place (after_components w.around (Mark mark.Seq) cs s.known) label s))
 
-  pub component_code : {part : Part} → Around → Component part → Site → Option Code
-  component_code a (Plain p) s = process_code a p s
-  component_code a (Chosen line e p) s = None
-  component_code a (Guarded line g p) s = None
+  pub component_code : {part : Part} → Surroundings → Component part → Site → Option Code
+  component_code w (Plain p) s = process_code w p s
+  component_code w (Chosen line e p) s = None
+  component_code w (Guarded line g p) s = None
 
   -- the choices of an IF that ends at a label, of which the last one is apart
-  pub choices_code : {part : Part} → Around → ℕ → Components part → Site → Option Code
-  choices_code a end NoComponent s = stopped s.label
-  choices_code a end (Further cs c) s =
-      then_code (tested_code a end cs s)
-      (λ label. last_code a end c (at_place (after_components a (Mark mark.If) cs s.known) label s))
+  pub choices_code : {part : Part} → Surroundings → ℕ → Components part → Site → Option Code
+  choices_code w end NoComponent s = stopped s.label
+  choices_code w end (Further cs c) s =
+      then_code (tested_code w end cs s)
+      (λ label. last_code w end c (at_place (after_components w.around (Mark mark.If) cs s.known) label s))
 
   -- choices with others behind them
-  pub tested_code : {part : Part} → Around → ℕ → Components part → Site → Option Code
-  tested_code a end NoComponent s = no_code s.label
-  tested_code a end (Further cs c) s =
-      then_code (tested_code a end cs s)
-      (λ label. choice_code a end c (at_place (after_components a (Mark mark.If) cs s.known) label s))
+  pub tested_code : {part : Part} → Surroundings → ℕ → Components part → Site → Option Code
+  tested_code w end NoComponent s = no_code s.label
+  tested_code w end (Further cs c) s =
+      then_code (tested_code w end cs s)
+      (λ label. choice_code w end c (at_place (after_components w.around (Mark mark.If) cs s.known) label s))
 
-  pub choice_code : {part : Part} → Around → ℕ → Component part → Site → Option Code
-  choice_code a end (Plain p) s = None
-  choice_code a end (Chosen line e p) s =
-      tested_choice s e end (after_component a (Mark mark.If) (Chosen line e p) s.known)
-      (process_code a p (in_choice e s))
-  choice_code a end (Guarded line g p) s = None
+  pub choice_code : {part : Part} → Surroundings → ℕ → Component part → Site → Option Code
+  choice_code w end (Plain p) s = None
+  choice_code w end (Chosen line e p) s =
+      tested_choice s e end (after_component w.around (Mark mark.If) (Chosen line e p) s.known)
+      (process_code w p (in_choice e s))
+  choice_code w end (Guarded line g p) s = None
 
-  pub last_code : {part : Part} → Around → ℕ → Component part → Site → Option Code
-  last_code a end (Plain p) s = None
-  last_code a end (Chosen line e p) s =
-      last_choice (is_true e) (process_code a p (at_place (chosen e s.known) s.label s))
-      (tested_choice s e end (after_component a (Mark mark.If) (Chosen line e p) s.known)
-      (process_code a p (in_choice e s)))
-  last_code a end (Guarded line g p) s = None
+  pub last_code : {part : Part} → Surroundings → ℕ → Component part → Site → Option Code
+  last_code w end (Plain p) s = None
+  last_code w end (Chosen line e p) s =
+      last_choice (is_true e) (process_code w p (at_place (chosen e s.known) s.label s))
+      (tested_choice s e end (after_component w.around (Mark mark.If) (Chosen line e p) s.known)
+      (process_code w p (in_choice e s)))
+  last_code w end (Guarded line g p) s = None

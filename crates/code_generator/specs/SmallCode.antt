@@ -1,5 +1,5 @@
 -- What the code of a small program is: its pieces, and what follows from them, byte by byte.
-use Rattle.std.specs.Prelude.{◌≡◌, ℕ, pos, negsuc, List, [], ◌∷◌, Some}
+use Rattle.std.specs.Prelude.{◌≡◌, ℕ, pos, negsuc, List, [], ◌∷◌, Some, None}
 use Rattle.prefix_decoder.specs.declared.function.Fun.TheVariants as fun
 use Rattle.word_arithmetic.specs.Word.{least_word, greatest_word}
 use Rattle.word_arithmetic.specs.declared.compare.Comparison.TheVariants as comparison
@@ -9,14 +9,17 @@ use Rattle.module_builder.specs.Spelling.{spelled}
 use Rattle.occam_parser.specs.declared.tree.ValueType.TheVariants as value_type
 use Rattle.occam_parser.specs.declared.tree.ArithmeticPair.TheVariants as arithmetic_pair
 use Rattle.occam_parser.specs.declared.tree.PairOperator.TheVariants as pair
+use Rattle.occam_parser.specs.declared.tree.FormalKind.TheVariants as formal_kind
 use Rattle.occam_parser.specs.Expressions.{Paired, Named}
-use Rattle.occam_parser.specs.Blocks.{Process, Does, Chosen}
-use Rattle.program_meaning.specs.SmallPrograms.{x, i, number, assigns, sums, or_adds, echoes, skip, sets_element}
-use Rattle.program_meaning.specs.SmallPrograms.{computes, sends_a}
+use Rattle.occam_parser.specs.Lines.{Instance}
+use Rattle.occam_parser.specs.Blocks.{Process, Does, Chosen, ProgramItem, GlobalProcedure}
+use Rattle.program_meaning.specs.SmallPrograms.{x, y, s, i, number, named, does, assigns, sums, or_adds, echoes, skip}
+use Rattle.program_meaning.specs.SmallPrograms.{sets_element, computes, sends_a}
 use Rattle.code_pieces.specs.declared.piece.WordFact.TheVariants.{Between, Turning}
 use Rattle.code_pieces.specs.declared.piece.RowEntry.{RowEntry}
 use Rattle.code_pieces.specs.declared.operations.TheConstants.{MINIMUM_INTEGER, INPUT, OUTPUT, GREATER, SUM}
 use Rattle.code_pieces.specs.declared.operations.TheConstants.{STOP_PROCESS, LOAD_BYTE, MOVE}
+use Rattle.code_pieces.specs.Pars.{in_root}
 use Rattle.code_pieces.specs.Pieces.{Piece, Direct, Jump, JumpUnless, LoopBack, Row, operates, loads, stores, points}
 use Rattle.code_pieces.specs.Pieces.{constant}
 use Rattle.code_generator.specs.Processes.{under_if}
@@ -74,15 +77,16 @@ said_loop = record { word = 4; span = 2; fact = facts.Loop (pos 1) 4 22 }
 
 abbrev pub sums_rows : List SaidRow
 sums_rows =
-    record { label = 0; number = 31; entries = said_unknown 2 2 ∷ said_loop ∷ [] }
+    record { label = 0; workspace = in_root; number = 31; entries = said_unknown 2 2 ∷ said_loop ∷ [] }
     ∷ record {
       label = 3;
+      workspace = in_root;
       number = 19;
       entries =
           record { word = 2; span = 1; fact = facts.Number least_word (pos 100) } ∷ said_unknown 3 1 ∷ said_loop ∷ [];
     }
-    ∷ record { label = 2; number = 14; entries = said_unknown 2 2 ∷ said_loop ∷ [] }
-    ∷ record { label = 1; number = 9; entries = said_unknown 2 2 ∷ [] } ∷ []
+    ∷ record { label = 2; workspace = in_root; number = 14; entries = said_unknown 2 2 ∷ said_loop ∷ [] }
+    ∷ record { label = 1; workspace = in_root; number = 9; entries = said_unknown 2 2 ∷ [] } ∷ []
 
 abbrev pub sums_needs : Needs
 sums_needs = needs_of sums_pieces (sizes_of sums_pieces sums_lengths)
@@ -145,8 +149,39 @@ picks_pieces =
     ∷ loads 2 ∷ stores 3 ∷ points 3 ∷ operates MINIMUM_INTEGER ∷ constant (pos 4) ∷ operates OUTPUT
     ∷ operates STOP_PROCESS ∷ []
 
+-- ---- a procedure is called
+
+-- PROC s(VAL INT y, INT x)
+--   x := y
+abbrev pub copies : ProgramItem
+copies = GlobalProcedure (record {
+  line = 0;
+  head = record {
+    name = s;
+    formals =
+        record { kind = formal_kind.Value; size = None; value_type = value_type.Int; name = y }
+        ∷ record { kind = formal_kind.Variable; size = None; value_type = value_type.Int; name = x } ∷ [];
+  };
+  body = assigns x (named y);
+})
+
+-- what is received is replaced, by s(3, x)
+abbrev pub calls : List ProgramItem
+calls = copies ∷ echoes value_type.Int (does (Instance s (number (pos 3) ∷ named x ∷ [])))
+
+-- The value has a word of its own, and the variable is moved to; the row knows of both no more than their type.
+abbrev pub calls_pieces : List Piece
+calls_pieces =
+    constant (pos 0) ∷ stores 2
+    ∷ points 2 ∷ operates MINIMUM_INTEGER ∷ Direct fun.LoadNonLocalPointer (pos 4) ∷ constant (pos 4) ∷ operates INPUT
+    ∷ constant (pos 3) ∷ stores 3 ∷ Row 0 (unknown_word 2 ∷ unknown_word 3 ∷ [])
+    ∷ loads 3 ∷ stores 4 ∷ points 4 ∷ points 2 ∷ constant (pos 4) ∷ operates MOVE
+    ∷ loads 2 ∷ stores 3 ∷ points 3 ∷ operates MINIMUM_INTEGER ∷ constant (pos 4) ∷ operates OUTPUT
+    ∷ operates STOP_PROCESS ∷ []
+
 -- A byte is received and sent; an array is set to 0 and stored into by moves; (-7) / 2 is one constant; a choice
--- under a replicator is there once for each index; and a loop without turns has no code.
+-- under a replicator is there once for each index; a loop without turns has no code; and a procedure is copied to where it is
+-- called.
 pub record PiecesFollow : Type 0 where
   pub echo : code_of (echoes value_type.Byte skip) ≡ Some (record { pieces = echo_pieces; labels = 0 })
   pub element :
@@ -158,4 +193,5 @@ pub record PiecesFollow : Type 0 where
     labels = 0;
   })
   pub picked : code_of (echoes value_type.Int picks) ≡ Some (record { pieces = picks_pieces; labels = 3 })
+  pub called : code_of calls ≡ Some (record { pieces = calls_pieces; labels = 1 })
   pub no_turn : code_of (sends_a 0) ≡ Some (record { pieces = operates STOP_PROCESS ∷ []; labels = 0 })

@@ -139,7 +139,7 @@ impl Listing {
     }
 
     /// The word of a BYTE scalar has its byte alone, which came in.
-    fn write_cleaned(&mut self, setting: Setting, target: Target) -> Result<(), GenFault>
+    pub(crate) fn write_cleaned(&mut self, setting: Setting, target: Target) -> Result<(), GenFault>
         ensures { IfOk result (λ _. self.new ≡ self.old ++ cleaned (target_seen setting.entry target.entry)) }
     {
         match target {
@@ -173,8 +173,8 @@ impl Listing {
     {
         match (setting.home(channel.name), &channel.subscript) {
             (Some(Home::Link(number)), _) => self.write_link(*number),
-            (Some(Home::Word(word)), None) => self.point(*word),
-            (Some(Home::Word(word)), Some(subscript)) => {
+            (Some(Home::Word(word) | Home::Passed(word)), None) => self.point(*word),
+            (Some(Home::Word(word) | Home::Passed(word)), Some(subscript)) => {
                 match single(range_of(setting.scope, subscript)) {
                     Some(number) => self.point(word_after(*word, number.unsigned_abs())?),
                     None => self.point(*word),

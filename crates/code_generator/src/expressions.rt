@@ -15,6 +15,7 @@ ghost use Rattle.code_generator.specs.Expressions.{is_byte_reference, scalar_cod
 ghost use Rattle.code_generator.specs.Expressions.{byte_address, address_code, element_of_words, element_of_table};
 ghost use Rattle.code_generator.specs.Expressions.{element_code, expression_code, term_code, truth, known_address};
 ghost use Rattle.code_generator.specs.Expressions.{subscript_code, pushes_of, pair_code, equality_code};
+ghost use Rattle.code_generator.specs.Expressions.{are_passed_bytes};
 
 use crate::home::Home;
 use crate::listing::Listing;
@@ -26,7 +27,7 @@ use occam_parser::{
     PairOperator, PrefixOperator, ValueType,
 };
 use prefix_decoder::Fun;
-use scalar_ranges::{Front, Meaning, ScalarKind, Scope, value_of};
+use scalar_ranges::{ArrayKind, Front, Meaning, ScalarKind, Scope, value_of};
 use word_arithmetic::Range;
 
 /// The operation that an operator between two numbers is.
@@ -130,6 +131,22 @@ pub(crate) fn is_byte_reference(meaning: Option<Meaning>) -> bool
     }
 }
 
+/// Whether the elements of what has this meaning are BYTEs, of which no more is known than their type.
+pub(crate) fn are_passed_bytes(meaning: Option<Meaning>) -> bool
+    ensures { result ≡ are_passed_bytes (option_map meaning_of meaning) }
+{
+    match meaning {
+        Some(
+            Meaning::Array {
+                kind: ArrayKind::Value,
+                value_type: ValueType::Byte,
+                ..
+            },
+        ) => true,
+        _ => false,
+    }
+}
+
 /// Whether a name with this meaning is one push.
 fn is_pushed(meaning: Option<Meaning>) -> bool
     ensures { result ≡ is_pushed (option_map meaning_of meaning) }
@@ -193,11 +210,13 @@ impl Listing {
             ≡ self.old ++ scalar_code is_reference (option_map (λ h. home_seen h.now) home.entry)) }
     {
         match home {
-            Some(Home::Word(word)) if is_reference => {
+            Some(Home::Passed(word)) if is_reference => {
                 self.point(*word)?;
                 self.operate(operations::LOAD_BYTE)
             }
-            Some(Home::Word(word) | Home::Block { word, .. }) => self.load(*word),
+            Some(Home::Word(word) | Home::Block { word, .. } | Home::Passed(word)) => {
+                self.load(*word)
+            }
             Some(Home::Nowhere | Home::Link(_) | Home::Table(_)) | None => Ok(()),
         }
     }

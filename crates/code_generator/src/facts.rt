@@ -1,18 +1,17 @@
 //! What rows say: what a scope knows of words.
 
-ghost use Rattle.std.specs.Prelude.{◌≡◌, ◌++◌, ◌∷◌, [], IfOk, option_map, option_to_list};
+ghost use Rattle.std.specs.Prelude.{◌≡◌, ◌++◌, IfOk, option_map, option_to_list};
 ghost use Rattle.word_arithmetic.specs.Range.{ends_of};
 ghost use Rattle.scalar_ranges.specs.Scopes.{entries_of, entry_of, meaning_of};
-ghost use Rattle.code_pieces.specs.Pieces.{Row};
 ghost use Rattle.code_generator.specs.HomeViews.{home_seen, homes_seen};
 ghost use Rattle.code_generator.specs.Homes.{count_in, is_in, facts_at, facts_here, facts_of};
-ghost use Rattle.code_generator.specs.SettingViews.{entries_in, homes_in};
+ghost use Rattle.code_generator.specs.Declarations.{facts_in};
+ghost use Rattle.code_generator.specs.FrameViews.{frame_seen};
 
 use crate::declaring::words_for;
+use crate::frame::Frame;
 use crate::home::Home;
-use crate::listing::Listing;
-use crate::setting::Setting;
-use code_pieces::{Piece, RowEntry, WordFact};
+use code_pieces::{RowEntry, WordFact};
 use module_builder::GenFault;
 use scalar_ranges::{Entry, Meaning, Scope};
 use std::alloc::Global;
@@ -27,7 +26,7 @@ fn count_in(range: Range) -> Result<u32, GenFault>
 }
 
 /// Some words have numbers in this range.
-fn is_in(word: u32, span: u32, range: Range) -> RowEntry
+pub(crate) fn is_in(word: u32, span: u32, range: Range) -> RowEntry
     ensures { result ≡ is_in word span (ends_of range) }
 {
     RowEntry {
@@ -91,6 +90,16 @@ fn push_any(entries: &mut Vec<RowEntry>, entry: Option<RowEntry>) -> Result<(), 
     Ok(())
 }
 
+/// Some entries more.
+fn push_all(entries: &mut Vec<RowEntry>, others: &[RowEntry]) -> Result<(), GenFault>
+    ensures { IfOk result (λ _. entries.new.items ≡ entries.old.items ++ others.now) }
+{
+    for entry in others {
+        entries.push(*entry)?;
+    }
+    Ok(())
+}
+
 /// What a scope knows of words, those of the outermost names first.
 fn facts_of(alloc: Global, scope: &Scope, homes: &[Home]) -> Result<Vec<RowEntry>, GenFault>
     ensures { IfOk result (λ entries. entries.items ≡ facts_of (homes_seen homes.now) (entries_of scope.now)) }
@@ -103,18 +112,17 @@ fn facts_of(alloc: Global, scope: &Scope, homes: &[Home]) -> Result<Vec<RowEntry
     Ok(entries)
 }
 
-impl Listing {
-    /// A label, and what is known at it.
-    pub(crate) fn write_row(
-        &mut self,
-        alloc: Global,
-        setting: Setting,
-        label: usize,
-    ) -> Result<(), GenFault>
-        ensures { IfOk result (λ _. self.new
-            ≡ self.old ++ Row label (facts_of (homes_in setting.entry) (entries_in setting.entry)) ∷ []) }
-    {
-        let entries = facts_of(alloc, setting.scope, setting.homes)?;
-        self.push(Piece::Row { label, entries })
-    }
+/// What a row says: what is known of words outside, and what a scope knows.
+pub(crate) fn facts_in(
+    alloc: Global,
+    scope: &Scope,
+    frame: &Frame,
+) -> Result<Vec<RowEntry>, GenFault>
+    ensures { IfOk result (λ entries. entries.items ≡ facts_in (frame_seen frame.now) (entries_of scope.now)) }
+{
+    let own = facts_of(alloc, scope, &frame.homes)?;
+    let mut entries = Vec::new(alloc);
+    push_all(&mut entries, &frame.outer)?;
+    push_all(&mut entries, &own)?;
+    Ok(entries)
 }

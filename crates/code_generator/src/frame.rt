@@ -9,6 +9,7 @@ ghost use Rattle.code_generator.specs.FrameViews.{frame_seen};
 
 use crate::home::Home;
 use crate::setting::word_after;
+use code_pieces::RowEntry;
 use module_builder::GenFault;
 use occam_parser::OneOrMore;
 
@@ -17,6 +18,8 @@ use occam_parser::OneOrMore;
 pub(crate) struct Frame {
     pub(crate) homes: Vec<Home>,
     pub(crate) top: u32,
+    /// What is known of the words of those that called the procedure.
+    pub(crate) outer: Vec<RowEntry>,
 }
 
 impl Frame {
@@ -67,6 +70,7 @@ impl Frame {
     pub(crate) fn leave(&mut self, count: usize, top: u32)
         ensures homes { homes_seen self.new.homes.items ≡ take count (homes_seen self.old.homes.items) }
         ensures top { self.new.top ≡ top }
+        ensures outer { self.new.outer ≡ self.old.outer }
     {
         self.homes.truncate(count);
         self.top = top;

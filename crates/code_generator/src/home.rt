@@ -1,5 +1,11 @@
 //! Where what names stand for is while a program runs.
 
+ghost use Rattle.std.specs.Prelude.{◌≡◌, IfOk, Some, take};
+ghost use Rattle.code_generator.specs.HomeViews.{home_seen, homes_seen};
+ghost use Rattle.code_generator.specs.Instances.{as_passed};
+
+use module_builder::GenFault;
+use std::alloc::Global;
 use std::rc::Rc;
 
 /// Where what a name stands for is. Words are those of the frame, from 0 on.
@@ -15,4 +21,51 @@ pub enum Home {
     Link(u8),
     /// A table of the constants, with a word for each value.
     Table(Rc<Vec<i32>>),
+    /// In a procedure, the word of a variable or a channel that is passed to it, or the first word of an array.
+    Passed(u32),
+}
+
+impl Home {
+    /// The same place.
+    pub(crate) fn copy(&self) -> Result<Home, GenFault>
+        ensures { IfOk result (λ h. home_seen h ≡ home_seen self.now) }
+    {
+        match self {
+            Home::Nowhere => Ok(Home::Nowhere),
+            Home::Word(word) => Ok(Home::Word(*word)),
+            Home::Block { word, head } => Ok(Home::Block {
+                word: *word,
+                head: *head,
+            }),
+            Home::Link(number) => Ok(Home::Link(*number)),
+            Home::Table(values) => Ok(Home::Table(Rc::clone(values)?)),
+            Home::Passed(word) => Ok(Home::Passed(*word)),
+        }
+    }
+
+    /// The place as a procedure has it that this is passed to.
+    pub(crate) fn passed(&self) -> Result<Home, GenFault>
+        ensures { IfOk result (λ h. home_seen h ≡ as_passed (Some (home_seen self.now))) }
+    {
+        match self {
+            Home::Word(word) => Ok(Home::Passed(*word)),
+            Home::Nowhere | Home::Block { .. } | Home::Link(_) | Home::Table(_) | Home::Passed(_) =>
+                self.copy(),
+        }
+    }
+}
+
+/// The places of the outermost names, so many of them.
+pub(crate) fn outermost_homes(
+    alloc: Global,
+    homes: &[Home],
+    count: usize,
+) -> Result<Vec<Home>, GenFault>
+    ensures { IfOk result (λ hs. homes_seen hs.items ≡ take count (homes_seen homes.now)) }
+{
+    let mut outermost = Vec::new(alloc);
+    for number in 0..count.min(homes.len()) {
+        outermost.push(homes[number].copy()?)?;
+    }
+    Ok(outermost)
 }

@@ -2,14 +2,19 @@
 #![tactic(auto)]
 
 mod acting;
+mod calling;
 mod declaring;
 mod expressions;
 mod facts;
+mod finer;
 mod frame;
 mod home;
+mod instances;
 mod laws;
+mod limits;
 mod listing;
 mod loops;
+mod passing;
 mod processes;
 mod program;
 mod setting;
@@ -17,6 +22,7 @@ mod targets;
 mod writing;
 mod zeroing;
 
+pub use calling::{Callee, Surroundings};
 pub use home::Home;
 pub use laws::small_programs_have_code;
 pub use listing::Listing;

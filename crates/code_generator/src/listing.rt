@@ -29,6 +29,9 @@ impl Model for Listing {
     ghost view = { λ l. pieces_of l.pieces.items };
 }
 
+/// How many pieces a module has at most: each is a byte of its code at least, but for its rows.
+const GREATEST_COUNT: usize = 262_143 + 8_192;
+
 /// A word of the frame as an operand. The error is [`GenFault::Limit`] if it is none.
 fn operand(word: u32) -> Result<i32, GenFault>
     ensures { IfOk result (λ n. n ≡ pos word) }
@@ -53,10 +56,13 @@ impl Listing {
         self.pieces
     }
 
-    /// One piece more.
+    /// One piece more. The error is [`GenFault::Limit`] if there are too many for a module.
     pub(crate) fn push(&mut self, piece: Piece) -> Result<(), GenFault>
         ensures { IfOk result (λ _. self.new ≡ self.old ++ piece_of piece ∷ []) }
     {
+        if self.pieces.len() >= GREATEST_COUNT {
+            return Err(GenFault::Limit);
+        }
         self.pieces.push(piece)?;
         Ok(())
     }

@@ -3,7 +3,7 @@
 ghost use Rattle.std.specs.Prelude.{◌≡◌, ◌++◌, ◌∷◌, [], IfOk, map, ◌+◌};
 ghost use Rattle.occam_parser.specs.Expressions.{Alone};
 ghost use Rattle.occam_parser.specs.Views.{expression_of, term_of};
-ghost use Rattle.occam_parser.specs.Lines.{Constants, Variables, Channels, Stop};
+ghost use Rattle.occam_parser.specs.Lines.{Constants, Variables, Channels, Stop, Instance};
 ghost use Rattle.occam_parser.specs.Blocks.{Act, Replicated};
 ghost use Rattle.occam_parser.specs.LineViews.{action_of, constant_of, declaration_of, names_of, replicator_of};
 ghost use Rattle.occam_parser.specs.BlockViews.{process_of, construct_of, choice_of, body_of, plain_component};
@@ -16,13 +16,19 @@ ghost use Rattle.code_generator.specs.Processes.{is_true, row_of, times, under_i
 ghost use Rattle.code_generator.specs.Written.{site_of, Appends, Declares, DeclaresAll, WritesConstruct, WritesProcess};
 ghost use Rattle.code_generator.specs.Written.{WritesSeq, WritesOne, WritesIf, WritesChoices, WritesChoice};
 ghost use Rattle.code_generator.specs.Written.{WritesPart, WritesChosen, WritesLoop, WritesTurns};
-ghost use Rattle.code_generator.specs.Written.{first_site};
+ghost use Rattle.code_generator.specs.Written.{first_site, WritesLine, WritesRow};
+ghost use Rattle.code_generator.specs.Instances.{is_finer};
 
+use crate::calling::Surroundings;
 use crate::declaring::{channels_in, declare_names, home_for, words_in};
+use crate::facts::facts_in;
+use crate::finer::is_finer;
 use crate::frame::Frame;
 use crate::home::Home;
+use crate::limits::Spent;
 use crate::listing::Listing;
 use crate::loops::{Turning, value_or_zero};
+use crate::passing::Passed;
 use crate::setting::Setting;
 use code_pieces::{Piece, operations};
 use module_builder::GenFault;
@@ -31,12 +37,12 @@ use occam_parser::{
     Process, Replicator,
 };
 use program_uses::{
-    Around, Repeats, add_name, channel_meaning, constant_meaning, is_before, repeats_of,
-    variable_meaning, variables_changed_in,
+    Repeats, add_name, channel_meaning, constant_meaning, is_before, repeats_of, variable_meaning,
+    variables_changed_in,
 };
 use scalar_ranges::{Scope, narrow_by};
 use std::alloc::Global;
-use usage_checks::after_action;
+use usage_checks::{after_action, size_of_action, size_of_condition, size_of_declaration};
 
 /// Writes code, and knows what holds where it goes on.
 #[derive(Drop)]
@@ -47,6 +53,7 @@ pub struct ProcessWriter<'a> {
     /// The number of the first label that is free.
     pub(crate) label: usize,
     pub(crate) listing: Listing,
+    pub(crate) spent: Spent,
 }
 
 /// The label after another one. The error is [`GenFault::Limit`] if it has no number.
@@ -112,9 +119,11 @@ impl<'a> ProcessWriter<'a> {
             frame: Frame {
                 homes: Vec::new(alloc),
                 top: FIRST_WORD,
+                outer: Vec::new(alloc),
             },
             label: 0,
             listing: Listing::new(alloc),
+            spent: Spent::nothing(),
         }
     }
 
@@ -162,6 +171,7 @@ impl<'a> ProcessWriter<'a> {
     fn declare(&mut self, declaration: &Declaration<'a>) -> Result<(), GenFault>
         ensures { IfOk result (λ _. Declares self.old self.new (declaration_of declaration.now)) }
     {
+        self.walk_over(size_of_declaration(declaration))?;
         match declaration {
             Declaration::Constant(constant) => self.declare_constant(constant),
             Declaration::Variables(names) => self.declare_variables(names),
@@ -185,12 +195,9 @@ impl<'a> ProcessWriter<'a> {
             ≡ self.old.listing ++ row_of label (frame_seen self.old.frame) (known_of self.old.scope) ∷ []) }
         ensures site { IfOk result (λ _. site_of self.new ≡ site_of self.old) }
     {
-        let setting = Setting {
-            scope: &self.scope,
-            homes: &self.frame.homes,
-            top: self.frame.top,
-        };
-        self.listing.write_row(self.alloc, setting, label)
+        let entries = facts_in(self.alloc, &self.scope, &self.frame)?;
+        self.say(entries.len())?;
+        self.listing.push(Piece::Row { label, entries })
     }
 
     /// `STOP`: a row says what is known where code goes on that nothing reaches.
@@ -207,7 +214,7 @@ impl<'a> ProcessWriter<'a> {
         Ok(())
     }
 
-    /// The code of an action. The error is [`GenFault::Invalid`] for an instance, which has none.
+    /// The code of an action that is no instance. The error is [`GenFault::Invalid`] for one.
     fn write_action(&mut self, action: &Action) -> Result<(), GenFault>
         ensures code { IfOk result (λ _. Appends self.old.listing self.new.listing self.new.label
             (action_code (frame_seen self.old.frame) (entries_of self.old.scope) self.old.label
@@ -232,15 +239,6 @@ impl<'a> ProcessWriter<'a> {
         }
     }
 
-    /// An action. The error is [`GenFault::Invalid`] for an instance, which has no code.
-    fn act(&mut self, around: Around, line: u32, action: &Action) -> Result<(), GenFault>
-        ensures { IfOk result (λ _. WritesConstruct self.old self.new around.entry line (Act (action_of action.now))) }
-    {
-        self.write_action(action)?;
-        after_action(&mut self.scope, around.signatures, action);
-        Ok(())
-    }
-
     /// A condition, and a jump to a label where it does not hold.
     fn write_test(&mut self, condition: &Expr, label: usize) -> Result<(), GenFault>
         ensures code { IfOk result (λ _. self.new.listing
@@ -248,6 +246,7 @@ impl<'a> ProcessWriter<'a> {
             self.old.frame.top (expression_of condition.now) label) }
         ensures site { IfOk result (λ _. site_of self.new ≡ site_of self.old) }
     {
+        self.walk_over(size_of_condition(condition))?;
         let setting = Setting {
             scope: &self.scope,
             homes: &self.frame.homes,
@@ -256,15 +255,46 @@ impl<'a> ProcessWriter<'a> {
         self.listing.write_test(setting, condition, label)
     }
 
+    /// Whether the machine knows more of a scalar behind an action than its range.
+    fn is_finer(&self, action: &Action) -> bool
+        ensures { result ≡ is_finer (frame_seen self.now.frame).homes (entries_of self.now.scope) self.now.frame.top
+            (action_of action.now) }
+    {
+        let setting = Setting {
+            scope: &self.scope,
+            homes: &self.frame.homes,
+            top: self.frame.top,
+        };
+        is_finer(setting, action)
+    }
+
+    /// A row, if the machine knows more than is known here.
+    fn write_finer(&mut self, is_finer: bool) -> Result<(), GenFault>
+        ensures { IfOk result (λ _. WritesRow self.old self.new is_finer) }
+    {
+        if !is_finer {
+            return Ok(());
+        }
+        let label = self.label;
+        self.label = label_after(label)?;
+        self.write_row(label)?;
+        Ok(())
+    }
+
     /// A process, with what it declares.
     #[cycle(processes)]
-    pub fn write(&mut self, around: Around, process: &Process<'a>) -> Result<(), GenFault>
+    pub fn write(
+        &mut self,
+        around: Surroundings<'_, 'a>,
+        process: &Process<'a>,
+    ) -> Result<(), GenFault>
         ensures { IfOk result (λ _. WritesProcess self.old self.new around.entry (process_of process.now)) }
     {
+        let inside = around.inside()?;
         let count = self.frame.homes.len();
         let top = self.frame.top;
         self.declare_all(&process.declarations)?;
-        self.write_construct(around, process.line, &process.construct)?;
+        self.write_construct(inside, process.line, &process.construct)?;
         self.frame.leave(count, top);
         Ok(())
     }
@@ -273,7 +303,7 @@ impl<'a> ProcessWriter<'a> {
     #[cycle(processes)]
     fn write_construct(
         &mut self,
-        around: Around,
+        around: Surroundings<'_, 'a>,
         line: u32,
         construct: &Construct<'a>,
     ) -> Result<(), GenFault>
@@ -290,9 +320,72 @@ impl<'a> ProcessWriter<'a> {
         }
     }
 
+    /// An action.
+    #[cycle(processes)]
+    fn act(
+        &mut self,
+        around: Surroundings<'_, 'a>,
+        line: u32,
+        action: &Action<'a>,
+    ) -> Result<(), GenFault>
+        ensures { IfOk result (λ _. WritesConstruct self.old self.new around.entry line (Act (action_of action.now))) }
+    {
+        self.walk_over(size_of_action(action))?;
+        let is_finer = self.is_finer(action);
+        self.write_line(around, action)?;
+        after_action(&mut self.scope, around.around.signatures, action);
+        self.write_finer(is_finer)?;
+        Ok(())
+    }
+
+    /// The code of an action.
+    #[cycle(processes)]
+    fn write_line(
+        &mut self,
+        around: Surroundings<'_, 'a>,
+        action: &Action<'a>,
+    ) -> Result<(), GenFault>
+        ensures { IfOk result (λ _. WritesLine self.old self.new around.entry (action_of action.now)) }
+    {
+        match action {
+            Action::Instance { name, actuals } => self.write_instance(around, name, actuals),
+            _ => self.write_action(action),
+        }
+    }
+
+    /// The code of an instance. The error is [`GenFault::Invalid`] if what is called is no procedure before this place.
+    #[cycle(processes)]
+    fn write_instance(
+        &mut self,
+        around: Surroundings<'_, 'a>,
+        name: &[u8],
+        actuals: &[Expr<'a>],
+    ) -> Result<(), GenFault>
+        ensures { IfOk result (λ _. WritesLine self.old self.new around.entry
+            (Instance name.now (map expression_of actuals.now))) }
+    {
+        let procedure = self.scope.meaning(name);
+        let Some(call) = around.call(procedure) else {
+            return Err(GenFault::Invalid);
+        };
+        let passed = Passed {
+            signatures: around.around.signatures,
+            procedure,
+            actuals,
+        };
+        let mut body = self.begin_instance(call.callee, passed)?;
+        body.write(call.inside, &call.callee.proc.body)?;
+        self.end_instance(body, passed)?;
+        Ok(())
+    }
+
     /// The processes of a `SEQ`.
     #[cycle(processes)]
-    fn write_seq(&mut self, around: Around, processes: &[Process<'a>]) -> Result<(), GenFault>
+    fn write_seq(
+        &mut self,
+        around: Surroundings<'_, 'a>,
+        processes: &[Process<'a>],
+    ) -> Result<(), GenFault>
         ensures { IfOk result (λ _. WritesSeq self.old self.new around.entry (all_processes processes.now)) }
     {
         for process in processes {
@@ -303,7 +396,11 @@ impl<'a> ProcessWriter<'a> {
 
     /// A process of a `SEQ`.
     #[cycle(processes)]
-    fn write_one(&mut self, around: Around, process: &Process<'a>) -> Result<(), GenFault>
+    fn write_one(
+        &mut self,
+        around: Surroundings<'_, 'a>,
+        process: &Process<'a>,
+    ) -> Result<(), GenFault>
         ensures { IfOk result (λ _. WritesOne self.old self.new around.entry (plain_component process.now)) }
     {
         let count = self.scope.len();
@@ -314,7 +411,11 @@ impl<'a> ProcessWriter<'a> {
 
     /// An `IF`.
     #[cycle(processes)]
-    fn write_if(&mut self, around: Around, choices: &[Choice<'a>]) -> Result<(), GenFault>
+    fn write_if(
+        &mut self,
+        around: Surroundings<'_, 'a>,
+        choices: &[Choice<'a>],
+    ) -> Result<(), GenFault>
         ensures { IfOk result (λ _. WritesIf self.old self.new around.entry (all_choices choices.now)) }
     {
         let end = self.label;
@@ -330,7 +431,7 @@ impl<'a> ProcessWriter<'a> {
     #[cycle(processes)]
     fn write_choices(
         &mut self,
-        around: Around,
+        around: Surroundings<'_, 'a>,
         end: usize,
         choices: &[Choice<'a>],
     ) -> Result<(), GenFault>
@@ -349,7 +450,7 @@ impl<'a> ProcessWriter<'a> {
     #[cycle(processes)]
     fn write_part(
         &mut self,
-        around: Around,
+        around: Surroundings<'_, 'a>,
         end: usize,
         is_last: bool,
         choice: &Choice<'a>,
@@ -371,7 +472,7 @@ impl<'a> ProcessWriter<'a> {
     #[cycle(processes)]
     fn write_choice(
         &mut self,
-        around: Around,
+        around: Surroundings<'_, 'a>,
         end: usize,
         choice: &Choice<'a>,
     ) -> Result<(), GenFault>
@@ -388,7 +489,11 @@ impl<'a> ProcessWriter<'a> {
 
     /// A choice without its test.
     #[cycle(processes)]
-    fn write_chosen(&mut self, around: Around, choice: &Choice<'a>) -> Result<(), GenFault>
+    fn write_chosen(
+        &mut self,
+        around: Surroundings<'_, 'a>,
+        choice: &Choice<'a>,
+    ) -> Result<(), GenFault>
         ensures { IfOk result (λ _. WritesChosen self.old self.new around.entry (choice_of choice.now)) }
     {
         self.scope.exclude(&choice.condition);
@@ -402,7 +507,7 @@ impl<'a> ProcessWriter<'a> {
     #[cycle(processes)]
     fn write_replicated(
         &mut self,
-        around: Around,
+        around: Surroundings<'_, 'a>,
         line: u32,
         replicator: &Replicator<'a>,
         body: &Body<'a>,
@@ -414,7 +519,7 @@ impl<'a> ProcessWriter<'a> {
             Body::Seq(process) => {
                 let changed = variables_changed_in(
                     self.alloc,
-                    around.signatures,
+                    around.around.signatures,
                     &mut self.scope,
                     replicator,
                     body,
@@ -431,7 +536,7 @@ impl<'a> ProcessWriter<'a> {
     #[cycle(processes)]
     fn write_loop(
         &mut self,
-        around: Around,
+        around: Surroundings<'_, 'a>,
         line: u32,
         replicator: &Replicator<'a>,
         changed: &[usize],
@@ -447,7 +552,7 @@ impl<'a> ProcessWriter<'a> {
         let head = self.label;
         let names = self.frame.homes.len();
         let word = self.frame.top;
-        let counted = is_before(line, around.uncounted);
+        let counted = is_before(line, around.around.uncounted);
         let repeats = repeats_of(counted, &self.scope, true, replicator);
         let turning = Turning {
             name: replicator.name,
@@ -465,7 +570,7 @@ impl<'a> ProcessWriter<'a> {
     #[cycle(processes)]
     fn write_repeated_if(
         &mut self,
-        around: Around,
+        around: Surroundings<'_, 'a>,
         line: u32,
         replicator: &Replicator<'a>,
         choice: &Choice<'a>,
@@ -477,7 +582,7 @@ impl<'a> ProcessWriter<'a> {
         self.label = label_after(end)?;
         let names = self.frame.homes.len();
         let top = self.frame.top;
-        let counted = is_before(line, around.uncounted);
+        let counted = is_before(line, around.around.uncounted);
         let repeats = repeats_of(counted, &self.scope, false, replicator);
         self.scope.begin()?;
         self.frame.add_home(Home::Nowhere)?;
@@ -499,7 +604,7 @@ impl<'a> ProcessWriter<'a> {
     #[cycle(processes)]
     fn write_turns(
         &mut self,
-        around: Around,
+        around: Surroundings<'_, 'a>,
         end: usize,
         name: &'a [u8],
         repeats: Repeats,

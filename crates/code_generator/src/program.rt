@@ -1,18 +1,21 @@
 //! The code of a program.
 
-ghost use Rattle.std.specs.Prelude.{◌≡◌, ◌≤◌, Some, map, IfOk};
+ghost use Rattle.std.specs.Prelude.{◌≡◌, ◌≤◌, Some, length, map, IfOk};
 ghost use Rattle.occam_parser.specs.LineViews.{formal_of};
 ghost use Rattle.occam_parser.specs.Blocks.{GlobalProcedure};
 ghost use Rattle.occam_parser.specs.BlockViews.{item_of, procedure_of};
 ghost use Rattle.program_meaning.specs.Meaning.{link_number, port_for};
 ghost use Rattle.code_generator.specs.HomeViews.{home_seen};
 ghost use Rattle.code_generator.specs.FrameViews.{frame_seen};
-ghost use Rattle.code_generator.specs.MainWritten.{behind_item, procedures_behind, Precedes, WritesMain};
-ghost use Rattle.code_generator.specs.Programs.{home_of_port, with_links, code_of};
+ghost use Rattle.code_generator.specs.CallViews.{callees_of};
+ghost use Rattle.code_generator.specs.MainWritten.{behind_item, Precedes, WritesMain};
+ghost use Rattle.code_generator.specs.Programs.{home_of_port, with_links, callable, code_of};
 ghost use Rattle.code_generator.specs.Written.{site_of};
 
+use crate::calling::{Callee, Surroundings};
 use crate::frame::Frame;
 use crate::home::Home;
+use crate::limits::GREATEST_DEPTH;
 use crate::listing::Listing;
 use crate::processes::ProcessWriter;
 use code_pieces::operations;
@@ -76,6 +79,13 @@ impl Frame {
     }
 }
 
+/// Where the code of `main` begins, and the procedures that it may call.
+#[derive(Drop)]
+struct Start<'s, 'a> {
+    writer: ProcessWriter<'a>,
+    callees: Vec<Callee<'s, 'a>>,
+}
+
 impl<'a> ProcessWriter<'a> {
     /// A procedure before `main`, which has no code of its own. So many were before it.
     fn declare_procedure(&mut self, proc: &Proc<'a>, number: u32) -> Result<(), GenFault>
@@ -88,39 +98,44 @@ impl<'a> ProcessWriter<'a> {
         Ok(())
     }
 
-    /// An item before `main`, before which there were so many procedures. Returns how many there are then.
-    fn declare_item(&mut self, item: &Item<'a>, procedures: u32) -> Result<u32, GenFault>
+    /// An item before `main`, before which there were these procedures.
+    fn declare_item<'s>(
+        &mut self,
+        item: &'s Item<'a>,
+        callees: &mut Vec<Callee<'s, 'a>>,
+    ) -> Result<(), GenFault>
         ensures listing { IfOk result (λ _. self.new.listing ≡ self.old.listing) }
         ensures site { IfOk result (λ _. site_of self.new
-            ≡ behind_item (item_of item.now) procedures (site_of self.old)) }
-        ensures procedures { IfOk result (λ n. n ≡ procedures_behind (item_of item.now) procedures) }
+            ≡ behind_item (item_of item.now) (length callees.old.items) (site_of self.old)) }
+        ensures callees { IfOk result (λ _. callees_of callees.new.items
+            ≡ callable (item_of item.now) (length (site_of self.old).frame.homes) (callees_of callees.old.items)) }
     {
         match item {
-            Item::Constant(constant) => {
-                self.declare_constant(constant)?;
-                Ok(procedures)
-            }
+            Item::Constant(constant) => self.declare_constant(constant),
             Item::Proc(proc) => {
-                self.declare_procedure(proc, procedures)?;
-                procedures.checked_add(1).ok_or(GenFault::Limit)
+                let names = self.frame.homes.len();
+                let number = u32::try_from(callees.len()).map_err(|_| GenFault::Limit)?;
+                self.declare_procedure(proc, number)?;
+                callees.push(Callee { proc, names })?;
+                Ok(())
             }
         }
     }
 
     /// Some items are known, and no code is written.
-    fn behind_items(alloc: Global, items: &[Item<'a>]) -> Result<ProcessWriter<'a>, GenFault>
-        ensures { IfOk result (λ writer. Precedes writer (map item_of items.now)) }
+    fn behind_items<'s>(alloc: Global, items: &'s [Item<'a>]) -> Result<Start<'s, 'a>, GenFault>
+        ensures { IfOk result (λ start. Precedes start (map item_of items.now)) }
     {
         let mut writer = ProcessWriter::new(alloc);
-        let mut procedures: u32 = 0;
+        let mut callees = Vec::new(alloc);
         for item in items {
-            procedures = writer.declare_item(item, procedures)?;
+            writer.declare_item(item, &mut callees)?;
         }
-        Ok(writer)
+        Ok(Start { writer, callees })
     }
 
     /// The code of `main`, behind which the process stops.
-    fn write_main(&mut self, around: Around, main: &Proc<'a>) -> Result<(), GenFault>
+    fn write_main(&mut self, around: Surroundings<'_, 'a>, main: &Proc<'a>) -> Result<(), GenFault>
         ensures { IfOk result (λ _. WritesMain self.old self.new around.entry (procedure_of main.now)) }
     {
         self.frame.add_links(&main.formals)?;
@@ -131,8 +146,9 @@ impl<'a> ProcessWriter<'a> {
     }
 }
 
-/// The code of a program. The error is [`GenFault::Invalid`] if its `main` has a `PAR`, an `ALT` or an instance, which
-/// have no code here, but for those in a loop or a choice that never happens.
+/// The code of a program. The error is [`GenFault::Invalid`] if its `main`, or a procedure that it calls, has a `PAR` or
+/// an `ALT`, which have no code here, but for those in a loop or a choice that never happens. It is [`GenFault::Limit`]
+/// if too much is gone over: the time and the memory that it takes are bounded, however often procedures are called.
 pub fn code_of(alloc: Global, program: &CheckedProgram) -> Result<Code, GenFault>
     ensures { IfOk result (λ code. code_of (map item_of program.now.program.items.items) ≡ Some code) }
 {
@@ -145,11 +161,19 @@ pub fn code_of(alloc: Global, program: &CheckedProgram) -> Result<Code, GenFault
     let Some((_, signatures)) = program.signatures().split_last() else {
         return Err(GenFault::Invalid);
     };
-    let around = Around {
-        signatures,
-        uncounted: None,
+    let start = ProcessWriter::behind_items(alloc, before)?;
+    let callees = start.callees;
+    let mut writer = start.writer;
+    let count = callees.len();
+    let around = Surroundings {
+        around: Around {
+            signatures,
+            uncounted: None,
+        },
+        callees: &callees,
+        count,
+        deeper: GREATEST_DEPTH,
     };
-    let mut writer = ProcessWriter::behind_items(alloc, before)?;
     writer.write_main(around, main)?;
     Ok(Code {
         listing: writer.listing,

@@ -9,7 +9,7 @@ use crate::home::Home;
 use crate::setting::Setting;
 use occam_parser::{Expr, ValueType};
 use program_uses::PlaceRef;
-use scalar_ranges::{Meaning, ScalarKind, range_of};
+use scalar_ranges::{Meaning, range_of};
 
 /// What is stored into.
 #[derive(Clone, Copy)]
@@ -42,26 +42,22 @@ pub(crate) fn target_of<'e, 'a>(setting: Setting, place: PlaceRef<'e, 'a>) -> Ta
     let home = setting.home(place.name);
     let meaning = setting.scope.meaning(place.name);
     match (home, meaning, place.subscript) {
-        (
-            Some(Home::Word(word)),
-            Some(
-                Meaning::Scalar {
-                    kind: ScalarKind::Reference,
-                    value_type,
-                    ..
-                },
-            ),
-            None,
-        ) => Target::Known {
-            value_type,
-            word: *word,
-            number: 0,
-        },
         (Some(Home::Word(word)), Some(Meaning::Scalar { value_type, .. }), None) => Target::Word {
             value_type,
             word: *word,
         },
-        (Some(Home::Word(word)), Some(Meaning::Array { value_type, .. }), Some(subscript)) => {
+        (Some(Home::Passed(word)), Some(Meaning::Scalar { value_type, .. }), None) => {
+            Target::Known {
+                value_type,
+                word: *word,
+                number: 0,
+            }
+        }
+        (
+            Some(Home::Word(word) | Home::Passed(word)),
+            Some(Meaning::Array { value_type, .. }),
+            Some(subscript),
+        ) => {
             match single(range_of(setting.scope, subscript)) {
                 Some(number) => Target::Known {
                     value_type,

@@ -1,7 +1,7 @@
 //! Writing the code of expressions: each function appends the code that its tree has in its setting. If one fails, some
 //! pieces more may have come.
 
-ghost use Rattle.std.specs.Prelude.{◌≡◌, ◌++◌, IfOk, None, map, option_map};
+ghost use Rattle.std.specs.Prelude.{◌≡◌, ◌++◌, ◌∷◌, [], IfOk, None, map, option_map};
 ghost use Rattle.occam_parser.specs.Views.{expression_of, operation_of, term_of};
 ghost use Rattle.scalar_ranges.specs.Entries.{meaning_in};
 ghost use Rattle.scalar_ranges.specs.Bounds.{bound_of, range_found};
@@ -9,11 +9,14 @@ ghost use Rattle.scalar_ranges.specs.FrontViews.{seen_front};
 ghost use Rattle.code_generator.specs.Homes.{home_of};
 ghost use Rattle.code_generator.specs.SettingViews.{entries_in, homes_in, expression_in, term_in, onto_in, joined_in};
 ghost use Rattle.code_generator.specs.SettingViews.{others_in, operands_in, value_in, front_at};
-ghost use Rattle.code_generator.specs.Expressions.{single, address_code, element_of_words, element_of_table};
+ghost use Rattle.code_generator.specs.Expressions.{single, address_code, element_of_words, table_element};
 ghost use Rattle.code_generator.specs.Expressions.{element_code};
+ghost use Rattle.code_pieces.specs.declared.operations.TheConstants.{WORD_SUBSCRIPT};
+ghost use Rattle.code_pieces.specs.Pieces.{TableAddress, operates};
 
 use crate::expressions::{
-    Pushes, chain_operation, covered, is_byte_reference, is_leaf_term, pushes_of, single,
+    Pushes, are_passed_bytes, chain_operation, covered, is_byte_reference, is_leaf_term, pushes_of,
+    single,
 };
 use crate::home::Home;
 use crate::listing::Listing;
@@ -23,6 +26,7 @@ use module_builder::GenFault;
 use occam_parser::{ChainOperator, Expr, Operand, Operation, ValueType};
 use prefix_decoder::Fun;
 use scalar_ranges::{Front, Meaning, front_of, range_of, read_operand, value_of};
+use std::rc::Rc;
 
 impl Listing {
     /// An expression.
@@ -202,25 +206,65 @@ impl Listing {
             (expression_in setting.entry (expression_of subscript.now))) }
     {
         match (setting.home(name), setting.scope.meaning(name)) {
-            (Some(Home::Word(word)), Some(Meaning::Array { value_type, .. })) => {
-                self.write_element_of_words(setting, value_type, *word, subscript)
-            }
-            (Some(Home::Table(values)), _) => {
-                match single(range_of(setting.scope, subscript)) {
-                    Some(number) => {
-                        self.table(values)?;
-                        self.direct(Fun::LoadNonLocal, number)
-                    }
-                    None => {
-                        self.write_expression(setting, subscript)?;
-                        self.table(values)?;
-                        self.operate(operations::WORD_SUBSCRIPT)?;
-                        self.direct(Fun::LoadNonLocal, 0)
-                    }
-                }
+            (
+                Some(Home::Word(word) | Home::Passed(word)),
+                Some(Meaning::Array { value_type, .. }),
+            ) => self.write_element_of_words(setting, value_type, *word, subscript),
+            (Some(Home::Table(values)), meaning) => {
+                self.write_table_element(setting, are_passed_bytes(meaning), values, subscript)
             }
             _ => Ok(()),
         }
+    }
+
+    /// An element of a table, or the lowest byte of one.
+    #[cycle(write)]
+    fn write_table_element(
+        &mut self,
+        setting: Setting,
+        is_byte: bool,
+        values: &Rc<Vec<i32>>,
+        subscript: &Expr,
+    ) -> Result<(), GenFault>
+        ensures { IfOk result (λ _. self.new ≡ self.old ++ table_element is_byte values.now.value.items
+            (single (range_found (bound_of (entries_in setting.entry) (expression_of subscript.now))))
+            (expression_in setting.entry (expression_of subscript.now))) }
+    {
+        match (single(range_of(setting.scope, subscript)), is_byte) {
+            (Some(number), false) => {
+                self.table(values)?;
+                self.direct(Fun::LoadNonLocal, number)
+            }
+            (Some(number), true) => {
+                self.table(values)?;
+                self.direct(Fun::LoadNonLocalPointer, number)?;
+                self.operate(operations::LOAD_BYTE)
+            }
+            (None, false) => {
+                self.write_table_address(setting, values, subscript)?;
+                self.direct(Fun::LoadNonLocal, 0)
+            }
+            (None, true) => {
+                self.write_table_address(setting, values, subscript)?;
+                self.operate(operations::LOAD_BYTE)
+            }
+        }
+    }
+
+    /// The address of an element of a table.
+    #[cycle(write)]
+    fn write_table_address(
+        &mut self,
+        setting: Setting,
+        values: &Rc<Vec<i32>>,
+        subscript: &Expr,
+    ) -> Result<(), GenFault>
+        ensures { IfOk result (λ _. self.new ≡ self.old ++ (expression_in setting.entry (expression_of subscript.now)
+            ++ TableAddress values.now.value.items ∷ operates WORD_SUBSCRIPT ∷ [])) }
+    {
+        self.write_expression(setting, subscript)?;
+        self.table(values)?;
+        self.operate(operations::WORD_SUBSCRIPT)
     }
 
     /// An element of an array whose words begin with this one.

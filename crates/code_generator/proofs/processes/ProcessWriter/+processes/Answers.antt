@@ -1,10 +1,11 @@
 use Rattle.std.proofs.Common.{◌≡◌, ◌+◌, ◌<◌, ◌≤◌, length, map, IfOk, arith, refl, ap, sym, subst, ◌∙◌, rules, nat_eq}
-use Rattle.std.proofs.Common.{true, false, Some, w32, of_z}
+use Rattle.std.proofs.Common.{true, false, Some, option_map, w32, of_z}
 use Rattle.std.proofs.lemmas.Bool.{eqb-true, eqb-false}
 use Rattle.std.proofs.lemmas.Int.{to_z-of_z}
 use Rattle.occam_parser.specs.declared.tree.Body.{the_lemmas}
 use Rattle.occam_parser.specs.Views.{expression_of}
-use Rattle.occam_parser.specs.LineViews.{declaration_of, replicator_of}
+use Rattle.occam_parser.specs.LineViews.{action_of, declaration_of, replicator_of}
+use Rattle.occam_parser.specs.Lines.{Instance}
 use Rattle.occam_parser.specs.Blocks.{Does, Chosen, Replicated}
 use Rattle.occam_parser.specs.BlockReading.{with_declarations}
 use Rattle.occam_parser.specs.BlockViews.{process_of, construct_of, choice_of, plain_component, all_processes}
@@ -13,14 +14,16 @@ use Rattle.occam_parser.proofs.SeenBlocks.{view-Seq, view-If, view-Body-Seq}
 use Rattle.scalar_ranges.specs.Moves.{begin}
 use Rattle.scalar_ranges.specs.Scopes.{known_of, meaning_of}
 use Rattle.program_uses.specs.Indices.{repeats_of, seen_repeats, index_in}
-use Rattle.usage_checks.specs.AfterProcesses.{left_to}
-use Rattle.usage_checks.specs.Following.{where_holds}
+use Rattle.usage_checks.specs.AfterProcesses.{inside, left_to}
+use Rattle.usage_checks.specs.Following.{after_action, where_holds}
 use Rattle.usage_checks.specs.NameRules.{with_entries}
 use Rattle.code_generator.specs.declared.loops.Turning.{Turning}
+use Rattle.code_generator.specs.CallViews.{surroundings_of}
 use Rattle.code_generator.specs.FrameViews.{frame_seen}
-use Rattle.code_generator.specs.Processes.{at_place, before_turns}
-use Rattle.code_generator.specs.Written.{site_of, WritesConstruct, WritesSeq, WritesIf, WritesPart, WritesChoice}
-use Rattle.code_generator.specs.Written.{WritesChosen, WritesTurns, EntersLoop}
+use Rattle.code_generator.specs.Processes.{Surroundings, at_place, before_turns, process_code, act_code}
+use Rattle.code_generator.specs.Written.{site_of, Writes, WritesConstruct, WritesSeq, WritesIf, WritesPart, WritesChoice}
+use Rattle.code_generator.specs.Written.{WritesChosen, WritesTurns, WritesLine, EntersLoop}
+use Rattle.code_generator.proofs.ActsWritten.{writes_act, writes_from, writes_instance}
 use Rattle.code_generator.proofs.PartsWritten.{writes_none, writes_moved, writes_behind, seq_next, seq_done}
 use Rattle.code_generator.proofs.ChoicesWritten.{choices_start, choices_next, choices_done, no_choices}
 use Rattle.code_generator.proofs.ChoicesWritten.{writes_if, writes_chosen, writes_tested, always_written}
@@ -32,14 +35,18 @@ use Rattle.code_generator.proofs.processes.ProcessWriter.+processes.Goals as goa
 pub write-returns : goal.write-returns
 write-returns t c =
     let p = c.args.process.now in
+    let s = c.args.self.now in
+    let final = record c.write_construct.new.self { frame = c.leave.new.self } in
     let view : with_declarations (map declaration_of p.declarations.items)
     (Does p.line (construct_of p.construct.value)) ≡ process_of p = search (rules, the_lemmas) in
-    let long : c.len-count.result ≡ length c.args.self.now.frame.homes.items = omega arith in
-    writes_behind c.args.around (map declaration_of c.deref.result.now) p.line (construct_of c.deref-2.result.now)
-    (process_of p) c.leave.new.self c.len-count.result
+    let long : c.len-count.result ≡ length s.frame.homes.items = omega arith in
+    subst (λ (h : Surroundings). Writes s final (process_code h (process_of p) (site_of s))
+    (inside h.around (process_of p) (known_of s.scope))) c.in_ok-inside.ensures.same
+    (writes_behind c.in_ok-inside.inside (map declaration_of c.deref.result.now) p.line
+    (construct_of c.deref-2.result.now) (process_of p) c.leave.new.self c.len-count.result
     ((λ i. with_declarations (map declaration_of (c.deref.ensures.value i))
     (Does p.line (construct_of (c.deref-2.ensures i)))) ∙ view) c.in_ok-declare_all.ensures
-    c.in_ok-write_construct.ensures long c.leave.ensures.homes c.leave.ensures.top
+    c.in_ok-write_construct.ensures long c.leave.ensures.homes c.leave.ensures.top c.leave.ensures.outer)
 
 pub write_construct-returns-in-Seq : goal.write_construct-returns-in-Seq
 write_construct-returns-in-Seq t c =
@@ -60,6 +67,41 @@ write_construct-returns-in-If t c =
     (sym (view-If v) ∙ ap construct_of (sym c.in-If.is))
     (subst (λ cs. IfOk c.write_if.result (λ _. WritesIf s end c.args.around cs))
     (ap all_choices c.deref-in-If.ensures.value) c.write_if.ensures)
+
+pub act-returns : goal.act-returns
+act-returns t c =
+    let s = c.args.self.now in
+    let walked = c.walk_over.new.self in
+    let here = surroundings_of c.args.around in
+    let action = action_of c.args.action.now in
+    let spent = c.in_ok-walk_over.ensures in
+    let place : site_of walked ≡ site_of s = λ i. record {
+      frame = frame_seen (spent.frame i);
+      known = known_of (spent.scope i);
+      label = spent.label i;
+    } in
+    let followed : known_of c.after_action.new.scope
+    ≡ with_entries (after_action here.around.signatures action) (known_of c.write_line.new.self.scope) =
+    λ i. record { entries = c.after_action.ensures.entries i; blocks = c.after_action.ensures.blocks i } in
+    writes_from (act_code here action) (with_entries (after_action here.around.signatures action)) spent.listing place
+    (writes_act c.args.around c.args.line action c.is_finer-is_finer.result c.after_action.new.scope
+    c.is_finer-is_finer.ensures c.in_ok-write_line.ensures followed c.in_ok-write_finer.ensures)
+
+pub write_line-returns-in-Instance : goal.write_line-returns-in-Instance
+write_line-returns-in-Instance t c =
+    let s = c.args.self.now in
+    let name = c.in-Instance.name.now in
+    let is : Instance name (map expression_of c.deref.result.now) ≡ action_of c.args.action.now =
+    ap (λ xs. Instance name (map expression_of xs)) c.deref.ensures.value ∙ ap action_of (sym c.in-Instance.is) in
+    subst (λ x. IfOk c.write_instance.result (λ _. WritesLine s c.write_instance.new.self c.args.around x)) is
+    c.write_instance.ensures
+
+pub write_instance-returns : goal.write_instance-returns
+write_instance-returns t c =
+    writes_instance c.args.around c.args.name.now (map expression_of c.args.actuals.now) c.in-Some.call
+    (option_map meaning_of c.meaning-procedure.result) c.args.self.now c.begin_instance.new.self
+    c.in_ok-body.body c.write.new.self c.end_instance.new.self c.meaning-procedure.ensures c.in-Some.ensures.call
+    c.in_ok-body.ensures c.in_ok-write.ensures c.in_ok-end_instance.ensures
 
 pub write_seq-loop-process-init : goal.write_seq-loop-process-init
 write_seq-loop-process-init t c = writes_none c.args.self.now
@@ -225,7 +267,7 @@ write_repeated_if-returns t c =
     let long : c.len-names.result ≡ length s.frame.homes.items = omega arith in
     writes_repeated_if c.args.around c.args.line c.len-names.result r (choice_of c.args.choice.now) repeats s begun
     c.write_turns.new.self c.write_row.new.self c.leave.new.self c.end.new.self counted refl place written long
-    c.leave.ensures.homes c.leave.ensures.top c.end.ensures c.in_ok-write_row.ensures.row
+    c.leave.ensures.homes c.leave.ensures.top c.leave.ensures.outer c.end.ensures c.in_ok-write_row.ensures.row
     c.in_ok-write_row.ensures.site
 
 pub write_loop-returns : goal.write_loop-returns

@@ -1,10 +1,60 @@
-use Rattle.std.proofs.Common.{take, length, nat_eq}
+use Rattle.std.proofs.Common.{◌*◌, ◌+◌, take, length, nat_eq}
 use Rattle.occam_parser.specs.BlockViews.{choice_of, all_processes, all_choices}
 use Rattle.program_uses.specs.Indices.{seen_repeats}
 use Rattle.code_generator.specs.Written.{WritesSeq}
 use Rattle.code_generator.proofs.ChoicesWritten.{WritesUpTo}
 use Rattle.code_generator.proofs.TurnsWritten.{WritesSome}
 use Rattle.code_generator.proofs.processes.ProcessWriter.+processes.Given as goal
+
+-- Each process has one less that may be in it, and what is called between two processes goes down by its rank.
+
+abbrev pub decreases-act : goal.decreases-act
+decreases-act l = 16 * l.around.deeper + 8
+
+abbrev pub decreases-write : goal.decreases-write
+decreases-write l = 16 * l.around.deeper
+
+abbrev pub decreases-write_choice : goal.decreases-write_choice
+decreases-write_choice l = 16 * l.around.deeper + 10
+
+abbrev pub decreases-write_choices : goal.decreases-write_choices
+decreases-write_choices l = 16 * l.around.deeper + 12
+
+abbrev pub decreases-write_chosen : goal.decreases-write_chosen
+decreases-write_chosen l = 16 * l.around.deeper + 9
+
+abbrev pub decreases-write_construct : goal.decreases-write_construct
+decreases-write_construct l = 16 * l.around.deeper + 15
+
+abbrev pub decreases-write_if : goal.decreases-write_if
+decreases-write_if l = 16 * l.around.deeper + 13
+
+abbrev pub decreases-write_instance : goal.decreases-write_instance
+decreases-write_instance l = 16 * l.around.deeper + 6
+
+abbrev pub decreases-write_line : goal.decreases-write_line
+decreases-write_line l = 16 * l.around.deeper + 7
+
+abbrev pub decreases-write_loop : goal.decreases-write_loop
+decreases-write_loop l = 16 * l.around.deeper + 3
+
+abbrev pub decreases-write_one : goal.decreases-write_one
+decreases-write_one l = 16 * l.around.deeper + 2
+
+abbrev pub decreases-write_part : goal.decreases-write_part
+decreases-write_part l = 16 * l.around.deeper + 11
+
+abbrev pub decreases-write_repeated_if : goal.decreases-write_repeated_if
+decreases-write_repeated_if l = 16 * l.around.deeper + 13
+
+abbrev pub decreases-write_replicated : goal.decreases-write_replicated
+decreases-write_replicated l = 16 * l.around.deeper + 14
+
+abbrev pub decreases-write_seq : goal.decreases-write_seq
+decreases-write_seq l = 16 * l.around.deeper + 3
+
+abbrev pub decreases-write_turns : goal.decreases-write_turns
+decreases-write_turns l = 16 * l.around.deeper + 12
 
 abbrev pub invariant-write_seq-loop-process : goal.invariant-write_seq-loop-process
 invariant-write_seq-loop-process l =

@@ -4,4 +4,4 @@ use Rattle.code_generator.proofs.ItemsPassed.{Passes}
 use Rattle.code_generator.proofs.processes.ProcessWriter.behind_items.Given as goal
 
 abbrev pub invariant-loop-item : goal.invariant-loop-item
-invariant-loop-item l = Passes l.writer l.procedures (map item_of (take l.item-index l.items))
+invariant-loop-item l = Passes l.writer l.callees.items (map item_of (take l.item-index l.items))

@@ -1,5 +1,7 @@
 use Rattle.std.proofs.Common.{◌≡◌, ◌+◌, [], ◌∷◌, ◌++◌, ap, ◌∙◌}
+use Rattle.std.specs.Global.{Vec}
 use Rattle.std.proofs.lemmas.List.{append_assoc}
+use Rattle.code_pieces.specs.declared.piece.RowEntry.{RowEntry}
 use Rattle.code_pieces.specs.Pieces.{LoopBack, points}
 use Rattle.code_generator.specs.FrameViews.{frame_seen}
 use Rattle.code_generator.specs.Processes.{row_of}
@@ -11,7 +13,11 @@ returns c =
     let s = c.args.self.now in
     let left = behind_loop c.args.names c.args.word (site_of s) in
     let frame : frame_seen c.leave.new.self ≡ left.frame =
-    λ i. record { homes = c.leave.ensures.homes i; top = c.leave.ensures.top i } in
+    λ i. record {
+      homes = c.leave.ensures.homes i;
+      top = c.leave.ensures.top i;
+      outer = ap (λ (v : Vec RowEntry). v.items) c.leave.ensures.outer i;
+    } in
     let known = c.end.ensures in
     let behind = c.in_ok-behind.ensures in
     let head = c.args.head in

@@ -1,0 +1,101 @@
+//! How much is gone over and said at most, so that the time and the memory of a program are bounded.
+
+ghost use Rattle.std.specs.Prelude.{◌≡◌, IfOk};
+ghost use Rattle.code_generator.specs.Written.{site_of};
+
+use crate::processes::ProcessWriter;
+use module_builder::GenFault;
+use usage_checks::GREATEST_SIZE;
+
+/// How many processes may be in one another, bodies of procedures among them.
+pub(crate) const GREATEST_DEPTH: u32 = 4_096;
+
+/// How many rows a module may have.
+const GREATEST_ROWS: u32 = 8_192;
+
+/// How many entries all rows may have.
+const GREATEST_SAID: u32 = 4_194_304;
+
+/// How many names the scopes that are open may have which procedures have from before them.
+const GREATEST_OPEN: u32 = 1_048_576;
+
+/// What was done so far.
+#[derive(Clone, Copy)]
+pub(crate) struct Spent {
+    /// The sizes of all lines that were gone over, those in procedures for each instance.
+    walked: u32,
+    rows: u32,
+    /// The entries of all rows.
+    said: u32,
+    /// The names before those procedures whose bodies are around this place.
+    open: u32,
+}
+
+/// The sum of two sizes. The error is [`GenFault::Limit`] if it is greater than this.
+fn plus(size: u32, more: u32, greatest: u32) -> Result<u32, GenFault> {
+    let sum = size.checked_add(more).ok_or(GenFault::Limit)?;
+    if sum > greatest {
+        return Err(GenFault::Limit);
+    }
+    Ok(sum)
+}
+
+/// A count, as a size. The error is [`GenFault::Limit`] if it is none.
+fn size_of_count(count: usize) -> Result<u32, GenFault> {
+    u32::try_from(count).map_err(|_| GenFault::Limit)
+}
+
+impl Spent {
+    /// Nothing was done.
+    pub(crate) fn nothing() -> Spent {
+        Spent {
+            walked: 0,
+            rows: 0,
+            said: 0,
+            open: 0,
+        }
+    }
+
+    /// A body is gone over that has so many names from before its procedure.
+    pub(crate) fn within(self, names: usize) -> Result<Spent, GenFault> {
+        let names = size_of_count(names)?;
+        Ok(Spent {
+            walked: plus(self.walked, names, GREATEST_SIZE)?,
+            open: plus(self.open, names, GREATEST_OPEN)?,
+            ..self
+        })
+    }
+
+    /// Behind a body.
+    pub(crate) fn behind(self, body: Spent) -> Spent {
+        Spent {
+            open: self.open,
+            ..body
+        }
+    }
+}
+
+impl ProcessWriter<'_> {
+    /// A line of this size is gone over.
+    pub(crate) fn walk_over(&mut self, size: u32) -> Result<(), GenFault>
+        ensures listing { IfOk result (λ _. self.new.listing ≡ self.old.listing) }
+        ensures scope { IfOk result (λ _. self.new.scope ≡ self.old.scope) }
+        ensures frame { IfOk result (λ _. self.new.frame ≡ self.old.frame) }
+        ensures label { IfOk result (λ _. self.new.label ≡ self.old.label) }
+    {
+        self.spent.walked = plus(self.spent.walked, size, GREATEST_SIZE)?;
+        Ok(())
+    }
+
+    /// A row has so many entries.
+    pub(crate) fn say(&mut self, entries: usize) -> Result<(), GenFault>
+        ensures listing { IfOk result (λ _. self.new.listing ≡ self.old.listing) }
+        ensures scope { IfOk result (λ _. self.new.scope ≡ self.old.scope) }
+        ensures frame { IfOk result (λ _. self.new.frame ≡ self.old.frame) }
+        ensures label { IfOk result (λ _. self.new.label ≡ self.old.label) }
+    {
+        self.spent.rows = plus(self.spent.rows, 1, GREATEST_ROWS)?;
+        self.spent.said = plus(self.spent.said, size_of_count(entries)?, GREATEST_SAID)?;
+        Ok(())
+    }
+}

@@ -1,0 +1,239 @@
+//! What an instance passes. If a function that writes fails, some pieces more may have come.
+
+ghost use Rattle.std.specs.Prelude.{◌≡◌, ◌++◌, IfOk, Some, option_map};
+ghost use Rattle.occam_parser.specs.Views.{expression_of};
+ghost use Rattle.scalar_ranges.specs.Scopes.{entries_of, meaning_of};
+ghost use Rattle.program_uses.specs.Instances.{place_in};
+ghost use Rattle.program_uses.specs.PlaceViews.{place_at};
+ghost use Rattle.code_generator.specs.Actions.{channel_home, element_home};
+ghost use Rattle.code_generator.specs.FrameViews.{frame_seen};
+ghost use Rattle.code_generator.specs.HomeViews.{home_seen};
+ghost use Rattle.code_generator.specs.Instances.{meaning_at, as_passed, passed_home, binding_code, bound};
+ghost use Rattle.code_generator.specs.Instances.{bindings_code, all_bound, passed_target, unknown_at, forgotten};
+ghost use Rattle.code_generator.specs.Instances.{all_forgotten, cleaning_code};
+ghost use Rattle.code_generator.specs.PassedViews.{parameters_of, actuals_of};
+ghost use Rattle.code_generator.specs.SettingViews.{entries_in, homes_in};
+ghost use Rattle.code_generator.specs.TargetViews.{target_seen};
+
+use crate::expressions::single;
+use crate::facts::is_in;
+use crate::frame::Frame;
+use crate::home::Home;
+use crate::listing::Listing;
+use crate::setting::{Setting, word_after};
+use crate::targets::{Target, target_of};
+use code_pieces::RowEntry;
+use module_builder::GenFault;
+use occam_parser::Expr;
+use program_uses::{PlaceRef, Signature, parameter_at, place_in};
+use scalar_ranges::{Meaning, ScalarKind, range_of};
+use std::alloc::Global;
+use word_arithmetic::Range;
+
+/// What an instance passes to the parameters of a procedure.
+#[derive(Clone, Copy)]
+pub(crate) struct Passed<'s, 'a> {
+    pub(crate) signatures: &'s [Signature],
+    pub(crate) procedure: Option<Meaning>,
+    pub(crate) actuals: &'s [Expr<'a>],
+}
+
+impl Passed<'_, '_> {
+    /// What the parameter at a place is in the procedure.
+    fn meaning(self, place: usize) -> Option<Meaning>
+        ensures { option_map meaning_of result ≡ meaning_at place (parameters_of self.entry) }
+    {
+        match parameter_at(self.signatures, self.procedure, place) {
+            Some(parameter) => Some(parameter.meaning),
+            None => None,
+        }
+    }
+}
+
+// ---- formals
+
+/// Where an element of an array of channels is, as a procedure has it that it is passed to.
+fn passed_element(home: &Home, number: Option<i32>) -> Result<Home, GenFault>
+    ensures { IfOk result (λ h. home_seen h
+        ≡ as_passed (element_home number (Some (home_seen home.now)))) }
+{
+    let Some(number) = number else {
+        return home.passed();
+    };
+    match home {
+        Home::Word(word) | Home::Passed(word) => {
+            Ok(Home::Passed(word_after(*word, number.unsigned_abs())?))
+        }
+        Home::Nowhere | Home::Block { .. } | Home::Link(_) | Home::Table(_) => home.copy(),
+    }
+}
+
+/// Where a place is, as a procedure has it that it is passed to.
+fn passed_place(setting: Setting, place: PlaceRef) -> Result<Home, GenFault>
+    ensures { IfOk result (λ h. home_seen h
+        ≡ as_passed (channel_home (homes_in setting.entry) (entries_in setting.entry) (place_at place.entry))) }
+{
+    match (setting.home(place.name), place.subscript) {
+        (None, _) => Ok(Home::Nowhere),
+        (Some(home), None) => home.passed(),
+        (Some(home), Some(subscript)) => {
+            passed_element(home, single(range_of(setting.scope, subscript)))
+        }
+    }
+}
+
+/// Where an actual is, as a procedure has it that it is passed to.
+fn passed_home(setting: Setting, actual: &Expr) -> Result<Home, GenFault>
+    ensures { IfOk result (λ h. home_seen h
+        ≡ passed_home (homes_in setting.entry) (entries_in setting.entry) (expression_of actual.now)) }
+{
+    match place_in(actual) {
+        Some(place) => passed_place(setting, place),
+        None => Ok(Home::Nowhere),
+    }
+}
+
+impl Listing {
+    /// An actual, for a parameter with this meaning: the value of a `VAL` scalar is stored in a word of its own.
+    fn write_binding(
+        &mut self,
+        setting: Setting,
+        parameter: Option<Meaning>,
+        actual: &Expr,
+        frame: &mut Frame,
+    ) -> Result<(), GenFault>
+        ensures code { IfOk result (λ _. self.new ≡ self.old ++ binding_code (homes_in setting.entry)
+            (entries_in setting.entry) (option_map meaning_of parameter) (expression_of actual.now) frame.old.top) }
+        ensures frame { IfOk result (λ _. frame_seen frame.new ≡ bound (homes_in setting.entry)
+            (entries_in setting.entry) (option_map meaning_of parameter) (expression_of actual.now)
+            (frame_seen frame.old)) }
+    {
+        match parameter {
+            Some(
+                Meaning::Scalar {
+                    kind: ScalarKind::Value,
+                    ..
+                },
+            ) => {
+                let top = frame.top;
+                self.write_expression(Setting { top, ..setting }, actual)?;
+                self.store(top)?;
+                frame.add_words(1)
+            }
+            _ => frame.add_home(passed_home(setting, actual)?),
+        }
+    }
+
+    /// All actuals. The frame is that of the procedure, which has a place for each parameter then.
+    pub(crate) fn write_bindings(
+        &mut self,
+        setting: Setting,
+        passed: Passed,
+        frame: &mut Frame,
+    ) -> Result<(), GenFault>
+        ensures code { IfOk result (λ _. self.new ≡ self.old ++ bindings_code (homes_in setting.entry)
+            (entries_in setting.entry) (parameters_of passed.entry) 0 (actuals_of passed.entry)
+            (frame_seen frame.old)) }
+        ensures frame { IfOk result (λ _. frame_seen frame.new ≡ all_bound (homes_in setting.entry)
+            (entries_in setting.entry) (parameters_of passed.entry) 0 (actuals_of passed.entry)
+            (frame_seen frame.old)) }
+    {
+        for (place, actual) in passed.actuals.iter().enumerate() {
+            self.write_binding(setting, passed.meaning(place), actual, frame)?;
+        }
+        Ok(())
+    }
+}
+
+// ---- variables that are passed
+
+/// The scalar that an actual is, if its parameter is a variable.
+fn passed_target<'e, 'a>(
+    setting: Setting,
+    parameter: Option<Meaning>,
+    actual: &'e Expr<'a>,
+) -> Target<'e, 'a>
+    ensures { target_seen setting.entry result ≡ passed_target (homes_in setting.entry) (entries_in setting.entry)
+        setting.entry.top (option_map meaning_of parameter) (expression_of actual.now) }
+{
+    match (parameter, place_in(actual)) {
+        (
+            Some(
+                Meaning::Scalar {
+                    kind: ScalarKind::Reference,
+                    ..
+                },
+            ),
+            Some(place),
+        ) => target_of(setting, place),
+        _ => Target::Nothing,
+    }
+}
+
+/// What is known of words, but that nothing is known of the number in this one.
+fn unknown_at(word: u32, entry: RowEntry) -> RowEntry
+    ensures { result ≡ unknown_at word entry }
+{
+    if entry.word == word {
+        is_in(word, 1, Range::full())
+    } else {
+        entry
+    }
+}
+
+/// What is known of words, but for what may be stored into in a procedure.
+fn forgotten(
+    alloc: Global,
+    target: Target,
+    setting: Setting,
+    entries: Vec<RowEntry>,
+) -> Result<Vec<RowEntry>, GenFault>
+    ensures { IfOk result (λ rs. rs.items ≡ forgotten (target_seen setting.entry target.entry) entries.items) }
+{
+    match target {
+        Target::Word { word, .. } => {
+            let mut known = Vec::new(alloc);
+            for entry in &entries {
+                known.push(unknown_at(word, *entry))?;
+            }
+            Ok(known)
+        }
+        _ => Ok(entries),
+    }
+}
+
+/// What is known outside of a procedure, of what is known where it is called.
+pub(crate) fn all_forgotten(
+    alloc: Global,
+    setting: Setting,
+    passed: Passed,
+    entries: Vec<RowEntry>,
+) -> Result<Vec<RowEntry>, GenFault>
+    ensures { IfOk result (λ rs. rs.items ≡ all_forgotten (homes_in setting.entry) (entries_in setting.entry)
+        setting.entry.top (parameters_of passed.entry) 0 (actuals_of passed.entry) entries.items) }
+{
+    let mut entries = entries;
+    for (place, actual) in passed.actuals.iter().enumerate() {
+        let target = passed_target(setting, passed.meaning(place), actual);
+        entries = forgotten(alloc, target, setting, entries)?;
+    }
+    Ok(entries)
+}
+
+impl Listing {
+    /// Behind the body of a procedure each BYTE scalar that was passed as a variable has its byte alone again.
+    pub(crate) fn write_cleaning(
+        &mut self,
+        setting: Setting,
+        passed: Passed,
+    ) -> Result<(), GenFault>
+        ensures { IfOk result (λ _. self.new ≡ self.old ++ cleaning_code (homes_in setting.entry)
+            (entries_in setting.entry) setting.entry.top (parameters_of passed.entry) 0 (actuals_of passed.entry)) }
+    {
+        for (place, actual) in passed.actuals.iter().enumerate() {
+            let target = passed_target(setting, passed.meaning(place), actual);
+            self.write_cleaned(setting, target)?;
+        }
+        Ok(())
+    }
+}
