@@ -1,0 +1,23 @@
+//! Compiles programs, runs them, and prints each case in text that differs.
+//!
+//! The arguments name files of cases, which may be programs that say their cases themselves; without any, the cases are
+//! read from standard input. The last line has the counts. The status is 1 if a case differs or cannot be read.
+#![tactic(auto)]
+
+mod asking;
+mod course;
+mod given;
+mod running;
+mod schedule;
+mod setting;
+mod source;
+mod values;
+
+use conformance::try_cases;
+use setting::Setting;
+use std::io;
+use std::process::ExitCode;
+
+fn main(rt: HostRuntime) -> io::Result<ExitCode> {
+    try_cases::<Setting, HostRuntime>(&rt)
+}
