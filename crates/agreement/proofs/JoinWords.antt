@@ -21,7 +21,8 @@ use Rattle.world_laws.specs.Parked.{InWord}
 use Rattle.plain_machine.specs.PlainStep.{HasWord, plain_word, with_plain_word}
 use Rattle.agreement.specs.Agrees as agree
 use Rattle.agreement.specs.Agrees.{PlainMachine, Agrees}
-use Rattle.agreement.proofs.ChannelWords.{Owns, word_kept, plain_kept, parked_kept, messages_kept, alternations_kept}
+use Rattle.agreement.proofs.ChannelWords.{word_kept, plain_kept, parked_kept, messages_kept, alternations_kept}
+use Rattle.agreement.proofs.Elsewhere.{Owns}
 use Rattle.agreement.proofs.Leaving.{blank_matches}
 
 -- nobody may write the block of an open join

@@ -30,6 +30,8 @@ pub mod StartingBranches
 pub mod JoinWords
 pub mod ClosingJoins
 pub mod EndingBranches
+pub mod Rousing
+pub mod KeepingBytes
 pub mod Alternating
 pub mod WaitingForGuards
 pub mod DisablingGuards

@@ -34,7 +34,7 @@ pub record Names (Is : ℕ → Type 0) (queue : Queue) (channels : List (Option 
   pub inputs : (k : ℕ) (l : InputLink) (q : ℕ) → slice_get links.inputs k ≡ Some l → l.waiting ≡ Some q → Is q
   pub outputs : (k : ℕ) (l : OutputLink) (q : ℕ) → slice_get links.outputs k ≡ Some l → l.waiting ≡ Some q → Is q
 
-alternates_live : (mode : Mode) (c : Condition) → Alternates mode c → IsLive c
+pub alternates_live : (mode : Mode) (c : Condition) → Alternates mode c → IsLive c
 alternates_live mode c (inl enables) = subst IsLive (sym enables.1) tt
 alternates_live mode c (inr disables) = elim disables.1 [
   | inl ready ↦ subst IsLive (sym ready) tt

@@ -22,8 +22,8 @@ use Rattle.world_laws.specs.Parked.{InWord, IsInside, IsSchedulingPlace}
 use Rattle.world_laws.proofs.KeptWords.{channel_words_are_blank}
 use Rattle.agreement.specs.Agrees as agree
 use Rattle.agreement.specs.Agrees.{PlainMachine, PlainInput, Agrees, arrival_of, workspace_in}
-use Rattle.agreement.proofs.ChannelWords.{Owns, channel_is_kept, channel_is_set, nobody_writes, owns_of, owns_then}
-use Rattle.agreement.proofs.Elsewhere.{Laws, laws_of, refuted}
+use Rattle.agreement.proofs.ChannelWords.{channel_is_kept, channel_is_set, nobody_writes, owns_then}
+use Rattle.agreement.proofs.Elsewhere.{Laws, Owns, laws_of, owns_of, refuted}
 use Rattle.agreement.proofs.Links.{input_is}
 use Rattle.agreement.proofs.Names.{word_by}
 use Rattle.agreement.proofs.Naming.{channel_lies}

@@ -80,7 +80,7 @@ module _ (m : Contents) (w : World) (machine : PlainMachine) (agrees : Agrees m 
     ready_is : after.ready ≡ map (workspace_in tasks) (w.queue.ready ++ q ∷ [])
     ready_is =
         ap (λ (ready : List ℕ). ready ++ task.registers.workspace ∷ [])
-        (agrees.ready ∙ same_workspaces w q task was.here Ready w.queue.ready)
+        (agrees.ready ∙ same_workspaces w q task was.here Ready task.mode w.queue.ready)
         ∙ (ap (λ (a : ℕ). map (workspace_in tasks) w.queue.ready ++ a ∷ []) (sym workspace_is)
         ∙ sym (map-append (workspace_in tasks) w.queue.ready (q ∷ [])))
 
@@ -92,12 +92,12 @@ module _ (m : Contents) (w : World) (machine : PlainMachine) (agrees : Agrees m 
       ready = ready_is;
       parked = parked;
       channels = λ k c there. agrees.channels k c there
-          ∙ same_channel w q task was.here Ready c.waiting c.enabled;
+          ∙ same_channel w q task was.here Ready task.mode c.waiting c.enabled;
       messages = messages;
       alternations = alternations;
-      outputs = agrees.outputs ∙ same_outputs w q task was.here Ready w.links.outputs;
+      outputs = agrees.outputs ∙ same_outputs w q task was.here Ready task.mode w.links.outputs;
       inputs = agrees.inputs ∙ mapped_alike (agree.plain_input w.tasks) (agree.plain_input tasks) w.links.inputs
-          (λ k l there. same_input w q task was.here Ready l (λ r is. no_link k l r there is));
+          (λ k l there. same_input w q task was.here Ready task.mode l (λ r is. no_link k l r there is));
       joins = agrees.joins;
       counters = agrees.counters;
     }

@@ -7,6 +7,7 @@ pub mod Inside
 pub mod Starts
 pub mod Ends
 pub mod Alternating
+pub mod Rousing
 pub mod Loading
 pub mod Arriving
 pub mod QueueWords

@@ -34,15 +34,17 @@ pub fn going_on_agrees()
 /// process that runs goes on, goes to the back of the ready list, stops, receives or sends a message, starts a branch,
 /// ends in a join or has part in an alternation, and the next ready process runs where it leaves, the machine agrees
 /// with the world after the Step, and has the message that it sent over a link. Over a channel inside the first to come
-/// waits, and with the second the message is copied. With the last member of a join its opener goes on. The words in
+/// waits, and with the second the message is copied. A sender that comes first rouses the process that has enabled the
+/// channel, if one has. With the last member of a join its opener goes on. The words in
 /// which processes are parked and linked for that lie in memory, no two of them meet, and the queue may use the links.
 pub fn turns_agree()
     ensures { TurnsAgree }
 {}
 
 /// Whatever a module that keeps the format does, the plain machine that agrees goes on to agree by an event that finds
-/// nobody: a Step while no process runs, a byte on a link where nobody waits and which nobody has enabled, and an
-/// acknowledgement that nobody waits for.
+/// nobody who waits: a Step while no process runs, a byte on a link where nobody does, and an acknowledgement. The byte
+/// is kept, and the process that has enabled the link, if one has, is roused: its alternation is ready from then on,
+/// and if the process waited for that, it is ready too, after all that are.
 pub fn quiet_events_agree()
     ensures steps { IdleStepsAgree }
     ensures arrivals { ArrivalsAgree }

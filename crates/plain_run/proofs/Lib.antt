@@ -1,5 +1,6 @@
 pub mod Dispatching
 pub mod Stepping
+pub mod Rousing
 pub mod Arriving
 pub mod Waking
 pub mod Exchanging

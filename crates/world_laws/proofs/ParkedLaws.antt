@@ -100,6 +100,7 @@ filled_in_order h memory aside t e done is order = record {
     | inl ready ↦ absurd (let z : OnLink e done ≡ Ready = sym is ∙ ready in cc)
     | inr waits ↦ absurd (let z : OnLink e done ≡ Alternating = sym is ∙ waits in cc)
   ];
+  unselected = λ waits. absurd (let z : OnLink e (done + 1) ≡ Alternating = waits in cc);
   words = λ either. order.words (elim either [ inl inside ↦ inl inside | inr idle ↦ inr (live, idle.1) ]);
   selection = order.selection;
   rest = λ more idle. order.rest live idle;

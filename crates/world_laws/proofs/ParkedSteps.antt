@@ -328,7 +328,8 @@ module _ (h : Here) (w : World) (runs : w.queue.running ≡ Some h.process)
       → EachInOrder Anyone (slice_set w.tasks h.process (waiting l c)) w.roles memory
   waits test l e c memory x plain is read write words steady =
       set Anyone (waiting l c) w.roles memory all_hold steady
-      (waits_in_order hold memory ⊤ (waiting l c) (plain_is_outside h.from.mode plain) words
+      (waits_in_order hold memory ⊤ (waiting l c) (plain_is_outside h.from.mode plain)
+      (λ waits. let z : None ≡ Some e = sym (ap message_of waits) ∙ is in cc) words
       (record { stack = x.gives.stack; operand = refl })
       (has_buffer hold (g.data_alone h.process) test l e x c is read write))
 
@@ -413,7 +414,8 @@ module _ (h : Here) (w : World) (runs : w.queue.running ≡ Some h.process)
       → IsInOrder (holding_of h.contents (length w.memory) (share_by plan found.branch))
       (without_words (scheduling_addresses workspace) l.memory) ⊤ (new_task found.branch workspace)
   child_in_order plan found workspace l lies share =
-      waits_in_order given after ⊤ (new_task found.branch workspace) (plain_is_outside Plain refl) words
+      waits_in_order given after ⊤ (new_task found.branch workspace) (plain_is_outside Plain refl)
+      (λ waits. let z : Ready ≡ Alternating = waits in cc) words
       (record { stack = refl; operand = refl }) (no_buffer given workspace Ready refl)
     where
       given : Holding
@@ -554,7 +556,8 @@ module _ (h : Here) (w : World) (runs : w.queue.running ≡ Some h.process)
   moved o v (turns.it_is_sliced to l) leaves fits steady held =
       let u = record h.from { registers = between to l.registers } in
       set (Aside v) u w.roles l.memory all_hold steady
-      (waits_in_order hold l.memory (Aside v h.process) u (plain_is_outside h.from.mode leaves.0) leaves.1.words
+      (waits_in_order hold l.memory (Aside v h.process) u (plain_is_outside h.from.mode leaves.0)
+      (λ waits. let z : Ready ≡ Alternating = sym ready ∙ waits in cc) leaves.1.words
       (record { stack = leaves.1.stack; operand = refl })
       (no_buffer hold l.registers.workspace u.condition (ap message_of ready)))
   moved o v (turns.it_lands to l) leaves fits steady held =
@@ -618,6 +621,7 @@ module _ (h : Here) (w : World) (runs : w.queue.running ≡ Some h.process)
   moved o v (turns.it_waits l is) leaves fits steady held =
       set (Aside v) _ w.roles l.memory all_hold steady (record {
         modes = λ inside. inr refl;
+        unselected = λ waits. refl;
         words = λ either. leaves.gives.words;
         selection = λ d. leaves.selection;
         rest = λ live aside. record { stack = leaves.gives.stack; operand = refl };

@@ -29,6 +29,7 @@ use Rattle.world_laws.proofs.StepLeaves.{Messages}
 -- what is so of a process that holds this, and of which `aside` says that it does not run
 pub record IsInOrder (h : Holding) (memory : Memory) (aside : Type 0) (t : Task) : Type 0 where
   pub modes : IsInside t.mode → (t.condition ≡ Ready) ⊎ (t.condition ≡ Alternating)
+  pub unselected : t.condition ≡ Alternating → t.mode ≡ Disabling None
   pub words : IsInside t.mode ⊎ (IsLive t.condition × aside) → HasWords h memory t.registers.workspace
   pub selection : Disables t.mode → HasSelection h memory t.registers.workspace
   pub rest : IsLive t.condition → aside → IsAtRest t.registers
@@ -67,6 +68,7 @@ pub runs_in_order : (h : Holding) (memory : Memory) (aside : Type 0) (t : Task) 
     → (Disables t.mode → HasSelection h memory t.registers.workspace) → IsInOrder h memory aside t
 runs_in_order h memory aside t ready runs words selection = record {
   modes = λ inside. inl ready;
+  unselected = λ waits. absurd (let z : Ready ≡ Alternating = sym ready ∙ waits in cc);
   words = λ either. elim either [ inl inside ↦ words inside | inr idle ↦ absurd (runs idle.1) ];
   selection = selection;
   rest = λ live idle. absurd (runs idle);
@@ -84,6 +86,7 @@ pub over_in_order : (h : Holding) (memory : Memory) (aside : Type 0) (t : Task) 
     → (IsLive t.condition → ⊥) → message_of t.condition ≡ None → IsInOrder h memory aside t
 over_in_order h memory aside t outside over none = record {
   modes = λ inside. absurd (outside inside);
+  unselected = λ waits. absurd (over (subst IsLive (sym waits) tt));
   words = λ either. elim either [ inl inside ↦ absurd (outside inside) | inr idle ↦ absurd (over idle.0) ];
   selection = λ disables. absurd (outside (inr disables));
   rest = λ live idle. absurd (over live);
@@ -92,10 +95,12 @@ over_in_order h memory aside t outside over none = record {
 
 -- it waits outside an alternation
 pub waits_in_order : (h : Holding) (memory : Memory) (aside : Type 0) (t : Task) → (IsInside t.mode → ⊥)
-    → HasWords h memory t.registers.workspace → IsAtRest t.registers → HasBuffer h t.registers.workspace t.condition
+    → (t.condition ≡ Alternating → ⊥) → HasWords h memory t.registers.workspace → IsAtRest t.registers
+    → HasBuffer h t.registers.workspace t.condition
     → IsInOrder h memory aside t
-waits_in_order h memory aside t outside words rest buffer = record {
+waits_in_order h memory aside t outside message words rest buffer = record {
   modes = λ inside. absurd (outside inside);
+  unselected = λ waits. absurd (message waits);
   words = λ either. words;
   selection = λ disables. absurd (outside (inr disables));
   rest = λ live idle. rest;
@@ -106,6 +111,7 @@ pub weaker : (h : Holding) (memory : Memory) (before after : Type 0) (t : Task) 
     → IsInOrder h memory before t → IsInOrder h memory after t
 weaker h memory before after t less order = record {
   modes = order.modes;
+  unselected = order.unselected;
   words = λ either. order.words (elim either [ inl inside ↦ inl inside | inr idle ↦ inr (idle.0, less idle.1) ]);
   selection = order.selection;
   rest = λ live idle. order.rest live (less idle);
@@ -117,6 +123,7 @@ pub woken_in_order : (h : Holding) (memory : Memory) (aside : Type 0) (t : Task)
     → IsInOrder h memory aside t → IsInOrder h memory aside (record t { condition = Ready })
 woken_in_order h memory aside t live order = record {
   modes = λ inside. inl refl;
+  unselected = λ waits. absurd (let z : Ready ≡ Alternating = waits in cc);
   words = λ either. order.words (elim either [ inl inside ↦ inl inside | inr idle ↦ inr (live, idle.1) ]);
   selection = order.selection;
   rest = λ ready idle. order.rest live idle;
@@ -128,6 +135,8 @@ enabled_in_order : (h : Holding) (memory : Memory) (aside : Type 0) (t : Task) �
     → IsInOrder h memory aside t → IsInOrder h memory aside (record t { mode = Enabling true })
 enabled_in_order h memory aside t enables order = record {
   modes = λ inside. order.modes (inl enables);
+  unselected = λ waits. absurd (let z : Enabling enables.0 ≡ Disabling None = sym enables.1 ∙ order.unselected waits in
+      cc);
   words = λ either. order.words (elim either [ inl inside ↦ inl (inl enables) | inr idle ↦ inr idle ]);
   selection = λ disables. absurd (let z : Enabling true ≡ Disabling disables.0 = disables.1 in cc);
   rest = order.rest;
@@ -144,6 +153,7 @@ pub still_in_order : (h later : Holding) (memory after : Memory) (aside : Type 0
 still_in_order h later memory after aside t same still order =
     subst (λ (g : Holding). IsInOrder g after aside t) (sym same) (record {
       modes = order.modes;
+      unselected = order.unselected;
       words = λ either x there.
           let blank = order.words either x there in
           record {
