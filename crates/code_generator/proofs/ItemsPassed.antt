@@ -1,6 +1,6 @@
 -- What is known and written behind the items before main, and that main's code is then the program's.
 use Rattle.std.proofs.Common.{◌≡◌, ℕ, ◌+◌, ◌<◌, ◌≤◌, Bool, true, false, cond, List, [], ◌∷◌, ◌++◌, length, map}
-use Rattle.std.proofs.Common.{take, get_or, max, nat_eq, Option, Some, None, inl, inr, refl, sym, ap, subst, ◌∙◌, arith}
+use Rattle.std.proofs.Common.{take, get_or, max, nat_eq, Option, Some, None, IfSome, inl, inr, refl, sym, ap, subst, ◌∙◌, arith}
 use Rattle.std.proofs.Math.Seq.{take-append_seam}
 use Rattle.std.proofs.lemmas.List.{length-append, length-map, map-append, take_all}
 use Rattle.std.specs.Global.{Vec}
@@ -321,9 +321,9 @@ all_but_last xs ys x y same =
 -- ---- the whole
 
 appended : (code : Option Code) (pieces : List Piece) (labels : ℕ) → Appends [] pieces labels code
-    → code ≡ Some (record { pieces = pieces; labels = labels })
-appended None pieces labels x = absurd x
-appended (Some c) pieces labels x = λ i. Some (record { pieces = sym x.0 i; labels = sym x.1 i })
+    → IfSome code (λ c. record { pieces = pieces; labels = labels } ≡ c)
+appended None pieces labels x = tt
+appended (Some c) pieces labels x = λ i. record { pieces = x.0 i; labels = x.1 i }
 
 -- the procedures before main are all but the last one
 signed_before : (before : List ProgramItem) (p : Procedure) (all rest : List Signature) (x : Signature)
@@ -346,7 +346,7 @@ main_is_whole : (before : List ProgramItem) (p : Procedure) (s : Start) (t : Pro
     → (around_of around.around).signatures ≡ (globals_of before).outside.signatures → around.around.uncounted ≡ None
     → around.callees.now ≡ s.callees.items → around.count ≡ length s.callees.items
     → WritesMain s.writer t around p
-    → code_of (before ++ GlobalProcedure p ∷ []) ≡ Some (record { pieces = t.listing; labels = t.label })
+    → IfSome (code_of (before ++ GlobalProcedure p ∷ [])) (λ c. record { pieces = t.listing; labels = t.label } ≡ c)
 main_is_whole before p s t around unbroken precedes signed uncounted those all x =
     let w = s.writer in
     let item = GlobalProcedure p in
@@ -363,10 +363,11 @@ main_is_whole before p s t around unbroken precedes signed uncounted those all x
     ap length (sym precedes.callees) ∙ length-map s.callees.items callee_of ∙ sym all in
     let written = subst (λ old. Appends old t.listing t.label (main_code (surroundings_of around) p (site_of w)))
     precedes.listing x in
-    whole_code (before ++ item ∷ []) ∙ code_of_last before item (globals_of [])
+    let code = whole_code (before ++ item ∷ []) ∙ code_of_last before item (globals_of [])
     ∙ (λ i. main_code (where_called (callees i) (record { signatures = signatures i; uncounted = none i }) (count i)) p
-    (site i))
-    ∙ appended (main_code (surroundings_of around) p (site_of w)) t.listing t.label written
+    (site i)) in
+    subst (λ o. IfSome o (λ c. record { pieces = t.listing; labels = t.label } ≡ c)) (sym code)
+    (appended (main_code (surroundings_of around) p (site_of w)) t.listing t.label written)
 
 pub program_written : (all before : List Item) (p : code_proc.Proc) (signatures rest : List Signature) (x : Signature)
     (s : Start) (t : ProcessWriter) (around : calling.Surroundings) → all ≡ before ++ Proc p ∷ []
@@ -374,7 +375,7 @@ pub program_written : (all before : List Item) (p : code_proc.Proc) (signatures 
     → signatures ≡ rest ++ x ∷ [] → around.around.signatures.now ≡ rest → around.around.uncounted ≡ None
     → around.callees.now ≡ s.callees.items → around.count ≡ length s.callees.items
     → Precedes s (map item_of before) → WritesMain s.writer t around (procedure_of p)
-    → code_of (map item_of all) ≡ Some (record { pieces = t.listing; labels = t.label })
+    → IfSome (code_of (map item_of all)) (λ c. record { pieces = t.listing; labels = t.label } ≡ c)
 program_written all before p signatures rest x s t around is unbroken signed split those uncounted callees count
     precedes written =
     let items = map item_of before in
@@ -383,5 +384,6 @@ program_written all before p signatures rest x s t around is unbroken signed spl
     ap (map item_of) is ∙ map-append item_of before (Proc p ∷ []) in
     let before_main = ap signatures_of those ∙ signed_before items main signatures rest x
     (subst (λ ys. signatures_of signatures ≡ (after_items ys).signatures) seen signed) split in
-    ap code_of seen ∙ main_is_whole items main s t around (subst BreaksNoRule seen unbroken) precedes before_main
-    uncounted callees count written
+    subst (λ ys. IfSome (code_of ys) (λ c. record { pieces = t.listing; labels = t.label } ≡ c)) (sym seen)
+    (main_is_whole items main s t around (subst BreaksNoRule seen unbroken) precedes before_main uncounted callees count
+    written)

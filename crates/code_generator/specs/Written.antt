@@ -1,5 +1,5 @@
 -- What it is to write the code of a process or of a part of one.
-use Rattle.std.specs.Prelude.{◌≡◌, ℕ, ◌+◌, Bool, true, false, List, [], ◌∷◌, ◌++◌, take, Option, Some, None}
+use Rattle.std.specs.Prelude.{◌≡◌, ⊤, ℕ, ◌+◌, Bool, true, false, List, [], ◌∷◌, ◌++◌, take, Option, Some, None}
 use Rattle.occam_layout.specs.declared.mark.Mark.TheVariants as mark
 use Rattle.occam_parser.specs.Terminals.{Mark}
 use Rattle.occam_parser.specs.Expressions.{Expression}
@@ -40,12 +40,12 @@ site_of w = record { frame = frame_seen w.frame; known = known_of w.scope; label
 abbrev pub first_site : Site
 first_site = record { frame = no_frame; known = outermost.known; label = 0 }
 
--- There is code, which was appended, and this is the least label that it leaves free.
+-- If there is code, it was appended, and this is the least label that it leaves free.
 abbrev pub Appends : List Piece → List Piece → ℕ → Option Code → Type 0
-Appends old new label None = ⊥
+Appends old new label None = ⊤
 Appends old new label (Some c) = (new ≡ old ++ c.pieces) × (label ≡ c.labels)
 
--- The code was appended, and this is known after it. What names stand for is as before.
+-- If there is code, it was appended. This is known after it, and what names stand for is as before.
 pub record Writes (s t : ProcessWriter) (wanted : Option Code) (after : Known) : Type 0 where
   pub code : Appends s.listing t.listing t.label wanted
   pub known : known_of t.scope ≡ after

@@ -1,6 +1,6 @@
 //! The code of a program.
 
-ghost use Rattle.std.specs.Prelude.{◌≡◌, ◌≤◌, Some, length, map, IfOk};
+ghost use Rattle.std.specs.Prelude.{◌≡◌, ◌≤◌, length, map, IfOk, IfSome};
 ghost use Rattle.occam_parser.specs.LineViews.{formal_of};
 ghost use Rattle.occam_parser.specs.Blocks.{GlobalProcedure};
 ghost use Rattle.occam_parser.specs.BlockViews.{item_of, procedure_of};
@@ -150,7 +150,7 @@ impl<'a> ProcessWriter<'a> {
 /// an `ALT`, which have no code here, but for those in a loop or a choice that never happens. It is [`GenFault::Limit`]
 /// if too much is gone over: the time and the memory that it takes are bounded, however often procedures are called.
 pub fn code_of(alloc: Global, program: &CheckedProgram) -> Result<Code, GenFault>
-    ensures { IfOk result (λ code. code_of (map item_of program.now.program.items.items) ≡ Some code) }
+    ensures { IfOk result (λ code. IfSome (code_of (map item_of program.now.program.items.items)) (λ c. code ≡ c)) }
 {
     let Some((last, before)) = program.program().items().split_last() else {
         return Err(GenFault::Invalid);

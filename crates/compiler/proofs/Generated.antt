@@ -1,5 +1,5 @@
 -- What a program becomes, by the module of its pieces.
-use Rattle.std.proofs.Common.{◌≡◌, ℕ, List, Some, refl, sym, ◌∙◌, subst}
+use Rattle.std.proofs.Common.{◌≡◌, ℕ, List, IfSome, refl, sym, subst}
 use Rattle.occam_parser.specs.Blocks.{ProgramItem}
 use Rattle.code_pieces.specs.Pieces.{Piece, Code}
 use Rattle.code_pieces.specs.Laying.{apart}
@@ -10,10 +10,7 @@ use Rattle.code_generator.specs.Programs.{code_of}
 use Rattle.compiler.specs.Compiled.{IsGenerated}
 use Rattle.compiler.specs.LinkLengths.{link_lengths}
 
-same_inside : {A : Type 0} (x y : A) → Some x ≡ Some y → x ≡ y
-same_inside x y e = cc
-
-generated : (items : List ProgramItem) (code : Code) (bytes : List ℕ) → code_of items ≡ Some code
+generated : (items : List ProgramItem) (code : Code) (bytes : List ℕ) → IfSome (code_of items) (λ c. code ≡ c)
     → IsCertifiedModule code.pieces code.labels (link_lengths items) bytes → IsGenerated items bytes
 generated items code bytes is made =
     let m = made.is_module in
@@ -29,12 +26,12 @@ generated items code bytes is made =
         lengths = refl;
       };
       is_code = λ other has. subst (λ (c : Code). Says (apart c.pieces) c.labels links bytes)
-          (same_inside code other (sym is ∙ has)) says;
+          (subst (λ o. IfSome o (λ c. code ≡ c)) has is) says;
     }
 
 -- the same of these pieces and links
 pub generated_of : (items : List ProgramItem) (code : Code) (ps : List Piece) (links bytes : List ℕ)
-    → code_of items ≡ Some code → ps ≡ code.pieces → links ≡ link_lengths items
+    → IfSome (code_of items) (λ c. code ≡ c) → ps ≡ code.pieces → links ≡ link_lengths items
     → IsCertifiedModule ps code.labels links bytes → IsGenerated items bytes
 generated_of items code ps links bytes is pieces lengths made =
     generated items code bytes is

@@ -1,4 +1,4 @@
-use Rattle.std.proofs.Common.{◌≡◌, None, List, [], ◌∷◌, ◌++◌, length, map, arith, refl, sym, ap, subst, ◌∙◌}
+use Rattle.std.proofs.Common.{None, IfSome, List, [], ◌∷◌, ◌++◌, length, map, arith, refl, sym, ap, subst, ◌∙◌, ◌≡◌}
 use Rattle.occam_parser.specs.declared.parsed.Program.{Program}
 use Rattle.occam_parser.specs.declared.tree.Item.{Item}
 use Rattle.occam_parser.specs.BlockViews.{item_of}
@@ -29,8 +29,10 @@ returns c =
       deeper = 4096;
     } in
     let count : c.len-count.result ≡ length start.callees.items = omega arith in
-    ap (λ (xs : List Item). code_of (map item_of xs)) (sym all)
-    ∙ program_written items before c.in-Proc.main c.signatures.result.now c.in-Some-split_last.signatures.now
+    subst
+    (λ (xs : List Item). IfSome (code_of (map item_of xs))
+    (λ wanted. record { pieces = c.write_main.new.self.listing; labels = c.write_main.new.self.label } ≡ wanted))
+    all (program_written items before c.in-Proc.main c.signatures.result.now c.in-Some-split_last.signatures.now
     c.in-Some-split_last.field-0-0.now start c.write_main.new.self around split unbroken signed
     c.in-Some-split_last.ensures.cases.0 refl refl c.deref.ensures.value count c.in_ok-start.ensures
-    c.in_ok-write_main.ensures
+    c.in_ok-write_main.ensures)
