@@ -1,4 +1,5 @@
 pub mod ActsWritten
+pub mod BranchesWritten
 pub mod CallsFound
 pub mod ChainCode
 pub mod ChoicesWritten

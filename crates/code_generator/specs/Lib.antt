@@ -15,3 +15,6 @@ pub mod SettingViews
 pub mod TargetViews
 pub mod FrameViews
 pub mod Written
+pub mod Noted
+pub mod Cutting
+pub mod Branches

@@ -15,6 +15,7 @@ ghost use Rattle.code_generator.specs.TargetViews.{target_seen};
 use crate::expressions::single;
 use crate::home::Home;
 use crate::listing::Listing;
+use crate::noting::{ChannelEnd, ChannelPlace, Way};
 use crate::setting::{Setting, word_after};
 use crate::targets::{Target, target_of};
 use code_pieces::{Piece, operations};
@@ -99,6 +100,18 @@ impl Listing {
         }
     }
 
+    /// What a target is a part of is written.
+    fn write_use(&mut self, target: Target) -> Result<(), GenFault>
+        ensures { IfOk result (λ _. self.new ≡ self.old) }
+    {
+        match target {
+            Target::Nothing => Ok(()),
+            Target::Word { word, .. } | Target::Known { word, .. } | Target::Other { word, .. } => {
+                self.writes(word)
+            }
+        }
+    }
+
     /// An assignment.
     pub fn write_assignment(
         &mut self,
@@ -110,8 +123,10 @@ impl Listing {
             (entries_in setting.entry) setting.entry.top (place_of target.now) (expression_of value.now)) }
     {
         let above = setting.above()?;
+        let target = target_of(above, place_ref(target));
         self.write_expression(setting, value)?;
-        self.write_store(above, target_of(above, place_ref(target)), setting.top)
+        self.write_use(target)?;
+        self.write_store(above, target, setting.top)
     }
 
     /// The address of what is stored into.
@@ -147,6 +162,7 @@ impl Listing {
                 value_type: ValueType::Byte,
                 word,
             } => {
+                self.writes(word)?;
                 self.point(word)?;
                 self.operate(operations::LOAD_BYTE)?;
                 self.store(word)
@@ -184,6 +200,22 @@ impl Listing {
         }
     }
 
+    /// An end of a channel is used. Nothing is written.
+    pub(crate) fn write_end_use(
+        &mut self,
+        setting: Setting,
+        channel: &Place,
+        way: Way,
+    ) -> Result<(), GenFault>
+        ensures { IfOk result (λ _. self.new ≡ self.old) }
+    {
+        let Some(place) = channel_at(setting, channel)? else {
+            return Ok(());
+        };
+        let length = message_length(setting.scope.meaning(channel.name));
+        self.uses(ChannelEnd { place, way }, length.unsigned_abs())
+    }
+
     /// The channel, the length of its messages and `in` or `out`, behind the address of a message.
     fn write_exchange(
         &mut self,
@@ -210,7 +242,9 @@ impl Listing {
             (entries_in setting.entry) setting.entry.top (place_of channel.now) (place_of target.now)) }
     {
         let target = target_of(setting, place_ref(target));
+        self.write_use(target)?;
         self.write_target_address(setting, target)?;
+        self.write_end_use(setting, channel, Way::In)?;
         self.write_exchange(setting, channel, operations::INPUT)?;
         self.write_cleaned(setting, target)
     }
@@ -228,6 +262,7 @@ impl Listing {
         self.write_expression(setting, value)?;
         self.store(setting.top)?;
         self.point(setting.top)?;
+        self.write_end_use(setting, channel, Way::Out)?;
         self.write_exchange(setting, channel, operations::OUTPUT)
     }
 
@@ -246,6 +281,19 @@ impl Listing {
             self.direct(Fun::AddConstant, 0)?;
         }
         self.push(Piece::JumpUnless { to: label })
+    }
+}
+
+/// Where a channel is, if it is somewhere.
+fn channel_at(setting: Setting, channel: &Place) -> Result<Option<ChannelPlace>, GenFault> {
+    match (setting.home(channel.name), &channel.subscript) {
+        (Some(Home::Link(number)), _) => Ok(Some(ChannelPlace::Link(*number))),
+        (Some(Home::Word(word) | Home::Passed(word)), None) => Ok(Some(ChannelPlace::Word(*word))),
+        (Some(Home::Word(word) | Home::Passed(word)), Some(subscript)) => {
+            let number = single(range_of(setting.scope, subscript)).unwrap_or(0);
+            Ok(Some(ChannelPlace::Word(word_after(*word, number.unsigned_abs())?)))
+        }
+        _ => Ok(None),
     }
 }
 

@@ -211,10 +211,12 @@ impl Listing {
     {
         match home {
             Some(Home::Passed(word)) if is_reference => {
+                self.reads(*word)?;
                 self.point(*word)?;
                 self.operate(operations::LOAD_BYTE)
             }
             Some(Home::Word(word) | Home::Block { word, .. } | Home::Passed(word)) => {
+                self.reads(*word)?;
                 self.load(*word)
             }
             Some(Home::Nowhere | Home::Link(_) | Home::Table(_)) | None => Ok(()),

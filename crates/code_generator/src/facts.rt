@@ -81,7 +81,7 @@ fn fact_here(home: &Home, declared: Option<Entry>) -> Result<Option<RowEntry>, G
 }
 
 /// One entry more, if there is one.
-fn push_any(entries: &mut Vec<RowEntry>, entry: Option<RowEntry>) -> Result<(), GenFault>
+pub(crate) fn push_any<T: Drop>(entries: &mut Vec<T>, entry: Option<T>) -> Result<(), GenFault>
     ensures { IfOk result (λ _. entries.new.items ≡ entries.old.items ++ option_to_list entry) }
 {
     if let Some(entry) = entry {

@@ -72,6 +72,7 @@ impl<'a> ProcessWriter<'a> {
         add_formals(self.alloc, &mut scope, &callee.proc.formals)?;
         let mut body = ProcessWriter {
             alloc: self.alloc,
+            context: self.context,
             scope,
             frame,
             label: label_after(self.label)?,

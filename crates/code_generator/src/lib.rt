@@ -2,7 +2,9 @@
 #![tactic(auto)]
 
 mod acting;
+mod branches;
 mod calling;
+mod context;
 mod declaring;
 mod expressions;
 mod facts;
@@ -14,6 +16,8 @@ mod laws;
 mod limits;
 mod listing;
 mod loops;
+mod noting;
+mod parallel;
 mod passing;
 mod processes;
 mod program;

@@ -16,6 +16,9 @@ const GREATEST_ROWS: u32 = 8_192;
 /// How many entries all rows may have.
 const GREATEST_SAID: u32 = 4_194_304;
 
+/// How many PARs a module may have.
+const GREATEST_PARS: u32 = 1_024;
+
 /// How many names the scopes that are open may have which procedures have from before them.
 const GREATEST_OPEN: u32 = 1_048_576;
 
@@ -25,8 +28,9 @@ pub(crate) struct Spent {
     /// The sizes of all lines that were gone over, those in procedures for each instance.
     walked: u32,
     rows: u32,
-    /// The entries of all rows.
+    /// The entries of all rows, and what branches of PARs use.
     said: u32,
+    pars: u32,
     /// The names before those procedures whose bodies are around this place.
     open: u32,
 }
@@ -52,6 +56,7 @@ impl Spent {
             walked: 0,
             rows: 0,
             said: 0,
+            pars: 0,
             open: 0,
         }
     }
@@ -64,6 +69,18 @@ impl Spent {
             open: plus(self.open, names, GREATEST_OPEN)?,
             ..self
         })
+    }
+
+    /// There is a `PAR` more.
+    pub(crate) fn count_par(&mut self) -> Result<(), GenFault> {
+        self.pars = plus(self.pars, 1, GREATEST_PARS)?;
+        Ok(())
+    }
+
+    /// A branch uses so many words and ends.
+    pub(crate) fn count_notes(&mut self, notes: usize) -> Result<(), GenFault> {
+        self.said = plus(self.said, size_of_count(notes)?, GREATEST_SAID)?;
+        Ok(())
     }
 
     /// Behind a body.

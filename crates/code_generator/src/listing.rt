@@ -5,6 +5,7 @@ ghost use Rattle.prefix_decoder.specs.declared.function.Fun.TheVariants as fun;
 ghost use Rattle.code_pieces.specs.Pieces.{Direct, TableAddress, operates, loads, stores, points, constant, below};
 ghost use Rattle.code_pieces.specs.PieceViews.{pieces_of, piece_of};
 
+use crate::noting::Notes;
 use code_pieces::Piece;
 use code_pieces::operations::{MINIMUM_INTEGER, REVERSE};
 use module_builder::GenFault;
@@ -16,7 +17,10 @@ use std::rc::Rc;
 /// Pieces of code in their order. If a call fails, some pieces more may have come.
 #[derive(Drop)]
 pub struct Listing {
-    pieces: Vec<Piece>,
+    pub(crate) pieces: Vec<Piece>,
+    pub(crate) notes: Notes,
+    /// How many pieces there are in other listings.
+    others: usize,
 }
 
 impl Model for Listing {
@@ -46,6 +50,20 @@ impl Listing {
     {
         Listing {
             pieces: Vec::new(alloc),
+            notes: Notes::new(alloc, 0),
+            others: 0,
+        }
+    }
+
+    /// No code of a branch of a `PAR`, whose words begin with this one. The branches before it have so many pieces.
+    pub(crate) fn branch(&self, alloc: Global, first: u32, pieces: usize) -> Listing
+        ensures { result ≡ [] }
+    {
+        let before = self.others.saturating_add(self.pieces.len());
+        Listing {
+            pieces: Vec::new(alloc),
+            notes: Notes::new(alloc, first),
+            others: before.saturating_add(pieces),
         }
     }
 
@@ -60,7 +78,7 @@ impl Listing {
     pub(crate) fn push(&mut self, piece: Piece) -> Result<(), GenFault>
         ensures { IfOk result (λ _. self.new ≡ self.old ++ piece_of piece ∷ []) }
     {
-        if self.pieces.len() >= GREATEST_COUNT {
+        if self.others.saturating_add(self.pieces.len()) >= GREATEST_COUNT {
             return Err(GenFault::Limit);
         }
         self.pieces.push(piece)?;

@@ -20,6 +20,7 @@ ghost use Rattle.code_generator.specs.Written.{first_site, WritesLine, WritesRow
 ghost use Rattle.code_generator.specs.Instances.{is_finer};
 
 use crate::calling::Surroundings;
+use crate::context::Context;
 use crate::declaring::{channels_in, declare_names, home_for, words_in};
 use crate::facts::facts_in;
 use crate::finer::is_finer;
@@ -48,6 +49,7 @@ use usage_checks::{after_action, size_of_action, size_of_condition, size_of_decl
 #[derive(Drop)]
 pub struct ProcessWriter<'a> {
     pub(crate) alloc: Global,
+    pub(crate) context: Context,
     pub(crate) scope: Scope<'a>,
     pub(crate) frame: Frame,
     /// The number of the first label that is free.
@@ -115,6 +117,7 @@ impl<'a> ProcessWriter<'a> {
     {
         ProcessWriter {
             alloc,
+            context: Context::root(),
             scope: Scope::new(alloc),
             frame: Frame {
                 homes: Vec::new(alloc),
@@ -316,7 +319,8 @@ impl<'a> ProcessWriter<'a> {
             Construct::Replicated { replicator, body } => {
                 self.write_replicated(around, line, replicator, body)
             }
-            Construct::Par(_) | Construct::Alt(_) => Err(GenFault::Invalid),
+            Construct::Par(processes) => self.write_par(around, processes),
+            Construct::Alt(_) => Err(GenFault::Invalid),
         }
     }
 
@@ -503,7 +507,7 @@ impl<'a> ProcessWriter<'a> {
         Ok(())
     }
 
-    /// A construct under a replicator on this line. The error is [`GenFault::Invalid`] for a `PAR` and an `ALT`.
+    /// A construct under a replicator on this line. The error is [`GenFault::Invalid`] for an `ALT`.
     #[cycle(processes)]
     fn write_replicated(
         &mut self,
@@ -528,7 +532,8 @@ impl<'a> ProcessWriter<'a> {
                 Ok(())
             }
             Body::If(choice) => self.write_repeated_if(around, line, replicator, choice),
-            Body::Par(_) | Body::Alt(_) => Err(GenFault::Invalid),
+            Body::Par(process) => self.write_repeated_par(around, line, replicator, process),
+            Body::Alt(_) => Err(GenFault::Invalid),
         }
     }
 

@@ -146,9 +146,9 @@ impl<'a> ProcessWriter<'a> {
     }
 }
 
-/// The code of a program. The error is [`GenFault::Invalid`] if its `main`, or a procedure that it calls, has a `PAR` or
-/// an `ALT`, which have no code here, but for those in a loop or a choice that never happens. It is [`GenFault::Limit`]
-/// if too much is gone over: the time and the memory that it takes are bounded, however often procedures are called.
+/// The code of a program. The error is [`GenFault::Invalid`] if its `main`, or a procedure that it calls, has an `ALT`,
+/// which has no code here, but for one in a loop or a choice that never happens. It is [`GenFault::Limit`] if too much is
+/// gone over: the time and the memory that it takes are bounded, however often procedures are called.
 pub fn code_of(alloc: Global, program: &CheckedProgram) -> Result<Code, GenFault>
     ensures { IfOk result (λ code. IfSome (code_of (map item_of program.now.program.items.items)) (λ c. code ≡ c)) }
 {

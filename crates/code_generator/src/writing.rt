@@ -280,6 +280,7 @@ impl Listing {
             (single (range_found (bound_of (entries_in setting.entry) (expression_of subscript.now))))
             (expression_in setting.entry (expression_of subscript.now))) }
     {
+        self.reads(word)?;
         match (value_type, single(range_of(setting.scope, subscript))) {
             (ValueType::Int, Some(number)) => {
                 self.load(word_after(word, number.unsigned_abs())?)

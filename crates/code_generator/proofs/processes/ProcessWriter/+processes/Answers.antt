@@ -10,8 +10,8 @@ use Rattle.occam_parser.specs.Blocks.{Does, Chosen, Replicated}
 use Rattle.occam_parser.specs.BlockReading.{with_declarations}
 use Rattle.occam_parser.specs.BlockViews.{process_of, construct_of, choice_of, plain_component, all_processes}
 use Rattle.occam_parser.specs.BlockViews.{all_choices, body_of}
-use Rattle.occam_parser.proofs.SeenBlocks.{view-Seq, view-If, view-Body-Seq}
-use Rattle.scalar_ranges.specs.Moves.{begin}
+use Rattle.occam_parser.proofs.SeenBlocks.{view-Seq, view-Par, view-If, view-Body-Seq, view-Body-Par}
+use Rattle.scalar_ranges.specs.Moves.{begin, begin_par}
 use Rattle.scalar_ranges.specs.Scopes.{known_of, meaning_of}
 use Rattle.program_uses.specs.Indices.{repeats_of, seen_repeats, index_in}
 use Rattle.usage_checks.specs.AfterProcesses.{inside, left_to}
@@ -20,10 +20,15 @@ use Rattle.usage_checks.specs.NameRules.{with_entries}
 use Rattle.code_generator.specs.declared.loops.Turning.{Turning}
 use Rattle.code_generator.specs.CallViews.{surroundings_of}
 use Rattle.code_generator.specs.FrameViews.{frame_seen}
+use Rattle.code_generator.specs.Homes.{Nowhere}
+use Rattle.code_generator.specs.Declarations.{with_home}
+use Rattle.code_generator.specs.Branches.{WritesPar}
 use Rattle.code_generator.specs.Processes.{Surroundings, at_place, before_turns, process_code, act_code}
 use Rattle.code_generator.specs.Written.{site_of, Writes, WritesConstruct, WritesSeq, WritesIf, WritesPart, WritesChoice}
 use Rattle.code_generator.specs.Written.{WritesChosen, WritesTurns, WritesLine, EntersLoop}
 use Rattle.code_generator.proofs.ActsWritten.{writes_act, writes_from, writes_instance}
+use Rattle.code_generator.proofs.BranchesWritten.{par_next, par_done, par_turns_next, writes_component, writes_no_turns}
+use Rattle.code_generator.proofs.BranchesWritten.{writes_repeated_par}
 use Rattle.code_generator.proofs.PartsWritten.{writes_none, writes_moved, writes_behind, seq_next, seq_done}
 use Rattle.code_generator.proofs.ChoicesWritten.{choices_start, choices_next, choices_done, no_choices}
 use Rattle.code_generator.proofs.ChoicesWritten.{writes_if, writes_chosen, writes_tested, always_written}
@@ -303,3 +308,82 @@ write_replicated-returns-in_ok-write_loop-in-Seq t c =
     writes_replicated c.args.around c.args.line r (process_of p) (Replicated r (body_of c.args.body.now))
     c.deref.result.now c.variables_changed_in.new.scope is c.variables_changed_in.ensures.scope
     (c.deref.ensures.value ∙ c.in_ok-changed-in-Seq.ensures.numbers) c.in_ok-write_loop-in-Seq.ensures
+
+-- ---- PARs
+
+pub write_construct-returns-in-Par : goal.write_construct-returns-in-Par
+write_construct-returns-in-Par t c =
+    let v = c.in-Par.processes in
+    let s = c.args.self.now in
+    let end = c.write_par.new.self in
+    subst (λ x. IfOk c.write_par.result (λ _. WritesConstruct s end c.args.around c.args.line x))
+    (sym (view-Par v) ∙ ap construct_of (sym c.in-Par.is))
+    (subst (λ cs. IfOk c.write_par.result (λ _. WritesPar s end c.args.around cs))
+    (ap all_processes c.deref-in-Par.ensures.value) c.write_par.ensures)
+
+pub write_par-loop-process-init : goal.write_par-loop-process-init
+write_par-loop-process-init t c = record {
+  code = tt;
+  known = c.in_ok-begin_par.ensures.ok ∙ ap (λ s. begin_par (known_of s)) c.in_ok-fork.ensures.scope;
+  frame = ap frame_seen c.in_ok-fork.ensures.frame;
+}
+
+pub write_par-loop-process-preserved : goal.write_par-loop-process-preserved
+write_par-loop-process-preserved t c =
+    par_next c.args.around plain_component c.args.processes.now c.loop-process.process-index c.process-item.result
+    (omega arith) c.process-item.is c.loop-process.invariant c.in_ok-write_component.ensures
+
+pub write_par-returns : goal.write_par-returns
+write_par-returns t c =
+    let done : length c.args.processes.now ≤ c.loop-process.process-index = omega arith in
+    par_done c.args.around plain_component c.args.processes.now c.loop-process.process-index c.end.new.self done
+    c.loop-process.invariant c.end.ensures c.in_ok-write_fork.ensures
+
+pub write_component-returns : goal.write_component-returns
+write_component-returns t c =
+    writes_component c.args.around (process_of c.args.process.now) c.deref.result.now c.in_ok-outside.outside
+    c.variables_changed.new.scope c.next_component.new.self c.variables_changed.ensures.scope
+    (c.deref.ensures.value ∙ c.in_ok-changed.ensures.numbers) c.in_ok-outside.ensures c.in_ok-write.ensures
+    c.in_ok-end_branch.ensures c.next_component.ensures
+
+pub write_components-loop-turn-init : goal.write_components-loop-turn-init
+write_components-loop-turn-init t c = record { code = tt; known = refl; frame = refl }
+
+pub write_components-loop-turn-preserved : goal.write_components-loop-turn-preserved
+write_components-loop-turn-preserved t c =
+    let named = c.in_ok-add_name.ensures in
+    par_turns_next c.args.around c.args.name.now (seen_repeats c.args.repeats) (plain_component c.args.process.now)
+    c.loop-turn.turn (meaning_of c.index_in.result) c.add_name.new.scope c.index_in.ensures
+    (λ i. record { entries = named.ok i; blocks = named.extends.blocks i }) c.loop-turn.invariant
+    c.in_ok-write_component.ensures
+
+pub write_repeated_par-returns-then-not : goal.write_repeated_par-returns-then-not
+write_repeated_par-returns-then-not t c =
+    let r = replicator_of c.args.replicator.now in
+    let counted = c.repeats_of-repeats.ensures
+    ∙ (λ i. repeats_of (c.is_before-counted.ensures i) (known_of c.args.self.now.scope).entries false r) in
+    writes_no_turns c.args.around c.args.line r (process_of c.args.process.now)
+    (seen_repeats c.repeats_of-repeats.result) c.args.self.now counted (search rules)
+
+pub write_repeated_par-returns : goal.write_repeated_par-returns
+write_repeated_par-returns t c =
+    let s = c.args.self.now in
+    let r = replicator_of c.args.replicator.now in
+    let counted = c.repeats_of-repeats.ensures
+    ∙ (λ i. repeats_of (c.is_before-counted.ensures i) (known_of s.scope).entries false r) in
+    let begins = c.in_ok-begin_par.ensures.ok ∙ ap (λ s. begin_par (known_of s)) c.in_ok-fork.ensures.scope in
+    let named = c.in_ok-add_home.ensures ∙ ap (λ f. with_home Nowhere (frame_seen f)) c.in_ok-fork.ensures.frame in
+    let long : c.len-names.result ≡ length s.frame.homes.items = omega arith in
+    writes_repeated_par c.args.around c.args.line c.len-names.result r (process_of c.args.process.now)
+    (seen_repeats c.repeats_of-repeats.result) c.leave.new.self c.end.new.self counted (search rules) begins named
+    c.in_ok-write_components.ensures long c.leave.ensures.homes c.leave.ensures.top c.leave.ensures.outer c.end.ensures
+    c.in_ok-write_fork.ensures
+
+pub write_replicated-returns-in-Par : goal.write_replicated-returns-in-Par
+write_replicated-returns-in-Par t c =
+    let r = replicator_of c.args.replicator.now in
+    let s = c.args.self.now in
+    let p = c.in-Par.process in
+    let is = ap (Replicated r) (sym (view-Body-Par p) ∙ ap body_of (sym c.in-Par.is)) in
+    subst (λ x. IfOk c.write_repeated_par.result (λ _. WritesConstruct s c.write_repeated_par.new.self c.args.around
+    c.args.line x)) is c.write_repeated_par.ensures

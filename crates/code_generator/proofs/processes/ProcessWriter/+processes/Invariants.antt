@@ -1,7 +1,8 @@
 use Rattle.std.proofs.Common.{◌*◌, ◌+◌, take, length, nat_eq}
-use Rattle.occam_parser.specs.BlockViews.{choice_of, all_processes, all_choices}
+use Rattle.occam_parser.specs.BlockViews.{choice_of, plain_component, all_processes, all_choices}
 use Rattle.program_uses.specs.Indices.{seen_repeats}
 use Rattle.code_generator.specs.Written.{WritesSeq}
+use Rattle.code_generator.specs.Branches as Branches
 use Rattle.code_generator.proofs.ChoicesWritten.{WritesUpTo}
 use Rattle.code_generator.proofs.TurnsWritten.{WritesSome}
 use Rattle.code_generator.proofs.processes.ProcessWriter.+processes.Given as goal
@@ -26,6 +27,12 @@ decreases-write_chosen l = 16 * l.around.deeper + 9
 abbrev pub decreases-write_construct : goal.decreases-write_construct
 decreases-write_construct l = 16 * l.around.deeper + 15
 
+abbrev pub decreases-write_component : goal.decreases-write_component
+decreases-write_component l = 16 * l.around.deeper + 2
+
+abbrev pub decreases-write_components : goal.decreases-write_components
+decreases-write_components l = 16 * l.around.deeper + 12
+
 abbrev pub decreases-write_if : goal.decreases-write_if
 decreases-write_if l = 16 * l.around.deeper + 13
 
@@ -44,8 +51,14 @@ decreases-write_one l = 16 * l.around.deeper + 2
 abbrev pub decreases-write_part : goal.decreases-write_part
 decreases-write_part l = 16 * l.around.deeper + 11
 
+abbrev pub decreases-write_par : goal.decreases-write_par
+decreases-write_par l = 16 * l.around.deeper + 3
+
 abbrev pub decreases-write_repeated_if : goal.decreases-write_repeated_if
 decreases-write_repeated_if l = 16 * l.around.deeper + 13
+
+abbrev pub decreases-write_repeated_par : goal.decreases-write_repeated_par
+decreases-write_repeated_par l = 16 * l.around.deeper + 13
 
 abbrev pub decreases-write_replicated : goal.decreases-write_replicated
 decreases-write_replicated l = 16 * l.around.deeper + 14
@@ -64,6 +77,15 @@ abbrev pub invariant-write_choices-loop-place : goal.invariant-write_choices-loo
 invariant-write_choices-loop-place l =
     WritesUpTo l.initial.self l.self l.around l.end (nat_eq l.place (length l.choices))
     (all_choices (take l.place l.choices))
+
+abbrev pub invariant-write_par-loop-process : goal.invariant-write_par-loop-process
+invariant-write_par-loop-process l =
+    Branches.WritesSome l.initial.self l.self l.around (all_processes (take l.process-index l.processes))
+
+abbrev pub invariant-write_components-loop-turn : goal.invariant-write_components-loop-turn
+invariant-write_components-loop-turn l =
+    Branches.WritesTurns l.initial.self l.self l.around l.name (seen_repeats l.repeats) l.turn
+    (plain_component l.process)
 
 abbrev pub invariant-write_turns-loop-turn : goal.invariant-write_turns-loop-turn
 invariant-write_turns-loop-turn l =

@@ -1,0 +1,177 @@
+-- A PAR is written component by component, and its blocks are left.
+use Rattle.std.proofs.Common.{◌≡◌, ℕ, suc, ◌+◌, ◌<◌, ◌≤◌, Bool, true, false, List, [], ◌∷◌, length, map, take, get_or}
+use Rattle.std.proofs.Common.{None, refl, sym, ap, subst, ◌∙◌, add-one}
+use Rattle.std.proofs.Math.Seq.{take-append_seam}
+use Rattle.std.proofs.lemmas.List.{length-map, take_all}
+use Rattle.std.specs.Global.{Vec}
+use Rattle.occam_layout.specs.declared.mark.Mark.TheVariants as mark
+use Rattle.occam_parser.specs.Terminals.{Mark}
+use Rattle.occam_parser.specs.Lines.{Replicator}
+use Rattle.occam_parser.specs.Blocks.{Process, Processes, Part, Component, Plain}
+use Rattle.occam_parser.specs.BlockViews.{all_of}
+use Rattle.occam_parser.proofs.SeenBlocks.{all_push}
+use Rattle.scalar_ranges.specs.declared.scope.Scope as code_scope
+use Rattle.scalar_ranges.specs.Entries.{Meaning}
+use Rattle.scalar_ranges.specs.Moves.{Known, begin, begin_par, next_component, end}
+use Rattle.scalar_ranges.specs.Scopes.{known_of}
+use Rattle.program_uses.specs.Actions.{Around, is_before}
+use Rattle.program_uses.specs.Changes.{changed_by, changed_by_component}
+use Rattle.program_uses.specs.Declaring.{add}
+use Rattle.program_uses.specs.Indices.{Repeats, repeats_of, index_in, index_meaning, turn_by_turn}
+use Rattle.program_uses.proofs.Adding.{taken_one}
+use Rattle.usage_checks.specs.AfterProcesses.{inside, after_component, begun_body, repeated}
+use Rattle.usage_checks.specs.NameRules.{with_entries}
+use Rattle.usage_checks.proofs.RangesStay.{covers_itself, turns_turned, component_stays}
+use Rattle.code_pieces.specs.declared.piece.RowEntry.{RowEntry}
+use Rattle.code_generator.specs.declared.calling.Surroundings as calling
+use Rattle.code_generator.specs.declared.frame.Frame as code_frame
+use Rattle.code_generator.specs.declared.parallel.Outside.{Outside}
+use Rattle.code_generator.specs.declared.processes.ProcessWriter.{ProcessWriter}
+use Rattle.code_generator.specs.CallViews.{surroundings_of}
+use Rattle.code_generator.specs.Declarations.{Frame, with_home}
+use Rattle.code_generator.specs.FrameViews.{frame_seen}
+use Rattle.code_generator.specs.HomeViews.{home_seen, homes_seen}
+use Rattle.code_generator.specs.Homes.{Nowhere}
+use Rattle.code_generator.specs.Processes.{turned}
+use Rattle.code_generator.specs.Written.{Writes, WritesProcess}
+use Rattle.code_generator.specs.Branches.{IsKept, EntersBranch, LeavesBranch, WritesComponent, WritesSome, WritesPar}
+use Rattle.code_generator.specs.Branches.{WritesTurns, WritesRepeatedPar}
+use Rattle.code_generator.proofs.LoopsWritten.{ended_block}
+
+-- ---- a component
+
+pub writes_component : (around : calling.Surroundings) (p : Process) (changed : List ℕ) (o : Outside)
+    {s begun within left : ProcessWriter} (found next : code_scope.Scope)
+    → known_of found ≡ known_of s.scope
+    → changed ≡ changed_by (surroundings_of around).around.signatures (known_of s.scope).entries p
+    → EntersBranch (record s { scope = found }) begun o → WritesProcess begun within around p
+    → LeavesBranch within left o → known_of next ≡ next_component changed (known_of left.scope)
+    → WritesComponent s (record left { scope = next }) around (Plain p)
+writes_component around p changed o {s} {begun} {within} {left} found next same is enters body leaves moved =
+    let a = (surroundings_of around).around in
+    let begins : known_of begun.scope ≡ known_of s.scope = enters.known ∙ same in
+    record {
+      code = tt;
+      known = moved
+          ∙ (λ i. next_component (is i) (leaves.known i))
+          ∙ ap (next_component (changed_by a.signatures (known_of s.scope).entries p))
+          (body.known ∙ ap (inside a p) begins);
+      frame = λ i. record {
+        homes = (leaves.homes ∙ ap (λ (f : Frame). f.homes) body.frame ∙ enters.homes) i;
+        top = (leaves.top ∙ enters.top) i;
+        outer = (leaves.outer ∙ ap (λ (f : Frame). f.outer) body.frame ∙ enters.outer) i;
+      };
+    }
+
+-- ---- components
+
+pub par_next : {part : Part} {A : Type 0} (around : calling.Surroundings) (f : A → Component part) (xs : List A) (i : ℕ)
+    (x : A) {s t w : ProcessWriter} → i < length xs → x ≡ get_or xs i x
+    → WritesSome s t around (all_of (map f (take i xs))) → WritesComponent t w around (f x)
+    → WritesSome s w around (all_of (map f (take (i + 1) xs)))
+par_next around f xs i x {s} {t} {w} h is first one =
+    let a = (surroundings_of around).around in
+    subst (λ cs. WritesSome s w around cs) (sym (all_push f (take i xs) (take (i + 1) xs) x (taken_one xs i x x h is)))
+    (record {
+      code = tt;
+      known = one.known ∙ ap (after_component a (Mark mark.Par) (f x)) first.known;
+      frame = one.frame ∙ first.frame;
+    })
+
+-- all of them, and then the PAR is left
+pub par_done : {part : Part} {A : Type 0} (around : calling.Surroundings) (f : A → Component part) (xs : List A) (i : ℕ)
+    {s t w : ProcessWriter} (ended : code_scope.Scope) → length xs ≤ i
+    → WritesSome s t around (all_of (map f (take i xs))) → known_of ended ≡ end (known_of t.scope)
+    → IsKept (record t { scope = ended }) w → WritesPar s w around (all_of (map f xs))
+par_done around f xs i {s} {t} {w} ended h x left kept =
+    let whole = subst (λ ys. WritesSome s t around (all_of (map f ys))) (take_all i xs h) x in
+    record {
+      code = tt;
+      known = kept.known ∙ left ∙ ap end whole.known;
+      frame = kept.frame ∙ whole.frame;
+    }
+
+-- ---- under a replicator
+
+pub par_turns_next : {part : Part} (around : calling.Surroundings) (name : List ℕ) (repeats : Repeats) (c : Component part)
+    (n : ℕ) (m : Meaning) {s t w : ProcessWriter} (scope : code_scope.Scope) → m ≡ index_in repeats n
+    → known_of scope ≡ with_entries (add name m) (known_of t.scope)
+    → WritesTurns s t around name repeats n c → WritesComponent (record t { scope = scope }) w around c
+    → WritesTurns s w around name repeats (n + 1) c
+par_turns_next around name repeats c n m {s} {t} {w} scope means enters first one =
+    let a = (surroundings_of around).around in
+    let known = enters ∙ (λ i. with_entries (add name (means i)) (first.known i)) in
+    subst (λ k. WritesTurns s w around name repeats k c) (sym (add-one n))
+    (record {
+      code = tt;
+      known = one.known ∙ ap (after_component a (Mark mark.Par) c) known;
+      frame = one.frame ∙ first.frame;
+    })
+
+-- Where a component does not happen all is then as it was.
+nothing_happens : (a : Around) (name : List ℕ) (c : Component Processes) (repeats : Repeats) (k : Known)
+    → repeats.sequential ≡ false
+    → end (end (turn_by_turn (turned a (Mark mark.Par) name c repeats) repeats.turns.count (begin_par (begin k)))) ≡ k
+nothing_happens a name c repeats k sequential =
+    let es = add name (index_meaning false None) k.entries in
+    let all = changed_by_component a.signatures es c in
+    let turns = turn_by_turn (turned a (Mark mark.Par) name c repeats) repeats.turns.count (begin_par (begin k)) in
+    let h = turns_turned a all (Mark mark.Par) c name repeats [] k.entries (begin k) repeats.turns.count tt tt
+    sequential refl (component_stays a all (Mark mark.Par) c tt es (covers_itself all)) in
+    ap end (ended_block turns (record { start = h.start; ends = h.ends }) (begin k).blocks
+    (ap (λ (x : Known). x.blocks) h.is))
+
+-- what is known after the turns, by whether the component happens
+abbrev pub ended_by : Around → List ℕ → Component Processes → Repeats → Bool → Known → Known
+ended_by a name c repeats happens k =
+    repeated happens
+    (turn_by_turn (turned a (Mark mark.Par) name c repeats) repeats.turns.count
+    (begun_body (Mark mark.Par) [] happens k))
+
+pub writes_no_turns : (around : calling.Surroundings) (line : ℕ) (r : Replicator) (p : Process) (repeats : Repeats)
+    (s : ProcessWriter)
+    → repeats ≡ repeats_of (is_before line (surroundings_of around).around.uncounted) (known_of s.scope).entries false r
+    → repeats.happens ≡ false → WritesRepeatedPar s s around line r p
+writes_no_turns around line r p repeats s is never =
+    let a = (surroundings_of around).around in
+    let k = known_of s.scope in
+    let counted = repeats_of (is_before line a.uncounted) k.entries false r in
+    let fixed : counted.happens ≡ false = ap (λ (x : Repeats). x.happens) (sym is) ∙ never in
+    record {
+      code = tt;
+      known = sym (ap (λ h. ended_by a r.name (Plain p) counted h k) fixed
+          ∙ nothing_happens a r.name (Plain p) counted k refl);
+      frame = refl;
+    }
+
+pub writes_repeated_par : (around : calling.Surroundings) (line names : ℕ) (r : Replicator) (p : Process)
+    (repeats : Repeats) {s begun within w : ProcessWriter} (left : code_frame.Frame) (ended : code_scope.Scope)
+    → repeats ≡ repeats_of (is_before line (surroundings_of around).around.uncounted) (known_of s.scope).entries false r
+    → repeats.happens ≡ true → known_of begun.scope ≡ begin_par (known_of s.scope)
+    → frame_seen begun.frame ≡ with_home Nowhere (frame_seen s.frame)
+    → WritesTurns begun within around r.name repeats repeats.turns.count (Plain p)
+    → names ≡ length s.frame.homes.items
+    → homes_seen left.homes.items ≡ take names (homes_seen within.frame.homes.items) → left.top ≡ s.frame.top
+    → left.outer ≡ within.frame.outer → known_of ended ≡ end (known_of within.scope)
+    → IsKept (record within { frame = left; scope = ended }) w → WritesRepeatedPar s w around line r p
+writes_repeated_par around line names r p repeats {s} {begun} {within} {w} left ended is always begins named x long
+    homes top hidden ends kept =
+    let a = (surroundings_of around).around in
+    let k = known_of s.scope in
+    let counted = repeats_of (is_before line a.uncounted) k.entries false r in
+    let fixed : counted.happens ≡ true = ap (λ (x : Repeats). x.happens) (sym is) ∙ always in
+    let long_seen : names ≡ length (frame_seen s.frame).homes = long ∙ sym (length-map s.frame.homes.items home_seen) in
+    let grown : frame_seen within.frame ≡ with_home Nowhere (frame_seen s.frame) = x.frame ∙ named in
+    let known_homes : homes_seen left.homes.items ≡ homes_seen s.frame.homes.items =
+    homes ∙ (λ i. take (long_seen i) (grown i).homes)
+    ∙ take-append_seam (homes_seen s.frame.homes.items) (Nowhere ∷ []) in
+    let outer : left.outer.items ≡ s.frame.outer.items =
+    ap (λ (v : Vec RowEntry). v.items) hidden ∙ ap (λ (f : Frame). f.outer) grown in
+    record {
+      code = tt;
+      known = kept.known ∙ ends
+          ∙ ap end (x.known
+          ∙ (λ i. turn_by_turn (turned a (Mark mark.Par) r.name (Plain p) (is i)) (is i).turns.count (begins i)))
+          ∙ sym (ap (λ h. ended_by a r.name (Plain p) counted h k) fixed);
+      frame = kept.frame ∙ (λ i. record { homes = known_homes i; top = top i; outer = outer i });
+    }

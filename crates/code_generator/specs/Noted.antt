@@ -1,0 +1,23 @@
+-- The ends of channels that are noted, as rows have them.
+use Rattle.std.specs.Prelude.{ℕ, pos}
+use Rattle.module_format.specs.declared.rows.Direction.{Direction}
+use Rattle.module_format.specs.declared.rows.Direction.TheVariants as direction
+use Rattle.module_format.specs.declared.rows.EndKind.{EndKind}
+use Rattle.module_format.specs.declared.rows.EndKind.TheVariants as kind
+use Rattle.module_format.specs.declared.rows.EndRow.{EndRow}
+use Rattle.code_generator.specs.declared.noting.ChannelEnd.{ChannelEnd}
+use Rattle.code_generator.specs.declared.noting.ChannelPlace.{ChannelPlace}
+use Rattle.code_generator.specs.declared.noting.ChannelPlace.TheVariants.{Word, Link}
+use Rattle.code_generator.specs.declared.noting.Way.{Way}
+use Rattle.code_generator.specs.declared.noting.Way.TheVariants.{In, Out}
+
+abbrev pub end_kind : ChannelPlace → EndKind
+end_kind (Word word) = kind.FrameWord (pos word)
+end_kind (Link number) = kind.Link number
+
+abbrev pub direction_of : Way → Direction
+direction_of In = direction.In
+direction_of Out = direction.Out
+
+abbrev pub end_row : ChannelEnd → EndRow
+end_row e = record { kind = end_kind e.place; direction = direction_of e.way }
