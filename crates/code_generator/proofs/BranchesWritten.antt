@@ -19,7 +19,7 @@ use Rattle.program_uses.specs.Changes.{changed_by, changed_by_component}
 use Rattle.program_uses.specs.Declaring.{add}
 use Rattle.program_uses.specs.Indices.{Repeats, repeats_of, index_in, index_meaning, turn_by_turn}
 use Rattle.program_uses.proofs.Adding.{taken_one}
-use Rattle.usage_checks.specs.AfterProcesses.{inside, after_component, begun_body, repeated}
+use Rattle.usage_checks.specs.AfterProcesses.{inside, after_component, after_components, begun_body, repeated}
 use Rattle.usage_checks.specs.NameRules.{with_entries}
 use Rattle.usage_checks.proofs.RangesStay.{covers_itself, turns_turned, component_stays}
 use Rattle.code_pieces.specs.declared.piece.RowEntry.{RowEntry}
@@ -78,17 +78,20 @@ par_next around f xs i x {s} {t} {w} h is first one =
       frame = one.frame ∙ first.frame;
     })
 
--- all of them, and then the PAR is left
+-- all of them, from where the PAR began, and then it is left
 pub par_done : {part : Part} {A : Type 0} (around : calling.Surroundings) (f : A → Component part) (xs : List A) (i : ℕ)
-    {s t w : ProcessWriter} (ended : code_scope.Scope) → length xs ≤ i
-    → WritesSome s t around (all_of (map f (take i xs))) → known_of ended ≡ end (known_of t.scope)
+    {s begun t w : ProcessWriter} (ended : code_scope.Scope) → length xs ≤ i
+    → known_of begun.scope ≡ begin_par (known_of s.scope) → frame_seen begun.frame ≡ frame_seen s.frame
+    → WritesSome begun t around (all_of (map f (take i xs))) → known_of ended ≡ end (known_of t.scope)
     → IsKept (record t { scope = ended }) w → WritesPar s w around (all_of (map f xs))
-par_done around f xs i {s} {t} {w} ended h x left kept =
-    let whole = subst (λ ys. WritesSome s t around (all_of (map f ys))) (take_all i xs h) x in
+par_done around f xs i {s} {begun} {t} {w} ended h begins same x left kept =
+    let a = (surroundings_of around).around in
+    let whole = subst (λ ys. WritesSome begun t around (all_of (map f ys))) (take_all i xs h) x in
     record {
       code = tt;
-      known = kept.known ∙ left ∙ ap end whole.known;
-      frame = kept.frame ∙ whole.frame;
+      known = kept.known ∙ left
+          ∙ ap end (whole.known ∙ ap (after_components a (Mark mark.Par) (all_of (map f xs))) begins);
+      frame = kept.frame ∙ whole.frame ∙ same;
     }
 
 -- ---- under a replicator

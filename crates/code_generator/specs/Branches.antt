@@ -13,6 +13,8 @@ use Rattle.program_uses.specs.Indices.{Repeats, repeats_of, turn_by_turn}
 use Rattle.usage_checks.specs.AfterProcesses.{after_component, after_components, begun_body, repeated}
 use Rattle.module_format.specs.declared.rows.ChannelRow.{ChannelRow}
 use Rattle.code_pieces.specs.declared.operations.TheConstants.{MINIMUM_INTEGER, LOAD_POINTER_TO_INSTRUCTION, END_PROCESS}
+use Rattle.code_pieces.specs.declared.piece.ParBranch.{ParBranch}
+use Rattle.code_pieces.specs.PieceViews.{pieces_of}
 use Rattle.code_pieces.specs.Pieces.{Piece, Distance, StartBranch, Place, operates, stores, points, constant}
 use Rattle.code_generator.specs.declared.branches.Branch.{Branch}
 use Rattle.code_generator.specs.declared.calling.Surroundings as calling
@@ -60,6 +62,14 @@ opener_code depth label successor channels branches =
     ++ (block_code depth label successor (pos (length branches + 1))
     ++ (starts_code (label + 1) (Some successor) branches ++ end_code depth))
 
+abbrev pub branches_code : List Branch → List Piece
+branches_code [] = []
+branches_code (b ∷ bs) = pieces_of b.pieces.items ++ branches_code bs
+
+-- what a branch has
+abbrev pub row_in : Branch → ParBranch
+row_in b = b.row
+
 -- ---- what is known
 
 -- What is known is as before, and what names stand for.
@@ -84,10 +94,10 @@ abbrev pub WritesComponent : {part : Part} → (s t : ProcessWriter) → calling
 WritesComponent s t a c =
     Writes s t None (after_component (surroundings_of a).around (Mark mark.Par) c (known_of s.scope))
 
--- some components, from where the PAR began
+-- some components, one after another
 abbrev pub WritesSome : {part : Part} → (s t : ProcessWriter) → calling.Surroundings → Components part → Type 0
 WritesSome s t a cs =
-    Writes s t None (after_components (surroundings_of a).around (Mark mark.Par) cs (begin_par (known_of s.scope)))
+    Writes s t None (after_components (surroundings_of a).around (Mark mark.Par) cs (known_of s.scope))
 
 abbrev pub WritesPar : {part : Part} → (s t : ProcessWriter) → calling.Surroundings → Components part → Type 0
 WritesPar s t a cs =

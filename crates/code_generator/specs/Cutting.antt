@@ -1,5 +1,5 @@
 -- What a branch of a PAR knows of words outside, and which of them it has.
-use Rattle.std.specs.Prelude.{ℕ, ◌+◌, ℤ, pos, ◌+ℤ◌, ◌-ℤ◌, nat_le, List, [], ◌∷◌, ◌++◌, if◌then◌else◌, Option, Some, None}
+use Rattle.std.specs.Prelude.{ℕ, ◌+◌, ℤ, pos, ◌+ℤ◌, ◌-ℤ◌, nat_le, Bool, true, false, List, [], ◌∷◌, ◌++◌, if◌then◌else◌, Option, Some, None}
 use Rattle.std.specs.Ordering.{nat_cmp}
 use Rattle.std.specs.BTreeMap.{get}
 use Rattle.module_format.specs.declared.rows.Interval.{Interval}
@@ -52,14 +52,15 @@ words_between lo hi = record { lo = pos lo; hi = pos hi }
 abbrev pub words_in : RowEntry → Interval
 words_in e = words_between e.word (e.word + e.span)
 
-abbrev pub if_used_so : Access → Option Access → Interval → List Interval
-if_used_so Reads (Some Reads) words = words ∷ []
-if_used_so Writes (Some Writes) words = words ∷ []
-if_used_so access used words = []
+-- whether a variable is used so
+abbrev pub is_used : Access → Option Access → Bool
+is_used Reads (Some Reads) = true
+is_used Writes (Some Writes) = true
+is_used access used = false
 
 -- the words of an entry, if they are used so
-abbrev pub words_at : Access → (ℕ → Option Access) → RowEntry → List Interval
-words_at access uses e = if_used_so access (uses e.word) (words_in (known_outside e))
+unfoldable pub words_at : Access → (ℕ → Option Access) → RowEntry → List Interval
+words_at access uses e = if is_used access (uses e.word) then words_in (known_outside e) ∷ [] else []
 
 abbrev pub all_words : Access → (ℕ → Option Access) → List RowEntry → List Interval
 all_words access uses [] = []

@@ -1,15 +1,23 @@
--- The ends of channels that are noted, as rows have them.
-use Rattle.std.specs.Prelude.{ℕ, pos}
+-- The ends of channels that are noted: how code and rows name them.
+use Rattle.std.specs.Prelude.{ℕ, pos, List, [], ◌∷◌, Option, Some, None}
 use Rattle.module_format.specs.declared.rows.Direction.{Direction}
 use Rattle.module_format.specs.declared.rows.Direction.TheVariants as direction
 use Rattle.module_format.specs.declared.rows.EndKind.{EndKind}
 use Rattle.module_format.specs.declared.rows.EndKind.TheVariants as kind
 use Rattle.module_format.specs.declared.rows.EndRow.{EndRow}
+use Rattle.code_pieces.specs.Pieces.{Piece, points}
+use Rattle.code_generator.specs.Actions.{link_code}
 use Rattle.code_generator.specs.declared.noting.ChannelEnd.{ChannelEnd}
 use Rattle.code_generator.specs.declared.noting.ChannelPlace.{ChannelPlace}
 use Rattle.code_generator.specs.declared.noting.ChannelPlace.TheVariants.{Word, Link}
 use Rattle.code_generator.specs.declared.noting.Way.{Way}
 use Rattle.code_generator.specs.declared.noting.Way.TheVariants.{In, Out}
+
+-- the address of a channel
+abbrev pub place_code : Option ChannelPlace → List Piece
+place_code None = []
+place_code (Some (Word word)) = points word ∷ []
+place_code (Some (Link number)) = link_code number
 
 abbrev pub end_kind : ChannelPlace → EndKind
 end_kind (Word word) = kind.FrameWord (pos word)

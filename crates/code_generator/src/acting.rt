@@ -9,6 +9,7 @@ ghost use Rattle.code_pieces.specs.Pieces.{moves};
 ghost use Rattle.code_generator.specs.Actions.{stores_below, store_known, store_code, assign_code, target_address};
 ghost use Rattle.code_generator.specs.Actions.{channel_code, element_home, channel_home, length_of, carried, exchange};
 ghost use Rattle.code_generator.specs.Actions.{link_code, cleaned, input_code, output_code, test_code};
+ghost use Rattle.code_generator.specs.Noted.{place_code};
 ghost use Rattle.code_generator.specs.SettingViews.{entries_in, homes_in};
 ghost use Rattle.code_generator.specs.TargetViews.{target_seen};
 
@@ -101,7 +102,7 @@ impl Listing {
     }
 
     /// What a target is a part of is written.
-    fn write_use(&mut self, target: Target) -> Result<(), GenFault>
+    fn note_target(&mut self, target: Target) -> Result<(), GenFault>
         ensures { IfOk result (λ _. self.new ≡ self.old) }
     {
         match target {
@@ -125,7 +126,7 @@ impl Listing {
         let above = setting.above()?;
         let target = target_of(above, place_ref(target));
         self.write_expression(setting, value)?;
-        self.write_use(target)?;
+        self.note_target(target)?;
         self.write_store(above, target, setting.top)
     }
 
@@ -187,21 +188,15 @@ impl Listing {
         ensures { IfOk result (λ _. self.new ≡ self.old
             ++ channel_code (channel_home (homes_in setting.entry) (entries_in setting.entry) (place_of channel.now))) }
     {
-        match (setting.home(channel.name), &channel.subscript) {
-            (Some(Home::Link(number)), _) => self.write_link(*number),
-            (Some(Home::Word(word) | Home::Passed(word)), None) => self.point(*word),
-            (Some(Home::Word(word) | Home::Passed(word)), Some(subscript)) => {
-                match single(range_of(setting.scope, subscript)) {
-                    Some(number) => self.point(word_after(*word, number.unsigned_abs())?),
-                    None => self.point(*word),
-                }
-            }
-            _ => Ok(()),
+        match channel_at(setting, channel)? {
+            Some(ChannelPlace::Link(number)) => self.write_link(number),
+            Some(ChannelPlace::Word(word)) => self.point(word),
+            None => Ok(()),
         }
     }
 
-    /// An end of a channel is used. Nothing is written.
-    pub(crate) fn write_end_use(
+    /// An end of a channel is used.
+    pub(crate) fn note_channel(
         &mut self,
         setting: Setting,
         channel: &Place,
@@ -242,9 +237,9 @@ impl Listing {
             (entries_in setting.entry) setting.entry.top (place_of channel.now) (place_of target.now)) }
     {
         let target = target_of(setting, place_ref(target));
-        self.write_use(target)?;
+        self.note_target(target)?;
         self.write_target_address(setting, target)?;
-        self.write_end_use(setting, channel, Way::In)?;
+        self.note_channel(setting, channel, Way::In)?;
         self.write_exchange(setting, channel, operations::INPUT)?;
         self.write_cleaned(setting, target)
     }
@@ -262,7 +257,7 @@ impl Listing {
         self.write_expression(setting, value)?;
         self.store(setting.top)?;
         self.point(setting.top)?;
-        self.write_end_use(setting, channel, Way::Out)?;
+        self.note_channel(setting, channel, Way::Out)?;
         self.write_exchange(setting, channel, operations::OUTPUT)
     }
 
@@ -285,13 +280,21 @@ impl Listing {
 }
 
 /// Where a channel is, if it is somewhere.
-fn channel_at(setting: Setting, channel: &Place) -> Result<Option<ChannelPlace>, GenFault> {
+fn channel_at(setting: Setting, channel: &Place) -> Result<Option<ChannelPlace>, GenFault>
+    ensures { IfOk result (λ place. place_code place
+        ≡ channel_code (channel_home (homes_in setting.entry) (entries_in setting.entry) (place_of channel.now))) }
+{
     match (setting.home(channel.name), &channel.subscript) {
         (Some(Home::Link(number)), _) => Ok(Some(ChannelPlace::Link(*number))),
         (Some(Home::Word(word) | Home::Passed(word)), None) => Ok(Some(ChannelPlace::Word(*word))),
         (Some(Home::Word(word) | Home::Passed(word)), Some(subscript)) => {
-            let number = single(range_of(setting.scope, subscript)).unwrap_or(0);
-            Ok(Some(ChannelPlace::Word(word_after(*word, number.unsigned_abs())?)))
+            match single(range_of(setting.scope, subscript)) {
+                Some(number) => {
+                    let word = word_after(*word, number.unsigned_abs())?;
+                    Ok(Some(ChannelPlace::Word(word)))
+                }
+                None => Ok(Some(ChannelPlace::Word(*word))),
+            }
         }
         _ => Ok(None),
     }

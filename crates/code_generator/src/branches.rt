@@ -6,7 +6,7 @@ ghost use Rattle.code_pieces.specs.Laying.{words_taken};
 ghost use Rattle.code_pieces.specs.PieceViews.{piece_of, pieces_of};
 ghost use Rattle.code_generator.specs.declared.noting.Access.TheVariants as access;
 ghost use Rattle.code_generator.specs.Cutting.{uses_of, known_outside, words_between, cut_entry, cut_entries};
-ghost use Rattle.code_generator.specs.Cutting.{cut_piece, words_at, all_words};
+ghost use Rattle.code_generator.specs.Cutting.{cut_piece, is_used, words_at, all_words};
 
 use crate::context::Context;
 use crate::facts::push_any;
@@ -132,18 +132,27 @@ impl Notes {
         Ok(cut)
     }
 
+    /// Whether the variable with this first word is used so.
+    fn is_used(&self, word: u32, access: Access) -> bool
+        ensures { result ≡ is_used access (uses_of self.now word) }
+    {
+        match (access, self.words.get(&word)) {
+            (Access::Reads, Some(Access::Reads)) | (Access::Writes, Some(Access::Writes)) => true,
+            _ => false,
+        }
+    }
+
     /// These words, if they are used so.
+    #[tactic(auto, unfolding(crate::specs::Cutting::words_at))]
     fn words_at(&self, entry: RowEntry, access: Access) -> Result<Option<Interval>, GenFault>
         ensures { IfOk result (λ words. option_to_list words ≡ words_at access (uses_of self.now) entry) }
     {
-        let known = known_outside(entry)?;
-        let words = words_between(known.word, word_after(known.word, known.span)?)?;
-        match (self.words.get(&entry.word), access) {
-            (Some(Access::Reads), Access::Reads) | (Some(Access::Writes), Access::Writes) => {
-                Ok(Some(words))
-            }
-            _ => Ok(None),
+        if !self.is_used(entry.word, access) {
+            return Ok(None);
         }
+        let known = known_outside(entry)?;
+        let above = word_after(known.word, known.span)?;
+        Ok(Some(words_between(known.word, above)?))
     }
 
     /// The words that are used so, of those of which this is known.

@@ -1,14 +1,14 @@
 //! Writing the code of a `PAR`. Its branches are written first, since how many words each takes is known only then. If a
 //! function fails, some pieces more may have come.
 
-ghost use Rattle.std.specs.Prelude.{◌≡◌, ◌++◌, IfOk, Some};
+ghost use Rattle.std.specs.Prelude.{◌≡◌, ◌++◌, map, IfOk, Some};
 ghost use Rattle.occam_parser.specs.Blocks.{Plain};
 ghost use Rattle.occam_parser.specs.LineViews.{replicator_of};
 ghost use Rattle.occam_parser.specs.BlockViews.{process_of, plain_component, all_processes};
 ghost use Rattle.program_uses.specs.Indices.{seen_repeats};
 ghost use Rattle.code_pieces.specs.PieceViews.{pieces_of};
 ghost use Rattle.code_generator.specs.Branches.{emptied, block_code, start_code, starts_code, end_code};
-ghost use Rattle.code_generator.specs.Branches.{opener_code};
+ghost use Rattle.code_generator.specs.Branches.{opener_code, branches_code, row_in};
 ghost use Rattle.code_generator.specs.Branches.{IsKept, EntersBranch, LeavesBranch, WritesComponent, WritesPar};
 ghost use Rattle.code_generator.specs.Branches.{WritesTurns, WritesRepeatedPar};
 
@@ -24,6 +24,7 @@ use module_builder::GenFault;
 use module_format::ChannelRow;
 use occam_parser::{Process, Replicator};
 use program_uses::{Repeats, add_name, is_before, repeats_of, variables_changed};
+use std::alloc::Global;
 use std::mem;
 
 /// What is around a branch while its code is written.
@@ -114,6 +115,22 @@ impl Listing {
             self.push(piece)?;
         }
         Ok(row)
+    }
+
+    /// The code of all branches.
+    fn take_branches(
+        &mut self,
+        alloc: Global,
+        branches: Vec<Branch>,
+    ) -> Result<Vec<ParBranch>, GenFault>
+        ensures code { IfOk result (λ _. self.new ≡ self.old ++ branches_code branches.items) }
+        ensures rows { IfOk result (λ rows. rows.items ≡ map row_in branches.items) }
+    {
+        let mut rows = Vec::new(alloc);
+        for branch in branches {
+            rows.push(self.take_branch(branch)?)?;
+        }
+        Ok(rows)
     }
 }
 
@@ -221,10 +238,7 @@ impl<'a> ProcessWriter<'a> {
         let opener = self.context.workspace()?;
         let channels = fork.channels(self.alloc, self.listing.notes.outside)?;
         self.write_opener(&fork.branches, &channels, successor)?;
-        let mut branches = Vec::new(self.alloc);
-        for branch in fork.branches {
-            branches.push(self.listing.take_branch(branch)?)?;
-        }
+        let branches = self.listing.take_branches(self.alloc, fork.branches)?;
         self.listing.push(Piece::Within(opener))?;
         self.write_row(successor)?;
         self.listing.push(Piece::Par(Par {
@@ -232,7 +246,8 @@ impl<'a> ProcessWriter<'a> {
             successor,
             channels,
             branches,
-        }))
+        }))?;
+        Ok(())
     }
 
     /// A `PAR`.

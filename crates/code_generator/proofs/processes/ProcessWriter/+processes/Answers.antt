@@ -322,11 +322,7 @@ write_construct-returns-in-Par t c =
     (ap all_processes c.deref-in-Par.ensures.value) c.write_par.ensures)
 
 pub write_par-loop-process-init : goal.write_par-loop-process-init
-write_par-loop-process-init t c = record {
-  code = tt;
-  known = c.in_ok-begin_par.ensures.ok ∙ ap (λ s. begin_par (known_of s)) c.in_ok-fork.ensures.scope;
-  frame = ap frame_seen c.in_ok-fork.ensures.frame;
-}
+write_par-loop-process-init t c = record { code = tt; known = refl; frame = refl }
 
 pub write_par-loop-process-preserved : goal.write_par-loop-process-preserved
 write_par-loop-process-preserved t c =
@@ -336,8 +332,9 @@ write_par-loop-process-preserved t c =
 pub write_par-returns : goal.write_par-returns
 write_par-returns t c =
     let done : length c.args.processes.now ≤ c.loop-process.process-index = omega arith in
-    par_done c.args.around plain_component c.args.processes.now c.loop-process.process-index c.end.new.self done
-    c.loop-process.invariant c.end.ensures c.in_ok-write_fork.ensures
+    let begins = c.in_ok-begin_par.ensures.ok ∙ ap (λ s. begin_par (known_of s)) c.in_ok-fork.ensures.scope in
+    par_done c.args.around plain_component c.args.processes.now c.loop-process.process-index c.end.new.self done begins
+    (ap frame_seen c.in_ok-fork.ensures.frame) c.loop-process.invariant c.end.ensures c.in_ok-write_fork.ensures
 
 pub write_component-returns : goal.write_component-returns
 write_component-returns t c =
@@ -357,8 +354,8 @@ write_components-loop-turn-preserved t c =
     (λ i. record { entries = named.ok i; blocks = named.extends.blocks i }) c.loop-turn.invariant
     c.in_ok-write_component.ensures
 
-pub write_repeated_par-returns-then-not : goal.write_repeated_par-returns-then-not
-write_repeated_par-returns-then-not t c =
+pub write_repeated_par-returns-then-not-repeats : goal.write_repeated_par-returns-then-not-repeats
+write_repeated_par-returns-then-not-repeats t c =
     let r = replicator_of c.args.replicator.now in
     let counted = c.repeats_of-repeats.ensures
     ∙ (λ i. repeats_of (c.is_before-counted.ensures i) (known_of c.args.self.now.scope).entries false r) in

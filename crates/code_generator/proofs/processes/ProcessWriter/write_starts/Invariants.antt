@@ -1,4 +1,4 @@
-use Rattle.std.proofs.Common.{◌≡◌, ◌++◌, ◌×◌, Some, drop}
+use Rattle.std.proofs.Common.{◌≡◌, ◌++◌, Some, drop}
 use Rattle.code_generator.specs.Branches.{starts_code}
 use Rattle.code_generator.proofs.processes.ProcessWriter.write_starts.Given as goal
 
