@@ -196,12 +196,7 @@ impl Listing {
     }
 
     /// An end of a channel is used.
-    pub(crate) fn note_channel(
-        &mut self,
-        setting: Setting,
-        channel: &Place,
-        way: Way,
-    ) -> Result<(), GenFault>
+    fn note_channel(&mut self, setting: Setting, channel: &Place, way: Way) -> Result<(), GenFault>
         ensures { IfOk result (λ _. self.new ≡ self.old) }
     {
         let Some(place) = channel_at(setting, channel)? else {
