@@ -1,4 +1,5 @@
 pub mod ActsWritten
+pub mod BranchesFollowed
 pub mod BranchesWritten
 pub mod CallsFound
 pub mod ChainCode

@@ -2,6 +2,7 @@ pub mod Homes
 pub mod Expressions
 pub mod Declarations
 pub mod Actions
+pub mod Alternations
 pub mod Instances
 pub mod Calls
 pub mod CallViews

@@ -173,7 +173,7 @@ impl Listing {
     }
 
     /// The address of a link.
-    fn write_link(&mut self, number: u8) -> Result<(), GenFault>
+    pub(crate) fn write_link(&mut self, number: u8) -> Result<(), GenFault>
         ensures { IfOk result (λ _. self.new ≡ self.old ++ link_code number) }
     {
         self.operate(operations::MINIMUM_INTEGER)?;

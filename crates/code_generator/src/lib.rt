@@ -2,6 +2,7 @@
 #![tactic(auto)]
 
 mod acting;
+mod alternatives;
 mod branches;
 mod calling;
 mod context;
@@ -10,6 +11,7 @@ mod expressions;
 mod facts;
 mod finer;
 mod frame;
+mod guards;
 mod home;
 mod instances;
 mod laws;

@@ -66,7 +66,7 @@ pub(crate) fn label_after(label: usize) -> Result<usize, GenFault>
 }
 
 /// How often a choice under a replicator happens.
-fn times(repeats: Repeats) -> u32
+pub(crate) fn times(repeats: Repeats) -> u32
     ensures { result ≡ times (seen_repeats repeats) }
 {
     if repeats.happens {
@@ -243,7 +243,7 @@ impl<'a> ProcessWriter<'a> {
     }
 
     /// A condition, and a jump to a label where it does not hold.
-    fn write_test(&mut self, condition: &Expr, label: usize) -> Result<(), GenFault>
+    pub(crate) fn write_test(&mut self, condition: &Expr, label: usize) -> Result<(), GenFault>
         ensures code { IfOk result (λ _. self.new.listing
             ≡ self.old.listing ++ test_code (frame_seen self.old.frame).homes (entries_of self.old.scope)
             self.old.frame.top (expression_of condition.now) label) }
@@ -320,7 +320,7 @@ impl<'a> ProcessWriter<'a> {
                 self.write_replicated(around, line, replicator, body)
             }
             Construct::Par(processes) => self.write_par(around, processes),
-            Construct::Alt(_) => Err(GenFault::Invalid),
+            Construct::Alt(branches) => self.write_alt(around, branches),
         }
     }
 
@@ -533,7 +533,7 @@ impl<'a> ProcessWriter<'a> {
             }
             Body::If(choice) => self.write_repeated_if(around, line, replicator, choice),
             Body::Par(process) => self.write_repeated_par(around, line, replicator, process),
-            Body::Alt(_) => Err(GenFault::Invalid),
+            Body::Alt(branch) => self.write_repeated_alt(around, line, replicator, branch),
         }
     }
 

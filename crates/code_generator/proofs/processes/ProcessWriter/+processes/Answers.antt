@@ -4,29 +4,34 @@ use Rattle.std.proofs.lemmas.Bool.{eqb-true, eqb-false}
 use Rattle.std.proofs.lemmas.Int.{to_z-of_z}
 use Rattle.occam_parser.specs.declared.tree.Body.{the_lemmas}
 use Rattle.occam_parser.specs.Views.{expression_of}
-use Rattle.occam_parser.specs.LineViews.{action_of, declaration_of, replicator_of}
+use Rattle.occam_parser.specs.LineViews.{action_of, declaration_of, replicator_of, guard_of}
 use Rattle.occam_parser.specs.Lines.{Instance}
-use Rattle.occam_parser.specs.Blocks.{Does, Chosen, Replicated}
+use Rattle.occam_parser.specs.Blocks.{Does, Chosen, Guarded, Replicated}
 use Rattle.occam_parser.specs.BlockReading.{with_declarations}
 use Rattle.occam_parser.specs.BlockViews.{process_of, construct_of, choice_of, plain_component, all_processes}
-use Rattle.occam_parser.specs.BlockViews.{all_choices, body_of}
-use Rattle.occam_parser.proofs.SeenBlocks.{view-Seq, view-Par, view-If, view-Body-Seq, view-Body-Par}
+use Rattle.occam_parser.specs.BlockViews.{all_choices, all_branches, branch_of, body_of}
+use Rattle.occam_parser.proofs.SeenBlocks.{view-Seq, view-Par, view-If, view-Alt, view-Body-Seq, view-Body-Par}
+use Rattle.occam_parser.proofs.SeenBlocks.{view-Body-Alt}
 use Rattle.scalar_ranges.specs.Moves.{begin, begin_par}
 use Rattle.scalar_ranges.specs.Scopes.{known_of, meaning_of}
 use Rattle.program_uses.specs.Indices.{repeats_of, seen_repeats, index_in}
 use Rattle.usage_checks.specs.AfterProcesses.{inside, left_to}
 use Rattle.usage_checks.specs.Following.{after_action, where_holds}
 use Rattle.usage_checks.specs.NameRules.{with_entries}
+use Rattle.code_generator.specs.declared.alternatives.Replication.{Replication}
 use Rattle.code_generator.specs.declared.loops.Turning.{Turning}
+use Rattle.code_generator.specs.Alternations.{exits_in, WritesBranch, WritesSome, FollowsAlt}
 use Rattle.code_generator.specs.CallViews.{surroundings_of}
 use Rattle.code_generator.specs.FrameViews.{frame_seen}
 use Rattle.code_generator.specs.Homes.{Nowhere}
 use Rattle.code_generator.specs.Declarations.{with_home}
 use Rattle.code_generator.specs.Branches.{WritesPar}
-use Rattle.code_generator.specs.Processes.{Surroundings, at_place, before_turns, process_code, act_code}
+use Rattle.code_generator.specs.Processes.{Site, Surroundings, at_place, before_turns, process_code, act_code}
 use Rattle.code_generator.specs.Written.{site_of, Writes, WritesConstruct, WritesSeq, WritesIf, WritesPart, WritesChoice}
 use Rattle.code_generator.specs.Written.{WritesChosen, WritesTurns, WritesLine, EntersLoop}
 use Rattle.code_generator.proofs.ActsWritten.{writes_act, writes_from, writes_instance}
+use Rattle.code_generator.proofs.BranchesFollowed.{goes_on, by_site, alt_follows, where_ok, writes_branch}
+use Rattle.code_generator.proofs.BranchesFollowed.{branches_next, branches_done, some_next, follows_repeated}
 use Rattle.code_generator.proofs.BranchesWritten.{par_next, par_done, par_turns_next, writes_component, writes_no_turns}
 use Rattle.code_generator.proofs.BranchesWritten.{writes_repeated_par}
 use Rattle.code_generator.proofs.PartsWritten.{writes_none, writes_moved, writes_behind, seq_next, seq_done}
@@ -226,6 +231,104 @@ write_choice-returns t c =
     (writes_tested c.args.around c.args.end line e p s c.write_test.new.self c.write_chosen.new.self after
     c.push.new.self c.in_ok-write_test.ensures.code place chosen c.in_ok-push.ensures c.in_ok-write_row.ensures.row
     c.in_ok-write_row.ensures.site)
+
+-- ---- alternations
+
+pub write_construct-returns-in-Alt : goal.write_construct-returns-in-Alt
+write_construct-returns-in-Alt t c =
+    let v = c.in-Alt.branches in
+    let s = c.args.self.now in
+    let end = c.write_alt.new.self in
+    subst (λ x. IfOk c.write_alt.result (λ _. WritesConstruct s end c.args.around c.args.line x))
+    (sym (view-Alt v) ∙ ap construct_of (sym c.in-Alt.is))
+    (where_ok c.write_alt.result (λ _ x. record { code = tt; known = x.known; frame = x.frame })
+    (subst (λ cs. IfOk c.write_alt.result (λ _. FollowsAlt s end c.args.around cs))
+    (ap all_branches c.deref-in-Alt.ensures.value) c.write_alt.ensures))
+
+pub write_alt-returns : goal.write_alt-returns
+write_alt-returns t c =
+    alt_follows c.args.around (exits_in c.in_ok-labels.labels c.in_ok-guards.guards.sources.items)
+    (all_branches c.args.branches.now) c.begin.new.self c.end.new.self
+    (goes_on (λ k. k) c.in_ok-guards.ensures c.in_ok-labels.ensures) c.in_ok-begin.ensures.ok
+    c.in_ok-write_branches.ensures c.end.ensures (by_site c.in_ok-write_row.ensures.site)
+
+pub write_branches-loop-number-init : goal.write_branches-loop-number-init
+write_branches-loop-number-init t c = writes_none c.args.self.now
+
+pub write_branches-loop-number-preserved : goal.write_branches-loop-number-preserved
+write_branches-loop-number-preserved t c =
+    branches_next c.args.around (exits_in c.args.labels c.args.guards.now.sources.items) branch_of c.args.branches.now
+    c.loop-number.number c.index-branches-number.result c.in_ok-exits.exits (omega arith) c.index-branches-number.is
+    c.in_ok-exits.ensures c.loop-number.invariant c.in_ok-write_branch.ensures
+
+pub write_branches-returns : goal.write_branches-returns
+write_branches-returns t c =
+    let done : length c.args.branches.now ≤ c.loop-number.number = omega arith in
+    branches_done c.args.around (exits_in c.args.labels c.args.guards.now.sources.items) branch_of c.args.branches.now
+    c.loop-number.number done c.loop-number.invariant
+
+pub write_branch-returns : goal.write_branch-returns
+write_branch-returns t c =
+    let x = c.args.branch.now in
+    let s = c.args.self.now in
+    let within = c.write.new.self in
+    let moved = record within { scope = c.next.new.self; listing = c.push.new.self } in
+    let view : Guarded x.line (guard_of x.guard) (process_of x.process) ≡ branch_of x = search (rules, the_lemmas) in
+    subst (λ y. WritesBranch s c.write_stop_at.new.self c.args.around c.args.exits y) view
+    (writes_branch c.args.around x.line (guard_of x.guard) (process_of x.process) c.args.exits s c.write_row.new.self
+    c.write_guard.new.self within moved c.write_stop_at.new.self c.in_ok-stops.stops c.in_ok-write_row.ensures.row
+    c.in_ok-write_row.ensures.site c.in_ok-stops.ensures c.in_ok-write.ensures c.in_ok-push.ensures c.next.ensures
+    refl refl c.in_ok-write_stop_at.ensures)
+
+pub write_branch_turns-loop-turn-init : goal.write_branch_turns-loop-turn-init
+write_branch_turns-loop-turn-init t c = writes_none c.args.self.now
+
+pub write_branch_turns-loop-turn-preserved : goal.write_branch_turns-loop-turn-preserved
+write_branch_turns-loop-turn-preserved t c =
+    let named = c.in_ok-add_name.ensures in
+    some_next c.args.around (exits_in c.args.labels c.args.guards.now.sources.items) c.args.turns
+    (branch_of c.args.branch.now) c.loop-turn.turn (meaning_of c.index_in.result) c.in_ok-exits.exits
+    c.add_name.new.scope c.index_in.ensures (λ i. record { entries = named.ok i; blocks = named.extends.blocks i })
+    c.in_ok-exits.ensures c.loop-turn.invariant c.in_ok-write_branch.ensures
+
+pub write_branch_turns-returns : goal.write_branch_turns-returns
+write_branch_turns-returns t c =
+    let done : c.loop-turn.turn ≡ c.args.turns.count = omega arith in
+    subst (λ n. WritesSome c.args.self.now c.loop-turn.self c.args.around
+    (exits_in c.args.labels c.args.guards.now.sources.items) c.args.turns (branch_of c.args.branch.now) n)
+    done c.loop-turn.invariant
+
+pub write_repeated_alt-returns : goal.write_repeated_alt-returns
+write_repeated_alt-returns t c =
+    let s = c.args.self.now in
+    let r = replicator_of c.args.replicator.now in
+    let turns : Replication = record {
+      name = c.args.replicator.now.name;
+      repeats = c.repeats_of-repeats.result;
+      count = c.times.result;
+    } in
+    let counted = c.repeats_of-repeats.ensures
+    ∙ (λ i. repeats_of (c.is_before-counted.ensures i) (known_of s.scope).entries false r) in
+    let chosen = c.choose.new.self in
+    let long : c.len-names.result ≡ length chosen.frame.homes.items = omega arith in
+    follows_repeated c.args.around (exits_in c.in_ok-labels.labels c.in_ok-guards.guards.sources.items) c.args.line
+    c.len-names.result r (branch_of c.args.branch.now) turns
+    c.leave.new.self c.end.new.self refl counted c.times.ensures
+    (goes_on (λ k. k) c.in_ok-guards.ensures c.in_ok-labels.ensures) c.in_ok-begin.ensures.ok
+    c.in_ok-add_home.ensures c.in_ok-write_branch_turns.ensures long c.leave.ensures.homes c.leave.ensures.top
+    c.leave.ensures.outer c.end.ensures (ap (λ (y : Site). y.known) c.in_ok-write_row.ensures.site)
+    (ap (λ (y : Site). y.frame) c.in_ok-write_row.ensures.site)
+
+pub write_replicated-returns-in-Alt : goal.write_replicated-returns-in-Alt
+write_replicated-returns-in-Alt t c =
+    let r = replicator_of c.args.replicator.now in
+    let s = c.args.self.now in
+    let end = c.write_repeated_alt.new.self in
+    subst (λ x. IfOk c.write_repeated_alt.result
+    (λ _. WritesConstruct s end c.args.around c.args.line (Replicated r x)))
+    (sym (view-Body-Alt c.in-Alt.branch) ∙ ap body_of (sym c.in-Alt.is))
+    (where_ok c.write_repeated_alt.result (λ _ x. record { code = tt; known = x.known; frame = x.frame })
+    c.write_repeated_alt.ensures)
 
 -- ---- replicators
 

@@ -1,6 +1,9 @@
 use Rattle.std.proofs.Common.{◌*◌, ◌+◌, take, length, nat_eq}
-use Rattle.occam_parser.specs.BlockViews.{choice_of, plain_component, all_processes, all_choices}
+use Rattle.occam_parser.specs.BlockViews.{choice_of, branch_of, plain_component, all_processes, all_choices}
+use Rattle.occam_parser.specs.BlockViews.{all_branches}
 use Rattle.program_uses.specs.Indices.{seen_repeats}
+use Rattle.code_generator.specs.Alternations.{exits_in, WritesBranches}
+use Rattle.code_generator.specs.Alternations as alternations
 use Rattle.code_generator.specs.Written.{WritesSeq}
 use Rattle.code_generator.specs.Branches as Branches
 use Rattle.code_generator.proofs.ChoicesWritten.{WritesUpTo}
@@ -11,6 +14,21 @@ use Rattle.code_generator.proofs.processes.ProcessWriter.+processes.Given as goa
 
 abbrev pub decreases-act : goal.decreases-act
 decreases-act l = 16 * l.around.deeper + 8
+
+abbrev pub decreases-write_alt : goal.decreases-write_alt
+decreases-write_alt l = 16 * l.around.deeper + 13
+
+abbrev pub decreases-write_branch : goal.decreases-write_branch
+decreases-write_branch l = 16 * l.around.deeper + 11
+
+abbrev pub decreases-write_branch_turns : goal.decreases-write_branch_turns
+decreases-write_branch_turns l = 16 * l.around.deeper + 12
+
+abbrev pub decreases-write_branches : goal.decreases-write_branches
+decreases-write_branches l = 16 * l.around.deeper + 12
+
+abbrev pub decreases-write_repeated_alt : goal.decreases-write_repeated_alt
+decreases-write_repeated_alt l = 16 * l.around.deeper + 13
 
 abbrev pub decreases-write : goal.decreases-write
 decreases-write l = 16 * l.around.deeper
@@ -91,3 +109,13 @@ abbrev pub invariant-write_turns-loop-turn : goal.invariant-write_turns-loop-tur
 invariant-write_turns-loop-turn l =
     WritesSome l.initial.self l.self l.around l.end l.name (seen_repeats l.repeats) (choice_of l.choice)
     (nat_eq l.turn l.count) l.turn
+
+abbrev pub invariant-write_branches-loop-number : goal.invariant-write_branches-loop-number
+invariant-write_branches-loop-number l =
+    WritesBranches l.initial.self l.self l.around (exits_in l.labels l.guards.sources.items)
+    (all_branches (take l.number l.branches))
+
+abbrev pub invariant-write_branch_turns-loop-turn : goal.invariant-write_branch_turns-loop-turn
+invariant-write_branch_turns-loop-turn l =
+    alternations.WritesSome l.initial.self l.self l.around (exits_in l.labels l.guards.sources.items) l.turns (branch_of l.branch)
+    l.turn

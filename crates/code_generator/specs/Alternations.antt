@@ -1,0 +1,344 @@
+-- What alternations are written from: what guards wait for, the code before branches, and what is known after them.
+use Rattle.std.specs.Prelude.{◌≡◌, ℕ, suc, ◌+◌, max, nat_eq, ℤ, pos, Bool, true, false, ◌&&◌, ◌||◌, List, [], ◌∷◌, ◌++◌}
+use Rattle.std.specs.Prelude.{if◌then◌else◌, Option, Some, None, unwrap_or, option_map, is_some, slice_get, slice_set, drop, map}
+use Rattle.std.specs.Ordering.{int_eq}
+use Rattle.occam_layout.specs.declared.mark.Mark.TheVariants as mark
+use Rattle.occam_parser.specs.Terminals.{Mark}
+use Rattle.occam_parser.specs.Expressions.{Expression}
+use Rattle.occam_parser.specs.Lines.{Place as Destination, Replicator, Guard, Skips}
+use Rattle.occam_parser.specs.Lines as lines
+use Rattle.occam_parser.specs.Blocks.{Part, Branches, Components, NoComponent, Further, Component, Plain}
+use Rattle.occam_parser.specs.Blocks.{Chosen, Guarded}
+use Rattle.scalar_ranges.specs.Entries.{Entry}
+use Rattle.scalar_ranges.specs.Bounds.{bound_of, exact_value}
+use Rattle.scalar_ranges.specs.Narrowing.{test_of}
+use Rattle.scalar_ranges.specs.Moves.{Known, begin, end}
+use Rattle.scalar_ranges.specs.Scopes.{known_of}
+use Rattle.program_uses.specs.Actions.{Around, is_before}
+use Rattle.program_uses.specs.Indices.{repeats_of, seen_repeats, turn_by_turn}
+use Rattle.usage_checks.specs.AfterProcesses.{after_components, after_component, begun_body, repeated}
+use Rattle.usage_checks.specs.Following.{after_guard, after_input, where_holds}
+use Rattle.usage_checks.specs.NameRules.{with_entries}
+use Rattle.code_pieces.specs.declared.operations.TheConstants.{ALTERNATE, ALTERNATION_WAIT, ENABLE_CHANNEL, ENABLE_SKIP}
+use Rattle.code_pieces.specs.declared.operations.TheConstants.{DISABLE_CHANNEL, DISABLE_SKIP, OR, STOP_PROCESS}
+use Rattle.code_pieces.specs.Pieces.{Piece, Jump, Distance, Select, Place, operates, loads, stores, points, constant}
+use Rattle.code_pieces.specs.Pieces.{Code, no_code, before, then_code, closed_by}
+use Rattle.code_generator.specs.declared.alternatives.Replication.{Replication}
+use Rattle.code_generator.specs.declared.calling.Surroundings as calling
+use Rattle.code_generator.specs.declared.processes.ProcessWriter.{ProcessWriter}
+use Rattle.code_generator.specs.declared.guards.Source.{Source}
+use Rattle.code_generator.specs.declared.guards.Source.TheVariants as awaits
+use Rattle.code_generator.specs.declared.guards.Ready.{Ready}
+use Rattle.code_generator.specs.declared.guards.Ready.TheVariants as may
+use Rattle.code_generator.specs.declared.guards.Awaited.{Awaited}
+use Rattle.code_generator.specs.declared.guards.Labels.{Labels}
+use Rattle.code_generator.specs.declared.guards.Exits.{Exits}
+use Rattle.code_generator.specs.Homes.{Home}
+use Rattle.code_generator.specs.Expressions.{expression_code}
+use Rattle.code_generator.specs.Actions.{channel_code, channel_home, link_code, input_code, test_code}
+use Rattle.code_generator.specs.CallViews.{surroundings_of}
+use Rattle.code_generator.specs.FrameViews.{frame_seen}
+use Rattle.code_generator.specs.Processes.{Site, Surroundings, at_place, row_of, turned, turn_site, tested_turns}
+use Rattle.code_generator.specs.Processes.{process_code}
+use Rattle.code_generator.specs.Written.{site_of, Writes}
+use Rattle.code_generator.specs.Declarations.{Frame}
+
+-- ---- guards
+
+abbrev pub condition_in : Guard → Option Expression
+condition_in (lines.Receives condition channel target) = condition
+condition_in (Skips e) = Some e
+
+-- pushes the address of the channel that a guard waits for
+abbrev pub waiting_for : List Home → List Entry → Guard → List Piece
+waiting_for hs es (lines.Receives condition channel target) = channel_code (channel_home hs es channel)
+waiting_for hs es (Skips e) = []
+
+abbrev pub source_code : Source → List Piece
+source_code awaits.Skip = []
+source_code (awaits.Channel w) = points w ∷ []
+source_code (awaits.Link n) = link_code n
+
+-- whether two guards wait for the same channel
+abbrev pub are_alike : Source → Source → Bool
+are_alike (awaits.Channel w) (awaits.Channel v) = nat_eq w v
+are_alike (awaits.Link n) (awaits.Link m) = nat_eq n m
+are_alike one other = false
+
+-- the place of those that wait for a channel, if the first one has this place
+abbrev pub place_in : Source → ℕ → List Awaited → Option ℕ
+place_in s place [] = None
+place_in s place (a ∷ rest) = if are_alike a.source s then Some place else place_in s (place + 1) rest
+
+-- the first guard that waits for a channel, if the first one has this number
+abbrev pub next_in : Source → ℕ → List Source → Option ℕ
+next_in s number [] = None
+next_in s number (x ∷ xs) = if are_alike x s then Some number else next_in s (number + 1) xs
+
+abbrev pub next_as : Option Source → ℕ → List Source → Option ℕ
+next_as None number xs = None
+next_as (Some s) number xs = next_in s (number + 1) (drop (number + 1) xs)
+
+-- the next guard that waits for the same as the one with this number
+abbrev pub next_of : ℕ → List Source → Option ℕ
+next_of number xs = next_as (slice_get xs number) number xs
+
+abbrev pub ready_as : Option Awaited → Ready
+ready_as None = may.Never
+ready_as (Some a) = a.ready
+
+-- whether those at a place may be chosen
+abbrev pub ready_in : Option ℕ → List Awaited → Ready
+ready_in None rest = may.Never
+ready_in (Some place) rest = ready_as (slice_get rest place)
+
+abbrev pub made_ready : Ready → ℕ → Option Awaited → List Awaited → List Awaited
+made_ready r place None rest = rest
+made_ready r place (Some a) rest = slice_set rest place (record a { ready = r })
+
+-- One guard more is the first that waits for this, or is at a place among others.
+abbrev pub with_guard : Source → Ready → ℕ → Option ℕ → List Awaited → List Awaited
+with_guard s r number None rest = rest ++ record { source = s; ready = r; first = number } ∷ []
+with_guard s r number (Some place) rest = made_ready r place (slice_get rest place) rest
+
+-- ---- conditions
+
+-- the first word that is free where this is kept
+abbrev pub above : Ready → ℕ → ℕ
+above may.Never top = top
+above may.Always top = top
+above (may.If w) top = max top (w + 1)
+
+-- One of some guards has a condition in A, which is kept in a word that is free, or with others in theirs.
+abbrev pub either_code : Ready → ℕ → List Piece
+either_code may.Never w = stores w ∷ []
+either_code may.Always w = []
+either_code (may.If kept) w = loads kept ∷ operates OR ∷ stores kept ∷ []
+
+abbrev pub either_ready : Ready → ℕ → Ready
+either_ready may.Never w = may.If w
+either_ready may.Always w = may.Always
+either_ready (may.If kept) w = may.If kept
+
+-- A condition that is a constant has no code.
+abbrev pub unless_constant : Option ℤ → List Piece → List Piece
+unless_constant None code = code
+unless_constant (Some v) code = []
+
+abbrev pub ready_code : List Home → List Entry → ℕ → Ready → Option Expression → List Piece
+ready_code hs es t others None = []
+ready_code hs es t others (Some e) =
+    unless_constant (exact_value (bound_of es e)) (expression_code hs es t e ++ either_code others t)
+
+abbrev pub ready_by : Option ℤ → Ready → ℕ → Ready
+ready_by None others t = either_ready others t
+ready_by (Some v) others t = if int_eq v (pos 0) then others else may.Always
+
+-- whether guards may be chosen: one with this condition, if it has one, and others
+abbrev pub ready_with : List Entry → ℕ → Ready → Option Expression → Ready
+ready_with es t others None = may.Always
+ready_with es t others (Some e) = ready_by (exact_value (bound_of es e)) others t
+
+-- ---- waiting
+
+abbrev pub labels_from : ℕ → Labels
+labels_from n = record { end = n; chosen = n + 1; first = n + 2 }
+
+abbrev pub exits_of : Labels → Option ℕ → ℕ → Exits
+exits_of l next number = record { here = l.first + number; next = option_map (λ n. l.first + n) next; end = l.end }
+
+abbrev pub flag : Ready → Piece
+flag may.Never = constant (pos 0)
+flag may.Always = constant (pos 1)
+flag (may.If w) = loads w
+
+abbrev pub enabling : Source → ℤ
+enabling awaits.Skip = ENABLE_SKIP
+enabling s = ENABLE_CHANNEL
+
+abbrev pub disabling : Source → ℤ
+disabling awaits.Skip = DISABLE_SKIP
+disabling s = DISABLE_CHANNEL
+
+abbrev pub enabling_code : Awaited → List Piece
+enabling_code a = source_code a.source ++ flag a.ready ∷ operates (enabling a.source) ∷ []
+
+abbrev pub disabling_code : Labels → Awaited → List Piece
+disabling_code l a =
+    source_code a.source
+    ++ flag a.ready ∷ Distance l.chosen (l.first + a.first) ∷ operates (disabling a.source) ∷ []
+
+abbrev pub all_enabling : List Awaited → List Piece
+all_enabling [] = []
+all_enabling (a ∷ rest) = enabling_code a ++ all_enabling rest
+
+abbrev pub all_disabling : Labels → List Awaited → List Piece
+all_disabling l [] = []
+all_disabling l (a ∷ rest) = disabling_code l a ++ all_disabling l rest
+
+abbrev pub targets_of : Labels → List Awaited → List ℕ
+targets_of l rest = map (λ (a : Awaited). l.first + a.first) rest
+
+abbrev pub waiting_code : Labels → List Awaited → List Piece
+waiting_code l rest =
+    operates ALTERNATE ∷ all_enabling rest
+    ++ operates ALTERNATION_WAIT ∷ all_disabling l rest ++ Select (targets_of l rest) ∷ []
+
+-- Without a guard the process stops.
+abbrev pub choosing_code : Labels → List Awaited → List Piece
+choosing_code l [] = operates STOP_PROCESS ∷ Place l.chosen ∷ []
+choosing_code l (a ∷ rest) = waiting_code l (a ∷ rest) ++ Place l.chosen ∷ []
+
+-- ---- branches
+
+abbrev pub tested_by : Option ℤ → Bool → Bool → Bool
+tested_by (Some v) has_next narrows = int_eq v (pos 0) && has_next
+tested_by None has_next narrows = has_next || narrows
+
+-- Whether a guard that is chosen is tested again: if it is not TRUE, and another one waits for the same or it narrows.
+abbrev pub is_tested : List Entry → Option ℕ → Expression → Bool
+is_tested es next e = tested_by (exact_value (bound_of es e)) (is_some next) (is_some (test_of es e))
+
+-- What is known goes on as this, and what names stand for is as before.
+pub record GoesOn (s t : ProcessWriter) (after : Known) : Type 0 where
+  pub known : known_of t.scope ≡ after
+  pub frame : frame_seen t.frame ≡ frame_seen s.frame
+
+abbrev pub StaysSo : (s t : ProcessWriter) → Type 0
+StaysSo s t = GoesOn s t (known_of s.scope)
+
+-- A guard goes on at the next one of its channel where its condition does not hold, or else at a label that is free.
+abbrev pub test_again : Site → Option ℕ → Expression → List Piece
+test_again z next e =
+    if is_tested z.known.entries next e
+    then test_code z.frame.homes z.known.entries z.frame.top e (unwrap_or next z.label) else []
+
+abbrev pub stops_by : Bool → Option ℕ → ℕ → Option ℕ
+stops_by false next label = None
+stops_by true None label = Some label
+stops_by true (Some n) label = None
+
+-- the label that is taken, where the process stops
+abbrev pub stops_at : Site → Option ℕ → Option Expression → Option ℕ
+stops_at z next None = None
+stops_at z next (Some e) = stops_by (is_tested z.known.entries next e) next z.label
+
+abbrev pub label_behind : Option ℕ → ℕ → ℕ
+label_behind None label = label
+label_behind (Some stops) label = stops + 1
+
+abbrev pub condition_code : Site → Option ℕ → Option Expression → List Piece
+condition_code z next None = []
+condition_code z next (Some e) = test_again z next e
+
+-- a guard that is chosen, before its process
+abbrev pub guard_code : Site → Option ℕ → Guard → List Piece
+guard_code z next (lines.Receives e channel target) =
+    condition_code z next e
+    ++ input_code z.frame.homes (where_holds e z.known.entries) z.frame.top channel target
+guard_code z next (Skips e) = condition_code z next (Some e)
+
+abbrev pub stopping : Option ℕ → Frame → Known → List Piece
+stopping None f k = []
+stopping (Some label) f k = row_of label f k ∷ operates STOP_PROCESS ∷ []
+
+-- Some pieces were appended, and this is where the process stops if a condition does not hold. What is known goes on so.
+pub record WritesGuard (s t : ProcessWriter) (pieces : List Piece) (found wanted : Option ℕ) (after : Known) : Type 0 where
+  pub code : t.listing ≡ s.listing ++ pieces
+  pub stops : found ≡ wanted
+  pub label : t.label ≡ label_behind wanted s.label
+  pub known : known_of t.scope ≡ after
+  pub frame : frame_seen t.frame ≡ frame_seen s.frame
+
+abbrev pub Chooses : (s t : ProcessWriter) → (next stops : Option ℕ) → Guard → Type 0
+Chooses s t next stops g =
+    WritesGuard s t (guard_code (site_of s) next g) stops (stops_at (site_of s) next (condition_in g))
+    (with_entries (after_guard g) (known_of s.scope))
+
+abbrev pub Narrows : (s t : ProcessWriter) → (next stops : Option ℕ) → Option Expression → Type 0
+Narrows s t next stops e =
+    WritesGuard s t (condition_code (site_of s) next e) stops (stops_at (site_of s) next e)
+    (with_entries (where_holds e) (known_of s.scope))
+
+abbrev pub Tests : (s t : ProcessWriter) → (next stops : Option ℕ) → Expression → Type 0
+Tests s t next stops e =
+    WritesGuard s t (test_again (site_of s) next e) stops (stops_at (site_of s) next (Some e)) (known_of s.scope)
+
+pub record Receives (s t : ProcessWriter) (channel target : Destination) : Type 0 where
+  pub code : t.listing ≡ s.listing
+      ++ input_code (frame_seen s.frame).homes (known_of s.scope).entries s.frame.top channel target
+  pub site : site_of t ≡ at_place (with_entries (after_input target) (known_of s.scope)) s.label (site_of s)
+
+pub record Stops (s t : ProcessWriter) (label : Option ℕ) : Type 0 where
+  pub code : t.listing ≡ s.listing ++ stopping label (frame_seen s.frame) (known_of s.scope)
+  pub site : site_of t ≡ site_of s
+
+-- where the process of a branch begins
+abbrev pub in_branch : Option ℕ → Guard → Site → Site
+in_branch next g s =
+    at_place (with_entries (after_guard g) s.known) (label_behind (stops_at s next (condition_in g)) s.label) s
+
+abbrev pub branch_code : {part : Part} → Surroundings → Exits → Component part → Site → Option Code
+branch_code w x (Plain p) s = None
+branch_code w x (Chosen line e p) s = None
+branch_code w x (Guarded line g p) s =
+    let after = after_component w.around (Mark mark.Alt) (Guarded line g p) s.known in
+    before (row_of x.here s.frame s.known ∷ guard_code s x.next g)
+    (closed_by (Jump x.end ∷ stopping (stops_at s x.next (condition_in g)) s.frame after)
+    (process_code w p (in_branch x.next g s)))
+
+abbrev pub WritesBranch : {part : Part} → (s t : ProcessWriter) → calling.Surroundings → Exits → Component part → Type 0
+WritesBranch s t a x c =
+    Writes s t (branch_code (surroundings_of a) x c (site_of s))
+    (after_component (surroundings_of a).around (Mark mark.Alt) c (known_of s.scope))
+
+-- the labels of each guard
+abbrev pub exits_in : Labels → List Source → ℕ → Exits
+exits_in l xs number = exits_of l (next_of number xs) number
+
+abbrev pub count_of : {part : Part} → Components part → ℕ
+count_of NoComponent = 0
+count_of (Further cs c) = count_of cs + 1
+
+abbrev pub branches_code : {part : Part} → Surroundings → (ℕ → Exits) → Components part → Site → Option Code
+branches_code w exits NoComponent s = no_code s.label
+branches_code w exits (Further cs c) s =
+    then_code (branches_code w exits cs s)
+    (λ label. branch_code w (exits (count_of cs)) c
+    (at_place (after_components w.around (Mark mark.Alt) cs s.known) label s))
+
+abbrev pub WritesBranches : {part : Part} → (s t : ProcessWriter) → calling.Surroundings → (ℕ → Exits)
+    → Components part → Type 0
+WritesBranches s t a exits cs =
+    Writes s t (branches_code (surroundings_of a) exits cs (site_of s))
+    (after_components (surroundings_of a).around (Mark mark.Alt) cs (known_of s.scope))
+
+-- a branch under a replicator, in so many turns
+abbrev pub after_some : Around → Replication → Component Branches → ℕ → Known → Known
+after_some a x c n k = turn_by_turn (turned a (Mark mark.Alt) x.name.now c (seen_repeats x.repeats)) n k
+
+abbrev pub some_code : Surroundings → (ℕ → Exits) → Replication → Component Branches → ℕ → Site → Option Code
+some_code w exits x c n s =
+    tested_turns n s.label (λ m label. branch_code w (exits m) c
+    (turn_site w.around (Mark mark.Alt) x.name.now c (seen_repeats x.repeats) s m label))
+
+abbrev pub WritesSome : (s t : ProcessWriter) → calling.Surroundings → (ℕ → Exits) → Replication → Component Branches
+    → ℕ → Type 0
+WritesSome s t a exits x c n =
+    Writes s t (some_code (surroundings_of a) exits x c n (site_of s))
+    (after_some (surroundings_of a).around x c n (known_of s.scope))
+
+abbrev pub FollowsAlt : (s t : ProcessWriter) → calling.Surroundings → Components Branches → Type 0
+FollowsAlt s t a cs =
+    GoesOn s t (end (after_components (surroundings_of a).around (Mark mark.Alt) cs (begin (known_of s.scope))))
+
+-- what is known after an ALT of a branch under a replicator
+abbrev pub after_turns : Around → ℕ → Replicator → Component Branches → Known → Known
+after_turns a line r c k =
+    let repeats = repeats_of (is_before line a.uncounted) k.entries false r in
+    repeated repeats.happens (turn_by_turn (turned a (Mark mark.Alt) r.name c repeats) repeats.turns.count
+    (begun_body (Mark mark.Alt) [] repeats.happens k))
+
+abbrev pub FollowsRepeatedAlt : (s t : ProcessWriter) → calling.Surroundings → ℕ → Replicator → Component Branches
+    → Type 0
+FollowsRepeatedAlt s t a line r c = GoesOn s t (after_turns (surroundings_of a).around line r c (known_of s.scope))
