@@ -302,7 +302,7 @@ impl<'a> ProcessWriter<'a> {
         Ok(())
     }
 
-    /// A construct that begins on this line. The error is [`GenFault::Invalid`] for one that has no code.
+    /// A construct that begins on this line.
     #[cycle(processes)]
     fn write_construct(
         &mut self,
@@ -507,7 +507,7 @@ impl<'a> ProcessWriter<'a> {
         Ok(())
     }
 
-    /// A construct under a replicator on this line. The error is [`GenFault::Invalid`] for an `ALT`.
+    /// A construct under a replicator on this line.
     #[cycle(processes)]
     fn write_replicated(
         &mut self,

@@ -17,8 +17,8 @@ use usage_checks::CheckedProgram;
 /// # Errors
 ///
 /// [`GenFault::Limit`] if the code is too large or a number is above a limit of the format; [`GenFault::Memory`] if
-/// memory runs out; [`GenFault::Invalid`] if `main` has a `PAR`, an `ALT` or an instance, which have no code yet, but
-/// for those in a loop or a choice that never happens.
+/// memory runs out; [`GenFault::Invalid`] if what was written would not be certified, of which no checked program is
+/// known.
 pub fn generate(alloc: Global, program: &CheckedProgram) -> Result<Vec<u8>, GenFault>
     ensures { IfOk result (λ v. IsGenerated (map item_of program.now.program.items.items) v.items) }
 {
