@@ -1,0 +1,407 @@
+"""Random processes with PAR and ALT, whose outputs are the same in each order in which processes run.
+
+What goes over channels between the components of a PAR is planned first, as a list of messages in an order of which
+each component has its part. So they wait for one another, and come to an end. An ALT takes the only guard that can be
+ready, or it takes messages of several senders, and does with them what is the same in each order.
+"""
+
+import dataclasses
+
+import tree
+from expressions import number
+from ranges import RANGES, Entry
+from statements import ARRAYS, VARIABLES, Statements, plain, seq
+
+
+@dataclasses.dataclass(eq=False)
+class Line:
+    """A channel between two components, by their numbers."""
+
+    type: str
+    sender: int
+    receiver: int
+
+
+@dataclasses.dataclass
+class Again:
+    """Some messages that are sent several times."""
+
+    count: int
+    messages: list
+
+
+class Networks(Statements):
+    """Processes that run side by side."""
+
+    def __init__(self, dice):
+        super().__init__(dice)
+        # where each line is, for whoever is written
+        self.places = {}
+
+    def more_ways(self):
+        ways = [(2, self.skips)]
+        if self.turns <= 8:
+            ways += [(5, self.network), (2, self.pipeline), (2, self.merging)]
+        return ways
+
+    # ---- what components share
+
+    def shared(self, count):
+        """Which component each variable, array and free channel is left to: none of them, or all but to read it."""
+        left = {}
+        for scope in self.scopes:
+            for e in scope.values():
+                if e.kind in ("scalar", "variable", "array") and e.may_write or e.ends:
+                    left[e] = self.dice.choice([None, *range(count), *range(count)]) if count else None
+        return left
+
+    def as_component(self, me, left, write):
+        """What `write` gives, with what is left to this component. Also what is known then of what it changes."""
+        before = self.known()
+        kept = {e: (e.may_read, e.may_write, e.ends) for e in left}
+        for e, owner in left.items():
+            e.may_read = e.may_read and owner in (None, me)
+            e.may_write = e.may_write and owner == me
+            e.ends = e.ends if owner == me else frozenset()
+        self.changes.append(set())
+        made = write()
+        changed = self.changes.pop()
+        ends = {e: (e.range, e.is_exact) for e in changed}
+        for e, (may_read, may_write, free) in kept.items():
+            e.may_read, e.may_write, e.ends = may_read, may_write, free
+        self.restore(before)
+        return made, {e: found for e, found in ends.items() if e in before}
+
+    def together(self, writes):
+        """The components that some functions give."""
+        left = self.shared(len(writes))
+        made = [self.as_component(me, left, write) for me, write in enumerate(writes)]
+        for _, ends in made:
+            self.restore(ends)
+        return [one for one, _ in made]
+
+    # ---- plans
+
+    def plan(self, lines, depth):
+        """Some messages, in the order in which they are sent."""
+        messages = []
+        for _ in range(self.dice.choice([1, 2, 3, 5])):
+            if depth and self.dice.random() < 0.3:
+                messages.append(Again(self.dice.choice([1, 2, 3]), self.plan(lines, depth - 1)))
+            else:
+                messages.append(self.dice.choice(lines))
+        return messages
+
+    def lines_of(self, messages):
+        """The lines of a plan, each once."""
+        found = []
+        for m in messages:
+            found += self.lines_of(m.messages) if isinstance(m, Again) else [m]
+        return list(dict.fromkeys(found))
+
+    def parts_of(self, messages, me, depth):
+        """What a component does of a plan, with other things between."""
+        parts = []
+        for m in messages:
+            mine = [line for line in self.lines_of([m]) if me in (line.sender, line.receiver)]
+            if mine and self.dice.random() < 0.4:
+                parts.append(self.part(depth))
+            if mine and isinstance(m, Again):
+                parts.append(self.loop_of(m.count, lambda: [seq(self.parts_of(m.messages, me, depth))]))
+            elif mine:
+                parts.append(self.send(m) if me == m.sender else self.receive(m, depth))
+        return parts
+
+    def send(self, line):
+        return plain(tree.Send(self.places[line], self.of(line.type, self.dice.choice([0, 1, 2]))[0]))
+
+    def receive(self, line, depth):
+        """A message of a line is received, into a variable of its own where no other may be changed."""
+        def written():
+            declared = [] if self.writable(*VARIABLES, *ARRAYS, type_=line.type) else [self.declare_one(line.type)]
+            return tree.Process(declared, self.receiving(line, depth).construct)
+        return self.in_scope(written)
+
+    def receiving(self, line, depth):
+        roll = self.dice.random()
+        if roll < 0.5:
+            return plain(tree.Receive(self.places[line], self.target(line.type)))
+        return self.one_of_two(line, depth) if roll < 0.65 else self.with_closed_guards(line, depth)
+
+    # ---- alternations
+
+    def branch(self, guard, depth, before, behind, write=None):
+        """A branch of an ALT: a condition, a channel or none, and the type that it carries."""
+        condition, channel, type_ = guard
+        if condition is not None:
+            self.narrow(condition, True, False)
+        place = channel and self.target(type_)
+        process = write() if write else self.part(depth)
+        behind.append(self.known())
+        self.restore(before)
+        return tree.Guard(condition, channel, place), process
+
+    def never(self):
+        """A condition that does not hold."""
+        found = [e for e in self.entries("scalar", "value", "variable")]
+        if not found or self.dice.random() < 0.4:
+            return tree.Truth(False)
+        e = self.dice.choice(found)
+        return tree.Chain("BOOL", self.dice.choice(["<>", "<", ">"]), [tree.Name(e.type, e.name)] * 2)
+
+    def with_closed_guards(self, line, depth):
+        """An ALT of a guard on the line and others whose conditions do not hold."""
+        before, behind, branches = self.known(), [], []
+        guards = [(None if self.dice.random() < 0.7 else tree.Truth(True), self.places[line], line.type)]
+        for _ in range(self.dice.choice([0, 0, 1, 2])):
+            same = self.dice.random() < 0.5
+            guards.append((self.never(), self.places[line] if same else None, line.type))
+        self.dice.shuffle(guards)
+        branches = [self.branch(guard, depth, before, behind) for guard in guards]
+        self.join(before, behind)
+        return plain(tree.Block("ALT", None, branches))
+
+    def both_ways(self):
+        """A condition, and one that holds where it does not."""
+        condition = self.condition(1)
+        return condition, tree.Applied("BOOL", "NOT", condition)
+
+    def one_of_two(self, line, depth):
+        """An ALT of two guards on the line, of which one condition holds."""
+        before, behind = self.known(), []
+        guards = [(condition, self.places[line], line.type) for condition in self.both_ways()]
+        branches = [self.branch(guard, depth, before, behind) for guard in guards]
+        self.join(before, behind)
+        return plain(tree.Block("ALT", None, branches))
+
+    def skips(self, depth):
+        """An ALT of `SKIP` alone, under a replicator or with a free link, of which one condition holds."""
+        if self.dice.random() < 0.3:
+            return self.repeated_skips(depth)
+        before, behind = self.known(), []
+        links = self.ports("in")
+        e = self.dice.choice(links) if links and self.target("INT") and self.target("BYTE") else None
+        self.restore(before)
+        guards = []
+        for condition in self.both_ways():
+            is_link = e is not None and self.dice.random() < 0.5
+            guards.append((condition, is_link and tree.Name(e.type, e.name) or None, is_link and e.type))
+        branches = [self.branch(guard, depth, before, behind) for guard in guards]
+        self.join(before, behind)
+        return plain(tree.Block("ALT", None, branches))
+
+    def repeated_skips(self, depth):
+        """An ALT under a replicator of which one index is chosen."""
+        def written():
+            count = self.dice.choice([1, 2, 3])
+            chosen = self.number(1, (0, count - 1))[0]
+            replicator, entry = self.replicator("turn", count)
+            index = tree.Name("INT", entry.name)
+            condition = tree.Chain("BOOL", "=", [tree.Chain("INT", "-", [index, replicator.base]), chosen])
+            before, behind = self.known(), []
+            if self.visible_in(chosen, entry):
+                return plain(tree.Skip())
+            branch = self.branch((condition, None, None), depth, before, behind)
+            for e in self.known():
+                e.is_exact = False
+            self.join(before, behind)
+            return plain(tree.Block("ALT", replicator, [branch]))
+        return self.in_scope(written)
+
+    def visible_in(self, e, entry):
+        """Whether a name in an expression is that of an entry, which hides it."""
+        return entry.name in tree.text(e).replace("[", " ").replace("]", " ").replace("(", " ").replace(")", " ").split()
+
+    # ---- networks
+
+    def network(self, depth):
+        """A PAR of some components, with channels between them."""
+        count = self.dice.choice([1, 2, 2, 3, 3, 4])
+        lines = []
+        for _ in range(self.dice.choice([1, 2, 3, 4]) if count > 1 else 0):
+            sender, receiver = self.dice.sample(range(count), 2)
+            lines.append(Line(self.dice.choice(["INT", "INT", "BYTE"]), sender, receiver))
+        def written():
+            declared = self.declare_lines(lines)
+            plan = self.plan(lines, 2) if lines else []
+            writes = [lambda me=me: self.component(plan, me, depth - 1) for me in range(count)]
+            parts = self.grouped(self.together(writes))
+            for name in [name for d in declared for name in d.names]:
+                self.hidden.discard(name)
+            return tree.Process(declared, tree.Block("PAR", None, parts))
+        return self.in_scope(written)
+
+    def grouped(self, parts):
+        """The components, some of them in a PAR of their own."""
+        if len(parts) > 2 and self.dice.random() < 0.4:
+            at = self.dice.randrange(len(parts) - 1)
+            inner = plain(tree.Block("PAR", None, parts[at : at + 2]))
+            return [*parts[:at], inner, *parts[at + 2 :]]
+        return parts
+
+    def channel_name(self):
+        name = self.fresh()
+        self.hidden.add(name)
+        return name
+
+    def declare_lines(self, lines):
+        """Declarations of channels, in arrays and by themselves."""
+        declared = []
+        for type_ in ("INT", "BYTE"):
+            here = [line for line in lines if line.type == type_]
+            self.dice.shuffle(here)
+            while here:
+                size = self.dice.choice([1, 1, 2, 3])
+                some, here = here[:size], here[size:]
+                name = self.channel_name()
+                is_array = len(some) > 1 or self.dice.random() < 0.3
+                self.add(Entry("channels" if is_array else "channel", type_, name, size=len(some)))
+                for at, line in enumerate(some):
+                    self.places[line] = tree.Element(type_, name, number(at)) if is_array else tree.Name(type_, name)
+                declared.append(tree.Channels(type_, number(len(some)) if is_array else None, [name]))
+        return declared
+
+    def component(self, plan, me, depth):
+        """A component, which may be a procedure of its own."""
+        lines = [line for line in self.lines_of(plan) if me in (line.sender, line.receiver)]
+        if lines and self.dice.random() < 0.35 and len(self.procedures) < 9:
+            return self.as_procedure(lines, depth, lambda: self.body(plan, me, depth))
+        return self.body(plan, me, depth)
+
+    def body(self, plan, me, depth):
+        """What a component does, with variables of its own."""
+        def written():
+            declared = [self.declare_one(type_) for type_ in ("INT", "BYTE")]
+            parts = self.parts_of(plan, me, depth)
+            if not parts or self.dice.random() < 0.4:
+                parts.append(self.part(depth))
+            return tree.Process(declared, tree.Block("SEQ", None, parts + self.report()))
+        return self.in_scope(written)
+
+    def declare_one(self, type_):
+        name = self.fresh()
+        self.add(Entry("scalar", type_, name))
+        return tree.Variables(type_, None, [name])
+
+    def as_procedure(self, lines, depth, write):
+        """An instance of a procedure that has some lines as parameters, and what else suits."""
+        outside = dict(self.places)
+        formals = []
+        for line in lines:
+            formals.append(tree.Formal("channel", line.type, f"c{len(formals)}.", role="line"))
+            self.places[line] = tree.Name(line.type, formals[-1].name)
+        others = [f for f in self.formals() if f.kind != "channel"]
+        made = self.procedure(depth, [*formals, *others], write)
+        places = {f.name: outside[line] for f, line in zip(formals, lines)}
+        self.places = outside
+        wanted = tree.Procedure(made.name, others, made.body)
+        instance = self.call(wanted)
+        if instance is None:
+            return self.alone(lines, write)
+        actuals = [places[f.name] for f in formals] + instance.construct.actuals
+        return plain(tree.Instance(made.name, actuals))
+
+    def alone(self, lines, write):
+        return write()
+
+    # ---- templates
+
+    def pipeline(self, depth):
+        """Some stages in a row, which pass on what they are sent."""
+        stages, count = self.dice.choice([1, 2, 3, 4]), self.dice.choice([1, 2, 3, 5])
+        type_ = self.dice.choice(["INT", "INT", "BYTE"])
+        def written():
+            name = self.channel_name()
+            self.add(Entry("channels", type_, name, size=stages + 1))
+            first = Line(type_, 0, 1)
+            last = Line(type_, 1, 2)
+            def feeder():
+                self.places[first] = tree.Element(type_, name, number(0))
+                return self.component([Again(count, [first])], 0, depth - 1)
+            def drain():
+                self.places[last] = tree.Element(type_, name, number(stages))
+                return self.component([Again(count, [last])], 2, depth - 1)
+            def middle():
+                return self.in_scope(lambda: self.stages(name, type_, stages, count, depth))
+            writes = [feeder, middle, drain]
+            parts = self.together(writes)
+            self.dice.shuffle(parts)
+            self.hidden.discard(name)
+            declared = tree.Channels(type_, number(stages + 1), [name])
+            return tree.Process([declared], tree.Block("PAR", None, parts))
+        return self.in_scope(written)
+
+    def stages(self, name, type_, stages, count, depth):
+        """A PAR under a replicator of all stages."""
+        index = self.fresh()
+        self.hidden.add(index)
+        self.add(Entry("turn", "INT", index, (0, stages - 1), False, may_write=False))
+        here, there = Line(type_, 0, 1), Line(type_, 1, 2)
+        self.places[here] = tree.Element(type_, name, tree.Name("INT", index))
+        following = tree.Chain("INT", "+", [tree.Name("INT", index), number(1)])
+        self.places[there] = tree.Element(type_, name, following)
+        write = lambda: self.component([Again(count, [here, there])], 1, min(depth - 1, 1))
+        made, _ = self.as_component(0, self.shared(0), write)
+        self.hidden.discard(index)
+        return plain(tree.Block("PAR", tree.Replicator(index, number(0), number(stages)), [made]))
+
+    def merging(self, depth):
+        """Some senders, and one who receives from all of them as they come."""
+        senders, count = self.dice.choice([1, 2, 3, 4]), self.dice.choice([1, 2, 3])
+        def written():
+            name = self.channel_name()
+            self.add(Entry("channels", "INT", name, size=senders))
+            writes = [lambda: self.in_scope(lambda: self.senders(name, senders, count, depth)),
+                      lambda: self.in_scope(lambda: self.merger(name, senders, count))]
+            parts = self.together(writes)
+            self.hidden.discard(name)
+            declared = tree.Channels("INT", number(senders), [name])
+            return tree.Process([declared], tree.Block("PAR", None, parts))
+        return self.in_scope(written)
+
+    def senders(self, name, senders, count, depth):
+        index = self.fresh()
+        self.hidden.add(index)
+        self.add(Entry("turn", "INT", index, (0, senders - 1), False, may_write=False))
+        line = Line("INT", 1, 0)
+        self.places[line] = tree.Element("INT", name, tree.Name("INT", index))
+        write = lambda: self.component([Again(count, [line])], 1, min(depth - 1, 1))
+        made, _ = self.as_component(0, self.shared(0), write)
+        self.hidden.discard(index)
+        return plain(tree.Block("PAR", tree.Replicator(index, number(0), number(senders)), [made]))
+
+    def merger(self, name, senders, count):
+        """An ALT in a loop; of each sender it keeps a number and how many messages came, and of all a sum."""
+        total, x, kept, came, index, turn = [self.fresh_for_all() for _ in range(6)]
+        declared = [tree.Variables("INT", None, [total, x]), tree.Variables("INT", number(senders), [kept, came])]
+        operator = self.dice.choice(["PLUS", "><"])
+        def name_of(n):
+            return tree.Name("INT", n)
+        def keep(at):
+            old = tree.Element("INT", kept, at)
+            mixed = tree.Chain("INT", "PLUS", [tree.Chain("INT", "TIMES", [old, number(31)]), name_of(x)])
+            more = tree.Chain("INT", "PLUS", [tree.Element("INT", came, at), number(1)])
+            added = tree.Chain("INT", operator, [name_of(total), name_of(x)])
+            return seq([plain(tree.Assign(old, mixed)), plain(tree.Assign(tree.Element("INT", came, at), more)),
+                        plain(tree.Assign(name_of(total), added))])
+        def guard(at):
+            limit = tree.Chain("BOOL", "<", [tree.Element("INT", came, at), number(count)])
+            condition = limit if self.dice.random() < 0.4 else None
+            return tree.Guard(condition, tree.Element("INT", name, at), name_of(x)), keep(at)
+        if self.dice.random() < 0.5:
+            choice = tree.Block("ALT", tree.Replicator(index, number(0), number(senders)), [guard(name_of(index))])
+        else:
+            choice = tree.Block("ALT", None, [guard(number(k)) for k in range(senders)])
+        parts = [plain(tree.Block("SEQ", tree.Replicator(turn, number(0), number(senders * count)), [plain(choice)]))]
+        links = [e for e in self.ports("out") if e.type == "INT"]
+        if links:
+            out = tree.Name("INT", links[0].name)
+            parts += [plain(tree.Send(out, e)) for e in [name_of(total), *(tree.Element("INT", kept, number(k)) for k in range(senders))]]
+        for n in (total, x, kept, came, index, turn):
+            self.hidden.discard(n)
+        return tree.Process(declared, tree.Block("SEQ", None, parts))
+
+    def fresh_for_all(self):
+        name = self.fresh()
+        self.hidden.add(name)
+        return name

@@ -1,0 +1,56 @@
+"""Random programs."""
+
+import tree
+from ranges import Entry
+from networks import Networks
+from statements import Statements, plain
+
+
+def begin_main(writer):
+    """The links of `main`, in the scope of its parameters."""
+    dice, formals = writer.dice, []
+    writer.scopes.append({})
+    for link in range(4):
+        for direction in ("in", "out"):
+            if dice.random() < (0.85 if link == 0 else 0.2):
+                name, type_ = f"{direction}{link}", dice.choice(["INT", "INT", "BYTE"])
+                formals.append(tree.Formal("channel", type_, name, role=direction))
+                writer.add(Entry("channel", type_, name, ends=frozenset([direction])))
+                writer.hidden.add(name)
+    dice.shuffle(formals)
+    return formals
+
+
+def received(writer):
+    """Numbers that are received into some variables at first."""
+    parts = []
+    for link in writer.ports("in"):
+        for e in writer.writable("scalar", "array", type_=link.type):
+            if writer.dice.random() < 0.5:
+                place = writer.place(e)
+                writer.assigned(e, e.full(), True)
+                parts.append(plain(tree.Receive(tree.Name(link.type, link.name), place)))
+    return parts
+
+
+def main_body(writer):
+    """The body of `main`: some variables are received, and all are sent at the end."""
+    declared = [writer.declare(k < 2) for k in range(writer.dice.choice([2, 3, 4]))]
+    depth = writer.dice.choice([2, 3, 4, 6])
+    parts = received(writer)
+    for _ in range(writer.dice.choice([1, 2, 3, 4])):
+        parts.append(writer.part(depth))
+    return tree.Process(declared, tree.Block("SEQ", None, parts + writer.report()))
+
+
+def program(dice, is_sequential):
+    """The items of a program."""
+    writer = (Statements if is_sequential else Networks)(dice)
+    writer.left = dice.choice([8, 15, 25, 40])
+    for _ in range(dice.choice([0, 1, 2, 3])):
+        type_ = dice.choice(["INT", "INT", "BYTE"])
+        is_constant = dice.random() < 0.5
+        writer.items.append(writer.declare_constant(type_) if is_constant else writer.declare_table(type_))
+    formals = begin_main(writer)
+    body = writer.in_scope(lambda: main_body(writer))
+    return [*writer.items, tree.Procedure("main", formals, body)]
