@@ -162,9 +162,19 @@ class Expressions:
         limit = {"<<": (0, 31), ">>": (0, 31)}.get(operator, FULL)
         first = self.number(depth - 1, self.small(operator))
         others = [self.number(depth - 1 if limit == FULL else 1, self.small(operator, limit)) for _ in range(count - 1)]
-        if operator in ("/", "\\") and others[0][1][0] <= 0 <= others[0][1][1]:
-            others = [self.literal(self.dice.choice([(1, GREATEST), (1, 20), (LEAST, -2), (-9, -2)]))]
+        if operator in ("/", "\\"):
+            others = [self.divisor(others[0])]
         return self.chain(operator, [first, *others])
+
+    def divisor(self, made):
+        """A divisor: a scalar that is known not to be 0, or else what is given, or a literal."""
+        known = [e for e in self.entries(*NUMBERS) if e.type == "INT" and not e.range[0] <= 0 <= e.range[1]]
+        if known and self.dice.random() < 0.7:
+            e = self.dice.choice(known)
+            return tree.Name("INT", e.name), e.range
+        if made[1][0] <= 0 <= made[1][1]:
+            return self.literal(self.dice.choice([(1, GREATEST), (1, 20), (LEAST, -2), (-9, -2)]))
+        return made
 
     def small(self, operator, otherwise=FULL):
         """Mostly, a range on which a checked operator does not fail."""
@@ -181,6 +191,20 @@ class Expressions:
                 instead = {"+": "PLUS", "-": "MINUS", "*": "TIMES", "/": "><", "\\": "\\/"}[operator]
                 return self.chain(instead, operands)
         return tree.Chain("INT", operator, [e for e, _ in operands]), found
+
+    def deep(self, e, found):
+        """An expression within many others."""
+        for _ in range(self.dice.choice([10, 40])):
+            roll = self.dice.random()
+            if roll < 0.2:
+                e = tree.Bracketed("INT", e)
+            elif roll < 0.4:
+                e, found = tree.Applied("INT", "~", e), FULL
+            else:
+                operator = self.dice.choice(["PLUS", "MINUS", "TIMES", "><", "\\/", "/\\"])
+                both = [self.named("INT") or self.literal(), (e, found)]
+                e, found = self.chain(operator, both if roll < 0.8 else both[::-1])
+        return e, found
 
     def byte(self, depth):
         """An expression of BYTE, and its range."""

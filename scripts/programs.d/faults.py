@@ -69,7 +69,7 @@ FAULTS = [
     fault("G1", None, "[20000]INT f:\nf[0] := 1"),
     fault("G1", None, "INT f:\nIF i = 0 FOR 9000\n  f = i\n    SKIP"),
 ]
-AFTER_MAIN = fault("O19", 0, "VAL INT f IS 1:")
+AFTER_MAIN = fault("O19", 0, "VAL INT fault IS 1:")
 
 
 def with_fault(dice, lines):

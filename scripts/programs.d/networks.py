@@ -33,16 +33,43 @@ class Again:
 class Networks(Statements):
     """Processes that run side by side."""
 
-    def __init__(self, dice):
+    def __init__(self, dice, has_alt):
         super().__init__(dice)
+        self.has_alt, self.is_wrapped = has_alt, False
         # where each line is, for whoever is written
         self.places = {}
 
-    def more_ways(self):
-        ways = [(2, self.skips)]
+    def more_ways(self, depth):
+        ways = [(2, self.skips)] if self.has_alt else []
+        if depth > 2 and not self.is_wrapped:
+            ways.append((0.3, self.deep_process))
         if self.turns <= 8:
-            ways += [(5, self.network), (2, self.pipeline), (2, self.merging)]
+            ways += [(5, self.network), (2, self.pipeline)]
+        if self.turns <= 8 and self.has_alt:
+            ways.append((2, self.merging))
         return ways
+
+    def deep_process(self, depth):
+        """A process deep within blocks."""
+        self.is_wrapped = True
+        made = self.wrapped(lambda: self.part(depth - 1), self.dice.choice([8, 20, 35]))
+        self.is_wrapped = False
+        return made
+
+    def wrapped(self, write, level):
+        """What `write` gives, at some levels of blocks that do nothing else."""
+        if level <= 0:
+            return write()
+        inner = lambda: self.wrapped(write, level - self.dice.choice([1, 2]))
+        way = self.dice.randrange(5 if self.has_alt else 4)
+        if way == 0:
+            return seq([inner()])
+        if way == 1:
+            return self.loop_of(1, lambda: [inner()])
+        if way == 2:
+            return plain(tree.Block("PAR", None, self.together([inner])))
+        guard = tree.Truth(True) if way == 3 else tree.Guard(tree.Truth(True), None, None)
+        return plain(tree.Block("IF" if way == 3 else "ALT", None, [(guard, inner())]))
 
     # ---- what components share
 
@@ -124,7 +151,7 @@ class Networks(Statements):
 
     def receiving(self, line, depth):
         roll = self.dice.random()
-        if roll < 0.5:
+        if roll < 0.5 or not self.has_alt:
             return plain(tree.Receive(self.places[line], self.target(line.type)))
         return self.one_of_two(line, depth) if roll < 0.65 else self.with_closed_guards(line, depth)
 
@@ -215,21 +242,35 @@ class Networks(Statements):
     # ---- networks
 
     def network(self, depth):
-        """A PAR of some components, with channels between them."""
+        """A PAR of some components, with channels between them; or two in turn over the same channels."""
         count = self.dice.choice([1, 2, 2, 3, 3, 4])
-        lines = []
-        for _ in range(self.dice.choice([1, 2, 3, 4]) if count > 1 else 0):
-            sender, receiver = self.dice.sample(range(count), 2)
-            lines.append(Line(self.dice.choice(["INT", "INT", "BYTE"]), sender, receiver))
+        types = [self.dice.choice(["INT", "INT", "BYTE"]) for _ in range(self.dice.choice([1, 2, 3, 4]))]
+
         def written():
+            lines = self.lines_between(count, types)
             declared = self.declare_lines(lines)
-            plan = self.plan(lines, 2) if lines else []
-            writes = [lambda me=me: self.component(plan, me, depth - 1) for me in range(count)]
-            parts = self.grouped(self.together(writes))
+            parts = [self.components(count, lines, depth)]
+            if self.dice.random() < 0.2:
+                others = self.lines_between(count, types)
+                self.places.update(zip(others, [self.places[line] for line in lines]))
+                parts.append(self.components(count, others, depth))
             for name in [name for d in declared for name in d.names]:
                 self.hidden.discard(name)
-            return tree.Process(declared, tree.Block("PAR", None, parts))
+            return tree.Process(declared, (parts[0] if len(parts) == 1 else seq(parts)).construct)
+
         return self.in_scope(written)
+
+    def lines_between(self, count, types):
+        """Channels of these types between some of so many components."""
+        if count == 1:
+            return []
+        return [Line(type_, *self.dice.sample(range(count), 2)) for type_ in types]
+
+    def components(self, count, lines, depth):
+        """A PAR of so many components with these channels between them."""
+        plan = self.plan(lines, 2) if lines else []
+        writes = [lambda me=me: self.component(plan, me, depth - 1) for me in range(count)]
+        return plain(tree.Block("PAR", None, self.grouped(self.together(writes))))
 
     def grouped(self, parts):
         """The components, some of them in a PAR of their own."""
@@ -285,24 +326,31 @@ class Networks(Statements):
 
     def as_procedure(self, lines, depth, write):
         """An instance of a procedure that has some lines as parameters, and what else suits."""
-        outside = dict(self.places)
-        formals = []
+        outside, formals, passed = dict(self.places), [], []
         for line in lines:
-            formals.append(tree.Formal("channel", line.type, f"c{len(formals)}.", role="line"))
-            self.places[line] = tree.Name(line.type, formals[-1].name)
+            place = outside[line]
+            array = self.visible()[place.name] if isinstance(place, tree.Element) else None
+            whole = [f for f, a in zip(formals, passed) if f.kind == "channels" and a.name == place.name]
+            single = [a for a in passed if isinstance(a, tree.Element) and a.name == place.name]
+            name = f"c{len(formals)}."
+            if whole:
+                self.places[line] = dataclasses.replace(place, name=whole[0].name)
+            elif array and isinstance(place.subscript, tree.Number) and not single and self.dice.random() < 0.5:
+                formals.append(tree.Formal("channels", line.type, name, number(array.size), "line"))
+                passed.append(tree.Name(line.type, place.name))
+                self.places[line] = dataclasses.replace(place, name=name)
+            else:
+                formals.append(tree.Formal("channel", line.type, name, role="line"))
+                passed.append(place)
+                self.places[line] = tree.Name(line.type, name)
         others = [f for f in self.formals() if f.kind != "channel"]
         made = self.procedure(depth, [*formals, *others], write)
-        places = {f.name: outside[line] for f, line in zip(formals, lines)}
         self.places = outside
-        wanted = tree.Procedure(made.name, others, made.body)
-        instance = self.call(wanted)
+        instance = self.call(tree.Procedure(made.name, others, made.body))
         if instance is None:
-            return self.alone(lines, write)
-        actuals = [places[f.name] for f in formals] + instance.construct.actuals
-        return plain(tree.Instance(made.name, actuals))
-
-    def alone(self, lines, write):
-        return write()
+            # nothing suits the others here, so it is no procedure
+            return write()
+        return plain(tree.Instance(made.name, passed + instance.construct.actuals))
 
     # ---- templates
 

@@ -146,12 +146,12 @@ class Statements(Expressions):
         ways = [(8, self.assign), (5, self.send_out), (2, self.take_in), (1, lambda d: plain(tree.Skip()))]
         if depth > 0 and self.left > 0:
             ways += [(5, self.sequence), (6, self.choice), (3, self.loop), (1, self.repeated_choice),
-                     (4, self.instance), *self.more_ways()]
+                     (4, self.instance), *self.more_ways(depth)]
         ways.append((0.1, lambda d: plain(tree.Stop())))
         write = self.dice.choices([w for _, w in ways], [weight for weight, _ in ways])[0]
         return self.with_declarations(lambda: write(depth)) if depth > 0 else write(depth)
 
-    def more_ways(self):
+    def more_ways(self, depth):
         return []
 
     def part(self, depth):
@@ -168,6 +168,8 @@ class Statements(Expressions):
             return plain(tree.Skip())
         e = self.dice.choice(found)
         value, known = self.of(e.type, self.dice.choice([0, 1, 1, 2, 3]))
+        if e.type == "INT" and self.dice.random() < 0.02:
+            value, known = self.deep(value, known)
         is_exact = self.is_exact(value)
         place = self.place(e)
         self.assigned(e, known, is_exact)

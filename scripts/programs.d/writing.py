@@ -12,8 +12,9 @@ def begin_main(writer):
     writer.scopes.append({})
     for link in range(4):
         for direction in ("in", "out"):
-            if dice.random() < (0.85 if link == 0 else 0.2):
-                name, type_ = f"{direction}{link}", dice.choice(["INT", "INT", "BYTE"])
+            if dice.random() < (0.95 if link == 0 else 0.2):
+                types = ["INT", "INT", "BYTE"] if link or direction == "in" else ["INT", "INT", "INT", "INT", "BYTE"]
+                name, type_ = f"{direction}{link}", dice.choice(types)
                 formals.append(tree.Formal("channel", type_, name, role=direction))
                 writer.add(Entry("channel", type_, name, ends=frozenset([direction])))
                 writer.hidden.add(name)
@@ -38,15 +39,15 @@ def main_body(writer):
     declared = [writer.declare(k < 2) for k in range(writer.dice.choice([2, 3, 4]))]
     depth = writer.dice.choice([2, 3, 4, 6])
     parts = received(writer)
-    for _ in range(writer.dice.choice([1, 2, 3, 4])):
+    for _ in range(writer.dice.choice([1, 2, 3])):
         parts.append(writer.part(depth))
     return tree.Process(declared, tree.Block("SEQ", None, parts + writer.report()))
 
 
-def program(dice, is_sequential):
+def program(dice, is_sequential, is_without_alt):
     """The items of a program."""
-    writer = (Statements if is_sequential else Networks)(dice)
-    writer.left = dice.choice([8, 15, 25, 40])
+    writer = Statements(dice) if is_sequential else Networks(dice, not is_without_alt)
+    writer.left = dice.choice([4, 7, 10, 15, 30])
     for _ in range(dice.choice([0, 1, 2, 3])):
         type_ = dice.choice(["INT", "INT", "BYTE"])
         is_constant = dice.random() < 0.5
