@@ -30,6 +30,27 @@ class Again:
     messages: list
 
 
+@dataclasses.dataclass
+class Keeper:
+    """The names of what somebody keeps of messages, and the operator of their sum."""
+
+    total: str
+    x: str
+    kept: str
+    came: str
+    operator: str
+
+    def process(self, type_, at):
+        """A message of the channel with this number is kept."""
+        x = tree.Name("INT", self.x) if type_ == "INT" else tree.Converted("INT", tree.Name("BYTE", self.x))
+        old, came = tree.Element("INT", self.kept, at), tree.Element("INT", self.came, at)
+        total = tree.Name("INT", self.total)
+        mixed = tree.Chain("INT", "PLUS", [tree.Chain("INT", "TIMES", [old, number(31)]), x])
+        more = tree.Chain("INT", "PLUS", [came, number(1)])
+        added = tree.Chain("INT", self.operator, [total, x])
+        return seq([plain(tree.Assign(*pair)) for pair in ((old, mixed), (came, more), (total, added))])
+
+
 class Networks(Statements):
     """Processes that run side by side."""
 
@@ -157,13 +178,13 @@ class Networks(Statements):
 
     # ---- alternations
 
-    def branch(self, guard, depth, before, behind, write=None):
+    def branch(self, guard, depth, before, behind):
         """A branch of an ALT: a condition, a channel or none, and the type that it carries."""
         condition, channel, type_ = guard
         if condition is not None:
             self.narrow(condition, True, False)
         place = channel and self.target(type_)
-        process = write() if write else self.part(depth)
+        process = self.part(depth) if condition is None else self.with_use(condition, depth)
         behind.append(self.known())
         self.restore(before)
         return tree.Guard(condition, channel, place), process
@@ -370,86 +391,105 @@ class Networks(Statements):
                 self.places[last] = tree.Element(type_, name, number(stages))
                 return self.component([Again(count, [last])], 2, depth - 1)
             def middle():
-                return self.in_scope(lambda: self.stages(name, type_, stages, count, depth))
-            writes = [feeder, middle, drain]
-            parts = self.together(writes)
+                return self.stages(name, type_, stages, count, depth)
+
+            parts = self.together([feeder, middle, drain])
             self.dice.shuffle(parts)
             self.hidden.discard(name)
             declared = tree.Channels(type_, number(stages + 1), [name])
             return tree.Process([declared], tree.Block("PAR", None, parts))
+
         return self.in_scope(written)
 
     def stages(self, name, type_, stages, count, depth):
         """A PAR under a replicator of all stages."""
-        index = self.fresh()
-        self.hidden.add(index)
-        self.add(Entry("turn", "INT", index, (0, stages - 1), False, may_write=False))
         here, there = Line(type_, 0, 1), Line(type_, 1, 2)
-        self.places[here] = tree.Element(type_, name, tree.Name("INT", index))
-        following = tree.Chain("INT", "+", [tree.Name("INT", index), number(1)])
-        self.places[there] = tree.Element(type_, name, following)
-        write = lambda: self.component([Again(count, [here, there])], 1, min(depth - 1, 1))
-        made, _ = self.as_component(0, self.shared(0), write)
-        self.hidden.discard(index)
-        return plain(tree.Block("PAR", tree.Replicator(index, number(0), number(stages)), [made]))
+
+        def write(index):
+            self.places[here] = tree.Element(type_, name, index)
+            self.places[there] = tree.Element(type_, name, tree.Chain("INT", "+", [index, number(1)]))
+            return self.component([Again(count, [here, there])], 1, min(depth - 1, 1))
+
+        return self.for_each(stages, write)
 
     def merging(self, depth):
         """Some senders, and one who receives from all of them as they come."""
         senders, count = self.dice.choice([1, 2, 3, 4]), self.dice.choice([1, 2, 3])
+        type_ = self.dice.choice(["INT", "INT", "BYTE"])
+
         def written():
             name = self.channel_name()
-            self.add(Entry("channels", "INT", name, size=senders))
-            writes = [lambda: self.in_scope(lambda: self.senders(name, senders, count, depth)),
-                      lambda: self.in_scope(lambda: self.merger(name, senders, count))]
+            self.add(Entry("channels", type_, name, size=senders))
+            channels = [tree.Element(type_, name, number(k)) for k in range(senders)]
+            is_repeated = self.dice.random() < 0.5
+            writes = [lambda: self.in_scope(lambda: self.senders(name, type_, senders, count, depth)),
+                      lambda: self.merger(channels, senders * count, count, is_repeated)]
             parts = self.together(writes)
             self.hidden.discard(name)
-            declared = tree.Channels("INT", number(senders), [name])
+            declared = tree.Channels(type_, number(senders), [name])
             return tree.Process([declared], tree.Block("PAR", None, parts))
+
         return self.in_scope(written)
 
-    def senders(self, name, senders, count, depth):
-        index = self.fresh()
-        self.hidden.add(index)
-        self.add(Entry("turn", "INT", index, (0, senders - 1), False, may_write=False))
-        line = Line("INT", 1, 0)
-        self.places[line] = tree.Element("INT", name, tree.Name("INT", index))
-        write = lambda: self.component([Again(count, [line])], 1, min(depth - 1, 1))
-        made, _ = self.as_component(0, self.shared(0), write)
-        self.hidden.discard(index)
-        return plain(tree.Block("PAR", tree.Replicator(index, number(0), number(senders)), [made]))
+    def senders(self, name, type_, senders, count, depth):
+        """A PAR under a replicator of all senders."""
+        line = Line(type_, 1, 0)
 
-    def merger(self, name, senders, count):
-        """An ALT in a loop; of each sender it keeps a number and how many messages came, and of all a sum."""
-        total, x, kept, came, index, turn = [self.fresh_for_all() for _ in range(6)]
-        declared = [tree.Variables("INT", None, [total, x]), tree.Variables("INT", number(senders), [kept, came])]
-        operator = self.dice.choice(["PLUS", "><"])
-        def name_of(n):
-            return tree.Name("INT", n)
-        def keep(at):
-            old = tree.Element("INT", kept, at)
-            mixed = tree.Chain("INT", "PLUS", [tree.Chain("INT", "TIMES", [old, number(31)]), name_of(x)])
-            more = tree.Chain("INT", "PLUS", [tree.Element("INT", came, at), number(1)])
-            added = tree.Chain("INT", operator, [name_of(total), name_of(x)])
-            return seq([plain(tree.Assign(old, mixed)), plain(tree.Assign(tree.Element("INT", came, at), more)),
-                        plain(tree.Assign(name_of(total), added))])
-        def guard(at):
-            limit = tree.Chain("BOOL", "<", [tree.Element("INT", came, at), number(count)])
-            condition = limit if self.dice.random() < 0.4 else None
-            return tree.Guard(condition, tree.Element("INT", name, at), name_of(x)), keep(at)
-        if self.dice.random() < 0.5:
-            choice = tree.Block("ALT", tree.Replicator(index, number(0), number(senders)), [guard(name_of(index))])
+        def write(index):
+            self.places[line] = tree.Element(type_, name, index)
+            return self.component([Again(count, [line])], 1, min(depth - 1, 1))
+
+        return self.for_each(senders, write)
+
+    def merging_of_links(self):
+        """Messages of some links are taken as they come. Their names, and how many messages that are, are kept."""
+        if not self.has_alt:
+            return []
+        type_ = self.dice.choice(["INT", "BYTE"])
+        links = [e for e in self.ports("in") if e.type == type_]
+        if len(links) < 2:
+            return []
+        for e in links:
+            e.ends = frozenset()
+        self.merged = [e.name for e in links], self.dice.choice([1, 2, 5])
+        return [self.merger([tree.Name(type_, e.name) for e in links], self.merged[1], self.merged[1], False)]
+
+    def merger(self, channels, turns, count, is_repeated):
+        """An ALT in a loop. Of each channel it keeps a number and how many messages came, and of all a sum."""
+        names = [self.channel_name() for _ in range(6)]
+        total, x, kept, came, index, turn = names
+        size = number(len(channels))
+        declared = [tree.Variables("INT", None, [total]), tree.Variables(channels[0].type, None, [x]),
+                    tree.Variables("INT", size, [kept, came])]
+        keeper = Keeper(total, x, kept, came, self.dice.choice(["PLUS", "><"]))
+        if is_repeated:
+            at = tree.Name("INT", index)
+            branches = [self.kept(keeper, dataclasses.replace(channels[0], subscript=at), at, count)]
+            choice = tree.Block("ALT", tree.Replicator(index, number(0), size), branches)
         else:
-            choice = tree.Block("ALT", None, [guard(number(k)) for k in range(senders)])
-        parts = [plain(tree.Block("SEQ", tree.Replicator(turn, number(0), number(senders * count)), [plain(choice)]))]
-        links = [e for e in self.ports("out") if e.type == "INT"]
-        if links:
-            out = tree.Name("INT", links[0].name)
-            parts += [plain(tree.Send(out, e)) for e in [name_of(total), *(tree.Element("INT", kept, number(k)) for k in range(senders))]]
-        for n in (total, x, kept, came, index, turn):
-            self.hidden.discard(n)
+            branches = [self.kept(keeper, c, number(k), count) for k, c in enumerate(channels)]
+            choice = tree.Block("ALT", None, branches)
+        parts = [plain(tree.Block("SEQ", tree.Replicator(turn, number(0), number(turns)), [plain(choice)]))]
+        for link in [e for e in self.ports("out") if e.type == "INT"][:1]:
+            told = [tree.Name("INT", total), *(tree.Element("INT", kept, number(k)) for k in range(len(channels)))]
+            parts += [plain(tree.Send(tree.Name("INT", link.name), e)) for e in told]
+        self.hidden.difference_update(names)
         return tree.Process(declared, tree.Block("SEQ", None, parts))
 
-    def fresh_for_all(self):
-        name = self.fresh()
-        self.hidden.add(name)
-        return name
+    def kept(self, keeper, channel, at, count):
+        """A branch of an ALT that takes a message of a channel, at most so many."""
+        came = tree.Element("INT", keeper.came, at)
+        limit = tree.Chain("BOOL", "<", [came, number(count)])
+        guard = tree.Guard(limit if self.dice.random() < 0.4 else None, channel, tree.Name(channel.type, keeper.x))
+        return guard, keeper.process(channel.type, at)
+
+    def for_each(self, count, write):
+        """A PAR under a replicator of what `write` gives for its index."""
+        def written():
+            index = self.channel_name()
+            self.add(Entry("turn", "INT", index, (0, count - 1), False, may_write=False))
+            made, _ = self.as_component(0, self.shared(0), lambda: write(tree.Name("INT", index)))
+            self.hidden.discard(index)
+            return plain(tree.Block("PAR", tree.Replicator(index, number(0), number(count)), [made]))
+
+        return self.in_scope(written)

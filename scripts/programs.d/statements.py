@@ -30,6 +30,8 @@ class Statements(Expressions):
         # how many statements may still be written
         self.left = 40
         self.items, self.procedures = [], []
+        # links of which messages are taken as they come, and how many
+        self.merged = [], 0
 
     # ---- what is known
 
@@ -140,6 +142,9 @@ class Statements(Expressions):
 
     # ---- processes
 
+    def merging_of_links(self):
+        return []
+
     def process(self, depth):
         """A process."""
         self.left -= 1
@@ -232,11 +237,33 @@ class Statements(Expressions):
         """A choice. What is known behind it is added, and then it is known that its condition does not hold."""
         before = self.known()
         self.narrow(condition, True, is_repeated)
-        process = self.part(depth)
+        process = self.with_use(condition, depth)
         behind.append(self.known())
         self.restore(before)
         self.narrow(condition, False, is_repeated)
         return condition, process
+
+    def with_use(self, condition, depth):
+        """A process, and often an assignment before it that rests on what a condition tells."""
+        told = self.compared(condition)
+        targets = self.writable(*VARIABLES, type_="INT")
+        if told is None or told[0].type != "INT" or not targets or self.dice.random() < 0.5:
+            return self.part(depth)
+        entry, target = told[0], self.dice.choice(targets)
+        low, high = entry.range
+        arrays = [e for e in self.entries("array", "values", "table") if e.type == "INT" and 0 <= low and high < e.size]
+        value = tree.Name("INT", entry.name)
+        if arrays:
+            e = self.dice.choice(arrays)
+            used = tree.Element("INT", e.name, value), e.range
+        elif not low <= 0 <= high:
+            used = self.chain(self.dice.choice(["/", "\\"]), [self.literal(), (value, entry.range)])
+        elif high < 2**30 and low > -(2**30):
+            used = self.chain("+", [(value, entry.range), self.literal((-9, 99))])
+        else:
+            return self.part(depth)
+        self.assigned(target, used[1], self.is_exact(used[0]))
+        return seq([plain(tree.Assign(tree.Name("INT", target.name), used[0])), self.part(depth)])
 
     def join(self, before, behind):
         """What is known behind some branches."""

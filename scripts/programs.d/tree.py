@@ -174,6 +174,8 @@ class Procedure:
     name: str
     formals: list
     body: Process
+    # of `main`, the links of which an ALT takes messages as they come, and how many
+    merged: tuple = ((), 0)
 
 
 SPELLED = {13: "*c", 10: "*n", 9: "*t", 39: "*'", 34: '*"', 42: "**"}

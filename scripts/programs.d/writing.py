@@ -38,7 +38,8 @@ def main_body(writer):
     """The body of `main`: some variables are received, and all are sent at the end."""
     declared = [writer.declare(k < 2) for k in range(writer.dice.choice([2, 3, 4]))]
     depth = writer.dice.choice([2, 3, 4, 6])
-    parts = received(writer)
+    parts = writer.merging_of_links() if writer.dice.random() < 0.3 else []
+    parts += received(writer)
     for _ in range(writer.dice.choice([1, 2, 3])):
         parts.append(writer.part(depth))
     return tree.Process(declared, tree.Block("SEQ", None, parts + writer.report()))
@@ -54,4 +55,4 @@ def program(dice, is_sequential, is_without_alt):
         writer.items.append(writer.declare_constant(type_) if is_constant else writer.declare_table(type_))
     formals = begin_main(writer)
     body = writer.in_scope(lambda: main_body(writer))
-    return [*writer.items, tree.Procedure("main", formals, body)]
+    return [*writer.items, tree.Procedure("main", formals, body, writer.merged)]
