@@ -3,7 +3,7 @@
 import ranges
 import tree
 from meaning import GREATEST, LEAST, fitting
-from ranges import FULL, MIRRORED, OPPOSITE, Entry, within
+from ranges import FULL, MIRRORED, OPPOSITE, within
 
 BYTES = (0, 255)
 COMPARISONS = list(OPPOSITE)

@@ -5,7 +5,7 @@ import dataclasses
 
 @dataclasses.dataclass
 class Fault:
-    """What is refused, the line of `lines` that is at fault (none of a limit), and an item that is put before `main`."""
+    """What is refused, the line that is at fault (none of a limit), and an item that is put before `main`."""
 
     refusal: str
     at: int

@@ -6,10 +6,11 @@ ready, or it takes messages of several senders, and does with them what is the s
 """
 
 import dataclasses
+import re
 
 import tree
 from expressions import number
-from ranges import RANGES, Entry
+from ranges import Entry
 from statements import ARRAYS, VARIABLES, Statements, plain, seq
 
 
@@ -240,25 +241,23 @@ class Networks(Statements):
 
     def repeated_skips(self, depth):
         """An ALT under a replicator of which one index is chosen."""
+        count = self.dice.choice([1, 2, 3])
+        chosen = self.number(1, (0, count - 1))[0]
+
         def written():
-            count = self.dice.choice([1, 2, 3])
-            chosen = self.number(1, (0, count - 1))[0]
+            # no name that the index may hide
             replicator, entry = self.replicator("turn", count)
-            index = tree.Name("INT", entry.name)
-            condition = tree.Chain("BOOL", "=", [tree.Chain("INT", "-", [index, replicator.base]), chosen])
+            while entry.name in re.findall(r"[A-Za-z][A-Za-z0-9.]*", tree.text(chosen)):
+                del self.scopes[-1][entry.name]
+                replicator, entry = self.replicator("turn", count)
+            turn = tree.Chain("INT", "-", [tree.Name("INT", entry.name), replicator.base])
+            condition = tree.Chain("BOOL", "=", [turn, chosen])
             before, behind = self.known(), []
-            if self.visible_in(chosen, entry):
-                return plain(tree.Skip())
             branch = self.branch((condition, None, None), depth, before, behind)
-            for e in self.known():
-                e.is_exact = False
             self.join(before, behind)
             return plain(tree.Block("ALT", replicator, [branch]))
-        return self.in_scope(written)
 
-    def visible_in(self, e, entry):
-        """Whether a name in an expression is that of an entry, which hides it."""
-        return entry.name in tree.text(e).replace("[", " ").replace("]", " ").replace("(", " ").replace(")", " ").split()
+        return self.in_scope(written)
 
     # ---- networks
 

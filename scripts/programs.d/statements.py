@@ -2,7 +2,7 @@
 
 import ranges
 import tree
-from expressions import COMPARISONS, Expressions, number
+from expressions import Expressions, number
 from ranges import Entry, hull
 
 MOST_TURNS = 120
