@@ -100,11 +100,13 @@ class Statements(Expressions):
                 self.add(Entry("scalar", type_, names[1]))
             return tree.Variables(type_, None, names)
         if roll < 0.75:
-            size = self.dice.choice([1, 2, 3, 4, 5, 7, 8, 16, 33, 256])
-            name = self.fresh()
-            self.add(Entry("array", type_, name, range=ranges.RANGES[type_], size=size))
-            return tree.Variables(type_, self.size(size), [name])
+            return self.declare_array(self.dice.choice([1, 2, 3, 4, 5, 7, 8, 16, 33, 256]), type_)
         return self.declare_constant(type_) if roll < 0.9 else self.declare_table(type_)
+
+    def declare_array(self, size, type_="INT"):
+        name = self.fresh()
+        self.add(Entry("array", type_, name, range=ranges.RANGES[type_], size=size))
+        return tree.Variables(type_, self.size(size), [name])
 
     def size(self, size):
         """An expression of a size."""

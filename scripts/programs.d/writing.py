@@ -36,7 +36,8 @@ def received(writer):
 
 def main_body(writer):
     """The body of `main`: some variables are received, and all are sent at the end."""
-    declared = [writer.declare(k < 2) for k in range(writer.dice.choice([2, 3, 4]))]
+    declared = [writer.declare_array(writer.dice.choice([20, 300, 4000]))] if writer.dice.random() < 0.15 else []
+    declared += [writer.declare(k < 2) for k in range(writer.dice.choice([2, 3, 4]))]
     depth = writer.dice.choice([2, 3, 4, 6])
     parts = writer.merging_of_links() if writer.dice.random() < 0.3 else []
     parts += received(writer)
