@@ -69,14 +69,18 @@ FAULTS = [
     fault("G1", None, "[20000]INT f:\nf[0] := 1"),
     fault("G1", None, "INT f:\nIF i = 0 FOR 9000\n  f = i\n    SKIP"),
 ]
+TOO_MANY = [
+    fault("G1", None, "PAR i = 0 FOR 65\n  SKIP"),
+    fault("G1", None, "INT f:\nALT i = 0 FOR 65\n  f = i & SKIP\n    SKIP"),
+]
 AFTER_MAIN = fault("O19", 0, "VAL INT fault IS 1:")
 
 
-def with_fault(dice, lines):
+def with_fault(dice, lines, is_sequential):
     """The lines of a program with a fault, and the refusal."""
     if dice.random() < 0.02:
         return [*lines, *AFTER_MAIN.lines], f"O19 at line {len(lines) + 1}"
-    chosen = dice.choice(FAULTS)
+    chosen = dice.choice(FAULTS if is_sequential else FAULTS + TOO_MANY)
     main = max(at for at, line in enumerate(lines) if line.startswith("PROC main("))
     # behind the body of main, which is a SEQ
     before = [*lines[:main], *chosen.item, *lines[main:-1]]

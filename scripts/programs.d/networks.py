@@ -65,10 +65,10 @@ class Networks(Statements):
         ways = [(2, self.skips)] if self.has_alt else []
         if depth > 2 and not self.is_wrapped:
             ways.append((0.3, self.deep_process))
-        if self.turns <= 8:
-            ways += [(5, self.network), (2, self.pipeline)]
-        if self.turns <= 8 and self.has_alt:
-            ways.append((2, self.merging))
+        if self.turns <= 24:
+            ways += [(6, self.network), (2.5, self.pipeline)]
+        if self.turns <= 24 and self.has_alt:
+            ways.append((2.5, self.merging))
         return ways
 
     def deep_process(self, depth):
@@ -407,7 +407,7 @@ class Networks(Statements):
         def write(index):
             self.places[here] = tree.Element(type_, name, index)
             self.places[there] = tree.Element(type_, name, tree.Chain("INT", "+", [index, number(1)]))
-            return self.component([Again(count, [here, there])], 1, min(depth - 1, 1))
+            return self.component([Again(count, [here, there])], 1, min(depth - 1, 2))
 
         return self.for_each(stages, write)
 
@@ -436,7 +436,7 @@ class Networks(Statements):
 
         def write(index):
             self.places[line] = tree.Element(type_, name, index)
-            return self.component([Again(count, [line])], 1, min(depth - 1, 1))
+            return self.component([Again(count, [line])], 1, min(depth - 1, 2))
 
         return self.for_each(senders, write)
 
@@ -487,7 +487,9 @@ class Networks(Statements):
         def written():
             index = self.channel_name()
             self.add(Entry("turn", "INT", index, (0, count - 1), False, may_write=False))
+            turns, self.turns = self.turns, self.turns * count
             made, _ = self.as_component(0, self.shared(0), lambda: write(tree.Name("INT", index)))
+            self.turns = turns
             self.hidden.discard(index)
             return plain(tree.Block("PAR", tree.Replicator(index, number(0), number(count)), [made]))
 
