@@ -326,7 +326,7 @@ class Networks(Statements):
         """A component, which may be a procedure of its own."""
         lines = [line for line in self.lines_of(plan) if me in (line.sender, line.receiver)]
         if lines and self.dice.random() < 0.35 and len(self.procedures) < 9:
-            return self.as_procedure(lines, depth, lambda: self.body(plan, me, depth))
+            return self.as_procedure(lines, depth, lambda: self.component(plan, me, depth))
         return self.body(plan, me, depth)
 
     def body(self, plan, me, depth):
@@ -422,13 +422,25 @@ class Networks(Statements):
             channels = [tree.Element(type_, name, number(k)) for k in range(senders)]
             is_repeated = self.dice.random() < 0.5
             writes = [lambda: self.in_scope(lambda: self.senders(name, type_, senders, count, depth)),
-                      lambda: self.merger(channels, senders * count, count, is_repeated)]
+                      lambda: self.merging_component(channels, count, is_repeated)]
             parts = self.together(writes)
             self.hidden.discard(name)
             declared = tree.Channels(type_, number(senders), [name])
             return tree.Process([declared], tree.Block("PAR", None, parts))
 
         return self.in_scope(written)
+
+    def merging_component(self, channels, count, is_repeated):
+        """Who receives from some channels, so many messages of each. It may be a procedure that has them all."""
+        turns = len(channels) * count
+        if self.dice.random() < 0.6 or len(self.procedures) > 8:
+            return self.merger(channels, turns, count, is_repeated)
+        links = [e for e in self.ports("out") if e.type == "INT"][:1]
+        formals = [tree.Formal("channels", channels[0].type, "c.", number(len(channels)), "line")]
+        formals += [tree.Formal("channel", "INT", "o.", role="out") for _ in links]
+        inside = [dataclasses.replace(channel, name="c.") for channel in channels]
+        made = self.procedure(1, formals, lambda: self.merger(inside, turns, count, is_repeated))
+        return plain(tree.Instance(made.name, [tree.Name(e.type, e.name) for e in [channels[0], *links]]))
 
     def senders(self, name, type_, senders, count, depth):
         """A PAR under a replicator of all senders."""

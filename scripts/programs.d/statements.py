@@ -427,7 +427,8 @@ class Statements(Expressions):
         if kind:
             size = formal.size.value if formal.size else 0
             return Entry(kind, formal.type, formal.name, found, size=size, may_write=kind in ("variable", "array"))
-        return Entry("channel", formal.type, formal.name, ends=frozenset([formal.role]))
+        size = formal.size.value if formal.kind == "channels" else 0
+        return Entry(formal.kind, formal.type, formal.name, size=size, ends=frozenset([formal.role]))
 
     def procedure(self, depth, formals=None, write=None):
         """A new procedure, which is written among the items."""
