@@ -1,8 +1,10 @@
 """Random processes without PAR and ALT, which a compiler accepts where they stand."""
 
+import dataclasses
+
 import ranges
 import tree
-from expressions import Expressions, number
+from expressions import COMPARISONS, Expressions, number
 from ranges import Entry, hull
 
 MOST_TURNS = 120
@@ -152,7 +154,7 @@ class Statements(Expressions):
         self.left -= 1
         ways = [(8, self.assign), (5, self.send_out), (2, self.take_in), (1, lambda d: plain(tree.Skip()))]
         if depth > 0 and self.left > 0:
-            ways += [(5, self.sequence), (6, self.choice), (3, self.loop), (1, self.repeated_choice),
+            ways += [(5, self.sequence), (6, self.choice), (3, self.doubt), (3, self.loop), (1, self.repeated_choice),
                      (4, self.instance), *self.more_ways(depth)]
         ways.append((0.1, lambda d: plain(tree.Stop())))
         write = self.dice.choices([w for _, w in ways], [weight for weight, _ in ways])[0]
@@ -235,11 +237,11 @@ class Statements(Expressions):
         self.join(before, behind)
         return plain(tree.Block("IF", None, choices))
 
-    def one_choice(self, condition, depth, behind, is_repeated=False):
+    def one_choice(self, condition, depth, behind, is_repeated=False, write=None):
         """A choice. What is known behind it is added, and then it is known that its condition does not hold."""
         before = self.known()
         self.narrow(condition, True, is_repeated)
-        process = self.with_use(condition, depth)
+        process = write() if write else self.with_use(condition, depth)
         behind.append(self.known())
         self.restore(before)
         self.narrow(condition, False, is_repeated)
@@ -249,7 +251,7 @@ class Statements(Expressions):
         """A process, and often an assignment before it that rests on what a condition tells."""
         told = self.compared(condition)
         targets = self.writable(*VARIABLES, type_="INT")
-        if told is None or told[0].type != "INT" or not targets or self.dice.random() < 0.5:
+        if told is None or told[0].type != "INT" or not targets or self.dice.random() < 0.3:
             return self.part(depth)
         entry, target = told[0], self.dice.choice(targets)
         low, high = entry.range
@@ -277,6 +279,66 @@ class Statements(Expressions):
             for other in behind[1:]:
                 found = hull(found[0], other[e][0]), found[1] and other[e][1]
             e.range, e.is_exact = found
+
+    # ---- what a machine may know better than the rules for ranges
+
+    def doubt(self, depth):
+        """A scalar is tested of which it may be known without the rules for ranges that the test does not hold."""
+        found = self.writable("scalar", type_="INT")
+        if not found:
+            return self.choice(depth)
+        e = self.dice.choice(found)
+        first = self.made_known(e)
+        last = self.tested(e, depth)
+        return seq([first, last]) if first else last
+
+    def made_known(self, e):
+        """A scalar is assigned, mostly: an element, or a literal in a loop."""
+        name, roll = tree.Name("INT", e.name), self.dice.random()
+        arrays = [a for a in self.entries("array", "values", "table") if a.type == "INT"]
+        if roll < 0.4 and arrays:
+            a = self.dice.choice(arrays)
+            value = tree.Element("INT", a.name, self.subscript(a.size))
+            self.assigned(e, a.range, True)
+            return plain(tree.Assign(name, value))
+        if roll < 0.7:
+            value = number(self.dice.choice([0, 0, 1, 5, -1]))
+            count = self.dice.choice([0, 1, 2])
+            replicator, _ = self.in_scope(lambda: self.replicator("index", count))
+            if replicator.index != e.name:
+                self.assigned(e, e.full(), True)
+                body = plain(tree.Assign(name, value))
+                return plain(tree.Block("SEQ", replicator, [body]))
+        return None
+
+    def tested(self, e, depth):
+        """An IF with a test of a scalar, often within a choice whose condition says something of it too."""
+        name = tree.Name("INT", e.name)
+        test = tree.Chain("BOOL", self.dice.choice(COMPARISONS), [name, number(self.dice.randint(-3, 9))])
+        inner = lambda: self.if_(test, lambda: self.with_use(test, depth))
+        hidden = tree.Chain("BOOL", self.dice.choice(COMPARISONS), [name, number(self.dice.randint(-3, 9))])
+        match self.dice.randrange(5):
+            case 0:
+                return self.if_(tree.Bracketed("BOOL", hidden), inner)
+            case 1:
+                return self.if_(tree.Applied("BOOL", "NOT", hidden), inner)
+            case 2:
+                bracketed = tree.Bracketed("INT", name)
+                return self.if_(dataclasses.replace(hidden, operands=[bracketed, hidden.operands[1]]), inner)
+            case 3:
+                others = [o for o in self.entries("scalar") if o.type == "INT" and o is not e]
+                if others:
+                    both = [name, tree.Name("INT", self.dice.choice(others).name)]
+                    return self.if_(dataclasses.replace(hidden, operands=both), inner)
+        return inner()
+
+    def if_(self, condition, write):
+        """An IF of what `write` gives and a choice that does nothing."""
+        before, behind = self.known(), []
+        first = self.one_choice(condition, 1, behind, write=write)
+        last = self.one_choice(tree.Truth(True), 1, behind, write=lambda: plain(tree.Skip()))
+        self.join(before, behind)
+        return plain(tree.Block("IF", None, [first, last]))
 
     def repeated_choice(self, depth):
         """An IF under a replicator."""
