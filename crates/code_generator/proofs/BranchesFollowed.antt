@@ -1,6 +1,7 @@
 -- The branches of an ALT are gone over one after the other.
 use Rattle.std.proofs.Common.{◌≡◌, ℕ, suc, ◌+◌, ◌<◌, ◌≤◌, Bool, true, false, cond, List, [], ◌∷◌, ◌++◌, length, map}
-use Rattle.std.proofs.Common.{take, fold, arith, Option, get_or, None, Result, Ok, Err, IfOk, refl, sym, ap, subst, ◌∙◌, add-one}
+use Rattle.std.proofs.Common.{take, fold, arith, Option, get_or, None, Result, Ok, Err, IfOk, refl, sym, ap, subst}
+use Rattle.std.proofs.Common.{◌∙◌, add-one}
 use Rattle.std.proofs.Math.Seq.{take-append_seam}
 use Rattle.std.proofs.lemmas.List.{append_assoc, length-map, length-take, take_all}
 use Rattle.std.specs.Global.{Vec}
@@ -20,7 +21,6 @@ use Rattle.program_uses.specs.Declaring.{add}
 use Rattle.program_uses.specs.Indices.{Repeats, repeats_of, seen_repeats, index_in, index_meaning, turn_by_turn}
 use Rattle.program_uses.proofs.Adding.{taken_one}
 use Rattle.usage_checks.specs.AfterProcesses.{inside, repeated, begun_body, after_component, after_components}
-use Rattle.usage_checks.specs.Following.{after_guard}
 use Rattle.usage_checks.specs.NameRules.{with_entries}
 use Rattle.usage_checks.proofs.RangesStay.{covers_itself, turns_turned, component_stays}
 use Rattle.code_pieces.specs.declared.piece.RowEntry.{RowEntry}
@@ -32,8 +32,8 @@ use Rattle.code_generator.specs.declared.guards.Exits.{Exits}
 use Rattle.code_generator.specs.declared.processes.ProcessWriter.{ProcessWriter}
 use Rattle.code_generator.specs.Alternations.{GoesOn, StaysSo, condition_in, stops_at, guard_code, stopping, Chooses}
 use Rattle.code_generator.specs.Alternations.{Stops, in_branch, branch_code, WritesBranch, count_of, branches_code}
-use Rattle.code_generator.specs.Alternations.{WritesBranches, after_some, some_code, WritesSome, after_turns, FollowsAlt}
-use Rattle.code_generator.specs.Alternations.{FollowsRepeatedAlt}
+use Rattle.code_generator.specs.Alternations.{WritesBranches, some_code, WritesSome, after_turns}
+use Rattle.code_generator.specs.Alternations.{FollowsAlt, FollowsRepeatedAlt}
 use Rattle.code_generator.specs.CallViews.{surroundings_of}
 use Rattle.code_generator.specs.Declarations.{Frame, with_home}
 use Rattle.code_generator.specs.FrameViews.{frame_seen}
@@ -41,7 +41,7 @@ use Rattle.code_generator.specs.HomeViews.{home_seen, homes_seen}
 use Rattle.code_generator.specs.Homes.{Nowhere}
 use Rattle.code_generator.specs.Processes.{Site, at_place, row_of, process_code, turn_site, turned, times}
 use Rattle.code_generator.specs.Written.{site_of, Appends, WritesProcess}
-use Rattle.code_generator.proofs.PartsWritten.{appends_before, appends_closed, appends_then, site_after, writes_none}
+use Rattle.code_generator.proofs.PartsWritten.{appends_before, appends_closed, appends_then, site_after}
 use Rattle.code_generator.proofs.LoopsWritten.{ended_block}
 
 -- ---- one after the other
@@ -57,8 +57,9 @@ pub by_site : {s t : ProcessWriter} → site_of t ≡ site_of s → StaysSo s t
 by_site e = record { known = ap (λ (y : Site). y.known) e; frame = ap (λ (y : Site). y.frame) e }
 
 -- the guards are gone over, one is chosen, and then the branches are a block
-pub alt_follows : (around : calling.Surroundings) (exits : ℕ → Exits) (cs : Components Branches) {s t within w : ProcessWriter}
-    (begun ended : code_scope.Scope) → StaysSo s t → known_of begun ≡ begin (known_of t.scope)
+pub alt_follows : (around : calling.Surroundings) (exits : ℕ → Exits) (cs : Components Branches)
+    {s t within w : ProcessWriter} (begun ended : code_scope.Scope) → StaysSo s t
+    → known_of begun ≡ begin (known_of t.scope)
     → WritesBranches (record t { scope = begun }) within around exits cs → known_of ended ≡ end (known_of within.scope)
     → StaysSo (record within { scope = ended }) w → FollowsAlt s w around cs
 alt_follows around exits cs begun ended first begins inner ends last =
@@ -81,7 +82,8 @@ pub writes_branch : (around : calling.Surroundings) (line : ℕ) (g : Guard) (p 
     → moved.listing ≡ within.listing ++ Jump x.end ∷ [] → known_of moved.scope ≡ next (known_of within.scope)
     → frame_seen moved.frame ≡ frame_seen within.frame → moved.label ≡ within.label → Stops moved w stops
     → WritesBranch s w around x (Guarded line g p)
-writes_branch around line g p x s row guard within moved w stops first same chosen process jumps moves named counted ends =
+writes_branch around line g p x s row guard within moved w stops first same chosen process jumps moves named counted
+    ends =
     let here = surroundings_of around in
     let a = here.around in
     let z = site_of s in
@@ -101,7 +103,8 @@ writes_branch around line g p x s row guard within moved w stops first same chos
     chosen.code ∙ (λ i. first i ++ guard_code (same i) x.next g)
     ∙ append_assoc s.listing (row_of x.here z.frame z.known ∷ []) (guard_code z x.next g) in
     let written : Appends guard.listing within.listing within.label code =
-    subst (λ (y : Site). Appends guard.listing within.listing within.label (process_code here p y)) place process.code in
+    subst (λ (y : Site). Appends guard.listing within.listing within.label (process_code here p y)) place
+    process.code in
     let rest : w.listing ≡ within.listing ++ behind =
     ends.code ∙ (λ i. jumps i ++ stopping (stopped i) (frame i) (known i))
     ∙ append_assoc within.listing (Jump x.end ∷ []) (stopping wanted z.frame done) in
@@ -184,7 +187,8 @@ pub some_next : (around : calling.Surroundings) (exits : ℕ → Exits) (x : Rep
 some_next around exits x c n m e {s} {t} {w} scope means enters leads before one =
     let known = enters ∙ ap (λ m. with_entries (add x.name.now m) (known_of t.scope)) means in
     let here = subst (λ e. WritesBranch (record t { scope = scope }) w around e c) leads one in
-    subst (λ k. WritesSome s w around exits x c k) (sym (add-one n)) (some_more around exits x c n scope known before here)
+    subst (λ k. WritesSome s w around exits x c k) (sym (add-one n))
+    (some_more around exits x c n scope known before here)
 
 -- ---- what is known after the turns
 
@@ -219,7 +223,8 @@ turns_end a line r c k = by_happens (repeats_of (is_before line a.uncounted) k.e
 -- ---- an ALT under a replicator
 
 -- The names are left that the branches had, with so many before them.
-pub follows_repeated : (around : calling.Surroundings) (exits : ℕ → Exits) (line names : ℕ) (r : Replicator) (c : Component Branches)
+pub follows_repeated : (around : calling.Surroundings) (exits : ℕ → Exits) (line names : ℕ) (r : Replicator)
+    (c : Component Branches)
     (x : Replication) {s t u within w : ProcessWriter} (left : code_frame.Frame) (ended : code_scope.Scope)
     → x.name.now ≡ r.name
     → seen_repeats x.repeats
@@ -230,8 +235,8 @@ pub follows_repeated : (around : calling.Surroundings) (exits : ℕ → Exits) (
     → homes_seen left.homes.items ≡ take names (homes_seen within.frame.homes.items) → left.top ≡ t.frame.top
     → left.outer ≡ within.frame.outer → known_of ended ≡ end (known_of within.scope)
     → known_of w.scope ≡ known_of ended → frame_seen w.frame ≡ frame_seen left → FollowsRepeatedAlt s w around line r c
-follows_repeated around exits line names r c x {s} {t} {u} {within} {w} left ended name is count stays begun named turns long
-    homes top hidden ends known frame =
+follows_repeated around exits line names r c x {s} {t} {u} {within} {w} left ended name is count stays begun named turns
+    long homes top hidden ends known frame =
     let a = (surroundings_of around).around in
     let z = frame_seen t.frame in
     let after = λ (n : List ℕ) (q : Repeats) (m : ℕ) (k : Known).

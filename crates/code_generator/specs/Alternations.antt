@@ -1,6 +1,7 @@
 -- What alternations are written from: what guards wait for, the code before branches, and what is known after them.
-use Rattle.std.specs.Prelude.{◌≡◌, ℕ, suc, ◌+◌, max, nat_eq, ℤ, pos, Bool, true, false, ◌&&◌, ◌||◌, List, [], ◌∷◌, ◌++◌}
-use Rattle.std.specs.Prelude.{if◌then◌else◌, Option, Some, None, unwrap_or, option_map, is_some, slice_get, slice_set, drop, map}
+use Rattle.std.specs.Prelude.{◌≡◌, ℕ, ◌+◌, max, nat_eq, ℤ, pos, Bool, true, false, ◌&&◌, ◌||◌, List, [], ◌∷◌, ◌++◌}
+use Rattle.std.specs.Prelude.{if◌then◌else◌, Option, Some, None, unwrap_or, option_map, is_some, slice_get}
+use Rattle.std.specs.Prelude.{slice_set, drop, map}
 use Rattle.std.specs.Ordering.{int_eq}
 use Rattle.occam_layout.specs.declared.mark.Mark.TheVariants as mark
 use Rattle.occam_parser.specs.Terminals.{Mark}
@@ -242,8 +243,9 @@ abbrev pub stopping : Option ℕ → Frame → Known → List Piece
 stopping None f k = []
 stopping (Some label) f k = row_of label f k ∷ operates STOP_PROCESS ∷ []
 
--- Some pieces were appended, and this is where the process stops if a condition does not hold. What is known goes on so.
-pub record WritesGuard (s t : ProcessWriter) (pieces : List Piece) (found wanted : Option ℕ) (after : Known) : Type 0 where
+-- Some pieces were appended, and this is where the process stops if a condition does not hold.
+pub record WritesGuard (s t : ProcessWriter) (pieces : List Piece) (found wanted : Option ℕ) (after : Known)
+    : Type 0 where
   pub code : t.listing ≡ s.listing ++ pieces
   pub stops : found ≡ wanted
   pub label : t.label ≡ label_behind wanted s.label

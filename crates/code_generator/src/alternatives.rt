@@ -6,7 +6,8 @@ ghost use Rattle.occam_parser.specs.LineViews.{guard_of, place_of, replicator_of
 ghost use Rattle.occam_parser.specs.BlockViews.{branch_of, all_branches};
 ghost use Rattle.scalar_ranges.specs.Scopes.{entries_of};
 ghost use Rattle.code_generator.specs.Alternations.{is_tested, StaysSo, Chooses, Receives, Narrows, Tests, Stops};
-ghost use Rattle.code_generator.specs.Alternations.{exits_in, WritesBranch, WritesBranches, WritesSome, FollowsAlt, FollowsRepeatedAlt};
+ghost use Rattle.code_generator.specs.Alternations.{exits_in, WritesBranch, WritesBranches, WritesSome};
+ghost use Rattle.code_generator.specs.Alternations.{FollowsAlt, FollowsRepeatedAlt};
 
 use crate::calling::Surroundings;
 use crate::guards::{Exits, Guards, Labels, condition_of, source_of};

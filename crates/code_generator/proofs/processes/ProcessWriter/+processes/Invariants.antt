@@ -117,5 +117,5 @@ invariant-write_branches-loop-number l =
 
 abbrev pub invariant-write_branch_turns-loop-turn : goal.invariant-write_branch_turns-loop-turn
 invariant-write_branch_turns-loop-turn l =
-    alternations.WritesSome l.initial.self l.self l.around (exits_in l.labels l.guards.sources.items) l.turns (branch_of l.branch)
-    l.turn
+    alternations.WritesSome l.initial.self l.self l.around (exits_in l.labels l.guards.sources.items) l.turns
+    (branch_of l.branch) l.turn
