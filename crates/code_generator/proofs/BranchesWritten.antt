@@ -1,5 +1,5 @@
 -- A PAR is written component by component, and its blocks are left.
-use Rattle.std.proofs.Common.{◌≡◌, ℕ, suc, ◌+◌, ◌<◌, ◌≤◌, Bool, true, false, List, [], ◌∷◌, length, map, take, get_or}
+use Rattle.std.proofs.Common.{◌≡◌, ℕ, ◌+◌, ◌<◌, ◌≤◌, Bool, true, false, List, [], ◌∷◌, length, map, take, get_or}
 use Rattle.std.proofs.Common.{None, refl, sym, ap, subst, ◌∙◌, add-one}
 use Rattle.std.proofs.Math.Seq.{take-append_seam}
 use Rattle.std.proofs.lemmas.List.{length-map, take_all}
@@ -33,7 +33,7 @@ use Rattle.code_generator.specs.FrameViews.{frame_seen}
 use Rattle.code_generator.specs.HomeViews.{home_seen, homes_seen}
 use Rattle.code_generator.specs.Homes.{Nowhere}
 use Rattle.code_generator.specs.Processes.{turned}
-use Rattle.code_generator.specs.Written.{Writes, WritesProcess}
+use Rattle.code_generator.specs.Written.{WritesProcess}
 use Rattle.code_generator.specs.Branches.{IsKept, EntersBranch, LeavesBranch, WritesComponent, WritesSome, WritesPar}
 use Rattle.code_generator.specs.Branches.{WritesTurns, WritesRepeatedPar}
 use Rattle.code_generator.proofs.LoopsWritten.{ended_block}
@@ -96,7 +96,8 @@ par_done around f xs i {s} {begun} {t} {w} ended h begins same x left kept =
 
 -- ---- under a replicator
 
-pub par_turns_next : {part : Part} (around : calling.Surroundings) (name : List ℕ) (repeats : Repeats) (c : Component part)
+pub par_turns_next : {part : Part} (around : calling.Surroundings) (name : List ℕ) (repeats : Repeats)
+    (c : Component part)
     (n : ℕ) (m : Meaning) {s t w : ProcessWriter} (scope : code_scope.Scope) → m ≡ index_in repeats n
     → known_of scope ≡ with_entries (add name m) (known_of t.scope)
     → WritesTurns s t around name repeats n c → WritesComponent (record t { scope = scope }) w around c

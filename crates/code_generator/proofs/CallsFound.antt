@@ -1,6 +1,6 @@
 -- A procedure is found by its number, whatever procedures are behind it.
 use Rattle.std.proofs.Common.{◌≡◌, ℕ, zero, suc, ◌<◌, Bool, true, false, cond, nat_eq, List, Option, Some, slice_get}
-use Rattle.std.proofs.Common.{refl, sym, ap, ◌∙◌, arith}
+use Rattle.std.proofs.Common.{refl, ap, ◌∙◌, arith}
 use Rattle.std.proofs.lemmas.Bool.Decides.{nat_tests}
 use Rattle.occam_parser.specs.Expressions.{Expression}
 use Rattle.program_uses.specs.Actions.{Around}

@@ -21,7 +21,8 @@ use Rattle.code_generator.specs.declared.processes.ProcessWriter.{ProcessWriter}
 use Rattle.code_pieces.specs.Pieces.{Piece, Jump, operates, Code, closed_by}
 use Rattle.code_generator.specs.FrameViews.{frame_seen}
 use Rattle.code_generator.specs.Actions.{test_code}
-use Rattle.code_generator.specs.Processes.{Site, Surroundings, at_place, row_of, is_true, in_choice, tested_choice, last_choice}
+use Rattle.code_generator.specs.Processes.{Site, Surroundings, at_place, row_of, is_true, in_choice, tested_choice}
+use Rattle.code_generator.specs.Processes.{last_choice}
 use Rattle.code_generator.specs.Processes.{process_code, choices_code, tested_code, choice_code, last_code}
 use Rattle.code_generator.specs.Written.{site_of, Appends, Writes, if_code, chosen_code}
 use Rattle.code_generator.specs.Written.{WritesIf, WritesChoices, WritesChoice, WritesPart, WritesChosen}
@@ -192,7 +193,8 @@ writes_tested around end line e p s tested within after jumped test place x jump
     let frame : frame_seen within.frame ≡ z.frame = x.frame ∙ ap (λ (y : Site). y.frame) place in
     let process = process_code here p (in_choice e z) in
     let inner : Appends tested.listing within.listing within.label process =
-    subst (λ (y : Site). Appends tested.listing within.listing within.label (chosen_code here (Chosen line e p) y)) place
+    subst
+    (λ (y : Site). Appends tested.listing within.listing within.label (chosen_code here (Chosen line e p) y)) place
     x.code in
     let rest : after.listing ≡ within.listing ++ Jump end ∷ row_of s.label z.frame done ∷ [] =
     row ∙ (λ j. jumps j ++ row_of s.label (frame j) (known j) ∷ [])

@@ -27,7 +27,8 @@ use Rattle.code_generator.specs.declared.processes.ProcessWriter.{ProcessWriter}
 use Rattle.code_generator.specs.Homes as homes
 use Rattle.code_generator.specs.HomeViews.{home_seen}
 use Rattle.code_generator.specs.FrameViews.{frame_seen}
-use Rattle.code_generator.specs.Processes.{Site, Surroundings, row_of, in_loop, value_or_zero, loop_start, loop_end, loop_code}
+use Rattle.code_generator.specs.Processes.{Site, Surroundings, row_of, in_loop, value_or_zero, loop_start, loop_end}
+use Rattle.code_generator.specs.Processes.{loop_code}
 use Rattle.code_generator.specs.Processes.{repeated_seq, process_code, construct_code}
 use Rattle.code_generator.specs.Processes.{component_code}
 use Rattle.code_generator.specs.Written.{site_of, Appends, Writes, after_loop, in_turning, EntersLoop, behind_loop}
@@ -69,7 +70,8 @@ loop_code_is here line r p s =
     let inner = in_loop s (begin_loop changed s.known) r.name (index_in repeats 0) in
     let base = value_or_zero s.known.entries r.base in
     let count = value_or_zero s.known.entries r.count in
-    ap (λ after. repeated_seq s changed after base (loop_code s inner after base count (process_code here p inner)) count)
+    ap
+    (λ after. repeated_seq s changed after base (loop_code s inner after base count (process_code here p inner)) count)
     (after_loop_is here.around line r p s.known)
 
 with_turns : (s : Site) (changed : List ℕ) (after : Known) (base : ℤ) (loop : Option Code) (count : ℤ)

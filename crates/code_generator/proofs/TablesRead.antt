@@ -1,5 +1,6 @@
 -- Whether the operands of a chain read a table that is passed, one after the other.
-use Rattle.std.proofs.Common.{◌≡◌, ℕ, ◌+◌, ◌<◌, ◌≤◌, Bool, ◌||◌, List, [], ◌∷◌, length, map, drop, get_or, refl, sym, ap}
+use Rattle.std.proofs.Common.{◌≡◌, ℕ, ◌+◌, ◌<◌, ◌≤◌, Bool, ◌||◌, List, [], ◌∷◌, length, map, drop, get_or, refl, sym}
+use Rattle.std.proofs.Common.{ap}
 use Rattle.std.proofs.Common.{◌∙◌, Vec, Global}
 use Rattle.std.proofs.lemmas.List.{at_drop_all}
 use Rattle.occam_parser.specs.declared.tree.Operand.{Operand}

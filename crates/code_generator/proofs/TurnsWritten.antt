@@ -29,7 +29,8 @@ use Rattle.code_generator.specs.Homes.{Nowhere}
 use Rattle.code_generator.specs.Declarations.{Frame}
 use Rattle.code_generator.specs.HomeViews.{home_seen, homes_seen}
 use Rattle.code_generator.specs.FrameViews.{frame_seen}
-use Rattle.code_generator.specs.Processes.{Site, Surroundings, row_of, times, before_turns, turned, turn_site, tested_turns}
+use Rattle.code_generator.specs.Processes.{Site, Surroundings, row_of, times, before_turns, turned, turn_site}
+use Rattle.code_generator.specs.Processes.{tested_turns}
 use Rattle.code_generator.specs.Processes.{under_if, construct_code, choice_code, last_code}
 use Rattle.code_generator.specs.Written.{site_of, Appends, Writes, WritesConstruct, WritesPart, turns_written}
 use Rattle.code_generator.specs.Written.{WritesTurns}
@@ -43,7 +44,8 @@ use Rattle.code_generator.proofs.LoopsWritten.{ended_block}
 abbrev pub upto_turns : Surroundings → ℕ → List ℕ → Repeats → Component Choices → Bool → ℕ → Site → Option Code
 upto_turns here end name repeats c true n s = turns_written here end name c repeats n s
 upto_turns here end name repeats c false n s =
-    tested_turns n s.label (λ m label. choice_code here end c (turn_site here.around (Mark mark.If) name c repeats s m label))
+    tested_turns n s.label
+    (λ m label. choice_code here end c (turn_site here.around (Mark mark.If) name c repeats s m label))
 
 abbrev pub WritesSome : (s t : ProcessWriter) → calling.Surroundings → ℕ → List ℕ → Repeats → Component Choices → Bool
     → ℕ → Type 0
@@ -180,8 +182,8 @@ pub writes_repeated_if : (around : calling.Surroundings) (line names : ℕ) (r :
     → after.listing ≡ within.listing ++ row_of s.label (frame_seen left) (known_of ended) ∷ []
     → site_of after ≡ site_of (record within { scope = ended; frame = left })
     → WritesConstruct s after around line (under_if r c)
-writes_repeated_if around line names r c repeats s begun within after left ended is same place x long homes top hidden ends row
-    still =
+writes_repeated_if around line names r c repeats s begun within after left ended is same place x long homes top hidden
+    ends row still =
     let here = surroundings_of around in
     let a = here.around in
     let z = site_of s in

@@ -1,5 +1,5 @@
--- What it is to write a PAR. It has no code in the definition: the pieces of its parts are named here, and what is known
--- after it is as it should be.
+-- What it is to write a PAR. It has no code in the definition: the pieces of its parts are named here, and what is
+-- known after it is as it should be.
 use Rattle.std.specs.Prelude.{◌≡◌, ℕ, ◌+◌, ℤ, pos, unsigned_abs, false, List, [], ◌∷◌, ◌++◌, length}
 use Rattle.std.specs.Prelude.{Option, Some, None}
 use Rattle.occam_layout.specs.declared.mark.Mark.TheVariants as mark
@@ -12,7 +12,8 @@ use Rattle.program_uses.specs.Actions.{Around, is_before}
 use Rattle.program_uses.specs.Indices.{Repeats, repeats_of, turn_by_turn}
 use Rattle.usage_checks.specs.AfterProcesses.{after_component, after_components, begun_body, repeated}
 use Rattle.module_format.specs.declared.rows.ChannelRow.{ChannelRow}
-use Rattle.code_pieces.specs.declared.operations.TheConstants.{MINIMUM_INTEGER, LOAD_POINTER_TO_INSTRUCTION, END_PROCESS}
+use Rattle.code_pieces.specs.declared.operations.TheConstants.{MINIMUM_INTEGER, LOAD_POINTER_TO_INSTRUCTION}
+use Rattle.code_pieces.specs.declared.operations.TheConstants.{END_PROCESS}
 use Rattle.code_pieces.specs.declared.piece.ParBranch.{ParBranch}
 use Rattle.code_pieces.specs.PieceViews.{pieces_of}
 use Rattle.code_pieces.specs.Pieces.{Piece, Distance, StartBranch, Place, operates, stores, points, constant}

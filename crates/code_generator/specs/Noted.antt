@@ -1,5 +1,5 @@
 -- The ends of channels that are noted: how code and rows name them.
-use Rattle.std.specs.Prelude.{ℕ, pos, List, [], ◌∷◌, Option, Some, None}
+use Rattle.std.specs.Prelude.{pos, List, [], ◌∷◌, Option, Some, None}
 use Rattle.module_format.specs.declared.rows.Direction.{Direction}
 use Rattle.module_format.specs.declared.rows.Direction.TheVariants as direction
 use Rattle.module_format.specs.declared.rows.EndKind.{EndKind}

@@ -5,7 +5,7 @@ use Rattle.std.specs.List.{list_any}
 use Rattle.occam_layout.specs.declared.mark.Mark.TheVariants as mark
 use Rattle.occam_parser.specs.Terminals.{Terminal, Mark}
 use Rattle.occam_parser.specs.Expressions.{Expression, Alone, Truth, Bracketed}
-use Rattle.occam_parser.specs.Lines.{Declaration, Replicator, block_word, Action, Skip, Stop, Assign, Input, Output}
+use Rattle.occam_parser.specs.Lines.{Declaration, Replicator, block_word, Action}
 use Rattle.occam_parser.specs.Lines.{Instance}
 use Rattle.occam_parser.specs.Constructs.{in_if}
 use Rattle.occam_parser.specs.Blocks.{Process, Declared, Does, Construct, Act, Block, Replicated, Body, One, Part}

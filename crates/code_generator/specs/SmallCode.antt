@@ -180,8 +180,8 @@ calls_pieces =
     ∷ operates STOP_PROCESS ∷ []
 
 -- A byte is received and sent; an array is set to 0 and stored into by moves; (-7) / 2 is one constant; a choice
--- under a replicator is there once for each index; a loop without turns has no code; and a procedure is copied to where it is
--- called.
+-- under a replicator is there once for each index; a loop without turns has no code; and a procedure is copied to
+-- where it is called.
 pub record PiecesFollow : Type 0 where
   pub echo : code_of (echoes value_type.Byte skip) ≡ Some (record { pieces = echo_pieces; labels = 0 })
   pub element :

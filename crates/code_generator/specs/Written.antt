@@ -134,7 +134,8 @@ WritesIf s t a cs =
     (end (after_components (surroundings_of a).around (Mark mark.If) cs (begin (known_of s.scope))))
 
 -- the code of a choice, by what it is in its place
-abbrev pub WritesAs : {part : Part} → (s t : ProcessWriter) → calling.Surroundings → Option Code → Component part → Type 0
+abbrev pub WritesAs : {part : Part} → (s t : ProcessWriter) → calling.Surroundings → Option Code → Component part
+    → Type 0
 WritesAs s t a code c = Writes s t code (after_component (surroundings_of a).around (Mark mark.If) c (known_of s.scope))
 
 abbrev pub WritesChoices : {part : Part} → (s t : ProcessWriter) → calling.Surroundings → ℕ → Components part → Type 0
@@ -150,7 +151,8 @@ abbrev pub part_code : {part : Part} → Surroundings → ℕ → Bool → Compo
 part_code w end true c s = last_code w end c s
 part_code w end false c s = choice_code w end c s
 
-abbrev pub WritesPart : {part : Part} → (s t : ProcessWriter) → calling.Surroundings → ℕ → Bool → Component part → Type 0
+abbrev pub WritesPart : {part : Part} → (s t : ProcessWriter) → calling.Surroundings → ℕ → Bool → Component part
+    → Type 0
 WritesPart s t a end is_last c = WritesAs s t a (part_code (surroundings_of a) end is_last c (site_of s)) c
 
 -- a choice without its test

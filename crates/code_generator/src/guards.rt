@@ -7,7 +7,8 @@ ghost use Rattle.code_generator.specs.Actions.{channel_code, channel_home};
 ghost use Rattle.code_generator.specs.Alternations.{condition_in, waiting_for, source_code, are_alike, place_in};
 ghost use Rattle.code_generator.specs.Alternations.{next_in, next_of, ready_in, with_guard, above, either_code};
 ghost use Rattle.code_generator.specs.Alternations.{either_ready, ready_code, ready_with, labels_from, exits_of};
-ghost use Rattle.code_generator.specs.Alternations.{flag, enabling, disabling, enabling_code, disabling_code, all_enabling};
+ghost use Rattle.code_generator.specs.Alternations.{flag, enabling, disabling, enabling_code, disabling_code};
+ghost use Rattle.code_generator.specs.Alternations.{all_enabling};
 ghost use Rattle.code_generator.specs.Alternations.{all_disabling, targets_of, waiting_code, choosing_code};
 ghost use Rattle.code_generator.specs.SettingViews.{entries_in, homes_in};
 

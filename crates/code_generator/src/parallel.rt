@@ -1,5 +1,5 @@
-//! Writing the code of a `PAR`. Its branches are written first, since how many words each takes is known only then. If a
-//! function fails, some pieces more may have come.
+//! Writing the code of a `PAR`. Its branches are written first, since how many words each takes is known only then. If
+//! a function fails, some pieces more may have come.
 
 ghost use Rattle.std.specs.Prelude.{◌≡◌, ◌++◌, map, IfOk, Some};
 ghost use Rattle.occam_parser.specs.Blocks.{Plain};

@@ -146,10 +146,10 @@ impl<'a> ProcessWriter<'a> {
     }
 }
 
-/// The code of a program. The definition has that of sequential programs; of others no clause says it. The error is
-/// [`GenFault::Limit`] if too much is gone over, so that the time and the memory that it takes are bounded, however often
-/// procedures are called, or if a `PAR` or an `ALT` is above a limit of the format. No checked program is known for which
-/// it is [`GenFault::Invalid`].
+/// The code of a program. The definition has that of programs without `PAR` and `ALT`; of others no clause says it. The
+/// error is [`GenFault::Limit`] if too much is gone over, so that the time and the memory that it takes are bounded,
+/// however often procedures are called, or if a `PAR` or an `ALT` is above a limit of the format. No checked program is
+/// known for which it is [`GenFault::Invalid`].
 pub fn code_of(alloc: Global, program: &CheckedProgram) -> Result<Code, GenFault>
     ensures { IfOk result (λ code. IfSome (code_of (map item_of program.now.program.items.items)) (λ c. code ≡ c)) }
 {

@@ -1,4 +1,4 @@
-use Rattle.std.proofs.Common.{◌≡◌, ◌||◌, arith, rules, ◌∙◌}
+use Rattle.std.proofs.Common.{◌||◌, arith, rules, ◌∙◌}
 use Rattle.occam_parser.specs.declared.tree.Operand.TheFolds.{the_lemmas}
 use Rattle.occam_parser.specs.Views.{expression_of}
 use Rattle.code_generator.specs.SettingViews.{entries_in, homes_in}

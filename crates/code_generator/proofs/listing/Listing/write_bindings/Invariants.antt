@@ -12,7 +12,8 @@ invariant-loop-place l =
     let es = entries_in l.setting in
     let qs = parameters_of l.passed in
     record {
-      code : l.self ++ bindings_code hs es qs l.place (map expression_of (drop l.place l.actual-items)) (frame_seen l.frame)
+      code : l.self
+          ++ bindings_code hs es qs l.place (map expression_of (drop l.place l.actual-items)) (frame_seen l.frame)
           ≡ l.initial.self ++ bindings_code hs es qs 0 (map expression_of l.actual-items) (frame_seen l.initial.frame);
       frame : all_bound hs es qs l.place (map expression_of (drop l.place l.actual-items)) (frame_seen l.frame)
           ≡ all_bound hs es qs 0 (map expression_of l.actual-items) (frame_seen l.initial.frame);

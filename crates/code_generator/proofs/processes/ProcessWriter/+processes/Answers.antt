@@ -27,7 +27,8 @@ use Rattle.code_generator.specs.Homes.{Nowhere}
 use Rattle.code_generator.specs.Declarations.{with_home}
 use Rattle.code_generator.specs.Branches.{WritesPar}
 use Rattle.code_generator.specs.Processes.{Site, Surroundings, at_place, before_turns, process_code, act_code}
-use Rattle.code_generator.specs.Written.{site_of, Writes, WritesConstruct, WritesSeq, WritesIf, WritesPart, WritesChoice}
+use Rattle.code_generator.specs.Written.{site_of, Writes, WritesConstruct, WritesSeq, WritesIf, WritesPart}
+use Rattle.code_generator.specs.Written.{WritesChoice}
 use Rattle.code_generator.specs.Written.{WritesChosen, WritesTurns, WritesLine, EntersLoop}
 use Rattle.code_generator.proofs.ActsWritten.{writes_act, writes_from, writes_instance}
 use Rattle.code_generator.proofs.BranchesFollowed.{goes_on, by_site, alt_follows, where_ok, writes_branch}
