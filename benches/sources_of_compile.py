@@ -3,20 +3,93 @@ second at most for each. Those that are above a limit are refused with G1."""
 
 from sources_of_check import deeper, names, procedure, program, under
 
-MIB = 1_048_576
 COMPILED, TOO_LARGE = "compiled", "refused G1"
-MAX_ROWS = 8_192
+MAX_LINES = 32_768
+LINES = [
+    "x := x PLUS y", "y := x TIMES 3", "row[2] := y", "z := row[1] >< x", "row[1] := z MINUS y", "x := z /\\ 255",
+]
 
 
 def main(body, links="CHAN OF INT in0, CHAN OF INT out0"):
     return procedure(f"main({links})", body)
 
 
-def ordinary_lines(count):
-    """A program of so many lines that a programmer might write, in one process."""
-    part = ["x := x PLUS y", "y := x TIMES 3", "row[2] := y", "z := row[1] >< x", "row[1] := z MINUS y", "x := z /\\ 255"]
+def joined(words):
+    return ", ".join(words)
+
+
+def chain(terms, term="a"):
+    """A sum of so many terms."""
+    return "+".join([term] * terms)
+
+
+def formals(passed, kind="INT"):
+    """The head of a procedure with these parameters."""
+    return joined(f"{kind} {name}" for name in passed)
+
+
+# ---- ordinary sources
+
+
+def ordinary_lines():
+    """As many lines as a source may have, such as a programmer might write, in one process."""
     heads = ["INT x, y, z:", "[4]INT row:", "SEQ"]
-    return program(main([*heads, *deeper(part * (count // len(part)))]))
+    count = MAX_LINES - len(heads) - 2
+    return program(main([*heads, *deeper((LINES * count)[:count])]))
+
+
+# ---- expressions
+
+
+def long_sum(terms):
+    """A sum of so many variables."""
+    return program(main(["INT a:", "SEQ", "  in0 ? a", f"  a := {' PLUS '.join(['a'] * terms)}"]))
+
+
+def nested_brackets(terms):
+    """A procedure that is called over and over, with a constant sum of so many terms in 60 brackets of one variable."""
+    value = f"({chain(terms, '1')})"
+    for _ in range(60):
+        value = f"(a PLUS {value})"
+    inner = procedure("p(INT a)", [f"a := {value}"])
+    times = 8_388_608 // (2 * terms + 200)
+    return program(inner, main(["INT x:", "SEQ", *deeper(["p(x)"] * min(times, 8_000))]))
+
+
+# ---- instances
+
+
+def doubling(depth):
+    """Procedures that call the one before twice each."""
+    first = procedure("p0(INT a)", ["a := a PLUS 1"])
+    others = [procedure(f"p{n}(INT a)", ["SEQ", *deeper([f"p{n - 1}(a)"] * 2)]) for n in range(1, depth)]
+    return program(first, *others, main(["INT x:", "SEQ", "  in0 ? x", f"  p{depth - 1}(x)", "  out0 ! x"]))
+
+
+def calls(count, variables):
+    """So many instances of a procedure with so many variables."""
+    passed = names(variables)
+    many = procedure(f"many({formals(passed)})", [f"{passed[0]} := {passed[-1]} PLUS 1"])
+    call = f"many({joined(passed)})"
+    return program(many, main([f"INT {joined(passed)}:", "SEQ", *deeper([call] * count)]))
+
+
+def calls_behind_words(variables, own, count, times):
+    """A procedure that passes its own variables so often, called so often where other variables have words."""
+    passed = names(own)
+    many = procedure(f"many({formals(passed)})", ["SKIP"])
+    body = [f"INT {','.join(passed)}:", "SEQ", *deeper([f"many({','.join(passed)})"] * count)]
+    known = [f"INT {','.join(names(variables))}:", "SEQ", *deeper(["local()"] * times)]
+    return program(many, procedure("local()", body), main(known))
+
+
+def calls_behind_names(constants, times):
+    """A procedure that is called so often, with names before it that have no words."""
+    known = [[f"VAL INT {name} IS 1:"] for name in names(constants)]
+    return program(*known, procedure("last()", ["SKIP"]), main(["SEQ", *deeper(["last()"] * times)]))
+
+
+# ---- rows
 
 
 def with_choices(count):
@@ -25,45 +98,52 @@ def with_choices(count):
     return program(main(body))
 
 
-def doubling(depth):
-    """Procedures that call the one before twice each."""
-    first = procedure("p0(INT a)", ["a := a PLUS 1"])
-    others = [procedure(f"p{n}(INT a)", ["SEQ", f"  p{n - 1}(a)", f"  p{n - 1}(a)"]) for n in range(1, depth)]
-    return program(first, *others, main(["INT x:", "SEQ", "  in0 ? x", f"  p{depth - 1}(x)", "  out0 ! x"]))
-
-
-def calls(count, formals):
-    """So many instances of a procedure with so many variables."""
-    passed = names(formals)
-    head = ", ".join(f"INT {name}" for name in passed)
-    body = [f"{passed[0]} := {passed[-1]} PLUS 1"]
-    call = f"many({', '.join(passed)})"
-    return program(procedure(f"many({head})", body), main([f"INT {', '.join(passed)}:", "SEQ", *deeper([call] * count)]))
+def choices_behind_names(constants, count):
+    """So many choices of one IF, where names are known that have no words."""
+    known = [[f"VAL INT {name} IS 1:"] for name in names(constants)]
+    body = ["INT x:", "SEQ", "  in0 ? x", f"  IF i = 0 FOR {count}", "    x = i", "      SKIP"]
+    return program(*known, main(body))
 
 
 def rows_of_many_words(rows, variables):
-    """Rows of which each says something of so many variables."""
-    declared = [f"INT {name}:" for name in names(variables)]
-    return program(main([*declared, "SEQ", *deeper(["STOP"] * rows)]))
+    """Rows of which each says something else of each of so many variables."""
+    declared = names(variables)
+    other = deeper([f"{name} := 1" for name in declared[::2]])
+    choices = ["in0 ? X", f"IF I = 0 FOR {rows}", "  X = I", "    SKIP"]
+    return program(main(["INT X:", f"INT {joined(declared)}:", "SEQ", *other, *deeper(choices)]))
 
 
-def nested_loops(depth, turns):
-    """Loops in one another."""
-    heads = [f"SEQ {name} = 0 FOR {turns}" for name in names(depth + 1)[1:]]
+# ---- loops
+
+
+def nested_loops(depth):
+    """Loops of one turn in one another."""
+    heads = [f"SEQ {name} = 0 FOR 1" for name in names(depth + 1)[1:]]
     return program(main(["INT a:", *under(heads, ["a := a PLUS 1"])]))
 
 
-def long_sum(terms):
-    """A sum of so many variables."""
-    return program(main(["INT a:", "SEQ", "  in0 ? a", f"  a := {' PLUS '.join(['a'] * terms)}"]))
+def changes_in_loops(depth, arrays, count, times):
+    """Loops in one another around instances that pass arrays, in a procedure that is called so often."""
+    passed = names(arrays)
+    many = procedure(f"many({formals(passed, '[1]INT')})", ["SKIP"])
+    heads = [f"SEQ I{level} = 0 FOR 1" for level in range(depth)]
+    body = under([*heads, "SEQ"], [f"many({','.join(passed)})"] * count)
+    looping = procedure(f"looping({formals(passed, '[1]INT')})", body)
+    calls = deeper([f"looping({','.join(passed)})"] * times)
+    return program(many, looping, main([f"[1]INT {','.join(passed)}:", "SEQ", *calls]))
 
 
-def nested_brackets(depth):
-    """An expression of brackets in one another, each of which wants a word while it is computed."""
-    inner = "a"
-    for _ in range(depth):
-        inner = f"(a PLUS (a TIMES {inner}))"
-    return program(main(["INT a:", "SEQ", "  in0 ? a", f"  a := {inner}"]))
+def changes_without_turns(arrays, count, times):
+    """A loop without turns around instances that pass arrays, in a procedure that is called so often."""
+    passed = names(arrays)
+    many = procedure(f"many({formals(passed, '[1]INT')})", ["SKIP"])
+    loop = ["SEQ I = 0 FOR 0", "  SEQ", *deeper([f"many({','.join(passed)})"] * count, 2)]
+    idle = procedure(f"idle({formals(passed, '[1]INT')})", loop)
+    calls = deeper([f"idle({','.join(passed)})"] * times)
+    return program(many, idle, main([f"[1]INT {','.join(passed)}:", "SEQ", *calls]))
+
+
+# ---- constants
 
 
 def constants(count):
@@ -73,9 +153,24 @@ def constants(count):
 
 def texts(count):
     """Texts of 1,000 characters, each read in main."""
-    letters = "abcdefghij" * 100
-    tables = [[f'VAL []BYTE {name} IS "{name}{letters}":'] for name in names(count)]
-    return program(*tables, main(["INT x:", "SEQ", "  in0 ? x", *deeper([f"out0 ! INT {name}[x /\\ 7]" for name in names(count)])]))
+    declared = names(count)
+    rows = [[f'VAL [1002]BYTE {name} IS "{number:03}{"abcdefghi" * 111}":'] for number, name in enumerate(declared)]
+    reads = [f"out0 ! INT {name}[X /\\ 7]" for name in declared]
+    narrowed = ["IF", "  X >= 0", *deeper(["SEQ", *deeper(reads)], 2)]
+    return program(*rows, main(["INT X:", "SEQ", "  in0 ? X", *deeper(narrowed)]))
+
+
+def tables(count, reads):
+    """So many tables that begin alike, which are read so often, the last ones most."""
+    declared = names(count)
+    rows = [[f"VAL [4]INT {name} IS [0,0,0,{number}]:"] for number, name in enumerate(declared)]
+    last = declared[-100:]
+    value = " PLUS ".join([*(f"{name}[3]" for name in declared), *(f"{it}[X]" for it in last * (reads // 100))])
+    narrowed = ["IF", "  X < 0", "    STOP", "  X < 4", f"    X := {value}"]
+    return program(*rows, main(["INT X:", "SEQ", "  in0 ? X", *deeper(narrowed)]))
+
+
+# ---- PARs and alternations
 
 
 def branches(count):
@@ -89,12 +184,28 @@ def pars(count):
     return program(main(["CHAN OF INT c:", "INT x:", "SEQ", *deeper(one * count)]))
 
 
+def pars_behind_words(count, variables):
+    """PARs of two branches, where so many variables have words."""
+    one = ["PAR", "  SKIP", "  SKIP"]
+    return program(main([f"INT {joined(names(variables))}:", "SEQ", *deeper(one * count)]))
+
+
 def nested_pars(depth):
     """PARs of two branches in one another."""
     body = ["INT x:", "x := 1"]
     for _ in range(depth):
         body = ["PAR", "  SKIP", *deeper(body)]
     return program(main(body))
+
+
+def rows_in_pars(depth, rows, variables):
+    """So many rows in PARs in one another, each of which says something of so many variables that are outside."""
+    declared = names(variables)
+    body = ["SEQ", *deeper([f"{name} := 1" for name in declared[::2]]), *deeper([f"X := X PLUS {it}" for it in declared])]
+    body += deeper([f"IF I = 0 FOR {rows}", "  X = I", "    SKIP"])
+    for _ in range(depth):
+        body = ["PAR", *deeper(body)]
+    return program(main(["INT X:", f"INT {joined(declared)}:", *body]))
 
 
 def alternations(count):
@@ -105,18 +216,27 @@ def alternations(count):
 
 # name: what makes the source, what comes of it, and what it is
 SOURCES = {
-    "ordinary": (lambda: ordinary_lines(32_768), COMPILED, "32,768 ordinary lines"),
-    "choices": (lambda: with_choices(32_000), TOO_LARGE, "IF i = 0 FOR 32000"),
-    "choices-within": (lambda: with_choices(8_190), COMPILED, "IF i = 0 FOR 8190"),
+    "ordinary": (ordinary_lines, COMPILED, "32,768 ordinary lines"),
+    "sum": (lambda: long_sum(65_000), COMPILED, "a sum of 65,000 variables"),
+    "brackets": (lambda: nested_brackets(250_000), COMPILED, "a constant sum in 60 brackets, in 16 instances"),
     "doubling": (lambda: doubling(60), TOO_LARGE, "60 procedures that call the one before twice each"),
     "calls": (lambda: calls(2_700, 100), COMPILED, "2,700 instances that pass 100 variables"),
-    "said": (lambda: rows_of_many_words(8_191, 511), COMPILED, "8,191 rows of 511 variables"),
-    "loops": (lambda: nested_loops(60, 2), COMPILED, "60 loops in one another"),
-    "sum": (lambda: long_sum(65_000), COMPILED, "a sum of 65,000 variables"),
-    "constants": (lambda: constants(45_000), COMPILED, "45,000 constants"),
+    "calls-words": (lambda: calls_behind_words(10_000, 4_000, 20, 7), COMPILED, "140 instances that pass 4,000 variables, where 10,000 others are"),
+    "calls-names": (lambda: calls_behind_names(32_000, 250), COMPILED, "250 instances of a procedure that knows 32,000 constants"),
+    "choices": (lambda: with_choices(32_000), TOO_LARGE, "IF i = 0 FOR 32000"),
+    "choices-within": (lambda: with_choices(8_190), COMPILED, "IF i = 0 FOR 8190"),
+    "choices-names": (lambda: choices_behind_names(32_000, 8_190), COMPILED, "IF i = 0 FOR 8190, where 32,000 constants are known"),
+    "said": (lambda: rows_of_many_words(8_190, 510), COMPILED, "8,191 rows that say something else of each of 511 variables"),
+    "loops": (lambda: nested_loops(60), COMPILED, "60 loops in one another"),
+    "loops-changes": (lambda: changes_in_loops(58, 1_000, 200, 12), COMPILED, "200 instances that pass 1,000 arrays in 58 loops, 12 times"),
+    "loops-idle": (lambda: changes_without_turns(20, 12_000, 1_000), COMPILED, "12,000 instances that pass 20 arrays in a loop without turns, 1,000 times"),
+    "constants": (lambda: constants(32_700), COMPILED, "32,700 constants"),
     "texts": (lambda: texts(900), TOO_LARGE, "900 texts of 1,000 characters"),
+    "tables": (lambda: tables(1_000, 12_000), COMPILED, "12,000 reads of 1,000 tables that begin alike"),
     "branches": (lambda: branches(64), COMPILED, "a PAR of 64 branches"),
     "pars": (lambda: pars(1_024), COMPILED, "1,024 PARs"),
-    "nested-pars": (lambda: nested_pars(64), COMPILED, "64 PARs in one another"),
+    "pars-words": (lambda: pars_behind_words(1_024, 1_000), COMPILED, "1,024 PARs where 1,000 variables have words"),
+    "nested-pars": (lambda: nested_pars(61), COMPILED, "61 PARs in one another"),
+    "pars-rows": (lambda: rows_in_pars(60, 8_000, 500), COMPILED, "8,000 rows about 500 variables in 60 PARs"),
     "alternations": (lambda: alternations(100), COMPILED, "100 alternations of 64 guards"),
 }
