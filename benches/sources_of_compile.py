@@ -18,11 +18,6 @@ def joined(words):
     return ", ".join(words)
 
 
-def chain(terms, term="a"):
-    """A sum of so many terms."""
-    return "+".join([term] * terms)
-
-
 def formals(passed, kind="INT"):
     """The head of a procedure with these parameters."""
     return joined(f"{kind} {name}" for name in passed)
@@ -48,7 +43,7 @@ def long_sum(terms):
 
 def nested_brackets(terms):
     """A procedure that is called over and over, with a constant sum of so many terms in 60 brackets of one variable."""
-    value = f"({chain(terms, '1')})"
+    value = f"({'+'.join(['1'] * terms)})"
     for _ in range(60):
         value = f"(a PLUS {value})"
     inner = procedure("p(INT a)", [f"a := {value}"])
@@ -87,6 +82,14 @@ def calls_behind_names(constants, times):
     """A procedure that is called so often, with names before it that have no words."""
     known = [[f"VAL INT {name} IS 1:"] for name in names(constants)]
     return program(*known, procedure("last()", ["SKIP"]), main(["SEQ", *deeper(["last()"] * times)]))
+
+
+def calls_within(depth, variables):
+    """So many instances within one another, where variables have words of which each has another number."""
+    declared = names(variables)
+    chained = [procedure(f"P{n}()", [f"P{n - 1}()" if n else "SKIP"]) for n in range(depth)]
+    other = deeper([f"{name} := 1" for name in declared[::2]])
+    return program(*chained, main([f"INT {joined(declared)}:", "SEQ", *other, f"  P{depth - 1}()"]))
 
 
 # ---- rows
@@ -201,11 +204,19 @@ def nested_pars(depth):
 def rows_in_pars(depth, rows, variables):
     """So many rows in PARs in one another, each of which says something of so many variables that are outside."""
     declared = names(variables)
-    body = ["SEQ", *deeper([f"{name} := 1" for name in declared[::2]]), *deeper([f"X := X PLUS {it}" for it in declared])]
-    body += deeper([f"IF I = 0 FOR {rows}", "  X = I", "    SKIP"])
+    used = [*(f"{name} := 1" for name in declared[::2]), *(f"X := X PLUS {name}" for name in declared)]
+    body = ["SEQ", *deeper([*used, f"IF I = 0 FOR {rows}", "  X = I", "    SKIP"])]
     for _ in range(depth):
         body = ["PAR", *deeper(body)]
     return program(main(["INT X:", f"INT {joined(declared)}:", *body]))
+
+
+def code_in_pars(depth, terms):
+    """A sum of so many variables in PARs in one another."""
+    body = [f"x := {' PLUS '.join(['x'] * terms)}"]
+    for _ in range(depth):
+        body = ["PAR", *deeper(body)]
+    return program(main(["INT x:", "SEQ", "  in0 ? x", *deeper(body)]))
 
 
 def alternations(count):
@@ -214,29 +225,58 @@ def alternations(count):
     return program(main(["INT x:", "SEQ", *deeper(["ALT", *deeper(guards)] * count)]))
 
 
+def alternations_behind_names(constants, count):
+    """Alternations of 64 guards, where names are known that have no words."""
+    known = [[f"VAL INT {name} IS 1:"] for name in names(constants)]
+    alternation = ["ALT I = 0 FOR 64", "  X > I & in0 ? X", "    SKIP"]
+    return program(*known, main(["INT X:", "SEQ", *deeper(alternation * count)]))
+
+
 # name: what makes the source, what comes of it, and what it is
 SOURCES = {
     "ordinary": (ordinary_lines, COMPILED, "32,768 ordinary lines"),
     "sum": (lambda: long_sum(65_000), COMPILED, "a sum of 65,000 variables"),
-    "brackets": (lambda: nested_brackets(250_000), COMPILED, "a constant sum in 60 brackets, in 16 instances"),
+    "brackets": (lambda: nested_brackets(250_000), COMPILED, "a sum of 250,000 constants in 60 brackets, 16 times"),
     "doubling": (lambda: doubling(60), TOO_LARGE, "60 procedures that call the one before twice each"),
     "calls": (lambda: calls(2_700, 100), COMPILED, "2,700 instances that pass 100 variables"),
-    "calls-words": (lambda: calls_behind_words(10_000, 4_000, 20, 7), COMPILED, "140 instances that pass 4,000 variables, where 10,000 others are"),
-    "calls-names": (lambda: calls_behind_names(32_000, 250), COMPILED, "250 instances of a procedure that knows 32,000 constants"),
+    "calls-words": (
+        lambda: calls_behind_words(10_000, 4_000, 20, 7), COMPILED,
+        "140 instances that pass 4,000 variables, where 10,000 others have words",
+    ),
+    "calls-names": (
+        lambda: calls_behind_names(32_000, 250), COMPILED, "250 instances of a procedure that knows 32,000 constants",
+    ),
+    "calls-deep": (
+        lambda: calls_within(1_390, 2_900), COMPILED,
+        "1,390 instances in one another, where 2,900 variables have words",
+    ),
     "choices": (lambda: with_choices(32_000), TOO_LARGE, "IF i = 0 FOR 32000"),
     "choices-within": (lambda: with_choices(8_190), COMPILED, "IF i = 0 FOR 8190"),
-    "choices-names": (lambda: choices_behind_names(32_000, 8_190), COMPILED, "IF i = 0 FOR 8190, where 32,000 constants are known"),
-    "said": (lambda: rows_of_many_words(8_190, 510), COMPILED, "8,191 rows that say something else of each of 511 variables"),
+    "choices-names": (
+        lambda: choices_behind_names(32_000, 8_190), COMPILED, "the same where 32,000 constants are known",
+    ),
+    "said": (lambda: rows_of_many_words(8_190, 510), COMPILED, "8,191 rows about 511 variables"),
     "loops": (lambda: nested_loops(60), COMPILED, "60 loops in one another"),
-    "loops-changes": (lambda: changes_in_loops(58, 1_000, 200, 12), COMPILED, "200 instances that pass 1,000 arrays in 58 loops, 12 times"),
-    "loops-idle": (lambda: changes_without_turns(20, 12_000, 1_000), COMPILED, "12,000 instances that pass 20 arrays in a loop without turns, 1,000 times"),
+    "loops-changes": (
+        lambda: changes_in_loops(58, 1_000, 200, 12), COMPILED,
+        "200 instances that pass 1,000 arrays in 58 loops, 12 times",
+    ),
+    "loops-idle": (
+        lambda: changes_without_turns(20, 12_000, 1_000), COMPILED,
+        "12,000 instances that pass 20 arrays in a loop without turns, 1,000 times",
+    ),
     "constants": (lambda: constants(32_700), COMPILED, "32,700 constants"),
-    "texts": (lambda: texts(900), TOO_LARGE, "900 texts of 1,000 characters"),
+    "texts": (lambda: texts(900), TOO_LARGE, "900 texts of 1,002 characters"),
     "tables": (lambda: tables(1_000, 12_000), COMPILED, "12,000 reads of 1,000 tables that begin alike"),
     "branches": (lambda: branches(64), COMPILED, "a PAR of 64 branches"),
     "pars": (lambda: pars(1_024), COMPILED, "1,024 PARs"),
-    "pars-words": (lambda: pars_behind_words(1_024, 1_000), COMPILED, "1,024 PARs where 1,000 variables have words"),
-    "nested-pars": (lambda: nested_pars(61), COMPILED, "61 PARs in one another"),
+    "pars-words": (lambda: pars_behind_words(1_024, 1_000), COMPILED, "the same where 1,000 variables have words"),
+    "pars-nested": (lambda: nested_pars(61), COMPILED, "61 PARs in one another"),
     "pars-rows": (lambda: rows_in_pars(60, 8_000, 500), COMPILED, "8,000 rows about 500 variables in 60 PARs"),
+    "pars-code": (lambda: code_in_pars(60, 40_000), COMPILED, "a sum of 40,000 variables in 60 PARs"),
     "alternations": (lambda: alternations(100), COMPILED, "100 alternations of 64 guards"),
+    "alternations-names": (
+        lambda: alternations_behind_names(31_000, 120), COMPILED,
+        "120 alternations of 64 guards where 31,000 constants are known",
+    ),
 }
