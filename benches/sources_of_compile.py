@@ -84,6 +84,13 @@ def calls_behind_names(constants, times):
     return program(*known, procedure("last()", ["SKIP"]), main(["SEQ", *deeper(["last()"] * times)]))
 
 
+def calls_behind_long_names(constants, length, times):
+    """A procedure that is called so often, with names before it that are alike in so many signs."""
+    front = "a" * length
+    known = [[f"VAL INT {front}{name} IS 1:"] for name in names(constants)]
+    return program(*known, procedure("last()", ["SKIP"]), main(["SEQ", *deeper(["last()"] * times)]))
+
+
 def calls_within(depth, variables):
     """So many instances within one another, where variables have words of which each has another number."""
     declared = names(variables)
@@ -245,6 +252,10 @@ SOURCES = {
     ),
     "calls-names": (
         lambda: calls_behind_names(32_000, 250), COMPILED, "250 instances of a procedure that knows 32,000 constants",
+    ),
+    "calls-long": (
+        lambda: calls_behind_long_names(80, 10_000, 8_000), COMPILED,
+        "8,000 instances of a procedure that knows 80 constants with long names",
     ),
     "calls-deep": (
         lambda: calls_within(1_390, 2_900), COMPILED,
