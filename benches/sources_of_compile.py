@@ -269,8 +269,8 @@ SOURCES = {
     "said": (lambda: rows_of_many_words(8_190, 510), COMPILED, "8,191 rows about 511 variables"),
     "loops": (lambda: nested_loops(60), COMPILED, "60 loops in one another"),
     "loops-changes": (
-        lambda: changes_in_loops(58, 1_000, 200, 12), COMPILED,
-        "200 instances that pass 1,000 arrays in 58 loops, 12 times",
+        lambda: changes_in_loops(58, 1_000, 150, 12), COMPILED,
+        "150 instances that pass 1,000 arrays in 58 loops, 12 times",
     ),
     "loops-idle": (
         lambda: changes_without_turns(20, 12_000, 1_000), COMPILED,
