@@ -3,9 +3,10 @@
 use crate::call::STEP;
 use crate::failure::{Failure, refusal};
 use crate::repeating::mixed;
+use accepted_runs::replay;
 use certificate::Module;
 use link_runner::{Reading, RunError, Writing, run};
-use machine::{Checked, replay};
+use machine::Checked;
 use machine_state::{Effect, Event, Link};
 use std::alloc::Global;
 use verifier::{Verified, verify};

@@ -106,10 +106,7 @@ module _ {M R : Type 0} (left : R → Option (List ℕ)) (failed : R → Bool) (
           supplies.1;
     }
     stops_asking before tally new newest shown last link (WriteFailed on) led supplies = absurd supplies
-    stops_asking before tally new newest shown last link Memory led supplies = record {
-      moment = supplies.moment;
-      goes = joined led.moment supplies.moment led.goes supplies.goes;
-    }
+    stops_asking before tally new newest shown last link Memory led supplies = absurd supplies
 
   -- what is asked ends
   pub falls : (w v : World) (tally_was tally_is : Tally) (n : ℕ) (machine later : M) (was is : Bool) → was ≡ false

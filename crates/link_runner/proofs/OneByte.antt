@@ -28,7 +28,6 @@ use Rattle.link_runner.specs.Counting.{saturated, with_flag, with_count, ended_a
 use Rattle.link_runner.specs.Readers.{at_link, flag_at, NoneFailed, SameElsewhere, Takes, EndsRightly}
 use Rattle.link_runner.specs.Readers.{IsReadTo}
 use Rattle.link_runner.specs.Readers.{IsCalled, FailsToRead, count_open, IsSupplied}
-use Rattle.link_runner.specs.Readers.{ReadsOnWithoutMemory}
 use Rattle.link_runner.proofs.AtLinks.{still_none, now_one}
 use Rattle.link_runner.proofs.ReadOn.{byte_read, end_read, none_read, takes_same, asked_is_open, asked_is_wanted}
 
@@ -212,20 +211,6 @@ module _ {R : Type 0} (left : R → Option (List ℕ)) (failed : R → Bool) (m 
       | inl runs ↦ inl runs
       | inr less ↦ inr (let same = ap (λ (t : Tally). count_open t.ended) counts in omega (arith, less, same))
     ];
-  }
-
-  pub reads_without_memory : (byte : ℕ) → GivesByte byte → ReadsOnWithoutMemory left failed m first after writers s
-  reads_without_memory byte gives = record {
-    moment = record s {
-      world = happens m s.world (Arrive link byte);
-      read = with_link link (of_link s.read link + 1) s.read;
-    };
-    goes = record {
-      reads = gives.reads_on;
-      none_failed = gives.none_failed;
-      written = refl;
-      count = arrival_counts_nothing m s.world link byte;
-    };
   }
 
   pub supplies_end : (tally : Tally) (shown : World → Type 0) → GivesEnd

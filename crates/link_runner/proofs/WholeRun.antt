@@ -8,7 +8,7 @@ use Rattle.machine_state.specs.declared.link.Link.TheVariants.{Zero, One, Two, T
 use Rattle.machine_state.specs.World.{World}
 use Rattle.machine_state.specs.Happens.{emitted, turn, happens}
 use Rattle.link_runs.specs.ByLink.{ByLink, of_link, for_all}
-use Rattle.link_runs.specs.Driving.{Quietly, ComesToRest, ComesToEmit, Breaks}
+use Rattle.link_runs.specs.Driving.{Quietly, ComesToRest, ComesToEmit}
 use Rattle.link_runs.specs.FirstInFirstOut.{RunMoment, beginning, delivered, plain_step, IsOver}
 use Rattle.link_runs.specs.Wanting.{is_running}
 use Rattle.link_runner.specs.declared.report.Outcome.{Outcome}
@@ -22,7 +22,7 @@ use Rattle.link_runner.specs.Counting.{tally_of, report_of}
 use Rattle.link_runner.specs.Readers.{at_link, inputs_of, supply_of, IsSpent, Takes, EndsRightly, IsReadTo, NoneFailed}
 use Rattle.link_runner.specs.Readers.{ReadsOn, Provides, IsProvided, absent_of}
 use Rattle.link_runner.specs.Writers.{writers_of, Puts, PutsOn, IsDelivered, Delivers}
-use Rattle.link_runner.specs.Runs.{Finishes, StopsAtWrite, StopsForMemory, Runs}
+use Rattle.link_runner.specs.Runs.{Finishes, StopsAtWrite, Runs}
 use Rattle.link_runs.specs.RunLaws.{written_if}
 use Rattle.link_runner.proofs.AtLinks.{of_by_link}
 use Rattle.link_runner.proofs.DrivenOn.{moved_to, goes_quietly, emits_next, counts_more, emission_counts}
@@ -168,24 +168,7 @@ module _ {R W : Type 0} (left : R → Option (List ℕ)) (read_failed : R → Bo
             no_read_failed = driven.no_read_failed;
             one_failed = delivers.1.one_failed;
           })
-      message_fails after Memory tally shown delivers =
-          let there = told after delivers.none_failed delivers.puts in
-          record {
-            moment = with_message;
-            reads = there.reads;
-            writes = there.writes;
-            no_read_failed = there.no_read_failed;
-            no_write_failed = there.no_write_failed;
-          }
-
-    pub memory_runs_out : StopsForMemory left read_failed written write_failed m first readers first_writers writers
-    memory_runs_out = record {
-      moment = s;
-      reads = driven.reads;
-      writes = driven.writes;
-      no_read_failed = driven.no_read_failed;
-      no_write_failed = driven.no_write_failed;
-    }
+      message_fails after Memory tally shown delivers = absurd delivers
 
     pub provide_fails : (later : List (Option R)) (e : RunError) (tally : Tally) (shown : World → Type 0)
         → Provides left read_failed m first later (writers_of first_writers) s (Err e) tally shown
@@ -199,15 +182,7 @@ module _ {R W : Type 0} (left : R → Option (List ℕ)) (read_failed : R → Bo
       no_write_failed = driven.no_write_failed;
     }
     provide_fails later (WriteFailed link) tally shown provides = absurd provides
-    provide_fails later Memory tally shown provides =
-        let there = provided provides.moment later provides.goes in
-        record {
-          moment = provides.moment;
-          reads = there.reads;
-          writes = there.writes;
-          no_read_failed = there.no_read_failed;
-          no_write_failed = there.no_write_failed;
-        }
+    provide_fails later Memory tally shown provides = absurd provides
 
     pub finishes : (report : Report) → IsOver m (writers_of first_writers) s → report ≡ report_of s
         → Finishes left read_failed written write_failed m first readers first_writers writers report
@@ -320,13 +295,6 @@ module _ {M R W : Type 0} (left : R → Option (List ℕ)) (read_failed : R → 
             later
             writers (driven_on emits.world emits.quietly) link message emits.runs emits.emits after e newest shown_last
             delivers
-
-      pub proceeding_stops : (shown_last : World → Type 0) → Breaks m p.moment.world shown_last
-          → StopsForMemory left read_failed written write_failed m first later first_writers writers
-      proceeding_stops shown_last breaks =
-          memory_runs_out left read_failed written write_failed m first first_writers (moved_to breaks.world
-          p.moment) later
-          writers (driven_on breaks.world breaks.quietly)
 
     pub drives_further : (machine_after : M) (later : List (Option R)) (after : List (Option W)) (new : Tally) (count
         : ℕ)

@@ -145,11 +145,6 @@ module _ {R : Type 0} (left : R → Option (List ℕ)) (failed : R → Bool) (m 
     pub counts : tally ≡ tally_of moment
     pub closer : (is_running moment.world ≡ true) ⊎ (askable moment tally < askable s (tally_of s))
 
-  -- the run was read on to some moment when memory ran out
-  pub record ReadsOnWithoutMemory : Type 0 where
-    pub moment : RunMoment
-    pub goes : ReadsOn left failed m first readers writers s moment
-
   -- reading failed at some moment that the run was read on to
   pub record FailsLater (link : Link) : Type 0 where
     pub moment : RunMoment
@@ -161,7 +156,7 @@ module _ {R : Type 0} (left : R → Option (List ℕ)) (failed : R → Bool) (m 
   Supplies link (Ok _) tally shown = IsSupplied tally shown
   Supplies link (Err (ReadFailed on)) tally shown = (on ≡ link) × FailsToRead left failed m first readers writers s link
   Supplies link (Err (WriteFailed on)) tally shown = ⊥
-  Supplies link (Err Memory) tally shown = ReadsOnWithoutMemory
+  Supplies link (Err Memory) tally shown = ⊥
 
   -- The links were asked until a process runs, or until nothing is left to be done.
   pub record IsProvided (running : Bool) (tally : Tally) (shown : World → Type 0) : Type 0 where
@@ -176,7 +171,7 @@ module _ {R : Type 0} (left : R → Option (List ℕ)) (failed : R → Bool) (m 
   Provides (Ok running) tally shown = IsProvided running tally shown
   Provides (Err (ReadFailed link)) tally shown = FailsLater link
   Provides (Err (WriteFailed link)) tally shown = ⊥
-  Provides (Err Memory) tally shown = ReadsOnWithoutMemory
+  Provides (Err Memory) tally shown = ⊥
 
 -- a run that is under way: it came to some moment by reading
 pub record IsUnderWay {M R : Type 0} (left : R → Option (List ℕ)) (failed : R → Bool) (contents : M → Contents)

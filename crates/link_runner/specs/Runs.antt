@@ -53,14 +53,10 @@ module _ {R W : Type 0} (left : R → Option (List ℕ)) (read_failed : R → Bo
     pub no_read_failed : NoneFailed read_failed readers_after
     pub one_failed : OneFailed write_failed writers_after link
 
-  -- Memory ran out on the way from this moment, or at the arrival or acknowledgement that leads to it. All the bytes
-  -- that were taken were asked for, and what was written was emitted.
+  -- Memory ran out as the module was loaded: nothing was read, and nothing was written.
   pub record StopsForMemory : Type 0 where
-    pub moment : RunMoment
-    pub reads : IsReadTo left m readers readers_after (writers_of writers) moment
-    pub writes : Writes moment.written
-    pub no_read_failed : NoneFailed read_failed readers_after
-    pub no_write_failed : NoneFailed write_failed writers_after
+    pub unread : readers_after ≡ readers
+    pub unwritten : writers_after ≡ writers
 
   abbrev pub Runs : Result Report RunError → Type 0
   Runs (Ok report) = Finishes report

@@ -80,11 +80,6 @@ module _ {W : Type 0} (written : W → Option (List ℕ)) where
       pub counts : tally ≡ tally_of (delivered m (writers_of before) link message s)
       pub is_shown : shown (delivered m (writers_of before) link message s).world
 
-    -- it was written when memory ran out
-    pub record PutsWithoutMemory (link : Link) (message : List ℕ) (before after : List (Option W)) : Type 0 where
-      pub puts : PutsOn link (written_if (of_link (writers_of before) link) message) before after
-      pub none_failed : NoneFailed failed after
-
     -- what became of a message
     abbrev pub Delivers : Contents → Link → List ℕ → RunMoment → List (Option W) → List (Option W)
         → Result ⊤ RunError → Tally → (World → Type 0) → Type 0
@@ -93,4 +88,4 @@ module _ {W : Type 0} (written : W → Option (List ℕ)) where
     Delivers m link message s before after (Err (WriteFailed on)) tally shown =
         (on ≡ link) × FailsToPut link message before after
     Delivers m link message s before after (Err (ReadFailed on)) tally shown = ⊥
-    Delivers m link message s before after (Err Memory) tally shown = PutsWithoutMemory link message before after
+    Delivers m link message s before after (Err Memory) tally shown = ⊥

@@ -38,7 +38,7 @@ pub fn drive<M: Machine, R: LinkReader, W: LinkWriter>(
     };
     let mut executed = machine.executed();
     while provide(machine, readers, &mut tally)? {
-        match machine.proceed()? {
+        match machine.proceed() {
             Progress::Emitted { link } => deliver(machine, writers, &mut tally, link)?,
             Progress::Idle => {}
         }

@@ -34,7 +34,7 @@ pub enum RunError {
     ReadFailed(Link),
     /// A write on this link failed, or took no byte.
     WriteFailed(Link),
-    /// Memory ran out.
+    /// Memory ran out as the module was loaded: nothing was read, and nothing was written.
     Memory,
 }
 

@@ -7,7 +7,7 @@ use crate::driving::drive;
 use crate::reading::LinkReader;
 use crate::report::{Report, RunError};
 use crate::writing::LinkWriter;
-use machine::Driven;
+use accepted_runs::Run;
 use std::alloc::Global;
 use verifier::Verified;
 
@@ -30,6 +30,6 @@ pub fn run<R: LinkReader, W: LinkWriter>(
     ensures known { RunsWith R.left R.failed W.written W.failed verified.now readers.old readers.new writers.old
         writers.new result }
 {
-    let mut machine = Driven::load(alloc, verified)?;
+    let mut machine = Run::load(alloc, verified)?;
     drive(&mut machine, readers, writers)
 }

@@ -66,7 +66,7 @@ pub(crate) fn deliver<M: Machine, W: LinkWriter>(
     match put(writers, link, message) {
         Some(Ok(())) => {
             tally.written.add(link, message.len() as u64);
-            machine.react(Event::Acknowledge { link })?;
+            machine.react(Event::Acknowledge { link });
         }
         None => {}
         Some(Err(Failed)) => return Err(RunError::WriteFailed(link)),

@@ -45,7 +45,7 @@ pub(crate) fn supply<M: Machine, R: LinkReader>(
     match ask(readers, link) {
         Ok(Some(byte)) => {
             tally.read.add(link, 1);
-            machine.react(Event::Arrive { link, byte })?;
+            machine.react(Event::Arrive { link, byte });
         }
         Ok(None) => tally.ended.add(link),
         Err(Failed) => return Err(RunError::ReadFailed(link)),

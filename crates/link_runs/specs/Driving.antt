@@ -1,5 +1,5 @@
 -- What a machine does that is driven event by event, and that no event brings to a fault.
-use Rattle.std.specs.Prelude.{◌≡◌, ℕ, ◌≤◌, true, false, List, None, Result, Ok, Err}
+use Rattle.std.specs.Prelude.{◌≡◌, ℕ, ◌≤◌, true, false, List, None, Ok}
 use Rattle.module_format.specs.Contents.{Contents}
 use Rattle.machine_state.specs.declared.event.Event.{Event}
 use Rattle.machine_state.specs.declared.link.Link.{Link}
@@ -46,17 +46,10 @@ pub record ComesToEmit (m : Contents) (before : World) (link : Link) (message : 
   pub emits : (turn m world plain_step).answer ≡ Ok (emitted link message)
   pub is_shown : shown (happens m world plain_step)
 
--- After such Steps memory ran out.
-pub record Breaks (m : Contents) (before : World) (shown : World → Type 0) : Type 0 where
-  pub world : World
-  pub quietly : Quietly m before world
-  pub is_shown : shown world
-
 -- what was done by the machine when it was to go on
-abbrev pub Proceeds : {E : Type 0} → Contents → World → Result Progress E → List ℕ → (World → Type 0) → Type 0
-Proceeds m before (Ok progresses.Idle) last shown = ComesToRest m before shown
-Proceeds m before (Ok (progresses.Emitted link)) last shown = ComesToEmit m before link last shown
-Proceeds m before (Err e) last shown = Breaks m before shown
+abbrev pub Proceeds : Contents → World → Progress → List ℕ → (World → Type 0) → Type 0
+Proceeds m before progresses.Idle last shown = ComesToRest m before shown
+Proceeds m before (progresses.Emitted link) last shown = ComesToEmit m before link last shown
 
 -- what a reaction reports
 abbrev pub reported : Reaction → List ℕ → Effect
@@ -74,8 +67,3 @@ pub record HasReacted (m : Contents) (w : World) (e : Event) (reaction : Reactio
     (shown : World → Type 0) : Type 0 where
   pub answer : (turn m w e).answer ≡ Ok (reported reaction last)
   pub is_shown : shown (happens m w e)
-
--- the same, or memory ran out, and nothing changed
-abbrev pub Reacts : {E : Type 0} → Contents → World → Event → Result Reaction E → List ℕ → (World → Type 0) → Type 0
-Reacts m w e (Ok reaction) last shown = HasReacted m w e reaction last shown
-Reacts m w e (Err _) last shown = shown w

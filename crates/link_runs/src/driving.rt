@@ -5,10 +5,9 @@ ghost use Rattle.module_format.specs.Contents.{Contents};
 ghost use Rattle.machine_state.specs.World.{World};
 ghost use Rattle.link_runs.specs.Awaiting.{awaited};
 ghost use Rattle.link_runs.specs.Wanting.{is_running, wants};
-ghost use Rattle.link_runs.specs.Driving.{IsReached, IsShown, Proceeds, Reacts};
+ghost use Rattle.link_runs.specs.Driving.{IsReached, IsShown, Proceeds, HasReacted};
 
 use machine_state::{Event, Link};
-use std::alloc::AllocError;
 
 /// How far a machine went on by itself.
 #[derive(Clone, Copy, Debug, PartialEq, Eq)]
@@ -32,8 +31,8 @@ pub enum Reaction {
     Ignored,
 }
 
-/// A machine that no event brings to a fault. It may be seen as several worlds, and what is said of one is said of
-/// each.
+/// A machine that no event brings to a fault, and that takes no memory. It may be seen as several worlds, and what is
+/// said of one is said of each.
 pub trait Machine {
     /// What its module says.
     ghost contents: { Self → Contents };
@@ -48,19 +47,19 @@ pub trait Machine {
     ghost awaits: { Self → ℕ };
 
     /// Makes Steps until one emits a message or no process is running: no process gives way, and the first that is
-    /// ready is next. If memory runs out, the Steps before that happened.
-    fn proceed(&mut self) -> Result<Progress, AllocError>
+    /// ready is next.
+    fn proceed(&mut self) -> Progress
         requires { IsShown shows self.old }
         ensures contents { contents self.new ≡ contents self.old }
         ensures proceeds { (w : World) → shows self.old w
             → Proceeds (contents self.old) w result (last self.new) (shows self.new) };
 
-    /// One event. If memory runs out, nothing changed.
-    fn react(&mut self, event: Event) -> Result<Reaction, AllocError>
+    /// One event.
+    fn react(&mut self, event: Event) -> Reaction
         requires { IsShown shows self.old }
         ensures contents { contents self.new ≡ contents self.old }
         ensures reacts { (w : World) → shows self.old w
-            → Reacts (contents self.old) w event result (last self.new) (shows self.new) };
+            → HasReacted (contents self.old) w event result (last self.new) (shows self.new) };
 
     /// The bytes of the message that the last event emitted, none if it emitted no message.
     fn message(&self) -> &[u8]

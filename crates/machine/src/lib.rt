@@ -1,13 +1,6 @@
-//! The machines that run modules.
+//! The machine that runs any module, and reports the first rule that a process breaks.
 #![tactic(auto)]
 
 mod checked;
-mod driven;
-mod replaying;
-mod report;
 
 pub use checked::{Checked, Stop};
-pub use driven::Driven;
-pub use link_runs::{Machine, Progress, Reaction};
-pub use replaying::replay;
-pub use report::Replay;

@@ -18,6 +18,7 @@ mod events;
 mod following;
 mod lookups;
 mod modules;
+mod pairing;
 mod running;
 mod setting;
 mod stepping;

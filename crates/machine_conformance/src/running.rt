@@ -1,11 +1,13 @@
 //! What machines answer.
 
 use crate::events::{LINKS, event, letter, names_effect};
+use crate::pairing::pair;
 use crate::setting::Setting;
 use crate::words::Words;
+use accepted_runs::{Replay, replay};
 use certificate::Module;
 use conformance::{Answer, Outcome, judged};
-use machine::{Checked, Replay, Stop, replay};
+use machine::{Checked, Stop};
 use machine_state::{Event, Fault};
 use std::alloc::Global;
 use verifier::{Verified, verify};
@@ -113,7 +115,8 @@ fn judge_run(
     }
 }
 
-/// The events of a run, with what each does, and what the four questions answer afterwards.
+/// The events of a run, with what each does, and what the four questions answer afterwards. Where the module is
+/// accepted, both machines do the same.
 pub(crate) fn run(
     alloc: Global,
     module: &Module,
@@ -123,6 +126,11 @@ pub(crate) fn run(
 ) -> Outcome {
     if Words::of(setting.effects.as_str()).count() > Words::of(setting.events.as_str()).count() {
         return Outcome::Unreadable;
+    }
+    let paired = pair(alloc, module, setting.events.as_str());
+    if paired != Outcome::Held {
+        out.put("the plain machine does not do the same");
+        return paired;
     }
     match Checked::load(alloc, module) {
         Ok(mut machine) => judge_run(&mut machine, setting, expected, out),

@@ -1,8 +1,9 @@
 //! Calls that read, write, verify and run modules.
 
 use super::{Answer, refused};
+use accepted_runs::{Replay, replay};
 use certificate::{Module, write};
-use machine::{Checked, Replay, Stop, replay};
+use machine::{Checked, Stop};
 use machine_state::Event;
 use std::alloc::Global;
 use verifier::{Verified, verify};

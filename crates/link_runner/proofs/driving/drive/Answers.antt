@@ -3,14 +3,14 @@ use Rattle.std.proofs.lemmas.Result.{err_from_is_err_and}
 use Rattle.module_format.specs.Contents.{Contents}
 use Rattle.machine_state.specs.World.{loaded}
 use Rattle.link_runs.specs.ByLink.{for_all}
-use Rattle.link_runs.specs.Driving.{Breaks, ComesToEmit, ComesToRest}
+use Rattle.link_runs.specs.Driving.{ComesToEmit, ComesToRest}
 use Rattle.link_runs.specs.FirstInFirstOut.{beginning}
 use Rattle.link_runner.specs.declared.report.Outcome.TheVariants as outcomes
 use Rattle.link_runner.specs.declared.tally.Tally.{Tally}
 use Rattle.link_runner.specs.Counting.{in_order, report_of}
 use Rattle.link_runner.specs.Readers.{inputs_of, IsProvided}
 use Rattle.link_runner.specs.Writers.{writers_of, IsDelivered, Delivers}
-use Rattle.link_runner.proofs.WholeRun.{IsAdvanced, at_first, provides_here, provide_fails, proceeding_stops}
+use Rattle.link_runner.proofs.WholeRun.{IsAdvanced, at_first, provides_here, provide_fails}
 use Rattle.link_runner.proofs.WholeRun.{at_message}
 use Rattle.link_runner.proofs.WholeRun.{message_advances, message_stops, idle_advances, drives_further, less_is_left}
 use Rattle.link_runner.proofs.WholeRun.{provided, finishes, counts_at_first, report_is}
@@ -65,30 +65,6 @@ proceed-requires g c =
     let there = c.in_ok-provide.ensures.contents ∙ driving.same in
     (p.moment.world, p.is_shown)
 
-pub returns-in_err-link : goal.returns-in_err-link
-returns-in_err-link g c =
-    let e = err_from_is_err_and c.from_residual-in_err-link.result c.from_residual-in_err-link.ensures.1 in
-    let m = g.M.Machine.contents c.args.machine.now in
-    let driving = c.loop-machine.invariant in
-    let any = provides_here g.R.LinkReader.left g.R.LinkReader.failed g.W.LinkWriter.written g.W.LinkWriter.failed
-    g.M.Machine.contents g.M.Machine.shows m c.args.readers.now c.args.writers.now c.loop-machine.machine
-    c.loop-machine.readers c.loop-machine.writers c.loop-machine.tally c.loop-machine.executed driving
-    c.provide.new.readers (Ok c.in_ok-provide.field-0) c.provide.new.tally (g.M.Machine.shows
-    c.provide.new.machine) c.in_ok-provide.ensures.provides in
-    let p = subst (λ (b : Bool). IsProvided g.R.LinkReader.left g.R.LinkReader.failed m c.args.readers.now
-    c.provide.new.readers (writers_of c.args.writers.now) driving.moment b c.provide.new.tally (g.M.Machine.shows
-    c.provide.new.machine)) c.if-branch.true any in
-    let there = c.in_ok-provide.ensures.contents ∙ driving.same in
-    rw (e.1, e.2) (record {
-      runs = proceeding_stops g.R.LinkReader.left g.R.LinkReader.failed g.W.LinkWriter.written g.W.LinkWriter.failed
-          g.M.Machine.contents g.M.Machine.shows m c.args.readers.now c.args.writers.now c.loop-machine.machine
-          c.loop-machine.readers c.loop-machine.writers c.loop-machine.tally c.loop-machine.executed driving
-          c.provide.new.readers c.provide.new.tally (g.M.Machine.shows c.provide.new.machine) p (g.M.Machine.shows
-          c.proceed.new.self) (subst (λ (n : Contents). Breaks n p.moment.world (g.M.Machine.shows
-          c.proceed.new.self)) there (c.in_err-link.ensures.proceeds p.moment.world p.is_shown));
-      known = tt;
-    })
-
 pub deliver-requires : goal.deliver-requires
 deliver-requires g c =
     let message = g.M.Machine.last c.proceed.new.self in
@@ -103,7 +79,7 @@ deliver-requires g c =
     c.provide.new.readers (writers_of c.args.writers.now) driving.moment b c.provide.new.tally (g.M.Machine.shows
     c.provide.new.machine)) c.if-branch.true any in
     let there = c.in_ok-provide.ensures.contents ∙ driving.same in
-    let raw = c.in_ok-link.ensures.proceeds p.moment.world p.is_shown in
+    let raw = c.proceed.ensures.proceeds p.moment.world p.is_shown in
     let emits = subst (λ (n : Contents). ComesToEmit n p.moment.world c.in-Emitted.link message (g.M.Machine.shows
     c.proceed.new.self)) there (rw c.in-Emitted.is at raw) in
     (search rules, ((_, emits.is_shown), driving.driven.no_write_failed))
@@ -124,7 +100,7 @@ returns-in_err-deliver-in-Emitted g c =
     c.provide.new.readers (writers_of c.args.writers.now) driving.moment b c.provide.new.tally (g.M.Machine.shows
     c.provide.new.machine)) c.if-branch.true any in
     let there = c.in_ok-provide.ensures.contents ∙ driving.same in
-    let raw = c.in_ok-link.ensures.proceeds p.moment.world p.is_shown in
+    let raw = c.proceed.ensures.proceeds p.moment.world p.is_shown in
     let emits = subst (λ (n : Contents). ComesToEmit n p.moment.world c.in-Emitted.link message (g.M.Machine.shows
     c.proceed.new.self)) there (rw c.in-Emitted.is at raw) in
     let at = at_message g.R.LinkReader.left g.R.LinkReader.failed g.W.LinkWriter.written g.W.LinkWriter.failed
@@ -141,7 +117,7 @@ returns-in_err-deliver-in-Emitted g c =
           c.in_err-deliver-in-Emitted.field-0.0 c.deliver.new.tally (g.M.Machine.shows c.deliver.new.machine) (subst
           (λ (n : Contents). Delivers g.W.LinkWriter.written g.W.LinkWriter.failed n c.in-Emitted.link message at
           c.loop-machine.writers c.deliver.new.writers (Err c.in_err-deliver-in-Emitted.field-0.0)
-          c.deliver.new.tally (g.M.Machine.shows c.deliver.new.machine)) (c.in_ok-link.ensures.contents
+          c.deliver.new.tally (g.M.Machine.shows c.deliver.new.machine)) (c.proceed.ensures.contents
           ∙ there) (c.in_err-deliver-in-Emitted.ensures.delivers at emits.is_shown p.counts));
       known = tt;
     })
@@ -163,10 +139,10 @@ loop-machine-preserved g c =
     let advanced : IsAdvanced g.R.LinkReader.left g.R.LinkReader.failed g.W.LinkWriter.written g.W.LinkWriter.failed
     g.M.Machine.contents g.M.Machine.shows m c.args.readers.now c.args.writers.now c.loop-machine.machine
     c.loop-machine.readers c.loop-machine.writers c.loop-machine.tally c.loop-machine.executed driving
-    c.match-branch-3.machine c.provide.new.readers c.match-branch-3.writers c.match-branch-3.tally = elim
-    c.match-branch-3.branch [
+    c.match-proceed.machine c.provide.new.readers c.match-proceed.writers c.match-proceed.tally = elim
+    c.match-proceed.branch [
       | in-Emitted+in_ok-deliver-in-Emitted w ↦ rw (w.machine-is, w.writers-is, w.tally-is) (
-          let raw = c.in_ok-link.ensures.proceeds p.moment.world p.is_shown in
+          let raw = c.proceed.ensures.proceeds p.moment.world p.is_shown in
           let emits = subst (λ (n : Contents). ComesToEmit n p.moment.world w.in-Emitted.link message
           (g.M.Machine.shows c.proceed.new.self)) there (rw w.in-Emitted.is at raw) in
           let at = at_message g.R.LinkReader.left g.R.LinkReader.failed g.W.LinkWriter.written g.W.LinkWriter.failed
@@ -181,10 +157,10 @@ loop-machine-preserved g c =
           message (g.M.Machine.shows c.proceed.new.self) emits w.deliver.new.machine w.deliver.new.writers
           w.deliver.new.tally (subst (λ (n : Contents). IsDelivered g.W.LinkWriter.written g.W.LinkWriter.failed
           n w.in-Emitted.link message at c.loop-machine.writers w.deliver.new.writers w.deliver.new.tally
-          (g.M.Machine.shows w.deliver.new.machine)) (c.in_ok-link.ensures.contents
+          (g.M.Machine.shows w.deliver.new.machine)) (c.proceed.ensures.contents
           ∙ there) (w.in_ok-deliver-in-Emitted.ensures.delivers at emits.is_shown p.counts)))
       | in-Idle w ↦ rw (w.machine-is, w.writers-is, w.tally-is) (
-          let raw = c.in_ok-link.ensures.proceeds p.moment.world p.is_shown in
+          let raw = c.proceed.ensures.proceeds p.moment.world p.is_shown in
           let rests = subst (λ (n : Contents). ComesToRest n p.moment.world (g.M.Machine.shows c.proceed.new.self))
           there (rw w.in-Idle.is at raw) in
           idle_advances g.R.LinkReader.left g.R.LinkReader.failed g.W.LinkWriter.written g.W.LinkWriter.failed
@@ -193,16 +169,16 @@ loop-machine-preserved g c =
           c.provide.new.readers c.provide.new.tally (g.M.Machine.shows c.provide.new.machine) p
           c.proceed.new.self rests)
     ] in
-    let same : g.M.Machine.contents c.match-branch-3.machine ≡ m = elim c.match-branch-3.branch [
+    let same : g.M.Machine.contents c.match-proceed.machine ≡ m = elim c.match-proceed.branch [
       | in-Emitted+in_ok-deliver-in-Emitted w ↦ rw w.machine-is (w.in_ok-deliver-in-Emitted.ensures.contents
-          ∙ (c.in_ok-link.ensures.contents ∙ there))
-      | in-Idle w ↦ rw w.machine-is (c.in_ok-link.ensures.contents ∙ there)
+          ∙ (c.proceed.ensures.contents ∙ there))
+      | in-Idle w ↦ rw w.machine-is (c.proceed.ensures.contents ∙ there)
     ] in
     let count = c.executed-executed-in-loop-machine.ensures advanced.moment.world advanced.is_shown in
     drives_further g.R.LinkReader.left g.R.LinkReader.failed g.W.LinkWriter.written g.W.LinkWriter.failed
     g.M.Machine.contents g.M.Machine.shows m c.args.readers.now c.args.writers.now c.loop-machine.machine
     c.loop-machine.readers c.loop-machine.writers c.loop-machine.tally c.loop-machine.executed driving
-    c.match-branch-3.machine c.provide.new.readers c.match-branch-3.writers c.match-branch-3.tally
+    c.match-proceed.machine c.provide.new.readers c.match-proceed.writers c.match-proceed.tally
     c.executed-executed-in-loop-machine.result same advanced count
 
 pub loop-machine-smaller : goal.loop-machine-smaller
@@ -222,10 +198,10 @@ loop-machine-smaller g c =
     let advanced : IsAdvanced g.R.LinkReader.left g.R.LinkReader.failed g.W.LinkWriter.written g.W.LinkWriter.failed
     g.M.Machine.contents g.M.Machine.shows m c.args.readers.now c.args.writers.now c.loop-machine.machine
     c.loop-machine.readers c.loop-machine.writers c.loop-machine.tally c.loop-machine.executed driving
-    c.match-branch-3.machine c.provide.new.readers c.match-branch-3.writers c.match-branch-3.tally = elim
-    c.match-branch-3.branch [
+    c.match-proceed.machine c.provide.new.readers c.match-proceed.writers c.match-proceed.tally = elim
+    c.match-proceed.branch [
       | in-Emitted+in_ok-deliver-in-Emitted w ↦ rw (w.machine-is, w.writers-is, w.tally-is) (
-          let raw = c.in_ok-link.ensures.proceeds p.moment.world p.is_shown in
+          let raw = c.proceed.ensures.proceeds p.moment.world p.is_shown in
           let emits = subst (λ (n : Contents). ComesToEmit n p.moment.world w.in-Emitted.link message
           (g.M.Machine.shows c.proceed.new.self)) there (rw w.in-Emitted.is at raw) in
           let at = at_message g.R.LinkReader.left g.R.LinkReader.failed g.W.LinkWriter.written g.W.LinkWriter.failed
@@ -240,10 +216,10 @@ loop-machine-smaller g c =
           message (g.M.Machine.shows c.proceed.new.self) emits w.deliver.new.machine w.deliver.new.writers
           w.deliver.new.tally (subst (λ (n : Contents). IsDelivered g.W.LinkWriter.written g.W.LinkWriter.failed
           n w.in-Emitted.link message at c.loop-machine.writers w.deliver.new.writers w.deliver.new.tally
-          (g.M.Machine.shows w.deliver.new.machine)) (c.in_ok-link.ensures.contents
+          (g.M.Machine.shows w.deliver.new.machine)) (c.proceed.ensures.contents
           ∙ there) (w.in_ok-deliver-in-Emitted.ensures.delivers at emits.is_shown p.counts)))
       | in-Idle w ↦ rw (w.machine-is, w.writers-is, w.tally-is) (
-          let raw = c.in_ok-link.ensures.proceeds p.moment.world p.is_shown in
+          let raw = c.proceed.ensures.proceeds p.moment.world p.is_shown in
           let rests = subst (λ (n : Contents). ComesToRest n p.moment.world (g.M.Machine.shows c.proceed.new.self))
           there (rw w.in-Idle.is at raw) in
           idle_advances g.R.LinkReader.left g.R.LinkReader.failed g.W.LinkWriter.written g.W.LinkWriter.failed
@@ -252,18 +228,18 @@ loop-machine-smaller g c =
           c.provide.new.readers c.provide.new.tally (g.M.Machine.shows c.provide.new.machine) p
           c.proceed.new.self rests)
     ] in
-    let same : g.M.Machine.contents c.match-branch-3.machine ≡ m = elim c.match-branch-3.branch [
+    let same : g.M.Machine.contents c.match-proceed.machine ≡ m = elim c.match-proceed.branch [
       | in-Emitted+in_ok-deliver-in-Emitted w ↦ rw w.machine-is (w.in_ok-deliver-in-Emitted.ensures.contents
-          ∙ (c.in_ok-link.ensures.contents ∙ there))
-      | in-Idle w ↦ rw w.machine-is (c.in_ok-link.ensures.contents ∙ there)
+          ∙ (c.proceed.ensures.contents ∙ there))
+      | in-Idle w ↦ rw w.machine-is (c.proceed.ensures.contents ∙ there)
     ] in
     let count = c.executed-executed-in-loop-machine.ensures advanced.moment.world advanced.is_shown in
     less_is_left g.R.LinkReader.left g.R.LinkReader.failed g.W.LinkWriter.written g.W.LinkWriter.failed
     g.M.Machine.contents g.M.Machine.shows m c.args.readers.now c.args.writers.now c.loop-machine.machine
     c.loop-machine.readers c.loop-machine.writers c.loop-machine.tally c.loop-machine.executed driving
-    c.match-branch-3.machine c.provide.new.readers c.match-branch-3.writers c.match-branch-3.tally
+    c.match-proceed.machine c.provide.new.readers c.match-proceed.writers c.match-proceed.tally
     c.executed-executed-in-loop-machine.result same advanced count (subst (λ (n : Contents).
-    advanced.moment.world.counters.executed ≤ n.budget) same (g.met.M.Machine.reached c.match-branch-3.machine
+    advanced.moment.world.counters.executed ≤ n.budget) same (g.met.M.Machine.reached c.match-proceed.machine
     advanced.moment.world advanced.is_shown).within_budget)
 
 pub returns : goal.returns

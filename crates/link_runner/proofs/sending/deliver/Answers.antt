@@ -13,8 +13,8 @@ returns-in-Some-Err-clause-delivers g c = λ s shown counts.
           c.args.writers.now c.put.new.writers c.requires.none_failed puts.elsewhere _ puts.told,
     )
 
-pub returns-in_ok-react-in-Some-Ok-clause-delivers : goal.returns-in_ok-react-in-Some-Ok-clause-delivers
-returns-in_ok-react-in-Some-Ok-clause-delivers g c = λ s shown counts.
+pub returns-in-Some-Ok-clause-delivers : goal.returns-in-Some-Ok-clause-delivers
+returns-in-Some-Ok-clause-delivers g c = λ s shown counts.
     let puts = rw (c.in-Some-Ok.field-0-is, c.message-message.ensures) at c.in-Some-Ok.ensures in
     delivers_whole g.W.LinkWriter.written g.W.LinkWriter.failed c.args.link (g.M.Machine.last c.args.machine.now)
     c.args.writers.now c.put.new.writers c.requires.none_failed puts.elsewhere
@@ -28,7 +28,7 @@ returns-in_ok-react-in-Some-Ok-clause-delivers g c = λ s shown counts.
     ∙ ap (λ (t : Tally). record t {
       written = with_count c.args.link (length (g.M.Machine.last c.args.machine.now)) t.written;
     }) counts))
-    (c.in_ok-react-in-Some-Ok.ensures.reacts s.world shown).is_shown
+    (c.react.ensures.reacts s.world shown).is_shown
 
 pub returns-in-None-clause-delivers : goal.returns-in-None-clause-delivers
 returns-in-None-clause-delivers g c = λ s shown counts.

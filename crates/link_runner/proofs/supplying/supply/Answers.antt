@@ -1,11 +1,9 @@
 use Rattle.std.proofs.Common.{ap, refl, ◌∙◌}
-use Rattle.std.proofs.lemmas.Result.{err_from_is_err_and}
 use Rattle.link_runner.specs.declared.tally.Counts.{Counts}
 use Rattle.link_runner.specs.declared.tally.Ended.{Ended}
 use Rattle.link_runner.specs.declared.tally.Tally.{Tally}
 use Rattle.link_runner.specs.Counting.{with_count, with_flag}
 use Rattle.link_runner.proofs.OneByte.{byte_given, end_given, read_failed, supplies_byte, supplies_end}
-use Rattle.link_runner.proofs.OneByte.{reads_without_memory}
 use Rattle.link_runner.proofs.supplying.supply.Goals as goal
 
 pub returns-in-Err-clause-supplies : goal.returns-in-Err-clause-supplies
@@ -16,8 +14,8 @@ returns-in-Err-clause-supplies g c = λ first writers s shown nobody ask reads n
       c.in-Err.ensures.called,
 )
 
-pub returns-in_ok-react-in-Ok-Some-clause-supplies : goal.returns-in_ok-react-in-Ok-Some-clause-supplies
-returns-in_ok-react-in-Ok-Some-clause-supplies g c = λ first writers s shown nobody ask reads none counts.
+pub returns-in-Ok-Some-clause-supplies : goal.returns-in-Ok-Some-clause-supplies
+returns-in-Ok-Some-clause-supplies g c = λ first writers s shown nobody ask reads none counts.
     let m = g.M.Machine.contents c.args.machine.now in
     let link = c.args.link in
     let byte = c.in-Ok-Some.byte in
@@ -30,7 +28,7 @@ returns-in_ok-react-in-Ok-Some-clause-supplies g c = λ first writers s shown no
     (g.met.M.Machine.reached c.args.machine.now s.world shown)
     (ap (λ (read : Counts). record c.args.tally.now { read = read }) c.add.ensures
     ∙ ap (λ (t : Tally). record t { read = with_count link 1 t.read }) counts)
-    (c.in_ok-react-in-Ok-Some.ensures.reacts s.world shown).is_shown
+    (c.react.ensures.reacts s.world shown).is_shown
 
 pub returns-in-Ok-None-clause-supplies : goal.returns-in-Ok-None-clause-supplies
 returns-in-Ok-None-clause-supplies g c = λ first writers s shown nobody ask reads none counts.
@@ -45,16 +43,3 @@ returns-in-Ok-None-clause-supplies g c = λ first writers s shown nobody ask rea
     (ap (λ (ended : Ended). record c.args.tally.now { ended = ended }) c.add-in-Ok-None.ensures
     ∙ ap (λ (t : Tally). record t { ended = with_flag link t.ended }) counts)
     shown
-
-pub returns-in_err-react-in-Ok-Some-clause-supplies : goal.returns-in_err-react-in-Ok-Some-clause-supplies
-returns-in_err-react-in-Ok-Some-clause-supplies g c = λ first writers s shown nobody ask reads none counts.
-    let p = err_from_is_err_and c.from_residual.result c.from_residual.ensures.1 in
-    rw (p.1, p.2) (
-    let m = g.M.Machine.contents c.args.machine.now in
-    let link = c.args.link in
-    let byte = c.in-Ok-Some.byte in
-    let asks = rw c.in-Ok-Some.field-0-is at c.in-Ok-Some.ensures in
-    reads_without_memory g.R.LinkReader.left g.R.LinkReader.failed m first c.args.readers.now c.ask.new.readers
-    writers s link nobody ask reads none asks.elsewhere byte
-    (byte_given g.R.LinkReader.left g.R.LinkReader.failed m first c.args.readers.now c.ask.new.readers writers s link
-    nobody ask reads none asks.elsewhere byte asks.called))

@@ -1,0 +1,4 @@
+pub mod NeverAtFault
+pub mod Happening
+pub mod Proceeding
+pub mod EventByEvent

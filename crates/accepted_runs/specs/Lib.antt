@@ -1,0 +1,5 @@
+pub mod Reacting
+pub mod Running
+pub mod Lending
+pub mod Awaiting
+pub mod Replaying

@@ -1,0 +1,33 @@
+-- An accepted module on the plain machine.
+use Rattle.std.specs.Prelude.{ℕ, List}
+use Rattle.module_format.specs.Contents.{Contents}
+use Rattle.module_format.specs.Keeping.{Keeps}
+use Rattle.machine_state.specs.World.{World}
+use Rattle.agreement.specs.Agrees.{PlainMachine, Agrees}
+use Rattle.link_runs.specs.Driving.{IsReached}
+use Rattle.verifier.specs.Headline.{AreEvents, RunsWell}
+
+-- what the module says, the machine at the moment, and what the last event sent
+pub record PlainExecution : Type 0 where
+  pub contents : Contents
+  pub machine : PlainMachine
+  pub last : List ℕ
+
+-- The module keeps the format and runs well, and events that can happen lead to this world.
+pub record RunsOn (m : Contents) (w : World) : Type 0 where
+  pub keeps : Keeps m
+  pub well : ∥ RunsWell m ∥₁
+  pub reached : IsReached m w
+  pub are : AreEvents reached.events
+
+-- the same, and the machine agrees with this world
+pub record AgreesOn (m : Contents) (machine : PlainMachine) (w : World) : Type 0 where
+  pub runs : RunsOn m w
+  pub agrees : Agrees m machine w
+
+abbrev pub Shows : PlainExecution → World → Type 0
+Shows r w = AgreesOn r.contents r.machine w
+
+-- there is such a world
+abbrev pub Runs : Contents → PlainMachine → Type 0
+Runs m machine = (w : World) × AgreesOn m machine w

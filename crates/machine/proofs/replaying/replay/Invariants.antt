@@ -1,6 +1,0 @@
-use Rattle.std.proofs.Common.{drop}
-use Rattle.machine.proofs.Going.{IsGoing}
-use Rattle.machine.proofs.replaying.replay.Given as goal
-
-abbrev pub invariant-loop-event : goal.invariant-loop-event
-invariant-loop-event l = IsGoing l.fn.verified l.events (drop l.event-index l.events) l.machine l.out
