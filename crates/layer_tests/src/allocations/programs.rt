@@ -1,7 +1,7 @@
 //! Sources are read, checked and compiled.
 
 use super::{counts, may_count};
-use crate::calls::programs::{COPIES, LINES, PROGRAM, Question, SUMS, ask_source};
+use crate::calls::programs::{COPIES, LINES, PROGRAM, Question, RELAY, SUMS, ask_source};
 
 #[test]
 fn lines_with_ample_memory(rt: HostRuntime) {
@@ -41,4 +41,14 @@ fn compile_with_ample_memory(rt: HostRuntime) {
 #[test]
 fn compile_out_of_memory(rt: HostRuntime) {
     may_count(&rt, ask_source(rt.alloc(), SUMS, Question::Compiled), 382);
+}
+
+#[test]
+fn compile_processes_with_ample_memory(rt: HostRuntime) {
+    counts(&rt, ask_source(rt.alloc(), RELAY, Question::Compiled), 594);
+}
+
+#[test]
+fn compile_processes_out_of_memory(rt: HostRuntime) {
+    may_count(&rt, ask_source(rt.alloc(), RELAY, Question::Compiled), 594);
 }
