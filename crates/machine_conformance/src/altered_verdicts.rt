@@ -2,13 +2,15 @@
 
 use crate::alterations::{Tally, Ways, alter};
 use crate::altered_runs::repeated;
+use crate::pairing::one_event;
 use crate::setting::Setting;
+use accepted_runs::Run;
 use certificate::{MEMORY, Module};
 use conformance::{Answer, Outcome, judged};
-use machine::{Checked, Stop};
+use machine::Checked;
 use machine_state::Event;
 use std::alloc::Global;
-use verifier::verify;
+use verifier::{Verified, verify};
 
 /// How many rules there are: V1 to V16.
 const RULES: usize = 16;
@@ -21,7 +23,8 @@ struct Verdicts<'e> {
     refused: [u64; RULES],
     /// The sum of the offsets at which files are refused.
     offsets: u64,
-    /// How many accepted files have a run with a fault, or one of more bytes than their budget.
+    /// How many accepted files have a run with a fault, one that the plain machine does otherwise, or one of more bytes
+    /// than their budget.
     odd: u64,
     is_out_of_memory: bool,
 }
@@ -82,7 +85,7 @@ impl Tally for Verdicts<'_> {
     fn count(&mut self, alloc: Global, file: &[u8], _at: usize) {
         match Module::read(alloc, file) {
             Ok(module) => match verify(alloc, &module) {
-                Ok(_) => self.accept(run(alloc, &module, self.events)),
+                Ok(verified) => self.accept(run(alloc, &module, &verified, self.events)),
                 Err(refusal) => self.refuse(refusal.number, refusal.offset),
             },
             Err(fault) => self.is_out_of_memory |= fault.number == MEMORY,
@@ -90,19 +93,21 @@ impl Tally for Verdicts<'_> {
     }
 }
 
-/// What comes of the events on the machine of an accepted module: it has no fault, and keeps to its budget.
-fn run(alloc: Global, module: &Module, events: &[Event]) -> Outcome {
-    let Ok(mut machine) = Checked::load(alloc, module) else {
-        return Outcome::OutOfMemory;
-    };
-    for event in events {
-        match machine.apply(*event) {
-            Ok(_) => {}
-            Err(Stop::Fault(_)) => return Outcome::Differs,
-            Err(Stop::Memory) => return Outcome::OutOfMemory,
+/// What comes of the events on both machines of an accepted module: neither has a fault, both do the same, and they keep
+/// to the budget.
+fn run(alloc: Global, module: &Module, verified: &Verified, events: &[Event]) -> Outcome {
+    match (Checked::load(alloc, module), Run::load(alloc, verified)) {
+        (Ok(mut checked), Ok(mut run)) => {
+            for event in events {
+                let outcome = one_event(&mut checked, &mut run, *event);
+                if outcome != Outcome::Held {
+                    return outcome;
+                }
+            }
+            Outcome::of(checked.executed() <= module.tables().budget)
         }
+        _ => Outcome::OutOfMemory,
     }
-    Outcome::of(machine.executed() <= module.tables().budget)
 }
 
 /// How many of the altered files are accepted, how many are refused by each rule, and how many accepted ones have an

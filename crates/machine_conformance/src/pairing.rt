@@ -36,7 +36,7 @@ fn tell_the_same(checked: &Checked, run: &Run) -> bool {
 }
 
 /// Lets an event happen to both machines.
-fn one_event(checked: &mut Checked, run: &mut Run, event: Event) -> Outcome {
+pub(crate) fn one_event(checked: &mut Checked, run: &mut Run, event: Event) -> Outcome {
     let is_same = match checked.apply(event) {
         Ok(effect) => is_same(effect, run.apply(event)),
         Err(Stop::Fault(_)) => false,
