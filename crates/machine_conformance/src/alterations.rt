@@ -2,7 +2,7 @@
 
 use crate::modules::{READ, reading};
 use certificate::{FormatFault, MAGIC, TRUNCATED};
-use conformance::Answer;
+use conformance::{Answer, Outcome, judged};
 use std::alloc::Global;
 
 /// The ways in which a file is altered.
@@ -18,6 +18,9 @@ pub(crate) enum Ways {
 pub(crate) trait Tally {
     /// Takes up a file whose byte at this place was altered.
     fn count(&mut self, alloc: Global, file: &[u8], at: usize);
+
+    /// Appends what they came to.
+    fn put(&self, out: &mut Answer);
 }
 
 /// How many files are read, valid and written back, how many have which fault, and the sum of the faults' offsets.
@@ -42,20 +45,6 @@ impl Sums {
             *count = count.wrapping_add(1);
         }
     }
-
-    /// The numbers from none to C6, and the sum of the offsets.
-    fn put(&self, out: &mut Answer) {
-        for number in self.numbers {
-            out.great(number);
-            out.put(" ");
-        }
-        out.put("at ");
-        out.great(self.offsets);
-        if self.wrong > 0 {
-            out.put(", not valid or written otherwise: ");
-            out.great(self.wrong);
-        }
-    }
 }
 
 impl Tally for Sums {
@@ -69,6 +58,20 @@ impl Tally for Sums {
                 self.offsets = self.offsets.wrapping_add(offset as u64);
                 self.add(number);
             }
+        }
+    }
+
+    /// The numbers from none to C6, and the sum of the offsets.
+    fn put(&self, out: &mut Answer) {
+        for number in self.numbers {
+            out.great(number);
+            out.put(" ");
+        }
+        out.put("at ");
+        out.great(self.offsets);
+        if self.wrong > 0 {
+            out.put(", not valid or written otherwise: ");
+            out.great(self.wrong);
         }
     }
 }
@@ -102,7 +105,7 @@ fn alter_bits(alloc: Global, file: &mut [u8], at: usize, tally: &mut impl Tally)
 }
 
 /// Counts the files that a file becomes in these ways. It is as before afterwards.
-pub(crate) fn alter(alloc: Global, file: &mut [u8], ways: Ways, tally: &mut impl Tally) {
+fn alter(alloc: Global, file: &mut [u8], ways: Ways, tally: &mut impl Tally) {
     match ways {
         Ways::Bytes { from, to } => {
             for at in from..to {
@@ -117,11 +120,30 @@ pub(crate) fn alter(alloc: Global, file: &mut [u8], ways: Ways, tally: &mut impl
     }
 }
 
-/// How many of the altered files are read, and how many have which fault. The file is as before afterwards.
-pub(crate) fn altered_sums(alloc: Global, file: &mut [u8], ways: Ways, out: &mut Answer) {
+/// What the files come to that a file becomes in these ways. It is as before afterwards.
+pub(crate) fn judge_altered(
+    alloc: Global,
+    file: &mut [u8],
+    ways: Ways,
+    tally: &mut impl Tally,
+    expected: &str,
+    out: &mut Answer,
+) -> Outcome {
+    alter(alloc, file, ways, tally);
+    tally.put(out);
+    judged(out, expected)
+}
+
+/// How many of the altered files are read, and how many have which fault.
+pub(crate) fn altered_sums(
+    alloc: Global,
+    file: &mut [u8],
+    ways: Ways,
+    expected: &str,
+    out: &mut Answer,
+) -> Outcome {
     let mut sums = Sums::NONE;
-    alter(alloc, file, ways, &mut sums);
-    sums.put(out);
+    judge_altered(alloc, file, ways, &mut sums, expected, out)
 }
 
 /// Whether a file is refused as cut: for its magic, where that is cut, and else at its length.

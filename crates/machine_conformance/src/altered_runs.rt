@@ -1,12 +1,12 @@
 //! A file altered in many ways, and what the machine answers to events where the altered files are read.
 
-use crate::alterations::{Tally, Ways, alter};
+use crate::alterations::{Tally, Ways, judge_altered};
 use crate::events::event;
 use crate::setting::Setting;
 use crate::watching::watch;
 use crate::words::Words;
 use certificate::{MEMORY, Module};
-use conformance::{Answer, Outcome, judged};
+use conformance::{Answer, Outcome};
 use machine_state::Event;
 use std::alloc::Global;
 
@@ -53,6 +53,18 @@ impl<'e> Runs<'e> {
             }
         }
     }
+}
+
+impl Tally for Runs<'_> {
+    fn count(&mut self, alloc: Global, file: &[u8], at: usize) {
+        match Module::read(alloc, file) {
+            Ok(module) => {
+                let value = file.get(at).copied().unwrap_or(0);
+                self.add(watch(alloc, &module, self.events), Alteration { at, value });
+            }
+            Err(fault) => self.is_out_of_memory |= fault.number == MEMORY,
+        }
+    }
 
     /// How many runs there were, how many were odd, and how the file of the first odd one is altered.
     fn put(&self, out: &mut Answer) {
@@ -68,18 +80,6 @@ impl<'e> Runs<'e> {
         }
         if self.is_out_of_memory {
             out.fail();
-        }
-    }
-}
-
-impl Tally for Runs<'_> {
-    fn count(&mut self, alloc: Global, file: &[u8], at: usize) {
-        match Module::read(alloc, file) {
-            Ok(module) => {
-                let value = file.get(at).copied().unwrap_or(0);
-                self.add(watch(alloc, &module, self.events), Alteration { at, value });
-            }
-            Err(fault) => self.is_out_of_memory |= fault.number == MEMORY,
         }
     }
 }
@@ -108,7 +108,7 @@ pub(crate) fn repeated(alloc: Global, text: &str) -> Result<Vec<Event>, Outcome>
     Ok(events)
 }
 
-/// How many of the altered files are read and run, and how many of the runs are odd. The file is as before afterwards.
+/// How many of the altered files are read and run, and how many of the runs are odd.
 pub(crate) fn altered_runs(
     alloc: Global,
     setting: &mut Setting,
@@ -121,7 +121,5 @@ pub(crate) fn altered_runs(
         Err(outcome) => return outcome,
     };
     let mut runs = Runs::of(&events);
-    alter(alloc, &mut setting.file, ways, &mut runs);
-    runs.put(out);
-    judged(out, expected)
+    judge_altered(alloc, &mut setting.file, ways, &mut runs, expected, out)
 }

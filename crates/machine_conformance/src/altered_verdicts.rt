@@ -1,12 +1,12 @@
 //! A file altered in many ways, and the verdicts on the altered files that are read.
 
-use crate::alterations::{Tally, Ways, alter};
+use crate::alterations::{Tally, Ways, judge_altered};
 use crate::altered_runs::repeated;
 use crate::pairing::one_event;
 use crate::setting::Setting;
 use accepted_runs::Run;
 use certificate::{MEMORY, Module};
-use conformance::{Answer, Outcome, judged};
+use conformance::{Answer, Outcome};
 use machine::Checked;
 use machine_state::Event;
 use std::alloc::Global;
@@ -61,6 +61,18 @@ impl<'e> Verdicts<'e> {
             None => self.is_out_of_memory = true,
         }
     }
+}
+
+impl Tally for Verdicts<'_> {
+    fn count(&mut self, alloc: Global, file: &[u8], _at: usize) {
+        match Module::read(alloc, file) {
+            Ok(module) => match verify(alloc, &module) {
+                Ok(verified) => self.accept(run(alloc, &module, &verified, self.events)),
+                Err(refusal) => self.refuse(refusal.number, refusal.offset),
+            },
+            Err(fault) => self.is_out_of_memory |= fault.number == MEMORY,
+        }
+    }
 
     /// The counts, and the sum of the offsets.
     fn put(&self, out: &mut Answer) {
@@ -77,18 +89,6 @@ impl<'e> Verdicts<'e> {
         }
         if self.is_out_of_memory {
             out.fail();
-        }
-    }
-}
-
-impl Tally for Verdicts<'_> {
-    fn count(&mut self, alloc: Global, file: &[u8], _at: usize) {
-        match Module::read(alloc, file) {
-            Ok(module) => match verify(alloc, &module) {
-                Ok(verified) => self.accept(run(alloc, &module, &verified, self.events)),
-                Err(refusal) => self.refuse(refusal.number, refusal.offset),
-            },
-            Err(fault) => self.is_out_of_memory |= fault.number == MEMORY,
         }
     }
 }
@@ -111,7 +111,7 @@ fn run(alloc: Global, module: &Module, verified: &Verified, events: &[Event]) ->
 }
 
 /// How many of the altered files are accepted, how many are refused by each rule, and how many accepted ones have an
-/// odd run. The file is as before afterwards.
+/// odd run.
 pub(crate) fn altered_verdicts(
     alloc: Global,
     setting: &mut Setting,
@@ -124,7 +124,5 @@ pub(crate) fn altered_verdicts(
         Err(outcome) => return outcome,
     };
     let mut verdicts = Verdicts::of(&events);
-    alter(alloc, &mut setting.file, ways, &mut verdicts);
-    verdicts.put(out);
-    judged(out, expected)
+    judge_altered(alloc, &mut setting.file, ways, &mut verdicts, expected, out)
 }

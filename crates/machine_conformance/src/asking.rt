@@ -57,10 +57,7 @@ fn ask_altered(
     match word {
         "run_bits" | "run_bytes" => altered_runs(alloc, setting, ways, expected, out),
         "judge_bits" | "judge_bytes" => altered_verdicts(alloc, setting, ways, expected, out),
-        _ => {
-            altered_sums(alloc, &mut setting.file, ways, out);
-            judged(out, expected)
-        }
+        _ => altered_sums(alloc, &mut setting.file, ways, expected, out),
     }
 }
 
