@@ -10,9 +10,9 @@ ghost use Rattle.machine.specs.Lending.{shown};
 ghost use Rattle.accepted_runs.specs.Reacting.{is_sent, progress_by};
 ghost use Rattle.accepted_runs.specs.Running.{Shows};
 
-use certificate::Tables;
 use link_runs::{Machine, Progress, Reaction};
 use machine_state::{Effect, Event, Link};
+use module_format::Tables;
 use std::alloc::{AllocError, Global};
 use std::marker::Model;
 use verifier::Verified;

@@ -16,8 +16,8 @@ ghost use Rattle.alternation.specs.Ready.{is_ready_in};
 
 use crate::moves::clear_selection_word;
 use crate::source::Source;
-use certificate::{Stack, Tables};
 use machine_state::{Condition, Fault, FaultKind, Mode, Registers, Store};
+use module_format::{Stack, Tables};
 use process_queue::ListQueue;
 use traffic::{Here, Traffic};
 

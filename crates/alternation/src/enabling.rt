@@ -11,8 +11,8 @@ ghost use Rattle.traffic.specs.Settling.{here_in, Settles};
 ghost use Rattle.machine_state.specs.Asking.{scheduled, untouched};
 
 use crate::source::Source;
-use certificate::Tables;
 use machine_state::{Fault, FaultKind, Mode, Registers, Store};
+use module_format::Tables;
 use process_queue::ListQueue;
 use traffic::{Here, Traffic};
 

@@ -7,11 +7,11 @@ ghost use Rattle.machine_state.specs.Memory.{place_of};
 ghost use Rattle.traffic.specs.Settling.{IsAsked};
 
 use crate::{begin, disable_channel, disable_skip, enable_channel, enable_skip, end, wait};
-use certificate::{Tables, Version};
 use machine_state::{
     ALTERNATION_ORDER, Channel, DATA_START, END_NOT_HELD, Exchange, Fault, Link, LoadStore, Mode,
     OUTSIDE_CODE, TaggedStore, local_address,
 };
+use module_format::{Tables, Version};
 use process_queue::ListQueue;
 use std::alloc::Global;
 use std::test::Fail;

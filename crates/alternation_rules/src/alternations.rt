@@ -15,8 +15,8 @@ use crate::guards::{
     may_name, name_of,
 };
 use crate::modes::{keeps_selection, may_receive, while_disabling, while_enabling, while_plain};
-use certificate::{Fact, Stack};
 use machine_state::Op;
+use module_format::{Fact, Stack};
 use rulings::channels::names_channel;
 use rulings::combinators::{uses, wants};
 use rulings::pointers::is_near_pointer;

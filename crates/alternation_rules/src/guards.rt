@@ -11,7 +11,7 @@ ghost use Rattle.alternation_rules.specs.Guards.{is_same_kind, is_same_name, is_
 ghost use Rattle.alternation_rules.specs.Guards.{name_of, guard_channel, distance_of, is_new, has_room, guard_at};
 ghost use Rattle.alternation_rules.specs.Guards.{enabled_guard, exit_at, is_off_scheduling, may_name};
 
-use certificate::{EndKind, Fact};
+use module_format::{EndKind, Fact};
 use rulings::Place;
 use rulings::channels::{channel_of, channels_meet};
 use states::{Guard, GuardKind, GuardName, Known, MAX_GUARDS, Rule, Source, State, WordFact};

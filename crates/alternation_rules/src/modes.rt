@@ -7,7 +7,7 @@ ghost use Rattle.rulings.specs.Places.{site_of};
 ghost use Rattle.alternation_rules.specs.AlternationRules.{while_plain, while_enabling, while_disabling};
 ghost use Rattle.alternation_rules.specs.AlternationRules.{may_receive, keeps_selection};
 
-use certificate::{Direction, EndKind, EndRow, Fact};
+use module_format::{Direction, EndKind, EndRow, Fact};
 use rulings::Place;
 use rulings::combinators::wants;
 use states::{Mode, Rule, State, WordFact};

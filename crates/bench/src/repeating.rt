@@ -3,9 +3,10 @@
 use crate::call::{Call, LinesCall, ModuleCall, STEP};
 use crate::failure::{Failure, refusal};
 use crate::running::{replay_repeatedly, run_repeatedly};
-use certificate::{Module, write};
+use certificate::Module;
 use machine::Checked;
 use machine_state::{Effect, Event, Link};
+use module_format::write;
 use occam_layout::{Line, lines};
 use occam_parser::{Program, parse};
 use std::alloc::Global;
@@ -27,7 +28,7 @@ fn summary(module: &Module) -> (u64, u64) {
 fn read(alloc: Global, file: &[u8]) -> Result<(u64, u64), Failure> {
     match Module::read(alloc, file) {
         Ok(module) => Ok(summary(&module)),
-        Err(fault) => Err(refusal(fault.number, certificate::MEMORY)),
+        Err(fault) => Err(refusal(fault.number, module_format::MEMORY)),
     }
 }
 
@@ -112,7 +113,7 @@ fn of_module(alloc: Global, call: ModuleCall, module: &Module, times: u64) -> Re
 fn of_file(alloc: Global, call: ModuleCall, file: &[u8], times: u64) -> Result<u64, Failure> {
     match Module::read(alloc, file) {
         Ok(module) => of_module(alloc, call, &module, times),
-        Err(fault) => Err(refusal(fault.number, certificate::MEMORY)),
+        Err(fault) => Err(refusal(fault.number, module_format::MEMORY)),
     }
 }
 

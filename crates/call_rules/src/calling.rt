@@ -8,7 +8,7 @@ ghost use Rattle.rulings.specs.Telling.{Admits};
 use crate::calls::may_call;
 use crate::lent::{Lent, lent_to};
 use arrayvec::ArrayVec;
-use certificate::{Fact, Parameter, ParameterKind, ProcedureRow};
+use module_format::{Fact, Parameter, ParameterKind, ProcedureRow};
 use rulings::Place;
 use rulings::combinators::{alone, wants};
 use rulings::pointers::{are_near, is_near};

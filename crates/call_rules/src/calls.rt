@@ -19,7 +19,7 @@ ghost use Rattle.rulings.specs.Telling.{Admits, Advances, Leaves};
 
 use crate::calling::{Calling, Touched};
 use crate::lent::Lent;
-use certificate::{Fact, Parameter, ProcedureRow, Stack};
+use module_format::{Fact, Parameter, ProcedureRow, Stack};
 use rulings::combinators::alone;
 use rulings::{Continuation, Place};
 use states::{Known, Leaving, Rule, State, WordFact};

@@ -1,7 +1,8 @@
 //! What a call wants of the channels that it passes.
 
 use crate::calling::Calling;
-use certificate::{ChannelRun, Direction, EndKind, Ends, Parameter, ParameterKind};
+use certificate::ChannelRun;
+use module_format::{Direction, EndKind, Ends, Parameter, ParameterKind};
 use rulings::channels::{are_disjoint, channel_of, channels_meet, has_direction};
 
 impl Calling<'_, '_, '_, '_> {

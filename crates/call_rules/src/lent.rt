@@ -7,7 +7,7 @@ ghost use Rattle.states.specs.Below.{lies_within};
 ghost use Rattle.rulings.specs.Reach.{word_of_byte, words_touched, lie_in};
 ghost use Rattle.call_rules.specs.CallRules.{end_of, lent_from, lent_to, suits, parameter_suits, clash};
 
-use certificate::{Fact, Parameter, ParameterKind, Step};
+use module_format::{Fact, Parameter, ParameterKind, Step};
 use rulings::reach::{word_of_byte, word_of_offset};
 use states::{Leaving, WordFact};
 

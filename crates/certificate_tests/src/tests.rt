@@ -5,8 +5,9 @@ mod by_hand;
 mod files;
 mod lookups;
 
-use certificate::{FormatFault, MEMORY, Module, TRUNCATED, Tables, write};
+use certificate::Module;
 use files::{EVERY_ROW, EVERY_ROW_AGAIN, ROWS};
+use module_format::{FormatFault, MEMORY, TRUNCATED, Tables, write};
 use std::alloc::Global;
 use std::test::*;
 

@@ -3,8 +3,8 @@
 ghost use Rattle.machine_state.specs.declared.instruction.Instruction.TheVariants as instruction;
 ghost use Rattle.machine_state.specs.Performing.{PerformsInstruction};
 
-use certificate::Stack;
 use machine_state::{Cpu, FaultKind, Flow, Store};
+use module_format::Stack;
 
 /// `j`: the process goes on at the distance of the operand from the next instruction. It may be sent to the
 /// back of the ready list, so the words that scheduling takes and the registers are undefined then.

@@ -3,8 +3,8 @@
 ghost use Rattle.machine_state.specs.declared.instruction.Instruction.TheVariants as instruction;
 ghost use Rattle.machine_state.specs.Performing.{PerformsInstruction};
 
-use certificate::Stack;
 use machine_state::{Cpu, FaultKind, Flow, Store, local_address};
+use module_format::Stack;
 
 /// `cj`: where A is 0, the process goes on at the distance of the operand from the next instruction, and the registers
 /// stay. Otherwise A is popped.

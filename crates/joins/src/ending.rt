@@ -13,8 +13,8 @@ ghost use Rattle.joins.specs.Summary.{summary};
 
 use crate::Processes;
 use crate::open::{Open, open_of, opener_of};
-use certificate::{ParRow, Stack, Tables};
 use machine_state::{Condition, Fault, FaultKind, Mode, Registers, Task};
+use module_format::{ParRow, Stack, Tables};
 use traffic::Here;
 
 /// The end of a process at this instruction, which names the block and leaves these registers.

@@ -21,8 +21,8 @@ ghost use Rattle.machine_state.specs.Asking.{untouched};
 use crate::Processes;
 use crate::found::Start;
 use crate::gifts::{First, Later};
-use certificate::{BranchRow, ChannelRow, ParRow, Stack};
 use machine_state::{Condition, Mode, Registers, Task, local_address};
+use module_format::{BranchRow, ChannelRow, ParRow, Stack};
 use std::alloc::AllocError;
 use traffic::{Here, NewProcess};
 

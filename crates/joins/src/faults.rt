@@ -25,8 +25,8 @@ use crate::found::Found;
 use crate::given::end_set::EndSet;
 use crate::plan::Plan;
 use crate::share::Share;
-use certificate::{BranchRow, ChannelRow, ParRow, Tables};
 use machine_state::{DATA_START, End, Holding, Stretch, TaggedStore, local_address, place_of};
+use module_format::{BranchRow, ChannelRow, ParRow, Tables};
 use std::alloc::{AllocError, Global};
 
 /// Whether no end stands twice. It takes time n log n.

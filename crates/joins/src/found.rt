@@ -7,8 +7,9 @@ ghost use Rattle.machine_state.specs.Faults.{fault_in};
 ghost use Rattle.machine_state.specs.JoinLookups.{found_in_row, found_at};
 ghost use Rattle.joins.specs.Finding.{found_view};
 
-use certificate::{BranchRow, Module, ParRow, Tables};
+use certificate::Module;
 use machine_state::{Fault, FaultKind, Registers};
+use module_format::{BranchRow, ParRow, Tables};
 use traffic::Here;
 
 /// A branch, the number of its row, and its own number in the row.

@@ -21,8 +21,9 @@ use crate::opening::{Opening, prepare};
 use crate::plan::Plan;
 use crate::share::{Frame, share_of};
 use crate::testing::{Gift, divide, no_row_fault, test_first, test_later};
-use certificate::{Module, ParRow, Parameter, Tables};
+use certificate::Module;
 use machine_state::{Holding, Join, Progress, TaggedStore, local_address};
+use module_format::{ParRow, Parameter, Tables};
 use std::alloc::{AllocError, Global};
 use traffic::Stop;
 

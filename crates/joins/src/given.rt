@@ -17,8 +17,8 @@ pub(crate) mod end_set;
 
 use crate::given::end_set::EndSet;
 use crate::share::Share;
-use certificate::Tables;
 use machine_state::{End, Holding, Span, Stretch, all_lie_in, places_within, without};
+use module_format::Tables;
 use std::alloc::{AllocError, Global};
 
 /// Both, the first in front.

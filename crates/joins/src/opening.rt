@@ -13,8 +13,8 @@ use crate::given::end_set::EndSet;
 use crate::given::less;
 use crate::plan::{addresses, frame_base, named};
 use crate::share::Share;
-use certificate::{ChannelRow, Direction, ParRow, Parameter};
 use machine_state::{End, Holding, Stretch, TaggedStore, local_address, place_of};
+use module_format::{ChannelRow, Direction, ParRow, Parameter};
 use std::alloc::{AllocError, Global};
 
 /// What the first start of a PAR finds out.

@@ -13,8 +13,8 @@ ghost use Rattle.machine_state.specs.StartPlans.{word_in};
 ghost use Rattle.machine_state.specs.Views.{holding_view};
 
 use crate::share::Frame;
-use certificate::{BranchRow, EndKind, EndRow, ParRow, Parameter};
 use machine_state::{Holding, TaggedStore, local_address, place_of};
+use module_format::{BranchRow, EndKind, EndRow, ParRow, Parameter};
 use std::alloc::{AllocError, Global};
 use std::collections::BTreeSet;
 

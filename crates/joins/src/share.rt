@@ -9,8 +9,8 @@ ghost use Rattle.machine_state.specs.Memory.{data_start};
 ghost use Rattle.machine_state.specs.Stretches.{stretch_view};
 ghost use Rattle.joins.specs.Sharing.{share_view};
 
-use certificate::{BranchRow, EndKind, EndRow, Interval, Parameter, ParameterKind};
 use machine_state::{DATA_START, End, LINK_WORDS, Stretch, local_address, place_of};
+use module_format::{BranchRow, EndKind, EndRow, Interval, Parameter, ParameterKind};
 use std::alloc::{AllocError, Global};
 
 /// Where the frame of a PAR lies, and what its parameters point at.

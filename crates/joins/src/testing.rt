@@ -25,8 +25,8 @@ use crate::found::Found;
 use crate::given::{given, is_held, less};
 use crate::plan::Plan;
 use crate::share::Share;
-use certificate::Tables;
 use machine_state::{Fault, FaultKind, Holding, TaggedStore};
+use module_format::Tables;
 use std::alloc::{AllocError, Global};
 use traffic::{Here, Stop};
 

@@ -18,8 +18,8 @@ use crate::word_rules::{
     adjust_workspace, binary, check, conditional_jump, load_constant, load_local,
     load_local_pointer, long, minimum_integer, reverse, shift, store_local, unary, with_constant,
 };
-use certificate::Step;
 use machine_state::{Instruction, Op};
+use module_format::Step;
 use rulings::{Continuation, Place};
 use states::{Rule, State};
 

@@ -8,8 +8,8 @@ ghost use Rattle.local_rules.specs.LocalRules.{local_operation_rule, local_rule}
 ghost use Rattle.rulings.specs.Telling.{Advances};
 ghost use Rattle.rulings.specs.Places.{site_of};
 
-use certificate::Stack;
 use machine_state::Op;
+use module_format::Stack;
 use rulings::combinators::{alone, forward, outside_alternation, outside_starts};
 use rulings::{Continuation, Place};
 use states::{Known, Rule, State};

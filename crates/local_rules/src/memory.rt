@@ -12,7 +12,7 @@ ghost use Rattle.rulings.specs.Telling.{Gives, Advances};
 ghost use Rattle.rulings.specs.Places.{site_of};
 
 use crate::shifting::{element_of, is_stepped, words_behind, words_further};
-use certificate::{Fact, Step};
+use module_format::{Fact, Step};
 use rulings::combinators::{alone, outside_starts, uses};
 use rulings::pointers::{constant_of, number_of, pointer_of};
 use rulings::reading::{byte_read, sum_reached};

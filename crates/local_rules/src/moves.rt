@@ -11,7 +11,7 @@ ghost use Rattle.rulings.specs.Filling.{are_numbers};
 ghost use Rattle.rulings.specs.Telling.{Gives, Advances};
 ghost use Rattle.rulings.specs.Places.{site_of};
 
-use certificate::{Fact, Stack};
+use module_format::{Fact, Stack};
 use rulings::combinators::{alone, uses};
 use rulings::filling::{are_numbers, fill};
 use rulings::pointers::{Pointed, constant_of, exact_pointer};

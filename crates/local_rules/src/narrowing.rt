@@ -9,7 +9,7 @@ ghost use Rattle.local_rules.specs.WordRules.{number_in, own_range, same, narrow
 ghost use Rattle.local_rules.specs.Narrowings.{narrowed_by};
 
 use crate::numbers::{number_in, range_of};
-use certificate::Fact;
+use module_format::Fact;
 use states::{Source, State, WordFact};
 use word_arithmetic::Range;
 

@@ -10,8 +10,8 @@ ghost use Rattle.local_rules.specs.WordRules.{numbers_have, fact_of_two, result_
 ghost use Rattle.local_rules.specs.WordRules.{long_results, word_and_constant, test_of, greater_source, equal_source};
 ghost use Rattle.local_rules.specs.WordRules.{result_source, constant_source};
 
-use certificate::{Fact, Stack};
 use machine_state::{LongOp, Shift};
+use module_format::{Fact, Stack};
 use states::{Known, Source, WordFact};
 use word_arithmetic::{Binary, Range, Unary};
 

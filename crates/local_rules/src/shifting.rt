@@ -8,7 +8,7 @@ ghost use Rattle.rulings.specs.Telling.{Gives};
 ghost use Rattle.local_rules.specs.MemoryRules.{near_fact, words_at, words_behind, is_of_a_word, word_fact, shifted};
 ghost use Rattle.local_rules.specs.MemoryRules.{further, step_after, element_of};
 
-use certificate::{Fact, Step};
+use module_format::{Fact, Step};
 use rulings::pointers::{Bounds, Pointed, are_near};
 use states::Rule;
 

@@ -11,7 +11,7 @@ ghost use Rattle.rulings.specs.Telling.{Advances};
 ghost use Rattle.rulings.specs.Places.{site_of};
 
 use crate::shifting::words_behind;
-use certificate::Fact;
+use module_format::Fact;
 use rulings::combinators::{alone, in_bounds, uses};
 use rulings::pointers::{Pointed, pointer_of};
 use rulings::reach::full;

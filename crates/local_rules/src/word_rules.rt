@@ -20,8 +20,8 @@ use crate::numbers::{
     Check, constant_source, fact_of_shift, has_range, loaded, long_results, result_fact,
     result_source, unary_result_fact,
 };
-use certificate::{Fact, Step};
 use machine_state::{LongOp, Shift as ShiftOperation};
+use module_format::{Fact, Step};
 use rulings::combinators::{alone, forward, in_bounds, outside_alternation, outside_starts, uses};
 use rulings::pointers::near;
 use rulings::{Continuation, Place};

@@ -1,8 +1,8 @@
 //! A file altered in many ways, and how many of the altered files are read.
 
 use crate::modules::{READ, reading};
-use certificate::{FormatFault, MAGIC, TRUNCATED};
 use conformance::{Answer, Outcome, judged};
+use module_format::{FormatFault, MAGIC, TRUNCATED};
 use std::alloc::Global;
 
 /// The ways in which a file is altered.

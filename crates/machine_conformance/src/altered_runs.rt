@@ -5,9 +5,10 @@ use crate::events::event;
 use crate::setting::Setting;
 use crate::watching::watch;
 use crate::words::Words;
-use certificate::{MEMORY, Module};
+use certificate::Module;
 use conformance::{Answer, Outcome};
 use machine_state::Event;
+use module_format::MEMORY;
 use std::alloc::Global;
 
 /// How many events a run has.

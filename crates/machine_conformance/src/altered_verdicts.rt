@@ -5,10 +5,11 @@ use crate::altered_runs::repeated;
 use crate::pairing::one_event;
 use crate::setting::Setting;
 use accepted_runs::Run;
-use certificate::{MEMORY, Module};
+use certificate::Module;
 use conformance::{Answer, Outcome};
 use machine::Checked;
 use machine_state::Event;
+use module_format::MEMORY;
 use std::alloc::Global;
 use verifier::{Verified, verify};
 

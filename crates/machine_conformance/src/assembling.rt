@@ -4,9 +4,9 @@ ghost use Rattle.module_builder.specs.Drafts.{IsComplete};
 
 use crate::drafts::add_lines;
 use crate::words::Words;
-use certificate::Version;
 use conformance::{Answer, Outcome, Statement, judged};
 use module_builder::{Draft, GenFault, assemble, is_whole, layout, spell};
+use module_format::Version;
 use std::alloc::Global;
 
 fn put_fault(fault: GenFault, out: &mut Answer) {

@@ -3,11 +3,11 @@
 use crate::draft_code::label;
 use crate::lookups::end;
 use crate::words::Words;
-use certificate::{
+use module_builder::{ContextName, Draft, Instructions, Label};
+use module_format::{
     BranchRow, ChannelRow, Ends, Entry, Fact, Interval, LabelRow, ParRow, Parameter, ParameterKind,
     ProcedureRow, Stack, Step, TableRow,
 };
-use module_builder::{ContextName, Draft, Instructions, Label};
 use smallvec::SmallVec;
 use std::alloc::Global;
 

@@ -3,9 +3,9 @@
 use crate::draft_code::{add_code, label, make_labels};
 use crate::draft_rows::add_row;
 use crate::words::Words;
-use certificate::Version;
 use conformance::unindented;
 use module_builder::Draft;
+use module_format::Version;
 use std::alloc::Global;
 
 /// Appends bytes, each two hexadecimal digits.

@@ -7,9 +7,10 @@ ghost use Rattle.states.specs.Views.{BelongsTo};
 
 use crate::stepping::function;
 use crate::words::{Words, question};
-use certificate::{Fact, LabelRow, Module};
+use certificate::Module;
 use conformance::{Answer, Outcome, judged};
 use facts::{Successor, Successors, is_instruction, transfer};
+use module_format::{Fact, LabelRow};
 use prefix_decoder::{Fun, Instr};
 use states::{Known, Loop, Source, State, WordFact, label_rows_are_sound};
 use std::alloc::Global;

@@ -1,8 +1,9 @@
 //! What a module answers to look-ups.
 
 use crate::words::{Words, question};
-use certificate::{Direction, EndKind, EndRow, Module};
+use certificate::Module;
 use conformance::{Answer, Outcome, judged};
+use module_format::{Direction, EndKind, EndRow};
 
 /// `word WORD`, `parameter NUMBER ELEMENT` or `link LINK`.
 fn end_kind(words: &mut Words) -> EndKind {

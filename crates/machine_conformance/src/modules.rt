@@ -1,8 +1,9 @@
 //! What reading a file and the verdict answer.
 
 use crate::words::Words;
-use certificate::{FormatFault, Module, write};
+use certificate::Module;
 use conformance::{Answer, Outcome, judged};
+use module_format::{FormatFault, write};
 use std::alloc::Global;
 use verifier::{Refusal, verify};
 

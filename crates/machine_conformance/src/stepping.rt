@@ -2,13 +2,14 @@
 
 use crate::running::put_fault;
 use crate::words::{Words, question};
-use certificate::{Module, Stack, Tables};
+use certificate::Module;
 use conformance::{Answer, Outcome, judged};
 use direct_functions::direct;
 use machine_state::{
     Cpu, DATA_START, Fault, FaultKind, Flow, LoadStore, Mode, Registers, Request, Store,
     TaggedStore, Word, local_address, place_of,
 };
+use module_format::{Stack, Tables};
 use prefix_decoder::Fun;
 use std::alloc::Global;
 

@@ -20,7 +20,7 @@ use crate::holding::End;
 use crate::process::{Mode, Registers, Word};
 use crate::request::Request;
 use crate::store::Store;
-use certificate::Direction;
+use module_format::Direction;
 
 /// The running process over a store.
 #[derive(Drop)]

@@ -7,7 +7,7 @@ ghost use Rattle.machine_state.specs.Access.{may};
 ghost use Rattle.machine_state.specs.Spans.{all_places};
 ghost use Rattle.machine_state.specs.Views.{holding_view};
 
-use certificate::Direction;
+use module_format::Direction;
 
 /// Places of memory, from `start` up to `end`, which is not among them.
 #[derive(Clone, Copy)]

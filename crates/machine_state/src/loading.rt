@@ -8,7 +8,7 @@ ghost use Rattle.machine_state.specs.Views.{holding_view, role_view};
 use crate::address::LINK_WORDS;
 use crate::holding::{End, Holding, Span};
 use crate::role::Role;
-use certificate::{Direction, Tables};
+use module_format::{Direction, Tables};
 use std::alloc::{AllocError, Global};
 
 /// How many bytes lie between the code and the constants, which begin at a word.

@@ -6,7 +6,7 @@ ghost use Rattle.machine_state.specs.Memory.{data_start};
 ghost use Rattle.machine_state.specs.World.{root_task};
 
 use crate::address::DATA_START;
-use certificate::{Stack, Tables};
+use module_format::{Stack, Tables};
 
 /// A word of 32 bits as a signed number, or undefined.
 pub type Word = Option<i32>;

@@ -10,7 +10,7 @@ use crate::process::Word;
 use crate::role::Role;
 use crate::store::{LoadStore, Store};
 use crate::{cells, loading};
-use certificate::Tables;
+use module_format::Tables;
 use std::alloc::{AllocError, Global};
 use std::marker::Model;
 

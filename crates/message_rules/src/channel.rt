@@ -7,7 +7,7 @@ ghost use Rattle.rulings.specs.Places.{site_of};
 ghost use Rattle.module_format.specs.Keeping.{Keeps};
 ghost use Rattle.message_rules.specs.MessageRules.{holds_end, is_length, has_length, over_channel};
 
-use certificate::{Direction, EndKind, EndRow, Fact};
+use module_format::{Direction, EndKind, EndRow, Fact};
 use rulings::Place;
 use rulings::channels::names_channel;
 use rulings::combinators::wants;

@@ -14,8 +14,8 @@ ghost use Rattle.message_rules.specs.MessageRules.{exchanges, takes, receives, r
 ghost use Rattle.message_rules.specs.MessageRules.{sends_some, out_rule, message_rule};
 
 use crate::channel::over_channel;
-use certificate::{Direction, Fact, MAX_MESSAGE, Stack};
 use machine_state::Op;
+use module_format::{Direction, Fact, MAX_MESSAGE, Stack};
 use rulings::combinators::{alone, in_bounds, uses, wants};
 use rulings::filling::{are_numbers, fill};
 use rulings::pointers::{Pointed, constant_of, pointer_of};

@@ -6,8 +6,8 @@ ghost use Rattle.std.specs.Int.{w32, cast_unsigned};
 ghost use Rattle.machine_state.specs.declared.op.Op.TheVariants as operation;
 ghost use Rattle.machine_state.specs.Performing.{PerformsOperation};
 
-use certificate::{Direction, Stack};
 use machine_state::{Cpu, FaultKind, Flow, Request, Store};
+use module_format::{Direction, Stack};
 
 /// Whether a guard holds, by the word that it is.
 fn guard_holds(guard: i32) -> bool

@@ -4,8 +4,8 @@ ghost use Rattle.machine_state.specs.declared.op.Op.TheVariants as operation;
 ghost use Rattle.machine_state.specs.Performing.{PerformsOperation};
 
 use crate::operands::{operand, replace_two};
-use certificate::Stack;
 use machine_state::{Cpu, FaultKind, Flow, LongOp, Shift, Store};
+use module_format::Stack;
 
 /// The most bits by which a word is shifted.
 const MOST_SHIFT: u32 = 31;

@@ -8,8 +8,8 @@ ghost use Rattle.machine_state.specs.Performing.{site_of, local_of, value_or_fau
 ghost use Rattle.operations.specs.Loops.{holds_block, loop_target, counts_turn, turns_block, tests_block};
 
 use crate::operands::operand;
-use certificate::Stack;
 use machine_state::{Cpu, FaultKind, Flow, Store, local_address};
+use module_format::Stack;
 
 /// A code offset that lies in the code, else `OutsideCode`.
 fn landing<S>(cpu: &Cpu<S>, offset: u64) -> Result<u32, FaultKind>

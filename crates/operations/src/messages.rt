@@ -6,8 +6,8 @@ ghost use Rattle.machine_state.specs.LocalStep.{holds_scheduling_words};
 ghost use Rattle.machine_state.specs.Performing.{AsksFor, PerformsOperation};
 ghost use Rattle.operations.specs.Exchanging.{may_use_bytes, AsksForMessage};
 
-use certificate::{Direction, MAX_MESSAGE, Stack};
 use machine_state::{Cpu, Exchange, FaultKind, Flow, Request, Store};
+use module_format::{Direction, MAX_MESSAGE, Stack};
 
 /// The message of A bytes at C over channel B, of which the process holds this end.
 #[tactic(auto, unfolding(machine_state::specs::LocalStep::exchanges, machine_state::specs::LocalStep::uses, machine_state::specs::LocalStep::counts))]

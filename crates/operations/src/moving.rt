@@ -4,8 +4,8 @@ ghost use Rattle.machine_state.specs.declared.op.Op.TheVariants as operation;
 ghost use Rattle.machine_state.specs.Performing.{PerformsOperation};
 
 use crate::operands::operand;
-use certificate::Stack;
 use machine_state::{Cpu, FaultKind, Flow, Store};
+use module_format::Stack;
 
 /// The most bytes that move at a time.
 const MOST_MOVED: u32 = 65_536;

@@ -3,8 +3,8 @@
 ghost use Rattle.machine_state.specs.declared.op.Op.TheVariants as operation;
 ghost use Rattle.machine_state.specs.Performing.{PerformsOperation};
 
-use certificate::Stack;
 use machine_state::{Cpu, FaultKind, Flow, Store, local_address};
+use module_format::Stack;
 
 /// `ret`: the process goes on at the address in the word at its workspace, and leaves four words. No register is
 /// handed back.

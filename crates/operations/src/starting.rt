@@ -3,8 +3,8 @@
 ghost use Rattle.machine_state.specs.declared.op.Op.TheVariants as operation;
 ghost use Rattle.machine_state.specs.Performing.{PerformsOperation};
 
-use certificate::Stack;
 use machine_state::{Cpu, FaultKind, Flow, Request, Store};
+use module_format::Stack;
 
 /// `startp`: the branch that begins B bytes after the instruction is to start, with a workspace at A.
 pub(crate) fn start_process<S: Store>(cpu: &mut Cpu<S>) -> Result<Flow, FaultKind>

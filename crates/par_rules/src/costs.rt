@@ -14,7 +14,8 @@ ghost use Rattle.par_rules.specs.ParRules.{label_after};
 ghost use Rattle.par_rules.specs.Telling.{label_view};
 
 use crate::found::Found;
-use certificate::{Entry, Fact, LabelRow, Module};
+use certificate::Module;
+use module_format::{Entry, Fact, LabelRow};
 use rulings::Place;
 use states::{State, label_rows_are_sound};
 

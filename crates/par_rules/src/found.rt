@@ -9,8 +9,9 @@ ghost use Rattle.rulings.specs.Places.{site_of};
 ghost use Rattle.par_rules.specs.ParRules.{named_branch};
 ghost use Rattle.par_rules.specs.Finding.{place_from, found_view, IsNumbered, IsInRow};
 
-use certificate::{BranchRow, Fact, Module, ParRow};
+use certificate::Module;
 use machine_state::branches_are_contexts;
+use module_format::{BranchRow, Fact, ParRow};
 use rulings::Place;
 
 /// A branch, the number of its row, its own number in the row, and its number as a context.

@@ -7,7 +7,8 @@ ghost use Rattle.certificate.specs.Rights.{may_write_word};
 ghost use Rattle.rulings.specs.Reach.{readable_bytes, writable_bytes};
 ghost use Rattle.par_rules.specs.Gifts.{may_give_parameters, has_scheduling_words};
 
-use certificate::{BranchRow, Module, ParRow, Tables};
+use certificate::Module;
+use module_format::{BranchRow, ParRow, Tables};
 use rulings::Place;
 
 /// The row of a PAR, if there is one of this number.

@@ -11,7 +11,8 @@ ghost use Rattle.par_rules.specs.Comparisons.{is_after};
 ghost use Rattle.par_rules.specs.Finding.{IsInRow};
 
 use crate::found::Found;
-use certificate::{Fact, Interval, LabelRow, Module};
+use certificate::Module;
+use module_format::{Fact, Interval, LabelRow};
 
 /// Whether a word is one of the intervals', which rise. It takes time logarithmic in them.
 pub(crate) fn is_among(intervals: &[Interval], word: i64) -> bool

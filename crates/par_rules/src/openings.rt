@@ -10,7 +10,8 @@ ghost use Rattle.states.specs.Views.{state_of};
 ghost use Rattle.par_rules.specs.Openings.{is_code_address, block_is_prepared, channel_is_empty, is_start_of};
 ghost use Rattle.par_rules.specs.Openings.{is_as_given, end_is_as_given, named_are_as_given, is_prepared};
 
-use certificate::{BranchRow, ChannelRow, EndKind, EndRow, Fact, Module, ParRow, Step};
+use certificate::Module;
+use module_format::{BranchRow, ChannelRow, EndKind, EndRow, Fact, ParRow, Step};
 use states::{State, WordFact};
 
 /// Whether a word has this number, which is no loop's.

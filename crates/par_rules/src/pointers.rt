@@ -4,7 +4,7 @@ ghost use Rattle.std.specs.Prelude.{◌≡◌, ◌*ℤ◌, pos};
 ghost use Rattle.states.specs.State.{is_word};
 ghost use Rattle.par_rules.specs.ParRules.{is_at_word, is_workspace};
 
-use certificate::{Fact, Step};
+use module_format::{Fact, Step};
 
 /// Whether an offset in the frame is that of a word.
 fn is_offset_of(word: i32, offset: i32) -> bool

@@ -13,7 +13,8 @@ ghost use Rattle.par_rules.specs.Sights.{facts_in, passes, IsOrdered};
 
 use crate::labels::is_among;
 use crate::openings::holds_constant;
-use certificate::{Entry, Fact, Interval, LabelRow, Module};
+use certificate::Module;
+use module_format::{Entry, Fact, Interval, LabelRow};
 use states::{Loop, State, WordFact, says};
 
 /// Where something is known of words.

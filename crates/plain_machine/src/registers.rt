@@ -4,7 +4,7 @@ ghost use Rattle.std.specs.Prelude.{◌≡◌, ◌+◌, ◌%◌, ◌^◌};
 ghost use Rattle.machine_state.specs.LocalStep.{target};
 ghost use Rattle.module_format.specs.Stack.{with_top};
 
-use certificate::Stack;
+use module_format::Stack;
 
 /// The registers of the process that runs, as the T414 has them: each has some value.
 #[derive(Clone, Copy)]

@@ -2,7 +2,7 @@
 
 use crate::channels::{as_word, further};
 use crate::place::Place;
-use certificate::{Direction, EndKind, EndRow, ParameterKind};
+use module_format::{Direction, EndKind, EndRow, ParameterKind};
 
 impl Place<'_, '_> {
     ghost use Rattle.std.specs.Prelude.{◌≡◌, ℕ};

@@ -10,7 +10,7 @@ use crate::combinators::wants;
 use crate::pointers::is_near_pointer;
 use crate::reach::word_of_byte;
 use bitflags::Flags;
-use certificate::{Direction, EndKind, Ends, Fact, Step};
+use module_format::{Direction, EndKind, Ends, Fact, Step};
 use states::{Rule, WordFact};
 
 /// How many bytes the words of links have.

@@ -4,7 +4,7 @@ ghost use Rattle.std.specs.Prelude.{◌≡◌, IfOk, true};
 ghost use Rattle.rulings.specs.Rulings.{outside_alternation, outside_starts, alone, uses, forward, in_bounds, wants};
 ghost use Rattle.rulings.specs.Telling.{Admits, Gives};
 
-use certificate::Fact;
+use module_format::Fact;
 use states::{Known, Mode, Rule};
 
 /// An instruction that may not stand in an alternation.

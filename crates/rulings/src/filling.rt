@@ -11,7 +11,7 @@ use crate::pointers::Pointed;
 use crate::reach::{full, word_of_byte};
 use crate::reading::byte_read;
 use crate::writing::{is_number_in, leave_words, stored_byte};
-use certificate::Fact;
+use module_format::Fact;
 use states::{Leaving, State};
 
 /// Whether all of so many bytes from where a pointer leads are bytes of numbers.

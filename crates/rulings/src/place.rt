@@ -1,7 +1,8 @@
 //! The place of an instruction, and the tests and changes that rules are made of there.
 
 use crate::continuation::Continuation;
-use certificate::{Fact, Module};
+use certificate::Module;
+use module_format::Fact;
 use states::{Rule, State, cost_below, label_rows_are_sound};
 
 /// The place of an instruction: its module, its offset and its bytes. The functions of a place are what the rules

@@ -6,7 +6,7 @@ ghost use Rattle.rulings.specs.Pointers.{is_near_pointer};
 ghost use Rattle.rulings.specs.Rulings.{settles};
 ghost use Rattle.rulings.specs.Telling.{Admits, Gives};
 
-use certificate::{Fact, Step};
+use module_format::{Fact, Step};
 use states::Rule;
 
 /// How many bytes from a region's start a pointer may point at most.

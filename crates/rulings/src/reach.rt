@@ -7,7 +7,7 @@ ghost use Rattle.word_arithmetic.specs.Range.{full};
 ghost use Rattle.rulings.specs.Pointers.{ends_in};
 
 use crate::pointers::Bounds;
-use certificate::{ParameterKind, TableRow};
+use module_format::{ParameterKind, TableRow};
 
 /// The word in which a byte of the frame lies.
 pub fn word_of_offset(offset: i64) -> i64

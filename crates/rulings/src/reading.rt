@@ -13,7 +13,7 @@ use crate::reach::{
     full, is_listed, kept_range, lie_in, lie_in_row, readable_size, word_of_byte, words_touched,
     writable_size,
 };
-use certificate::Fact;
+use module_format::Fact;
 use states::{Rule, State, Together};
 
 impl Place<'_, '_> {

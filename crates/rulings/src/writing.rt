@@ -9,7 +9,7 @@ ghost use Rattle.rulings.specs.Pointers.{ends_in, is_number_in, is_full, widened
 use crate::place::Place;
 use crate::pointers::{Bounds, Pointed};
 use crate::reach::{full, kept_range, lie_in, word_of_byte, words_touched};
-use certificate::Fact;
+use module_format::Fact;
 use states::{Leaving, Rule, State};
 
 impl Place<'_, '_> {

@@ -12,7 +12,7 @@ use crate::implication::implies;
 use crate::known::Mode;
 use crate::rule::{Rule, RuleFault};
 use crate::state::State;
-use certificate::LabelRow;
+use module_format::LabelRow;
 
 fn is_plain(mode: Mode) -> bool
     ensures { result ≡ is_plain mode }

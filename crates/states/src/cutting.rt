@@ -10,7 +10,7 @@ ghost use Rattle.states.specs.Rows.{AreApart};
 
 use crate::intervals::{Run, run_from};
 use crate::row::{end_of, loop_of, start_of};
-use certificate::{Entry, Fact, Interval};
+use module_format::{Entry, Fact, Interval};
 
 /// Which words of entries are kept.
 #[derive(Clone, Copy, PartialEq, Eq)]

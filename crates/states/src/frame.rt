@@ -17,7 +17,7 @@ use crate::known::{LoopWord, WordFact};
 use crate::overlay::Overlay;
 use crate::row::{row_fact, said_of};
 use crate::span::Leaving;
-use certificate::{Entry, Fact, ParameterKind, ProcedureRow, Step};
+use module_format::{Entry, Fact, ParameterKind, ProcedureRow, Step};
 use std::alloc::{AllocError, Global};
 
 /// What is known of a frame's words: what was written since the last label, over the row of that label.

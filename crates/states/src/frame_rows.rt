@@ -25,7 +25,7 @@ use crate::row::{
     alone_holds, end_of, has_at_most, have_loops_apart, is_over, loop_of, past_saying, row_fact,
     start_of, steps_to_find, without_ended,
 };
-use certificate::{Entry, Fact};
+use module_format::{Entry, Fact};
 
 /// What is left of the label's row and of a row that is wanted, and what was paid for the entries before.
 #[derive(Clone, Copy)]

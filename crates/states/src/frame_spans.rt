@@ -11,7 +11,7 @@ use crate::blocks::{Block, block_words};
 use crate::frame::Frame;
 use crate::known::LoopWord;
 use crate::span::{Leaving, Together, is_number};
-use certificate::Fact;
+use module_format::Fact;
 
 /// Some words, and what is known of them together.
 #[derive(Clone, Copy, Debug)]

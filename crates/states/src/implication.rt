@@ -5,7 +5,7 @@ ghost use Rattle.states.specs.Below.{lies_within, step_implies, implies, is_cons
 ghost use Rattle.states.specs.Rows.{LoopFits};
 
 use crate::known::WordFact;
-use certificate::{Fact, Step};
+use module_format::{Fact, Step};
 
 fn step_implies(step: Step, other: Step) -> bool
     ensures { result ≡ step_implies step other }

@@ -5,7 +5,7 @@ ghost use Rattle.module_format.specs.Order.{InOrder, least_word};
 ghost use Rattle.module_format.specs.Pars.{IntervalKeeps, behind_interval};
 ghost use Rattle.certificate.specs.Rights.{is_among};
 
-use certificate::Interval;
+use module_format::Interval;
 
 /// Some words from a word on, of which intervals have all or none.
 #[derive(Clone, Copy)]

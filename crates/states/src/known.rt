@@ -5,7 +5,7 @@ ghost use Rattle.states.specs.State.{by_itself, handed_out, plain, is_alone};
 ghost use Rattle.states.specs.Rows.{LoopFits};
 ghost use Rattle.states.specs.Frames.{is_loop_word};
 
-use certificate::{EndKind, Fact};
+use module_format::{EndKind, Fact};
 
 /// A loop that a frame counts in two words, its index and its count.
 #[derive(Clone, Copy, Debug, PartialEq, Eq)]

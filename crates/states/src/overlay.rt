@@ -4,7 +4,7 @@ ghost use Rattle.std.specs.Prelude.{◌≡◌, ◌<◌, ◌≤◌, ◌==◌, ℕ
 ghost use Rattle.std.specs.Prelude.{[], IfOk, IfSome, IfNone, slice_index};
 ghost use Rattle.states.specs.Lookup.{lookup, indices, ArePlaced};
 
-use certificate::Fact;
+use module_format::Fact;
 use std::alloc::{AllocError, Global};
 
 /// A fact that was written, and its index.

@@ -12,7 +12,7 @@ ghost use Rattle.states.specs.declared.known.WordFact.TheVariants.{Alone};
 
 use crate::implication::{implies, is_constant};
 use crate::known::{Loop, WordFact};
-use certificate::{Entry, Fact};
+use module_format::{Entry, Fact};
 
 /// The first word of an entry.
 #[inline(always)]

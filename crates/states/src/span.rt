@@ -8,7 +8,7 @@ ghost use Rattle.states.specs.declared.known.WordFact.TheVariants.{Alone};
 ghost use Rattle.states.specs.declared.span.Leaving.TheVariants.{Widen};
 
 use crate::known::WordFact;
-use certificate::Fact;
+use module_format::Fact;
 
 /// What is known of some words together.
 #[derive(Clone, Copy, Debug, PartialEq, Eq)]

@@ -26,7 +26,8 @@ use crate::frame::Frame;
 use crate::intervals::have_words;
 use crate::known::{Guard, Known, Mode, Source, WordFact};
 use crate::span::{Leaving, Together};
-use certificate::{Entry, Fact, Interval, LabelRow, Module, ProcedureRow, Stack, Tables};
+use certificate::Module;
+use module_format::{Entry, Fact, Interval, LabelRow, ProcedureRow, Stack, Tables};
 use std::alloc::{AllocError, Global};
 
 /// How many guards an alternation may have.

@@ -12,9 +12,9 @@ ghost use Rattle.tpm.specs.LineFaults.{IsFaultAt};
 
 use crate::line::{Line, LineFault};
 use crate::links::{LinkPaths, link_name};
-use certificate::Direction;
 use clap::{Arg, ArgMatches, Command};
 use machine_state::Link;
+use module_format::Direction;
 use std::alloc::{AllocError, Global};
 
 /// A subcommand with the path of a module file.

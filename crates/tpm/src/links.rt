@@ -3,8 +3,8 @@
 ghost use Rattle.std.specs.Prelude.{◌≡◌};
 ghost use Rattle.tpm.specs.Links.{link_name};
 
-use certificate::Direction;
 use machine_state::Link;
+use module_format::Direction;
 
 /// The paths of the files on the four links of one direction, where they are given.
 #[derive(Clone, Copy)]

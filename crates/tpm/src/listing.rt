@@ -6,8 +6,9 @@ ghost use Rattle.tpm.specs.Listing.{entry_of, entry_text, line_of, listed_entry,
 ghost use Rattle.tpm.specs.Listing.{operation_of};
 
 use crate::names::{function_name, operation_name};
-use certificate::{Module, Tables};
+use certificate::Module;
 use machine_state::Op;
+use module_format::Tables;
 use prefix_decoder::{Fun, Instr, fetch};
 use std::alloc::{AllocError, Global};
 use std::fmt;

@@ -3,9 +3,9 @@
 ghost use Rattle.std.specs.Prelude.{◌≡◌, Some};
 ghost use Rattle.tpm.specs.Texts.{report_text, status_of};
 
-use certificate::FormatFault;
 use compiler::CompileFault;
 use machine_state::Link;
+use module_format::FormatFault;
 use std::alloc::AllocError;
 use std::fmt;
 use thiserror::Error;

@@ -6,9 +6,9 @@ ghost use Rattle.tpm.specs.Texts.{count_line, count_text, counts_text, ending_of
 
 use crate::links::{LinkPaths, link_name};
 use crate::report::Report;
-use certificate::Direction;
 use link_runner::Outcome;
 use machine_state::Link;
+use module_format::Direction;
 use std::alloc::{AllocError, Global};
 use std::fmt;
 

@@ -11,9 +11,9 @@ ghost use Rattle.tpm.specs.FilesOnLinks.{first_unclosed, CreatesAndRuns, RunsOpe
 use crate::files::{FileFault, Files};
 use crate::links::LinkPaths;
 use crate::report::Failure;
-use certificate::Direction;
 use link_runner::{Report, RunError, run};
 use machine_state::Link;
+use module_format::Direction;
 use std::alloc::Global;
 use verifier::Verified;
 

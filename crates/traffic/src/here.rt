@@ -7,8 +7,8 @@ ghost use Rattle.machine_state.specs.Moves.{put, leave, dispatch};
 ghost use Rattle.traffic.specs.Moment.{IsSteady, WaitsForMore};
 
 use crate::traffic::Traffic;
-use certificate::Tables;
 use machine_state::{Condition, Fault, FaultKind, Mode, Registers, Store, Task};
+use module_format::Tables;
 use process_queue::ListQueue;
 
 /// A process at a byte of its code: the last one of an instruction, or a prefix.

@@ -14,8 +14,8 @@ ghost use Rattle.traffic.specs.Settling.{received_by_channel, sent_by_channel, S
 use crate::message::Message;
 use crate::stop::Stop;
 use crate::traffic::Traffic;
-use certificate::Tables;
 use machine_state::{Channel, Condition, Exchange, FaultKind, Store};
+use module_format::Tables;
 use process_queue::ListQueue;
 
 impl<S: Store> Traffic<S, ListQueue> {

@@ -16,8 +16,8 @@ ghost use Rattle.traffic.specs.Starting.{with_process};
 
 use crate::removing::remove_all;
 use crate::traffic::Traffic;
-use certificate::ChannelRow;
 use machine_state::{Channel, Holding, Join, Progress, Store, TaggedStore, Task, local_address};
+use module_format::ChannelRow;
 use process_queue::ListQueue;
 use std::alloc::AllocError;
 

@@ -13,8 +13,8 @@ ghost use Rattle.traffic.specs.Delivering.{receiving_may_wake, sending_may_wake}
 use crate::message::Message;
 use crate::stop::Stop;
 use crate::traffic::Traffic;
-use certificate::Tables;
 use machine_state::{LINK_WORDS, Link, Store};
+use module_format::Tables;
 use process_queue::ListQueue;
 
 /// The address of the word of input link 0.

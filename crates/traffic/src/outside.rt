@@ -10,8 +10,8 @@ ghost use Rattle.traffic.specs.Settling.{IsAsked, turn_for, put_after, is_comple
 
 use crate::message::Message;
 use crate::traffic::Traffic;
-use certificate::Tables;
 use machine_state::{Condition, Fault, FaultKind, InputLink, Link, OutputLink, Store};
+use module_format::Tables;
 use process_queue::ListQueue;
 
 impl<S: Store> Traffic<S, ListQueue> {

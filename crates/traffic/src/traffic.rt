@@ -13,11 +13,11 @@ ghost use Rattle.traffic.specs.Moment.{IsSteady, WaitsForMore};
 use crate::counts::{are_still_all, count_of, enabler_of, hand_over};
 use crate::enabled::{any_channel, any_input};
 use crate::opened::OpenedCells;
-use certificate::Tables;
 use machine_state::{
     Channel, Condition, Cpu, DATA_START, InputLink, Link, OutputLink, Registers, Store,
     TaggedStore, Task, place_of,
 };
+use module_format::Tables;
 use process_queue::{ListQueue, ReadyQueue};
 use std::alloc::{AllocError, Global};
 use std::marker::Model;

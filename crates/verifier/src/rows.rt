@@ -3,7 +3,8 @@
 ghost use Rattle.std.specs.Prelude.{◌+◌, ◌≤◌, length};
 ghost use Rattle.module_format.specs.declared.limits.TheConstants.{MAX_PROCEDURES};
 
-use certificate::{LabelRow, Module, ProcedureRow};
+use certificate::Module;
+use module_format::{LabelRow, ProcedureRow};
 
 /// What the tables give at an offset.
 #[derive(Clone, Copy)]

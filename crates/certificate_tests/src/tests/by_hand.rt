@@ -4,7 +4,7 @@
 
 use super::JUMP;
 use bitflags::Flags;
-use certificate::{
+use module_format::{
     BranchRow, ChannelRow, Direction, EndKind, EndRow, Ends, Entry, Fact, Interval, LabelRow,
     ParRow, Parameter, ParameterKind, ProcedureRow, Stack, TableRow, Tables, Version, write,
 };

@@ -1,7 +1,8 @@
 //! Each look-up once.
 
 use super::files::EVERY_ROW;
-use certificate::{Direction, EndKind, EndRow, Module};
+use certificate::Module;
+use module_format::{Direction, EndKind, EndRow};
 use std::alloc::Global;
 use std::test::*;
 

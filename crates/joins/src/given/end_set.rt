@@ -5,8 +5,8 @@ ghost use Rattle.machine_state.specs.declared.holding.End.{End as HeldEnd};
 ghost use Rattle.machine_state.specs.Spans.{is_listed, is_same_end};
 ghost use Rattle.joins.specs.EndSets.{has};
 
-use certificate::Direction;
 use machine_state::End;
+use module_format::Direction;
 use std::alloc::{AllocError, Global};
 use std::collections::BTreeSet;
 

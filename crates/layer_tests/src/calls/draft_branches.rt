@@ -1,8 +1,8 @@
 //! The branches of the PAR of the draft.
 
 use super::draft_code::RowPlaces;
-use certificate::{BranchRow, ChannelRow, Direction, EndKind, EndRow, Interval, ParRow};
 use module_builder::{ContextName, Label};
+use module_format::{BranchRow, ChannelRow, Direction, EndKind, EndRow, Interval, ParRow};
 use smallvec::SmallVec;
 use std::alloc::{AllocError, Global};
 

@@ -2,10 +2,10 @@
 
 use super::draft_branches::complete_par;
 use super::draft_code::RowPlaces;
-use certificate::{
+use module_builder::{ContextName, Draft, Label};
+use module_format::{
     Entry, Fact, LabelRow, ParRow, Parameter, ParameterKind, ProcedureRow, Stack, TableRow,
 };
-use module_builder::{ContextName, Draft, Label};
 use std::alloc::{AllocError, Global};
 
 /// The constant, by its bytes, is 7.

@@ -3,8 +3,8 @@
 use super::Answer;
 use super::draft_code::{add_code, places};
 use super::draft_rows::add_rows;
-use certificate::Version;
 use module_builder::{Draft, GenFault, assemble, is_whole};
+use module_format::Version;
 use std::alloc::{AllocError, Global};
 
 /// Makes an empty draft of version 2 the one of which `ROWS` in `files` is the file.

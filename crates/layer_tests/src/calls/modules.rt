@@ -2,9 +2,10 @@
 
 use super::{Answer, refused};
 use accepted_runs::{Replay, replay};
-use certificate::{Module, write};
+use certificate::Module;
 use machine::{Checked, Stop};
 use machine_state::Event;
+use module_format::write;
 use std::alloc::Global;
 use verifier::{Verified, verify};
 
@@ -97,6 +98,6 @@ fn asked_of(alloc: Global, module: &Module, file: &[u8], question: Question) -> 
 pub(crate) fn ask(alloc: Global, file: &[u8], question: Question) -> Answer {
     match Module::read(alloc, file) {
         Ok(module) => asked_of(alloc, &module, file, question),
-        Err(fault) => refused(fault.number, certificate::MEMORY),
+        Err(fault) => refused(fault.number, module_format::MEMORY),
     }
 }

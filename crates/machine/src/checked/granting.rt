@@ -17,9 +17,10 @@ use alternation::{
     begin, disable_channel, disable_skip, disabling_reads_no_counters, enable_channel, enable_skip,
     enabling_reads_no_counters, end, wait,
 };
-use certificate::{Module, Tables};
+use certificate::Module;
 use joins::{join, joins_read_no_counters, starts_read_no_counters};
 use machine_state::{Exchange, Fault, Registers, Request};
+use module_format::Tables;
 use std::alloc::Global;
 use traffic::{Delivery, Here, Message, Stop, messages_read_no_counters};
 

@@ -9,9 +9,9 @@ ghost use Rattle.machine_state.specs.Moves.{counted, finished_where, faulty};
 ghost use Rattle.traffic.specs.Settling.{here_in};
 ghost use Rattle.machine.specs.Applying.{PerformsFor, AsksRightly, outcome_at};
 
-use certificate::Tables;
 use direct_functions::direct;
 use machine_state::{DATA_START, Fault, FaultKind, Flow, Registers, TaggedStore};
+use module_format::Tables;
 use prefix_decoder::Fun;
 use process_queue::ListQueue;
 use std::alloc::{AllocError, Global};

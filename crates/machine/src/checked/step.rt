@@ -15,8 +15,9 @@ ghost use Rattle.traffic.specs.Settling.{here_in, OnMemory};
 
 use super::act::Act;
 use super::machine::Machine;
-use certificate::{Module, Tables};
+use certificate::Module;
 use machine_state::{Condition, Fault, FaultKind, Flow, Registers, Task};
+use module_format::Tables;
 use prefix_decoder::Fun;
 use prefix_decoder::operand::{after_prefix, with_nibble};
 use traffic::{Here, Stop};

@@ -7,7 +7,8 @@ ghost use Rattle.states.specs.Rows.{IsRowOf};
 ghost use Rattle.states.specs.Views.{BelongsTo};
 
 use crate::tests::text::Found;
-use certificate::{Fact, LabelRow, Module, ProcedureRow};
+use certificate::Module;
+use module_format::{Fact, LabelRow, ProcedureRow};
 use states::{Known, Source, State, below, label_rows_are_sound};
 use std::alloc::Global;
 

@@ -4,10 +4,10 @@ ghost use Rattle.std.specs.Prelude.{◌≡◌, length};
 
 use crate::tests::roles::put_ends;
 use crate::tests::text::Found;
-use certificate::{Direction, Tables, Version};
 use machine_state::{
     DATA_START, LoadStore, Store, TaggedStore, Task, Word, local_address, place_of,
 };
+use module_format::{Direction, Tables, Version};
 use std::alloc::{AllocError, Global};
 
 /// A module of five data words, of which the root's workspace is word 3, with messages on the links 0 out and 3 in.

@@ -1,8 +1,8 @@
 //! What a process holds.
 
 use crate::tests::text::Found;
-use certificate::Direction;
 use machine_state::{DATA_START, End, Holding, Join, Role, Span};
+use module_format::Direction;
 use std::alloc::{AllocError, Global};
 
 /// The places from 4 up to an end may be written, and the output end of the link 1 used.
