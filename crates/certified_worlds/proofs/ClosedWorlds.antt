@@ -17,7 +17,7 @@ use Rattle.machine_state.specs.World.{World, Role, Join}
 use Rattle.machine_state.proofs.Claims.{only_one}
 use Rattle.machine_state.proofs.Holders.{outside_is_free}
 use Rattle.machine_state.proofs.Lines.{got_set, got_other, set_either}
-use Rattle.machine_state.proofs.Moving.{on_role_is, on_task_is}
+use Rattle.machine_state.proofs.MovesLeaveAlone.{on_role_is, on_task_is}
 use Rattle.machine_state.proofs.Owners.{taken_owner}
 use Rattle.machine_state.proofs.WhoWaits.{left_still}
 use Rattle.states.specs.State.{label_state}

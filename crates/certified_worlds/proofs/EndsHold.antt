@@ -32,7 +32,7 @@ use Rattle.machine_state.specs.World.{World, Role, Join, Queue, held, holding_at
 use Rattle.machine_state.proofs.Claims.{only_one}
 use Rattle.machine_state.proofs.Lines.{got_set, got_other, got_within, set_either, told_in}
 use Rattle.machine_state.proofs.Waiting.{has_role}
-use Rattle.machine_state.proofs.Moving.{is_last, member_gone, joined_either, on_role_is, with_opened, without}
+use Rattle.machine_state.proofs.MovesLeaveAlone.{is_last, member_gone, joined_either, on_role_is, with_opened, without}
 use Rattle.states.specs.declared.known.Mode.TheVariants as states_modes
 use Rattle.states.specs.declared.rule.Rule.{Rule}
 use Rattle.rulings.specs.Fitting.{Here}

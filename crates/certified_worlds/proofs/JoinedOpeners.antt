@@ -15,7 +15,7 @@ use Rattle.certified_worlds.specs.Certified.{IsCertified, state_at}
 use Rattle.certified_worlds.specs.Pending.{AfterPar, Pending}
 use Rattle.certified_worlds.specs.Point.{Began, Behind, Decodes}
 use Rattle.certified_worlds.proofs.EndsKeepPars.{opener_after}
-use Rattle.certified_worlds.proofs.Given.{is_given, given_label, label_is_start}
+use Rattle.certified_worlds.proofs.GivenStates.{is_given, given_label, label_is_start}
 use Rattle.certified_worlds.proofs.LivesAs.{LivesAs}
 use Rattle.certified_worlds.proofs.Steps.{lives_at}
 

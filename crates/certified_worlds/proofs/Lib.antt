@@ -1,4 +1,4 @@
-pub mod Given
+pub mod GivenStates
 pub mod LivesAs
 pub mod BehindKeeps
 pub mod Steps

@@ -30,7 +30,7 @@ use Rattle.machine_state.specs.Waiting.{IsGone}
 use Rattle.machine_state.specs.World.{World, Role, Join, Queue}
 use Rattle.machine_state.proofs.Claims.{only_one}
 use Rattle.machine_state.proofs.Lines.{got_before}
-use Rattle.machine_state.proofs.Moving.{on_role_is}
+use Rattle.machine_state.proofs.MovesLeaveAlone.{on_role_is}
 use Rattle.rulings.specs.Meaning.{Layout, Activation}
 use Rattle.rulings.specs.Regions.{channel_address}
 use Rattle.certified_worlds.specs.Invariant.{Process, Table, LengthAgrees, at_link, at_channel}

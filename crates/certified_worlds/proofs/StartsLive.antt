@@ -23,7 +23,7 @@ use Rattle.start_laws.specs.BranchLabels.{BranchLabel, owed_at_label}
 use Rattle.certified_worlds.specs.Certified.{Reaches, state_at, IsCertified}
 use Rattle.certified_worlds.specs.Point.{Began, Behind, nobody_waits, BehindIn, owed_at, Decodes}
 use Rattle.certified_worlds.proofs.EndsAreInOrder.{after_procedures}
-use Rattle.certified_worlds.proofs.Given.{is_given, given_label, label_is_start}
+use Rattle.certified_worlds.proofs.GivenStates.{is_given, given_label, label_is_start}
 use Rattle.certified_worlds.proofs.LivesAs.{LivesAs}
 use Rattle.certified_worlds.proofs.StartsKeepPars.{began_by}
 use Rattle.certified_worlds.proofs.Steps.{enter, lives_at}

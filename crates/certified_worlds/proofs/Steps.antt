@@ -74,9 +74,9 @@ use Rattle.rulings.proofs.Dues.{label_owed}
 use Rattle.rulings.proofs.Regions.{keeps_all}
 use Rattle.rulings.specs.Regions.{Scope, scope_of, scope_in, scope_among, Keeps, HoldsNamed}
 use Rattle.rulings.proofs.Lending.{lift}
-use Rattle.certified_worlds.proofs.Given.{nothing_given, is_given, given_label, given_none, label_is_start}
-use Rattle.certified_worlds.proofs.Given.{given_procedure}
-use Rattle.certified_worlds.proofs.Given.{procedure_is_start}
+use Rattle.certified_worlds.proofs.GivenStates.{nothing_given, is_given, given_label, given_none, label_is_start}
+use Rattle.certified_worlds.proofs.GivenStates.{given_procedure}
+use Rattle.certified_worlds.proofs.GivenStates.{procedure_is_start}
 use Rattle.std.proofs.lemmas.Int.{ints}
 use Rattle.module_format.specs.Stack.{of_empty, AreRelated}
 use Rattle.machine_state.specs.declared.process.Mode.TheVariants as machine_modes

@@ -5,8 +5,8 @@ use Rattle.occam_layout.specs.Fault as layout
 use Rattle.occam_layout.specs.Reading.{read, row_of}
 use Rattle.occam_layout.specs.declared.token.Line.{Line}
 use Rattle.occam_parser.specs.Blocks.{rows_of, IsProgram, ProgramItem}
-use Rattle.occam_parser.specs.Told as parsing
-use Rattle.occam_parser.specs.Told.{IsRefusal}
+use Rattle.occam_parser.specs.LineFaults as parsing
+use Rattle.occam_parser.specs.LineFaults.{IsRefusal}
 use Rattle.occam_parser.specs.declared.fault.ParseFault.{ParseFault}
 use Rattle.program_uses.specs.Telling.{IsFirst}
 use Rattle.usage_checks.specs.ItemRules.{BreaksProgram, BreaksNoRule}

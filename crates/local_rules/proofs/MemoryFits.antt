@@ -46,7 +46,7 @@ use Rattle.rulings.proofs.Within.{Within, ArePlain, AreStill, whole_after}
 use Rattle.rulings.proofs.Words.{word_test}
 use Rattle.rulings.proofs.Addresses.{address_added, words_added, local_word, stepped, stepped_words, stepped_sum}
 use Rattle.rulings.proofs.Addresses.{pointer_added, keeps_step}
-use Rattle.rulings.proofs.Through.{word_through, byte_through}
+use Rattle.rulings.proofs.ReadThroughPointers.{word_through, byte_through}
 use Rattle.rulings.proofs.Combining.{still_rule_fits, still_step_fits, FitsIf, unknown_means, uses_fits, goes_on_fits}
 use Rattle.rulings.proofs.Combining.{in_plain_rule, beside_plain_rule, in_plain_step, after_stack, on_step_test}
 use Rattle.rulings.proofs.Combining.{reads_fits, settles_fits, reads_bytes_fits, going_on_fits, stays_by}

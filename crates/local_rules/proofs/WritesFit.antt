@@ -53,7 +53,7 @@ use Rattle.rulings.proofs.Regions.{byte_small}
 use Rattle.rulings.proofs.ReadThrough.{word_writable}
 use Rattle.rulings.proofs.Reaching.{region_place, place_at, region_at, word_place, even_word, word_of_byte_low}
 use Rattle.rulings.proofs.Reaching.{word_of_byte_high, natural, place_by}
-use Rattle.rulings.proofs.Through.{even_place, inside_some}
+use Rattle.rulings.proofs.ReadThroughPointers.{even_place, inside_some}
 use Rattle.rulings.proofs.Addresses.{stepped_quotient}
 use Rattle.rulings.proofs.WriteThrough.{number_wider, widened_means, widened_by_means, LeavesWell, FrameWord}
 use Rattle.rulings.proofs.WriteThrough.{frame_written, after_span, after_beside, Writable, writable_found, Lies}

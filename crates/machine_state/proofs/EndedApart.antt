@@ -9,8 +9,8 @@ use Rattle.machine_state.specs.Turn.{Here}
 use Rattle.machine_state.specs.Moves.{on_task, dispatch}
 use Rattle.machine_state.specs.Joins.{on_role, joined, closed_task, without_channels}
 use Rattle.machine_state.proofs.Lines.{got_set}
-use Rattle.machine_state.proofs.Moving.{on_task_only, on_role_only, with_opened, without, is_last, member_gone}
-use Rattle.machine_state.proofs.Moving.{joined_either, on_role_is, roles_of_equal}
+use Rattle.machine_state.proofs.MovesLeaveAlone.{on_task_only, on_role_only, with_opened, without, is_last, member_gone}
+use Rattle.machine_state.proofs.MovesLeaveAlone.{joined_either, on_role_is, roles_of_equal}
 use Rattle.machine_state.proofs.Among.{filter_keeps, none_among}
 use Rattle.machine_state.specs.Ownership.{Claim, claims, HoldersIn}
 use Rattle.machine_state.specs.Roles.{own_in, opener_in}

@@ -20,7 +20,7 @@ use Rattle.machine_state.specs.Holding.{nothing}
 use Rattle.machine_state.specs.Happens.{answered, turn}
 use Rattle.machine_state.specs.EventLaws.{bytes_of, EventsCountBytes, FaultsAreKept, FaultsStay}
 use Rattle.machine_state.specs.Memory.{place_of, with_byte}
-use Rattle.machine_state.proofs.Moving.{on_task_only, wake_only, rouse_only, on_role_only, joined_quiet}
+use Rattle.machine_state.proofs.MovesLeaveAlone.{on_task_only, wake_only, rouse_only, on_role_only, joined_quiet}
 use Rattle.machine_state.specs.Endings as turns
 use Rattle.machine_state.proofs.Turns.{turn_happens}
 use Rattle.machine_state.specs.Endings.{Moved, Ends, Happened}

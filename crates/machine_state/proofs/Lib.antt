@@ -7,7 +7,7 @@ pub mod Frame
 pub mod TaggedCells
 pub mod Turns
 pub mod EventLaws
-pub mod Moving
+pub mod MovesLeaveAlone
 pub mod SpanLaws
 pub mod Starting
 pub mod FoundContexts

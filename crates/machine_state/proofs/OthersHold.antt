@@ -11,7 +11,7 @@ use Rattle.machine_state.specs.Holding.{Holding, nothing}
 use Rattle.machine_state.specs.World.{World, Links, Role, Join, held, holding_at}
 use Rattle.machine_state.specs.Turn.{Here}
 use Rattle.machine_state.proofs.Lines.{got_other}
-use Rattle.machine_state.proofs.Moving.{with_opened, without}
+use Rattle.machine_state.proofs.MovesLeaveAlone.{with_opened, without}
 use Rattle.machine_state.proofs.Waiting.{WaitsIn}
 use Rattle.machine_state.proofs.Claims.{only_one}
 use Rattle.machine_state.proofs.Modes.{IsOutside}

@@ -28,7 +28,7 @@ use Rattle.machine_state.specs.EnabledLaws.{HasEnabled, a_channel, a_link, Alter
 use Rattle.machine_state.specs.EnabledLaws.{HasSender, HasByte, ReadyStays, WhatIsReadyStays}
 use Rattle.machine_state.proofs.Lines.{got_set, got_other, got_before}
 use Rattle.machine_state.proofs.Claims.{only_one, not_some}
-use Rattle.machine_state.proofs.Moving.{is_last}
+use Rattle.machine_state.proofs.MovesLeaveAlone.{is_last}
 use Rattle.machine_state.proofs.Modes.{IsOutside}
 use Rattle.machine_state.proofs.Turns.{turn_happens}
 use Rattle.machine_state.proofs.Waking.{IsWaiting, still_other, still_set, still_roused}

@@ -54,7 +54,7 @@ use Rattle.std.specs.List.{list_all}
 use Rattle.std.specs.Int.{w32, cast_unsigned, cast_signed}
 use Rattle.word_arithmetic.specs.Word.{least_word}
 use Rattle.module_format.specs.Contexts.{parameters_at}
-use Rattle.machine_state.proofs.Moving.{on_task_beside, wake_beside, rouse_beside}
+use Rattle.machine_state.proofs.MovesLeaveAlone.{on_task_beside, wake_beside, rouse_beside}
 use Rattle.machine_state.proofs.Combining.{and_true}
 use Rattle.machine_state.proofs.EveryInstruction.{here, readable_word, each_step}
 use Rattle.machine_state.proofs.Agreeing.{Covers, byte_agrees, words_agree, word_same, copy_agrees, bytes_agree, Alike}

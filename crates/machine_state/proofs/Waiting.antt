@@ -54,7 +54,7 @@ use Rattle.machine_state.proofs.Claims.{only_one}
 use Rattle.machine_state.proofs.Lines.{got_set, got_other, got_within, set_either, all_ready_without}
 use Rattle.machine_state.proofs.Lines.{absent_by_condition, push_line, told_in, pick_line, got_before, got_last}
 use Rattle.machine_state.proofs.Lines.{got_either, all_ready_before, new_absent}
-use Rattle.machine_state.proofs.Moving.{rouse_beside, on_role_only, on_role_is, on_task_is, chooses}
+use Rattle.machine_state.proofs.MovesLeaveAlone.{rouse_beside, on_role_only, on_role_is, on_task_is, chooses}
 
 is_itself : (n : ℕ) → (n == n) ≡ true
 is_itself n = on (n == n) refl

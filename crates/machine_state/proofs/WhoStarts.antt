@@ -26,7 +26,7 @@ use Rattle.machine_state.specs.Waiting.{IsOver, IsStarting, HasOpened, OpenersAr
 use Rattle.machine_state.proofs.Lines.{got_other, got_either, set_either}
 use Rattle.machine_state.proofs.Roles.{field_at, field_set, field_other, field_pushed, field_last, field_past, told_of}
 use Rattle.machine_state.specs.Roles.{opened_in}
-use Rattle.machine_state.proofs.Moving.{with_opened, without}
+use Rattle.machine_state.proofs.MovesLeaveAlone.{with_opened, without}
 use Rattle.machine_state.proofs.Waiting.{WaitsIn, reached, has_task}
 use Rattle.machine_state.proofs.Changes as change
 use Rattle.machine_state.proofs.Changes.{Changed, Passed, Onward, GivesBack, Partner, Roused, going, running_is_ready}

@@ -28,7 +28,7 @@ use Rattle.machine_state.specs.Happens.{world_after}
 use Rattle.machine_state.specs.ChannelLaws.{HaveTheirWaiters, WaitsTo, IsRecorded, AreRecorded, WhoWaitsIsRecorded}
 use Rattle.machine_state.proofs.Lines.{got_set, got_other, set_either, got_either}
 use Rattle.machine_state.proofs.Starting.{first_tests}
-use Rattle.machine_state.proofs.Moving.{with_opened, without, is_last}
+use Rattle.machine_state.proofs.MovesLeaveAlone.{with_opened, without, is_last}
 use Rattle.machine_state.proofs.Waking.{ready_was, roused_was}
 use Rattle.machine_state.specs.Endings.{plan_of}
 use Rattle.machine_state.proofs.Waiting.{WaitsIn, reached}

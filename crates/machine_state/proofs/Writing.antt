@@ -53,7 +53,7 @@ use Rattle.machine_state.proofs.EveryInstruction.{Wants, OfAsked, wants_asked, h
 use Rattle.machine_state.proofs.Frame.{changes_more, changes_nothing, write_is_own, byte_is_own, copy_is_own}
 use Rattle.machine_state.proofs.Frame.{steps_change_own}
 use Rattle.machine_state.proofs.SpanLaws.{both_true, runs_tell}
-use Rattle.machine_state.proofs.Moving.{on_task_only, wake_only, rouse_only, on_role_only, joined_quiet}
+use Rattle.machine_state.proofs.MovesLeaveAlone.{on_task_only, wake_only, rouse_only, on_role_only, joined_quiet}
 use Rattle.machine_state.proofs.Starting.{first_tests, later_tests}
 use Rattle.machine_state.specs.Endings as turns
 use Rattle.machine_state.proofs.Turns.{turn_happens}

@@ -25,7 +25,7 @@ use Rattle.rulings.proofs.Within.{Within, ArePlain}
 use Rattle.rulings.proofs.Words.{same_word_by}
 use Rattle.rulings.proofs.Dues.{changed_dues}
 use Rattle.rulings.proofs.Reaching.{region_place, place_by, lies_inside}
-use Rattle.rulings.proofs.Moving.{AreDefined, Room, Moved, numbers_into_frame, numbers_into_parameter}
+use Rattle.rulings.proofs.BlocksMove.{AreDefined, Room, Moved, numbers_into_frame, numbers_into_parameter}
 use Rattle.message_rules.specs.MessageRules.{received}
 
 -- the state is of the same context, and owes no more

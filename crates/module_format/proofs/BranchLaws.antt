@@ -14,9 +14,9 @@ use Rattle.module_format.specs.Spelling.{u16_bytes, u32_bytes, i32_bytes, interv
 use Rattle.module_format.specs.Spelling.{branch_head, branch_bytes}
 use Rattle.module_format.specs.ReadingPars.{interval_end_at, words_at, read_words_at, parameter_number_at}
 use Rattle.module_format.specs.ReadingPars.{branch_entry_at, branch_counts_at, branch_at}
-use Rattle.module_format.proofs.Tools.{Has, has_ok, step, Spelled, tested_takes, tested_again}
-use Rattle.module_format.proofs.Tools.{nothing_taken, field, all_taken}
-use Rattle.module_format.proofs.Tools.{list_takes, list_again}
+use Rattle.module_format.proofs.ReadsInSteps.{Has, has_ok, step, Spelled, tested_takes, tested_again}
+use Rattle.module_format.proofs.ReadsInSteps.{nothing_taken, field, all_taken}
+use Rattle.module_format.proofs.ReadsInSteps.{list_takes, list_again}
 use Rattle.module_format.proofs.FieldLaws.{int_lt-true, int_lt-holds, u16_takes, u16_again, in_code_takes}
 use Rattle.module_format.proofs.FieldLaws.{in_code_again, int_takes, int_again}
 use Rattle.module_format.proofs.RowLaws.{first_word_takes, first_word_again}

@@ -20,7 +20,7 @@ use Rattle.module_format.specs.Spelling.{u32_bytes, i32_bytes, end_kind_bytes, e
 use Rattle.module_format.specs.Reading.{byte_at}
 use Rattle.module_format.specs.ReadingPars.{end_kind_at, is_number_of, end_number_at, end_element_at, end_direction_at}
 use Rattle.module_format.specs.ReadingPars.{end_kind, direction_of, end_at}
-use Rattle.module_format.proofs.Tools.{Has, has_ok, has_then, step, Spelled, join, tested_takes, tested_again}
+use Rattle.module_format.proofs.ReadsInSteps.{Has, has_ok, has_then, step, Spelled, join, tested_takes, tested_again}
 use Rattle.module_format.proofs.FieldLaws.{u32_takes, u32_again, int_takes, int_again, byte_takes}
 
 -- ---- the four tests by which ends rise

@@ -31,7 +31,7 @@ use Rattle.module_format.specs.Taking.{Takes}
 use Rattle.module_format.proofs.TakingLaws.{took_ok}
 use Rattle.module_format.specs.ReadingRows.{table_rows_at}
 use Rattle.module_format.specs.ReadingFile.{sizes_with, header_at, contents_from, ended_at, tables_at, read_contents}
-use Rattle.module_format.proofs.Tools.{Has, has_ok, has_then, has_if, has_at, step, join}
+use Rattle.module_format.proofs.ReadsInSteps.{Has, has_ok, has_then, has_if, has_at, step, join}
 use Rattle.module_format.proofs.OrderLaws.{each}
 use Rattle.module_format.proofs.FieldLaws.{bytes_take, bytes_again}
 use Rattle.module_format.proofs.RowLaws.{labels_take, labels_again}

@@ -20,8 +20,8 @@ use Rattle.module_format.specs.Spelling.{u32_bytes, u64_bytes, magic_one, magic_
 use Rattle.module_format.specs.Reading.{fault}
 use Rattle.module_format.specs.ReadingFile.{magic_at, sizes_at, four_lengths_at, lengths_at, flag_at, extension_at}
 use Rattle.module_format.specs.ReadingFile.{counts_at, header_at}
-use Rattle.module_format.proofs.Tools.{Has, has_ok, has_then, has_if, has_cond, step, Spelled, join}
-use Rattle.module_format.proofs.Tools.{nothing_taken, field, all_taken}
+use Rattle.module_format.proofs.ReadsInSteps.{Has, has_ok, has_then, has_if, has_cond, step, Spelled, join}
+use Rattle.module_format.proofs.ReadsInSteps.{nothing_taken, field, all_taken}
 use Rattle.module_format.proofs.FieldLaws.{IsBytes-drop, wide32, wide64, limited_takes, limited_again, positive_takes}
 use Rattle.module_format.proofs.FieldLaws.{positive_again, at_most_takes, at_most_again}
 

@@ -13,7 +13,7 @@ use Rattle.module_format.specs.Keeping.{LimitsKeep, RowsKeep, NamesAreThere}
 use Rattle.module_format.specs.Spelling.{label_bytes, par_bytes}
 use Rattle.module_format.specs.Reading.{Tells}
 use Rattle.module_format.specs.Late.{late_at}
-use Rattle.module_format.proofs.Tools.{has_at}
+use Rattle.module_format.proofs.ReadsInSteps.{has_at}
 use Rattle.module_format.proofs.LateLaws.{late_fits, late_passes}
 use Rattle.module_format.proofs.Sizes.{labels_small, pars_small}
 use Rattle.module_format.proofs.WritingLaws.{labels_writable, pars_writable}

@@ -21,7 +21,7 @@ use Rattle.module_format.specs.Spelling.{end_bytes, branch_bytes, par_bytes}
 use Rattle.module_format.specs.Reading.{fault}
 use Rattle.module_format.specs.Late.{passes, late_fact, late_entry, late_list, late_row, late_in, late_label}
 use Rattle.module_format.specs.Late.{late_parameter, late_end, late_branch, late_par, late_at}
-use Rattle.module_format.proofs.Tools.{Has, has_ok, has_err, has_then, has_unless, has_if, has_weaker, step}
+use Rattle.module_format.proofs.ReadsInSteps.{Has, has_ok, has_err, has_then, has_unless, has_if, has_weaker, step}
 use Rattle.module_format.proofs.FieldLaws.{int_lt-false, int_le-lt}
 
 fact_fits : (parameters at : ℕ) (f : Fact) → Has (late_fact parameters at f) (λ _. FactFits parameters f)

@@ -5,7 +5,7 @@ pub mod OffsetLaws
 pub mod OffsetSetLaws
 pub mod PlaceLaws
 pub mod RowOwnerLaws
-pub mod Tools
+pub mod ReadsInSteps
 pub mod OrderLaws
 pub mod FieldLaws
 pub mod RowLaws

@@ -11,9 +11,9 @@ use Rattle.module_format.specs.Pars.{behind_par, no_branches}
 use Rattle.module_format.specs.Spelling.{u16_bytes, u32_bytes, i32_bytes, channel_bytes, branch_bytes, par_bytes}
 use Rattle.module_format.specs.ReadingPars.{channel_at, context_number_at, branch_count_at, par_row_at}
 use Rattle.module_format.specs.ReadingPars.{par_rows_at}
-use Rattle.module_format.proofs.Tools.{Has, has_ok, step, Spelled}
-use Rattle.module_format.proofs.Tools.{nothing_taken, field, all_taken, tested_takes, tested_again}
-use Rattle.module_format.proofs.Tools.{list_takes, list_again}
+use Rattle.module_format.proofs.ReadsInSteps.{Has, has_ok, step, Spelled}
+use Rattle.module_format.proofs.ReadsInSteps.{nothing_taken, field, all_taken, tested_takes, tested_again}
+use Rattle.module_format.proofs.ReadsInSteps.{list_takes, list_again}
 use Rattle.module_format.proofs.FieldLaws.{wide16, limited_takes, limited_again, positive_takes, positive_again}
 use Rattle.module_format.proofs.FieldLaws.{in_code_takes, in_code_again, int_takes, int_again, u16_takes, u16_again}
 use Rattle.module_format.proofs.BranchLaws.{branch_takes, branch_again}

@@ -28,9 +28,9 @@ use Rattle.module_format.specs.ReadingRows.{words_range_at, region_size_at, regi
 use Rattle.module_format.specs.ReadingRows.{kind_at, parameter_word_at, parameter_at, parameters_at, frame_start_at}
 use Rattle.module_format.specs.ReadingRows.{frame_end_at, rising_at, procedure_row_at, procedure_rows_at}
 use Rattle.module_format.specs.ReadingRows.{table_start_at, table_end_at, is_within, table_row_at, table_rows_at}
-use Rattle.module_format.proofs.Tools.{Has, has_ok, has_err, has_then, has_if, has_cond, has_weaker, step, Spelled}
-use Rattle.module_format.proofs.Tools.{nothing_taken, tag_taken, field, regroup, all_taken}
-use Rattle.module_format.proofs.Tools.{join, tested_takes, tested_again, list_takes, list_again}
+use Rattle.module_format.proofs.ReadsInSteps.{Has, has_ok, has_err, has_then, has_if, has_cond, has_weaker, step, Spelled}
+use Rattle.module_format.proofs.ReadsInSteps.{nothing_taken, tag_taken, field, regroup, all_taken}
+use Rattle.module_format.proofs.ReadsInSteps.{join, tested_takes, tested_again, list_takes, list_again}
 use Rattle.module_format.proofs.FieldLaws.{IsBytes-rest, wide16, wide64, number_takes, number_again, limited_takes}
 use Rattle.module_format.proofs.FieldLaws.{limited_again, u32_takes, u32_again, positive_takes, positive_again}
 use Rattle.module_format.proofs.FieldLaws.{in_code_takes, in_code_again, int_takes, int_again, interval_takes}

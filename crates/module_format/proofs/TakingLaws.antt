@@ -4,7 +4,7 @@ use Rattle.std.specs.Prelude.{IfOk, Option, Some, None, is_some, is_err}
 use Rattle.module_format.specs.declared.fault.ReadError.{ReadError}
 use Rattle.module_format.specs.Reading.{Read}
 use Rattle.module_format.specs.Taking.{Took, TookAfter}
-use Rattle.module_format.proofs.Tools.{Has, has_at}
+use Rattle.module_format.proofs.ReadsInSteps.{Has, has_at}
 
 -- what a cursor took that had not failed
 pub took_after : {A : Type 0} (reader : List ℕ → Read A) (old : Option ReadError) (bytes : List ℕ) (x : A)

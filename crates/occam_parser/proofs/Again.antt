@@ -25,7 +25,7 @@ use Rattle.occam_parser.specs.Reading.{inner_at, operand_within, expression_at}
 use Rattle.occam_parser.specs.Laws.{Ends}
 use Rattle.occam_parser.proofs.Marks.{behind_again, operator_again, operator_no_subscript, no_operator_mark}
 use Rattle.occam_parser.proofs.Levels.{inner_is, operand_is}
-use Rattle.occam_parser.proofs.Lists.{chain_turn, chain_no_turn}
+use Rattle.occam_parser.proofs.ListsAreRead.{chain_turn, chain_no_turn}
 
 -- ---- one level, as equations
 

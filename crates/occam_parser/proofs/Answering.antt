@@ -8,7 +8,7 @@ use Rattle.occam_parser.specs.declared.fault.Refusal.TheVariants as refusals
 use Rattle.occam_parser.specs.declared.fault.ParseFault.{ParseFault}
 use Rattle.occam_parser.specs.Reading.{Gives}
 use Rattle.occam_parser.specs.Blocks.{Row}
-use Rattle.occam_parser.specs.Told.{out_of_memory, Lacks, IsToldOf, IsTold, IsRefusal}
+use Rattle.occam_parser.specs.LineFaults.{out_of_memory, Lacks, IsToldOf, IsTold, IsRefusal}
 
 -- a fault of what was read is a fault of what rests on it
 pub passed_on : {A B : Type 0} (t : Refusal) (read : Option A) (whole : Option B) → (read ≡ None → whole ≡ None)

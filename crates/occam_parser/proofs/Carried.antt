@@ -10,7 +10,7 @@ use Rattle.occam_parser.specs.Terminals.{Terminal, terminals_of}
 use Rattle.occam_parser.specs.Reading.{Fails, Gives, behind, up_to}
 use Rattle.occam_parser.specs.Expressions.{Expression}
 use Rattle.occam_parser.specs.Views.{expression_of, operation_of}
-use Rattle.occam_parser.specs.Told.{GoesUpTo, IsMadeOf}
+use Rattle.occam_parser.specs.LineFaults.{GoesUpTo, IsMadeOf}
 use Rattle.occam_parser.proofs.Levels.{fails_on, up_to_none, up_to_fails, up_to_found}
 
 -- what was read, seen as the grammar sees it, up to a mark

@@ -6,7 +6,7 @@ use Rattle.std.specs.Borrow.{Bor}
 use Rattle.occam_layout.specs.declared.token.Line.{Line}
 use Rattle.occam_parser.specs.declared.fault.Refusal.{Refusal}
 use Rattle.occam_parser.specs.Blocks.{Row, rows_of}
-use Rattle.occam_parser.specs.Told.{Lacks, Tells, Pushes}
+use Rattle.occam_parser.specs.LineFaults.{Lacks, Tells, Pushes}
 
 pub pushed_lost : {A Y : Type 0} (view : A × Bor (List Line) → Y) (read : Result (A × Bor (List Line)) Refusal)
     (old new : List A) (t : Refusal) (got : Option Y) → Pushes read old new (Err t) → Tells view read got → Lacks t got

@@ -6,7 +6,7 @@ use Rattle.occam_parser.specs.Terminals.{Terminal}
 use Rattle.occam_parser.specs.Reading.{◌>>=◌}
 use Rattle.occam_parser.specs.Lines.{Replicator, Declaration, Action, Acts, Opens}
 use Rattle.occam_parser.specs.LineReading.{whole_at, guard_at}
-use Rattle.occam_parser.specs.Told.{Lacks}
+use Rattle.occam_parser.specs.LineFaults.{Lacks}
 use Rattle.occam_parser.specs.Blocks.{Row, Process, Construct, Act, Part, Processes, Component, Plain, Chosen, Guarded}
 use Rattle.occam_parser.specs.Blocks.{Body}
 use Rattle.occam_parser.specs.BlockReading.{ReadsLines, Beginning, beginning_from, behind_declarations, read_as}

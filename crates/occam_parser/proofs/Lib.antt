@@ -1,6 +1,6 @@
 pub mod Options
 pub mod Marks
-pub mod Lists
+pub mod ListsAreRead
 pub mod Levels
 pub mod LevelLaws
 pub mod WordLaws
@@ -19,7 +19,7 @@ pub mod Answering
 pub mod Openings
 pub mod Levelled
 pub mod SeenBlocks
-pub mod Taken
+pub mod ReadIntoTrees
 pub mod SeenItems
 pub mod Items
 pub mod Numbered

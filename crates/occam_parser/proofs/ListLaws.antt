@@ -10,7 +10,7 @@ use Rattle.occam_parser.specs.Lines.{after_commas, separated}
 use Rattle.occam_parser.specs.Laws.{Sound}
 use Rattle.occam_parser.proofs.Options.{bind_some, at_some}
 use Rattle.occam_parser.proofs.Marks.{behind_is, behind_again}
-use Rattle.occam_parser.proofs.Lists.{behind_item, from_item, turn, no_turn}
+use Rattle.occam_parser.proofs.ListsAreRead.{behind_item, from_item, turn, no_turn}
 
 -- items behind those that were found
 abbrev pub IsMore : {A : Type 0} → (A → List Terminal) → (A → Type 0) → List A → List Terminal

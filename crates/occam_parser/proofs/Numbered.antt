@@ -3,7 +3,7 @@ use Rattle.std.proofs.Common.{◌≡◌, ℕ, zero, suc, ◌<◌, List, [], ◌�
 use Rattle.std.specs.Prelude.{get_or}
 use Rattle.occam_layout.specs.declared.token.Line.{Line}
 use Rattle.occam_parser.specs.Blocks.{rows_of}
-use Rattle.occam_parser.specs.Told.{IsNumbered}
+use Rattle.occam_parser.specs.LineFaults.{IsNumbered}
 
 pub numbered : (lines : List Line) (i : ℕ) (line : Line) → i < length lines → line ≡ get_or lines i line
     → IsNumbered (rows_of lines) line.number

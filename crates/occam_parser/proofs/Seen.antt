@@ -17,7 +17,7 @@ use Rattle.occam_layout.specs.declared.mark.Mark.{Mark}
 use Rattle.occam_parser.specs.Reading.{Reads, behind}
 use Rattle.occam_parser.specs.LineReading.{has_condition}
 use Rattle.occam_parser.specs.Views.{operation_of, term_of, with_others}
-use Rattle.occam_parser.proofs.Lists.{Chains, chain_goes_on}
+use Rattle.occam_parser.proofs.ListsAreRead.{Chains, chain_goes_on}
 
 pub no_more : (ts us : List Token) → length ts ≤ length us → length (terminals_of ts) ≤ length (terminals_of us)
 no_more ts us h = omega (

@@ -23,7 +23,7 @@ use Rattle.occam_parser.specs.Views.{expression_of}
 use Rattle.occam_parser.specs.LineViews.{replicator_of, action_of, guard_of, start_of}
 use Rattle.occam_parser.specs.Lines.{Declaration}
 use Rattle.occam_parser.specs.declared.head.Start as start_type
-use Rattle.occam_parser.specs.Told.{Pushes}
+use Rattle.occam_parser.specs.LineFaults.{Pushes}
 use Rattle.occam_parser.specs.Blocks.{Row, row_of, rows_of, Block, Replicated as Repeats, Body, One, Part, part_of}
 use Rattle.occam_parser.specs.Blocks.{Components, NoComponent, Further, Component, Plain, Chosen, Guarded, Act}
 use Rattle.occam_parser.specs.BlockReading.{Beginning}

@@ -25,7 +25,7 @@ use Rattle.occam_parser.specs.declared.tree.Item.TheVariants as item
 use Rattle.occam_parser.specs.Views.{expression_of}
 use Rattle.occam_parser.specs.LineViews.{declaration_of, action_of, replicator_of, guard_of, formal_of, constant_of}
 use Rattle.occam_parser.specs.LineViews.{start_of}
-use Rattle.occam_parser.specs.Told.{Lacks}
+use Rattle.occam_parser.specs.LineFaults.{Lacks}
 use Rattle.occam_parser.specs.Blocks.{Row, rows_of, Process, Does, Construct, Act, Block, Replicated, Body, One, Part}
 use Rattle.occam_parser.specs.Blocks.{Processes, Choices, Branches, part_of, Components, NoComponent, Further}
 use Rattle.occam_parser.specs.Blocks.{Component}

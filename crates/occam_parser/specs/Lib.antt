@@ -14,4 +14,4 @@ pub mod BlockViews
 pub mod Levels
 pub mod Words
 pub mod Programs
-pub mod Told
+pub mod LineFaults

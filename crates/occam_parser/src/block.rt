@@ -1,7 +1,7 @@
 //! Processes, by the levels of their lines.
 
 ghost use Rattle.std.specs.Prelude.{◌≡◌, ◌≤◌, ◌<◌, ◌-◌, [], length, map, option_map, IfOk, OnOk};
-ghost use Rattle.occam_parser.specs.Told.{Tells, Pushes, Makes, IsOnlyOne};
+ghost use Rattle.occam_parser.specs.LineFaults.{Tells, Pushes, Makes, IsOnlyOne};
 ghost use Rattle.occam_parser.specs.LineViews.{declaration_of, replicator_of};
 ghost use Rattle.occam_parser.specs.Blocks.{row_of, rows_of, part_of, Block, Replicated as Repeats};
 ghost use Rattle.occam_parser.specs.BlockReading.{first_row, head_row, beginning_from, behind_declarations, begins_at};

@@ -10,7 +10,7 @@ ghost use Rattle.occam_parser.specs.Lines.{Formal as FormalTree};
 ghost use Rattle.occam_parser.specs.Reading.{Gives, Finds};
 ghost use Rattle.occam_parser.specs.LineReading.{type_at, typed_name_at, shape_at, name_at, value_at, constant_at};
 ghost use Rattle.occam_parser.specs.LineReading.{names_at, value_formal_at, formal_at, proc_head_at};
-ghost use Rattle.occam_parser.specs.Told.{shaped_name_at, shaped_names_at};
+ghost use Rattle.occam_parser.specs.LineFaults.{shaped_name_at, shaped_names_at};
 
 use crate::expression::{expect, in_brackets, up_to};
 use crate::fault::{Fault, LineError};
@@ -70,7 +70,7 @@ fn shape<'t, 'a>(tokens: &'t [Token<'a>]) -> Result<((bool, ValueType), &'t [Tok
 }
 
 /// `type name` or `CHAN OF type name`, and the tokens behind it.
-#[tactic(auto, unfolding(crate::specs::Told::shaped_name_at))]
+#[tactic(auto, unfolding(crate::specs::LineFaults::shaped_name_at))]
 fn shaped_name<'t, 'a>(tokens: &'t [Token<'a>]) -> Read<'t, 'a, ((bool, ValueType), &'a [u8])>
     ensures found { Gives (λ x. ((x.0.0, x.0.1.now), terminals_of x.1.now)) result
         (shaped_name_at (terminals_of tokens.now)) }
@@ -127,7 +127,7 @@ fn constant_value<'t, 'a>(
 }
 
 /// The declaration of variables or channels that a line is.
-#[tactic(auto, unfolding(crate::specs::LineReading::names_at, crate::specs::Told::shaped_names_at))]
+#[tactic(auto, unfolding(crate::specs::LineReading::names_at, crate::specs::LineFaults::shaped_names_at))]
 pub(crate) fn typed_names<'a>(alloc: Global, line: &Line<'a>) -> Result<Declaration<'a>, LineError>
     ensures { Gives declaration_of result (names_at line.now.number (terminals_of line.now.tokens.items)) }
 {
@@ -147,7 +147,7 @@ pub(crate) fn typed_names<'a>(alloc: Global, line: &Line<'a>) -> Result<Declarat
 }
 
 /// A type, or `CHAN OF` and a type, and the names behind it up to the colon that ends the line.
-#[tactic(auto, unfolding(crate::specs::Told::shaped_names_at))]
+#[tactic(auto, unfolding(crate::specs::LineFaults::shaped_names_at))]
 fn shaped_names<'a>(
     alloc: Global,
     tokens: &[Token<'a>],
@@ -193,7 +193,7 @@ impl<'a> FromTokens<'a> for Formal<'a> {
 
     ghost reads = { formal_at };
 
-    #[tactic(auto, unfolding(crate::specs::LineReading::formal_at, crate::specs::LineReading::formal_named, crate::specs::Told::shaped_name_at))]
+    #[tactic(auto, unfolding(crate::specs::LineReading::formal_at, crate::specs::LineReading::formal_named, crate::specs::LineFaults::shaped_name_at))]
     fn from_tokens<'t>(alloc: Global, tokens: &'t [Token<'a>]) -> Read<'t, 'a, Formal<'a>> {
         if let Some(rest) = behind(Mark::Val, tokens) {
             return value_formal(alloc, rest);

@@ -8,7 +8,7 @@ ghost use Rattle.occam_parser.specs.Reading.{Gives, Finds, behind, prefix_at, op
 ghost use Rattle.occam_parser.specs.Reading.{expression_at, one_operator, chain, term_at, marked, named, converted};
 ghost use Rattle.occam_parser.specs.Reading.{up_to, inner_at, operand_within};
 ghost use Rattle.occam_parser.specs.LineReading.{bracketed_at};
-ghost use Rattle.occam_parser.specs.Told.{GoesUpTo, IsMadeOf};
+ghost use Rattle.occam_parser.specs.LineFaults.{GoesUpTo, IsMadeOf};
 
 use crate::fault::{Fault, LineError};
 use crate::front::{Operator, Read, behind, first, operator_of};

@@ -2,7 +2,7 @@
 
 ghost use Rattle.std.specs.Prelude.{◌≡◌, ◌≤◌, ◌<◌, length};
 ghost use Rattle.occam_parser.specs.Blocks.{rows_of};
-ghost use Rattle.occam_parser.specs.Told.{IsTold, IsToldOf, IsNumbered};
+ghost use Rattle.occam_parser.specs.LineFaults.{IsTold, IsToldOf, IsNumbered};
 ghost use Rattle.occam_parser.specs.declared.fault.LineError.TheVariants.{Memory, Fault as at_fault};
 ghost use Rattle.occam_parser.specs.declared.fault.Refusal.TheVariants.{Memory as OutOfMemory, Fault as refused_at};
 

@@ -6,7 +6,7 @@ ghost use Rattle.occam_parser.specs.Expressions.{Expression};
 ghost use Rattle.occam_parser.specs.Views.{expression_of};
 ghost use Rattle.occam_parser.specs.LineViews.{place_of, replicator_of, action_of, guard_of, head_of};
 ghost use Rattle.occam_parser.specs.Reading.{Gives, Finds};
-ghost use Rattle.occam_parser.specs.Told.{IsAll, IsBeside};
+ghost use Rattle.occam_parser.specs.LineFaults.{IsAll, IsBeside};
 ghost use Rattle.occam_parser.specs.Lines.{Place as PlaceTree, Guard as GuardTree};
 ghost use Rattle.occam_parser.specs.LineReading.{ended, name_at, head_at, marked_head, block_at, replicator_at};
 ghost use Rattle.occam_parser.specs.LineReading.{counted_at, place_at, action_at, placed_action};

@@ -1,7 +1,7 @@
 //! Programs: constants and procedures.
 
 ghost use Rattle.std.specs.Prelude.{◌≡◌, ◌≤◌, ◌<◌, List, length, map, IfOk, IfErr};
-ghost use Rattle.occam_parser.specs.Told.{Tells, Answers, IsRefusal, as_item};
+ghost use Rattle.occam_parser.specs.LineFaults.{Tells, Answers, IsRefusal, as_item};
 ghost use Rattle.occam_parser.specs.Terminals.{terminals_of};
 ghost use Rattle.occam_parser.specs.Blocks.{Row, ProgramItem, row_of, rows_of, IsProgram};
 ghost use Rattle.occam_parser.specs.BlockReading.{behind_colon, procedure_at, item_at, program_at};

@@ -23,7 +23,7 @@ use Rattle.rulings.proofs.Within.{Modes, Within, ArePlain}
 use Rattle.rulings.proofs.Words.{int_le_tells, bool_cases}
 use Rattle.rulings.proofs.Offsets.{place_behind}
 use Rattle.rulings.proofs.Combining.{MaySchedule, Scheduled}
-use Rattle.rulings.proofs.Moving.{IsReadAt, written_in_frame, regions_apart, meet_tells}
+use Rattle.rulings.proofs.BlocksMove.{IsReadAt, written_in_frame, regions_apart, meet_tells}
 
 -- ---- the places of a message
 

@@ -31,7 +31,7 @@ use Rattle.rulings.proofs.Reaching.{region_place, place_by, lies_inside}
 use Rattle.rulings.proofs.WriteThrough.{number_wider, frame_written, writable_found, number_byte}
 use Rattle.rulings.proofs.WriteThrough.{number_of_bytes}
 use Rattle.rulings.proofs.Combining.{written_readable}
-use Rattle.rulings.proofs.Moving.{Room, named_beside}
+use Rattle.rulings.proofs.BlocksMove.{Room, named_beside}
 
 module _ (m : Contents) (h : Holding) (scope : Scope) (awaited : ℕ → Bool)
     (own : (place : ℕ) → awaited place ≡ true → may_write h place ≡ true) (old new : Memory)

@@ -12,7 +12,7 @@ pub mod FillingKeeps
 pub mod HeldChannels
 pub mod LabelRows
 pub mod Lending
-pub mod Moving
+pub mod BlocksMove
 pub mod Offsets
 pub mod OtherModes
 pub mod PointerFacts
@@ -20,8 +20,8 @@ pub mod Reaching
 pub mod ReadThrough
 pub mod Regions
 pub mod Steps
-pub mod Through
-pub mod Told
+pub mod ReadThroughPointers
+pub mod ArgumentsAgree
 pub mod Within
 pub mod Words
 pub mod WriteThrough

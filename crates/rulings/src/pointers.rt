@@ -26,7 +26,7 @@ impl Pointed {
     ghost use Rattle.rulings.specs.Pointers.{are_near};
 
     /// The first offset behind so many bytes wherever the pointer leads.
-    #[tactic(auto, using(crate::proofs::Told::near_end))]
+    #[tactic(auto, using(crate::proofs::ArgumentsAgree::near_end))]
     pub fn end(self, size: i32) -> i32
         requires near { are_near self.lo self.hi ≡ true }
         requires small { (pos 0 ≤ℤ size) × (size ≤ℤ pos 65536) }

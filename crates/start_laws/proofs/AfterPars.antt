@@ -24,7 +24,7 @@ use Rattle.rulings.proofs.Entering.{entry_here, entry_later}
 use Rattle.rulings.proofs.Words.{bool_cases, same_word_by, int_le_tells, word_test}
 use Rattle.par_rules.specs.Comparisons.{is_after}
 use Rattle.share_laws.proofs.LeftBytes.{is_false, was_false}
-use Rattle.start_laws.proofs.Given.{neither}
+use Rattle.start_laws.proofs.GivenIsLeft.{neither}
 
 -- ---- all branches
 

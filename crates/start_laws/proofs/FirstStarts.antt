@@ -48,7 +48,7 @@ use Rattle.start_laws.specs.Starting.{LiesInside, IsBase, StartsFirst}
 use Rattle.start_laws.proofs.AfterPars.{IsAfter, after_tells, says_nothing_hidden, given_is_written, written_alone}
 use Rattle.start_laws.proofs.AtLabels.{is_below, branch_label, label_paid, begins_at_label}
 use Rattle.start_laws.proofs.EndsFit.{plain_mode}
-use Rattle.start_laws.proofs.Given.{IsTested, is_left as left_of, reads_is}
+use Rattle.start_laws.proofs.GivenIsLeft.{IsTested, is_left as left_of, reads_is}
 use Rattle.start_laws.proofs.LaterStarts.{left_to_read}
 use Rattle.start_laws.proofs.Preparing.{prepared, hidden_own}
 use Rattle.start_laws.proofs.Unwritten.{facts_after, of_others, holds_after, whole_after, price_after, dues_after}

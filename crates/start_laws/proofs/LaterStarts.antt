@@ -36,7 +36,7 @@ use Rattle.share_laws.proofs.LeftParameters.{one_more}
 use Rattle.start_laws.specs.BranchLabels.{owed_at_label}
 use Rattle.start_laws.specs.Starting.{LiesInside, StartsNext}
 use Rattle.start_laws.proofs.AtLabels.{branch_label, label_paid, begins_at_label}
-use Rattle.start_laws.proofs.Given.{IsTested, is_left, among_first, reads_is}
+use Rattle.start_laws.proofs.GivenIsLeft.{IsTested, is_left, among_first, reads_is}
 
 -- ---- words that are left
 

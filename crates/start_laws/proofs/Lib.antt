@@ -1,6 +1,6 @@
 pub mod Alike
 pub mod Judged
-pub mod Given
+pub mod GivenIsLeft
 pub mod FirstInRow
 pub mod Workspaces
 pub mod AtLabels

@@ -33,7 +33,7 @@ use Rattle.start_laws.specs.Starting.{StartFitsStep}
 use Rattle.start_laws.proofs.EndsFit.{layout_is, outside_of}
 use Rattle.start_laws.proofs.FirstInRow.{IsFoundFirst, found_first}
 use Rattle.start_laws.proofs.FirstStarts.{all_here, first_labels, starts_first}
-use Rattle.start_laws.proofs.Given.{IsTested, is_left}
+use Rattle.start_laws.proofs.GivenIsLeft.{IsTested, is_left}
 use Rattle.start_laws.proofs.Judged.{Judged, broken, passed, HasPassed, IsSettled, is_plain, is_among, start_judged}
 use Rattle.start_laws.proofs.LaterStarts.{here, before_started, labels_are, starts_next, goes_on_as, left_before}
 use Rattle.start_laws.proofs.Workspaces.{workspace_address, even_address, named_found, start_step, IsNamed, IsAddress}

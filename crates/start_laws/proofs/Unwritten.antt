@@ -32,7 +32,7 @@ use Rattle.par_rules.specs.Comparisons.{words_pass, is_left}
 use Rattle.share_laws.proofs.HiddenWords.{is_itself}
 use Rattle.share_laws.proofs.LeftBytes.{is_false}
 use Rattle.start_laws.proofs.AfterPars.{written_alone}
-use Rattle.start_laws.proofs.Given.{neither}
+use Rattle.start_laws.proofs.GivenIsLeft.{neither}
 
 -- ---- what is said says itself
 

@@ -4,6 +4,6 @@ pub mod Answered
 pub mod Judged
 pub mod FilesClosed
 pub mod FilesRun
-pub mod Given
-pub mod Listed
+pub mod SubcommandsHavePaths
+pub mod ListingLines
 pub mod Beginnings

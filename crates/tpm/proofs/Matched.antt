@@ -19,7 +19,7 @@ use Rattle.tpm.specs.declared.line.LineFault.{LineFault}
 use Rattle.tpm.specs.declared.line.LineFault.TheVariants as faults
 use Rattle.tpm.specs.CommandLine.{Asked, asked_of, entered_by, unless_faulty, line_of, tpm}
 use Rattle.tpm.specs.LineFaults.{FaultOf, IsFaultAt}
-use Rattle.tpm.proofs.Given.{given}
+use Rattle.tpm.proofs.SubcommandsHavePaths.{given}
 
 same_inside : {A : Type 0} (x y : A) → Some x ≡ Some y → x ≡ y
 same_inside x y e = cc

@@ -74,7 +74,7 @@ fn entry_at(tables: &Tables<'_>, at: usize) -> (Entry, usize)
 }
 
 /// The line of an offset.
-#[tactic(auto, using(crate::proofs::Listed::six_digits_written))]
+#[tactic(auto, using(crate::proofs::ListingLines::six_digits_written))]
 fn line_of(alloc: Global, at: usize, bytes: &[u8], entry: Entry) -> Result<String, AllocError>
     ensures { IfOk result (λ line. string_bytes line ≡ line_of at bytes.now entry) }
 {

@@ -17,7 +17,7 @@ use Rattle.machine_state.specs.Roles.{opened_in}
 use Rattle.machine_state.specs.Waiting.{WaitsOn}
 use Rattle.machine_state.specs.Moves.{dispatch, enqueue, wake, with_condition, with_input, with_output, fill}
 use Rattle.machine_state.specs.Moves.{fill_condition, rouse}
-use Rattle.machine_state.proofs.Moving.{at_some, on_task_is}
+use Rattle.machine_state.proofs.MovesLeaveAlone.{at_some, on_task_is}
 use Rattle.rulings.specs.Buffers.{is_filled, message_place}
 use Rattle.certified_worlds.specs.Lives.{awaits, IsExchanging, Lives, it_lives}
 use Rattle.certified_worlds.specs.Invariant.{Holds}

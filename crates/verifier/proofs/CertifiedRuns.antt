@@ -9,7 +9,7 @@ use Rattle.machine_state.proofs.EveryWorld.{run_further}
 use Rattle.certified_worlds.specs.Certified.{IsCertified}
 use Rattle.certified_worlds.specs.Invariant.{Holds}
 use Rattle.verifier.specs.Headline.{IsEvent, AreEvents, RunsWell}
-use Rattle.verifier.proofs.Kept.{decodes, well_formed}
+use Rattle.verifier.proofs.ValidContents.{decodes, well_formed}
 use Rattle.verifier.proofs.LawfulWorlds.{IsLawful, lawful}
 use Rattle.verifier.proofs.EventsKeepInvariant.{event_holds}
 use Rattle.verifier.proofs.Start.{loaded_holds}

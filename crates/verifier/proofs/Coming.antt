@@ -15,13 +15,13 @@ use Rattle.machine_state.specs.Memory.{Memory, byte_at, with_byte, place_of}
 use Rattle.machine_state.specs.World.{input_word}
 use Rattle.machine_state.proofs.Copying.{copied-beside}
 use Rattle.machine_state.proofs.Reading.{length-with_byte, byte_at-with_byte, byte_at-with_byte_other}
-use Rattle.rulings.proofs.Moving.{copied-inside, length-copied}
+use Rattle.rulings.proofs.BlocksMove.{copied-inside, length-copied}
 use Rattle.rulings.proofs.Reaching.{inside_memory}
 use Rattle.rulings.proofs.Words.{bool_cases}
 use Rattle.rulings.specs.Buffers.{message_place, is_filled, IsByte}
 use Rattle.certified_worlds.specs.Lives.{awaits, IsExchanging, Lives}
 use Rattle.certified_worlds.specs.Point.{Began}
-use Rattle.certified_worlds.proofs.Given.{or_left}
+use Rattle.certified_worlds.proofs.GivenStates.{or_left}
 use Rattle.verifier.proofs.Tables.{Allows, lives_on, lives_whatever}
 
 -- ---- what is awaited

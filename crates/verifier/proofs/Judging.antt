@@ -24,7 +24,7 @@ use Rattle.verifier.specs.declared.stop.Breach.{Breach}
 use Rattle.certified_worlds.specs.Certified.{given, state_at, entering, Reaches, begins, follows, HoldsAt, HoldsBelow}
 use Rattle.certified_worlds.specs.Certified.{IsCertified, IsRefused, IsBroken, misspelled, unruled, hidden, unreached}
 use Rattle.certified_worlds.specs.Certified.{fallen_off, entered, broken}
-use Rattle.certified_worlds.proofs.Given.{nothing_given, is_given}
+use Rattle.certified_worlds.proofs.GivenStates.{nothing_given, is_given}
 use Rattle.verifier.specs.Judge.{Verdict, lower, past_starts, past_rule, past_spelling, both, judged_in, judged_at}
 use Rattle.verifier.specs.Judge.{first_start, refused, at_the_end, judge, verdict}
 

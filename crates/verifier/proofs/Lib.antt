@@ -27,7 +27,7 @@ pub mod EventsKeepInvariant
 pub mod RootHolds
 pub mod RootEnds
 pub mod Start
-pub mod Kept
+pub mod ValidContents
 pub mod CertifiedRuns
 pub mod Examples
 pub mod ChoiceIsCertified

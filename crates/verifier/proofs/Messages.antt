@@ -32,7 +32,7 @@ use Rattle.machine_state.proofs.Changes.{channel_there, rouses}
 use Rattle.machine_state.proofs.Claims.{only_one}
 use Rattle.machine_state.proofs.EnabledIsHeld.{word_of}
 use Rattle.machine_state.proofs.Lines.{got_set, got_other}
-use Rattle.machine_state.proofs.Moving.{rouse_only}
+use Rattle.machine_state.proofs.MovesLeaveAlone.{rouse_only}
 use Rattle.machine_state.proofs.Owners.{owner_same}
 use Rattle.machine_state.proofs.Roles.{set_twice}
 use Rattle.machine_state.proofs.Waiting.{link_found, link_low}

@@ -12,7 +12,7 @@ use Rattle.machine_state.specs.EnabledLaws.{Enables, HasReady}
 use Rattle.machine_state.specs.Memory.{Memory}
 use Rattle.machine_state.specs.World.{World}
 use Rattle.machine_state.specs.Moves.{rouse}
-use Rattle.machine_state.proofs.Moving.{OnlyTasks, rouse_only}
+use Rattle.machine_state.proofs.MovesLeaveAlone.{OnlyTasks, rouse_only}
 use Rattle.machine_state.proofs.Changes.{Roused, nobody, who_enables, who_waits, rouses}
 use Rattle.states.specs.declared.known.Mode as states
 use Rattle.rulings.specs.Meaning.{SameMode, both_plain, both_enabling, both_disabling, both_starting}

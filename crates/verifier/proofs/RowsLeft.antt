@@ -19,7 +19,7 @@ use Rattle.states.proofs.LabelRows.{label_rows}
 use Rattle.verifier.specs.Judge.{first_start}
 use Rattle.verifier.specs.declared.rows.Rows.{Rows}
 use Rattle.verifier.specs.Judging.{RiseFrom, label_in, LabelsLeft, ProceduresLeft, AreLeft, Begins}
-use Rattle.certified_worlds.proofs.Given.{start_of_none}
+use Rattle.certified_worlds.proofs.GivenStates.{start_of_none}
 use Rattle.verifier.proofs.Judging.{no_first_start}
 
 -- ---- rows that rise

@@ -9,7 +9,7 @@ use Rattle.machine_state.specs.declared.process.Task.{Task}
 use Rattle.machine_state.specs.Memory.{place_of, with_byte}
 use Rattle.machine_state.specs.Moves.{fill, fill_condition, with_input}
 use Rattle.machine_state.specs.World.{World}
-use Rattle.machine_state.proofs.Moving.{OnlyTasks, on_task_only, wake_only}
+use Rattle.machine_state.proofs.MovesLeaveAlone.{OnlyTasks, on_task_only, wake_only}
 
 -- roles and channels are as they were, and no task has come or gone
 pub record FillOnly (w after : World) : Type 0 where

@@ -26,8 +26,8 @@ use Rattle.machine_state.proofs.Claims.{only_one}
 use Rattle.machine_state.proofs.Combining.{and_true}
 use Rattle.machine_state.proofs.EndedApart.{is_not}
 use Rattle.machine_state.proofs.EveryWorld.{every_world}
-use Rattle.machine_state.proofs.Moving.{on_task_only, wake_only, rouse_only, chooses, joined_either}
-use Rattle.machine_state.proofs.Moving.{with_opened, without, member_gone}
+use Rattle.machine_state.proofs.MovesLeaveAlone.{on_task_only, wake_only, rouse_only, chooses, joined_either}
+use Rattle.machine_state.proofs.MovesLeaveAlone.{with_opened, without, member_gone}
 use Rattle.machine_state.proofs.Roles.{field_at}
 use Rattle.machine_state.proofs.StartedApart.{found_row}
 use Rattle.machine_state.proofs.Starting.{MayStart, first_tests, later_tests}

@@ -19,7 +19,7 @@ use Rattle.machine_state.specs.World.{World, Role, holding_at}
 use Rattle.machine_state.proofs.Changes.{Roused, rouses}
 use Rattle.machine_state.proofs.Changes as change
 use Rattle.machine_state.proofs.Lines.{set_either}
-use Rattle.machine_state.proofs.Moving.{rouse_only}
+use Rattle.machine_state.proofs.MovesLeaveAlone.{rouse_only}
 use Rattle.machine_state.proofs.SpanLaws.{both_true}
 use Rattle.machine_state.proofs.Writing.{all_at}
 use Rattle.world_laws.specs.Parked.{IsLive, IsInside, IsSchedulingPlace, HasWords, HasSelection, IsAtRest, message_of}

@@ -19,7 +19,7 @@ use Rattle.machine_state.proofs.Changes.{Changed, Passed, Roused, passes, going}
 use Rattle.machine_state.proofs.Changes as change
 use Rattle.machine_state.proofs.EventLaws.{events_count_bytes}
 use Rattle.machine_state.proofs.EveryWorld.{every_world}
-use Rattle.machine_state.proofs.Moving.{rouse_only, wake_only}
+use Rattle.machine_state.proofs.MovesLeaveAlone.{rouse_only, wake_only}
 use Rattle.machine_state.proofs.Turns.{turn_happens}
 use Rattle.machine_state.proofs.Waiting.{reached}
 use Rattle.world_laws.specs.TasksCounted.{TasksAreCounted}

@@ -3,7 +3,7 @@ use Rattle.std.proofs.lemmas.Int.{ints}
 use Rattle.std.specs.Int.{w32}
 use Rattle.states.specs.Views.{CanWriteSpan}
 use Rattle.rulings.specs.Reach.{word_of_byte, words_touched}
-use Rattle.rulings.proofs.Told.{near_end}
+use Rattle.rulings.proofs.ArgumentsAgree.{near_end}
 use Rattle.local_rules.proofs.moves.come.Goals as goal
 
 pub fill-requires-clause-near : goal.fill-requires-clause-near

@@ -1,4 +1,4 @@
-use Rattle.module_format.proofs.Tools.{has_at}
+use Rattle.module_format.proofs.ReadsInSteps.{has_at}
 use Rattle.module_format.proofs.FileLaws.{read_finds}
 use Rattle.module_format.proofs.laws.reading_finds.Goals as goal
 

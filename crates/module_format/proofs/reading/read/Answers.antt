@@ -2,7 +2,7 @@ use Rattle.std.proofs.Common.{◌≡◌, arith, rules}
 use Rattle.module_format.specs.Contents.{Contents, contents_of}
 use Rattle.module_format.specs.Keeping.{Format}
 use Rattle.module_format.specs.Reading.{fault_of, out_of_memory}
-use Rattle.module_format.proofs.Tools.{has_at}
+use Rattle.module_format.proofs.ReadsInSteps.{has_at}
 use Rattle.module_format.proofs.FileLaws.{read_finds, one_contents, only_memory}
 use Rattle.module_format.proofs.reading.read.Goals as goal
 

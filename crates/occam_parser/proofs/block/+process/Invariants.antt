@@ -1,7 +1,7 @@
 use Rattle.std.proofs.Common.{◌≡◌, ◌+◌, ◌-◌, ◌*◌, ◌≤◌, length}
 use Rattle.occam_parser.specs.Blocks.{rows_of}
 use Rattle.occam_parser.specs.BlockReading.{begins_at}
-use Rattle.occam_parser.proofs.Taken.{Continues}
+use Rattle.occam_parser.proofs.ReadIntoTrees.{Continues}
 use Rattle.occam_parser.proofs.block.+process.Given as goal
 
 abbrev pub decreases-process : goal.decreases-process

@@ -8,7 +8,7 @@ use Rattle.occam_parser.specs.Reading.{up_to, term_at, operand_within, expressio
 use Rattle.occam_parser.proofs.Levels.{inner_below, inner_none, operand_below, fails_on, up_to_none, converted_fails}
 use Rattle.occam_parser.proofs.Levels.{converted_found}
 use Rattle.occam_parser.proofs.Carried.{seen_up_to, made_gives}
-use Rattle.occam_parser.proofs.Lists.{Chains, chain_begins, chain_goes_on, chain_fails, chain_ends}
+use Rattle.occam_parser.proofs.ListsAreRead.{Chains, chain_begins, chain_goes_on, chain_fails, chain_ends}
 use Rattle.occam_parser.proofs.Seen.{no_more, chain_pushed, view-Chain, view-Converted}
 use Rattle.occam_parser.proofs.expression.+expression.Goals as goal
 

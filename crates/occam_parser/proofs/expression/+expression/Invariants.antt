@@ -3,7 +3,7 @@ use Rattle.occam_parser.specs.Terminals.{terminals_of}
 use Rattle.occam_parser.specs.Expressions.{Two}
 use Rattle.occam_parser.specs.Views.{term_of, with_others}
 use Rattle.occam_parser.specs.Reading.{term_at}
-use Rattle.occam_parser.proofs.Lists.{Chains}
+use Rattle.occam_parser.proofs.ListsAreRead.{Chains}
 use Rattle.occam_parser.proofs.expression.+expression.Given as goal
 
 abbrev pub decreases-nested : goal.decreases-nested

@@ -3,7 +3,7 @@ use Rattle.std.proofs.lemmas.Result.{err_from_is_err_and}
 use Rattle.std.proofs.lemmas.List.{map_push}
 use Rattle.occam_parser.specs.Terminals.{terminals_of}
 use Rattle.occam_parser.proofs.Levels.{fails_on}
-use Rattle.occam_parser.proofs.Lists.{list_begins, list_stops, list_goes_on, list_fails, list_ends}
+use Rattle.occam_parser.proofs.ListsAreRead.{list_begins, list_stops, list_goes_on, list_fails, list_ends}
 use Rattle.occam_parser.proofs.Seen.{no_more}
 use Rattle.occam_parser.proofs.list.list.Goals as goal
 

@@ -1,6 +1,6 @@
 use Rattle.std.proofs.Common.{◌≤◌, length, map}
 use Rattle.occam_parser.specs.Terminals.{terminals_of}
-use Rattle.occam_parser.proofs.Lists.{Continues}
+use Rattle.occam_parser.proofs.ListsAreRead.{Continues}
 use Rattle.occam_parser.proofs.list.list.Given as goal
 
 abbrev pub invariant-loop-after : goal.invariant-loop-after

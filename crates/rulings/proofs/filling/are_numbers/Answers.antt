@@ -4,7 +4,7 @@ use Rattle.std.specs.Int.{w32}
 use Rattle.word_arithmetic.specs.Range.{Ends}
 use Rattle.states.specs.Views.{state_of}
 use Rattle.rulings.specs.Pointers.{is_number_in}
-use Rattle.rulings.proofs.Told.{near_end, numbers_told}
+use Rattle.rulings.proofs.ArgumentsAgree.{near_end, numbers_told}
 use Rattle.rulings.proofs.filling.are_numbers.Goals as goal
 
 pub byte_read-requires : goal.byte_read-requires

@@ -1,7 +1,7 @@
 use Rattle.std.proofs.Common.{arith, to_z, of_z}
 use Rattle.std.proofs.lemmas.Int.{ints}
 use Rattle.std.specs.Int.{w32}
-use Rattle.rulings.proofs.Moving.{within_told}
+use Rattle.rulings.proofs.BlocksMove.{within_told}
 use Rattle.rulings.proofs.filling.become_numbers.Goals as goal
 
 pub change_span-requires-clause-room : goal.change_span-requires-clause-room

@@ -1,6 +1,6 @@
 use Rattle.std.proofs.Common.{rules, arith}
 use Rattle.std.proofs.lemmas.Int.{ints}
-use Rattle.rulings.proofs.Told.{touched_told}
+use Rattle.rulings.proofs.ArgumentsAgree.{touched_told}
 use Rattle.rulings.proofs.reach.words_touched.Goals as goal
 
 pub returns : goal.returns

@@ -2,7 +2,7 @@ use Rattle.std.proofs.Common.{arith, to_z, of_z, ◌+ℤ◌, pos}
 use Rattle.std.proofs.lemmas.Int.{ints}
 use Rattle.std.specs.Int.{w32}
 use Rattle.states.specs.Views.{state_of}
-use Rattle.rulings.proofs.Told.{together_told}
+use Rattle.rulings.proofs.ArgumentsAgree.{together_told}
 use Rattle.rulings.proofs.reading.touched_together.Goals as goal
 
 pub returns : goal.returns

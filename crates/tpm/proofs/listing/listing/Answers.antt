@@ -2,7 +2,7 @@ use Rattle.std.proofs.Common.{◌≡◌, sym, ◌++◌, ◌<◌, ◌≤◌, leng
 use Rattle.clap.specs.Walk.{Text}
 use Rattle.module_format.specs.Contents.{Contents}
 use Rattle.tpm.specs.Listing.{listed_line, listed_size}
-use Rattle.tpm.proofs.Listed.{Lists, nothing_listed, line_listed, all_listed}
+use Rattle.tpm.proofs.ListingLines.{Lists, nothing_listed, line_listed, all_listed}
 use Rattle.tpm.proofs.listing.listing.Goals as goal
 
 pub loop-at-init : goal.loop-at-init

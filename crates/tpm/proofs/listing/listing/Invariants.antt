@@ -1,5 +1,5 @@
 use Rattle.std.proofs.Common.{◌-◌, ◌≤◌, length, string_bytes}
-use Rattle.tpm.proofs.Listed.{Lists}
+use Rattle.tpm.proofs.ListingLines.{Lists}
 use Rattle.tpm.proofs.listing.listing.Given as goal
 
 abbrev pub invariant-loop-at : goal.invariant-loop-at

@@ -1,5 +1,5 @@
 use Rattle.verifier.proofs.Judging.{accepted_is_certified, refused_is_refused}
-use Rattle.verifier.proofs.Kept.{spans}
+use Rattle.verifier.proofs.ValidContents.{spans}
 use Rattle.verifier.proofs.laws.verdict_is_right.Goals as goal
 
 pub returns-clause-accepts : goal.returns-clause-accepts

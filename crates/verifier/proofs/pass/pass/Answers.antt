@@ -8,7 +8,7 @@ use Rattle.states.specs.State.{State}
 use Rattle.states.specs.Views.{state_of}
 use Rattle.verifier.specs.Judge.{first_start}
 use Rattle.verifier.specs.Judging.{AreLeft, Judges}
-use Rattle.verifier.proofs.Kept.{spans as kept_spans}
+use Rattle.verifier.proofs.ValidContents.{spans as kept_spans}
 use Rattle.verifier.proofs.RowsLeft.{left-further}
 use Rattle.verifier.proofs.Passing.{OnTheWay, start, misspelled-is, broken-is, hidden-is, goes-on, told, fallen-off}
 use Rattle.verifier.proofs.Passing.{all-judged}

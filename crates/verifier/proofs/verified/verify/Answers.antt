@@ -1,7 +1,7 @@
 use Rattle.std.proofs.Common.{refl}
 use Rattle.std.proofs.lemmas.Result.{err_from_is_err_and}
 use Rattle.verifier.proofs.Judging.{accepted_is_certified}
-use Rattle.verifier.proofs.Kept.{spans}
+use Rattle.verifier.proofs.ValidContents.{spans}
 use Rattle.verifier.proofs.Reporting.{reports}
 use Rattle.verifier.proofs.CertifiedRuns.{runs_well}
 use Rattle.verifier.proofs.verified.verify.Goals as goal

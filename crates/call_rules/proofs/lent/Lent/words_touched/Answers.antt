@@ -2,7 +2,7 @@ use Rattle.std.proofs.Common.{◌≡◌, ◌∙◌, ap, refl, arith, nat_abs, �
 use Rattle.std.proofs.lemmas.Int.{ints}
 use Rattle.std.specs.Int.{w64}
 use Rattle.call_rules.specs.CallRules.{end_of}
-use Rattle.rulings.proofs.Told.{touched_told}
+use Rattle.rulings.proofs.ArgumentsAgree.{touched_told}
 use Rattle.call_rules.proofs.lent.Lent.words_touched.Goals as goal
 
 pub returns : goal.returns

@@ -4,7 +4,7 @@ use Rattle.module_format.specs.Pars.{behind_interval}
 use Rattle.module_format.specs.Reading.{list_at}
 use Rattle.module_format.specs.ReadingPars.{words_at}
 use Rattle.module_format.proofs.BranchLaws.{words_take}
-use Rattle.module_format.proofs.Tools.{list_takes}
+use Rattle.module_format.proofs.ReadsInSteps.{list_takes}
 use Rattle.module_format.proofs.TakingLaws.{took_has}
 use Rattle.module_format.proofs.reading.branches.read_writes.Goals as goal
 

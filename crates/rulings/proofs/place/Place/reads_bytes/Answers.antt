@@ -2,7 +2,7 @@ use Rattle.std.proofs.Common.{arith}
 use Rattle.std.proofs.lemmas.Int.{ints}
 use Rattle.states.specs.Views.{state_of}
 use Rattle.rulings.specs.Places.{site_of}
-use Rattle.rulings.proofs.Told.{near_end, reads_told, reads_not_told}
+use Rattle.rulings.proofs.ArgumentsAgree.{near_end, reads_told, reads_not_told}
 use Rattle.rulings.proofs.place.Place.reads_bytes.Goals as goal
 
 pub returns-then-not-may_read_bytes : goal.returns-then-not-may_read_bytes

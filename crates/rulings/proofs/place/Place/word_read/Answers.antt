@@ -2,7 +2,7 @@ use Rattle.std.proofs.Common.{arith, to_z, of_z, ◌+ℤ◌, pos}
 use Rattle.std.proofs.lemmas.Int.{ints}
 use Rattle.std.specs.Int.{w32}
 use Rattle.states.specs.Views.{state_of}
-use Rattle.rulings.proofs.Told.{near_end, frame_told}
+use Rattle.rulings.proofs.ArgumentsAgree.{near_end, frame_told}
 use Rattle.rulings.proofs.place.Place.word_read.Goals as goal
 
 pub returns-then-region-eq0 : goal.returns-then-region-eq0

@@ -5,7 +5,7 @@ use Rattle.std.proofs.lemmas.List.{map-id}
 use Rattle.module_format.specs.Contents.{Branch, branch_of}
 use Rattle.module_format.specs.Spelling.{u16_bytes, interval_bytes, end_bytes, branch_bytes}
 use Rattle.module_format.specs.Late.{late_branch}
-use Rattle.module_format.proofs.Tools.{step}
+use Rattle.module_format.proofs.ReadsInSteps.{step}
 use Rattle.module_format.proofs.Loop.{ok_weaker, tells_err, tells_same}
 use Rattle.module_format.proofs.Sizes.{branch_size, intervals_size}
 use Rattle.module_format.proofs.reading.late_pars.BranchRowLateContextParameters.late.Goals as goal

@@ -9,7 +9,7 @@ use Rattle.occam_parser.specs.declared.head.BlockKind.{BlockKind}
 use Rattle.occam_parser.specs.declared.head.BlockKind.TheVariants as block
 use Rattle.occam_parser.specs.declared.block.Components.{Components as CodeComponents}
 use Rattle.occam_parser.specs.declared.tree.Body.{Body as CodeBody}
-use Rattle.occam_parser.specs.Told.{Lacks, Tells, Makes, IsOnlyOne}
+use Rattle.occam_parser.specs.LineFaults.{Lacks, Tells, Makes, IsOnlyOne}
 use Rattle.occam_parser.specs.Blocks.{Row, rows_of, Body, One, part_of, Component, Components, NoComponent, Further}
 use Rattle.occam_parser.specs.BlockReading.{begins_at, components_of, only_one, component_at, read_as, body_with}
 use Rattle.occam_parser.specs.BlockReading.{block_with}

@@ -46,7 +46,7 @@ use Rattle.rulings.proofs.Regions.{frame_keeps, keeps_all, keeps_more, may_too, 
 use Rattle.rulings.proofs.ReadThrough.{readable_found}
 use Rattle.rulings.proofs.Reaching.{region_place, place_by, natural, word_of_byte_low, word_of_byte_high}
 use Rattle.rulings.proofs.Reaching.{touched_span, touched_passes, lies_inside}
-use Rattle.rulings.proofs.Through.{ByteThrough, byte_through}
+use Rattle.rulings.proofs.ReadThroughPointers.{ByteThrough, byte_through}
 use Rattle.rulings.proofs.WriteThrough.{byte_left, number_wider, FrameWord, frame_written, after_followed}
 use Rattle.rulings.proofs.WriteThrough.{after_beside, Writable, writable_found, number_within, AltersRegion}
 use Rattle.rulings.proofs.WriteThrough.{region_keeps, word_beside, number_byte, number_of_bytes, byte_written}
