@@ -71,14 +71,14 @@ pub record IsFrom (h : Header) (c : Contents) : Type 0 where
   pub constant_bytes : IsBytes c.constants
   pub rows : RowsKeep c
 
--- what stands behind the header, and where its label rows begin
+-- what follows the header, and where its label rows begin
 pub record IsTables (size : ℕ) (h : Header) (bytes : List ℕ) (t : (Contents × ℕ) × List ℕ) : Type 0 where
   pub parts : bytes ≡ (t.0.0.code ++ t.0.0.constants ++ rows_bytes t.0.0) ++ t.1
   pub from : IsFrom h t.0.0
   pub inside : length bytes ≤ size → t.0.1 + length (flat_map label_bytes t.0.0.labels) + length
       (flat_map par_bytes t.0.0.pars) ≤ size
 
--- where the label rows begin, and all that stands in front of them, behind them and between
+-- where the label rows begin, and all that is before them, after them and between them
 rows_inside : (size : ℕ) (bytes front labels pars behind rest last : List ℕ) → bytes ≡ front ++ behind
     → behind ≡ labels ++ rest → rest ≡ pars ++ last
     → length bytes ≤ size → place size behind + length labels + length pars ≤ size
@@ -368,7 +368,7 @@ not_refused bytes c f g e =
     let a : read_contents bytes ≡ Ok c = ap read_contents g.spelled ∙ read_again c g.keeps in
     cc
 
--- a reader of what spells contents fails for want of memory alone
+-- a reader of what spells contents fails only if memory runs out
 pub only_memory : (bytes : List ℕ) (c : Contents) (e : ReadError) → Format bytes c → Fails e (read_contents bytes)
     → fault_of e ≡ out_of_memory
 only_memory bytes c errors.Memory g h = refl

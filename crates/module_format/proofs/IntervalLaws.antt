@@ -55,7 +55,7 @@ module _ (d : Interval) where
   not_found test [] h = refl
   not_found test (w ∷ ws) h = rw (h 0 (omega arith)) (not_found test ws (λ k lt. h (suc k) (omega arith)))
 
-  -- Where the first `n` intervals end at `i` or before it and the others don't, the one behind them tells.
+  -- Where the first `n` intervals end at `i` or before it and the others don't, the one after them decides.
   module _ (i : Interval) where
     pub parted : (low : ℤ) (ws : List Interval) → InOrder IntervalKeeps behind_interval low ws → (j k : ℕ) → j ≤ k
         → k < length ws → int_le (get_or ws k d).hi i.lo ≡ true → int_le (get_or ws j d).hi i.lo ≡ true

@@ -16,7 +16,7 @@ use Rattle.module_format.specs.Procedures.{ProcedureKeeps, behind_procedure}
 use Rattle.module_format.specs.Offsets.{IsNowhere, IsFirst, EntriesRise}
 
 module _ {X : Type 0} (offset : X → ℕ) where
-  -- each row stands behind the one before, the first behind this offset
+  -- each row is after the one before it, the first after this offset
   abbrev pub Rise : ℕ → List X → Type 0
   Rise low [] = ⊤
   Rise low (x ∷ xs) = (low < offset x) × Rise (offset x) xs
@@ -35,7 +35,7 @@ module _ {X : Type 0} (offset : X → ℕ) where
   non_decreasing low (x ∷ xs) r (suc i) (suc j) d le lt =
       non_decreasing (offset x) xs r.1 i j d (omega arith) (omega arith)
 
-  -- what a search for an offset finds: the first n rows stand before it, and the others don't
+  -- what a search for an offset finds: the first n rows are before it, and the others aren't
   module _ (xs : List X) (at n : ℕ) (point : IsPartitionPoint (λ x. ltb (offset x) at ≡ true)
       (λ x. ltb (offset x) at ≡ false) xs n) where
     pub before_here : (d : X) (k : ℕ) → k < n → offset (get_or xs k d) ≢ at

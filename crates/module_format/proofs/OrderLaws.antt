@@ -17,7 +17,7 @@ module _ {A B S : Type 0} (Keeps : S → B → Type 0) (next : S → B → S) (f
     split : Whole ↔ InOrder Keeps next low (f x ∷ drop (i + 1) (map f xs))
     split = subst (λ (ys : List B). Whole ↔ InOrder Keeps next low ys) (mapped_item_at f xs xs i x refl there is) so_far
 
-    -- the item here keeps its rules, so all do exactly where those behind it do
+    -- the item here keeps its rules, so all do exactly if those after it do
     pub order_goes_on : Keeps low (f x) → Whole ↔ InOrder Keeps next (next low (f x)) (drop (i + 1) (map f xs))
     order_goes_on kept = (λ h. (split.0 h).1, λ h. split.1 (kept, h))
 
@@ -40,7 +40,7 @@ is_broken false e same h = absurd (let t = same.1 h in cc)
 pub is_kept : {P : Type 0} (b : Bool) → b ≡ true → IsTrue b ↔ P → P
 is_kept b e same = same.0 e
 
--- what each item keeps wherever it stands
+-- what each item keeps wherever it is
 pub each : {A S : Type 0} (K : S → A → Type 0) (next : S → A → S) (P : A → Type 0) → ((low : S) (x : A) → K low x → P x)
     → (low : S) (xs : List A) → InOrder K next low xs → AllByRecursion P xs
 each K next P one low [] h = tt

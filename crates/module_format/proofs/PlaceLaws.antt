@@ -51,7 +51,7 @@ owner_of_branch first (r ∷ rows) (suc k) b row is inside before =
     let within = owner_of_branch (first + length r.branches) rows k b row is inside known in
     ap (owner first (r ∷ rows)) place ∙ ap (λ (n : ℕ). cond (ltb n first) n r.context) within
 
--- the context of a row stands before its own branches
+-- the context of a row is before its own branches
 pub context_before : (own code_len : ℕ) (before : Before) (rows : List Par) (k : ℕ) (row : Par)
     → InOrder (ParKeeps own code_len) behind_par before rows → slice_get rows k ≡ Some row
     → row.context < own + (length before.entries + branch_count (take k rows))
@@ -82,7 +82,7 @@ slice_get_right [] ys n i long = let here : n + i ≡ i = omega arith in ap (sli
 slice_get_right (z ∷ xs) ys n i long = let next : n + i ≡ suc (length xs + i) =
     omega arith in rw next (slice_get_right xs ys (length xs) i refl)
 
--- the branch with number b of row k stands behind those of the rows before
+-- the branch with number b of row k is after those of the rows before
 pub branch_stands : (rows : List Par) (k b : ℕ) (row : Par) (x : Branch) → slice_get rows k ≡ Some row
     → slice_get row.branches b ≡ Some x → slice_get (branches_of rows) (branch_count (take k rows) + b) ≡ Some (row, x)
 branch_stands [] k b row x is here = absurd cc

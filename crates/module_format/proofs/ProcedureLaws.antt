@@ -58,7 +58,7 @@ module _ (size : ℕ) where
   words_range_again versions.Two lo hi rest h =
       ap (interval_at size) (append_assoc (i32_bytes lo) (i32_bytes hi) rest) ∙ interval_again size lo hi rest h
 
-  -- so many bytes that are words
+  -- a count of bytes that is one of whole words
   region_size_takes : (bytes : List ℕ) → IsBytes bytes
       → Has (region_size_at size bytes)
       (Spelled bytes u32_bytes (λ n. (n < 2 ^ 32) × (4 ≤ n) × IsTrue (is_multiple_of_four n)))

@@ -26,19 +26,19 @@ unfolding and_then
 has_then (Ok x) k h next = next x h.given
 has_then (Err f) k h next = has_err f
 
--- behind a test that refuses
+-- after a test that fails
 pub has_unless : {A : Type 0} {Q : A → Type 0} (b : Bool) (f : FormatFault) (r : Result A FormatFault)
     → (b ≡ false → Has r Q) → Has (cond b (Err f) r) Q
 has_unless true f r h = has_err f
 has_unless false f r h = h refl
 
--- behind a test that lets pass
+-- after a test that lets pass
 pub has_if : {A : Type 0} {Q : A → Type 0} (b : Bool) (f : FormatFault) (r : Result A FormatFault)
     → (b ≡ true → Has r Q) → Has (cond b r (Err f)) Q
 has_if true f r h = h refl
 has_if false f r h = has_err f
 
--- behind a choice
+-- after a choice
 pub has_cond : {A : Type 0} {Q : A → Type 0} (b : Bool) (r s : Result A FormatFault) → (b ≡ true → Has r Q)
     → (b ≡ false → Has s Q) → Has (cond b r s) Q
 has_cond true r s h g = h refl
@@ -82,7 +82,7 @@ pub tested_again : {A : Type 0} {x : A} {rest : List ℕ} (read : Read A) (test 
 unfolding tested
 tested_again read test kind at e passed = rw (e, passed) refl
 
--- one piece behind another
+-- one piece after another
 pub join : (a b s : List ℕ) {bytes r : List ℕ} → bytes ≡ a ++ r → r ≡ b ++ s → bytes ≡ (a ++ b) ++ s
 join a b s p q = p ∙ ap (λ (t : List ℕ). a ++ t) q ∙ sym (append_assoc a b s)
 

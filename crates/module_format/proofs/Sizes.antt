@@ -35,7 +35,7 @@ unfolding entry_bytes u32_bytes i32_bytes
 entry_size e =
     (omega (arith, length-append (i32_bytes e.word ++ u32_bytes e.span) (fact_bytes e.fact)), fact_size e.fact)
 
--- where the facts and the entries of a row stand
+-- where the facts and the entries of a row are
 pub label_size : (row : Label) → length (label_bytes row) ≡ 18 + length (fact_bytes row.stack.a) + length
     (fact_bytes row.stack.b) + length (fact_bytes row.stack.c) + 2 + length (flat_map entry_bytes row.entries)
 unfolding label_bytes u16_bytes u32_bytes u64_bytes i32_bytes
@@ -84,14 +84,14 @@ head_size : (b : Branch) → length (branch_head b) ≡ 18
 unfolding branch_head counts_bytes u32_bytes i32_bytes u16_bytes
 head_size b = refl
 
--- where the parameters and ends of a branch stand
+-- where the parameters and ends of a branch are
 pub branch_size : (b : Branch) → length (branch_bytes b) ≡ 18 + length (flat_map interval_bytes b.writes) + length
     (flat_map interval_bytes b.reads) + length (flat_map u16_bytes b.written_parameters) + length
     (flat_map u16_bytes b.read_parameters) + length (flat_map end_bytes b.ends)
 unfolding branch_bytes
 branch_size b = simp (length-append, head_size b) (omega arith)
 
--- where the branches of a row stand
+-- where the branches of a row are
 pub par_size : (row : Par) → length (par_bytes row) ≡ 18 + length (flat_map channel_bytes row.channels) + length
     (flat_map branch_bytes row.branches)
 unfolding par_bytes u16_bytes i32_bytes u32_bytes

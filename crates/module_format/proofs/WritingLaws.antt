@@ -12,7 +12,7 @@ use Rattle.module_format.specs.Keeping.{RowsKeep}
 use Rattle.module_format.specs.Writable.{BranchIsWritable, ParIsWritable}
 use Rattle.module_format.proofs.OrderLaws.{each}
 
--- what one call wrote behind the bytes from before, unless memory ran out
+-- what one call wrote after the bytes from before, unless memory ran out
 pub record Piece (started : Bool) (before piece : List ℕ) (done : Bool) (after : List ℕ) : Type 0 where
   pub wrote : done ≡ false → (started ≡ false) × (after ≡ before ++ piece)
 
@@ -20,7 +20,7 @@ pub piece : (before p : List ℕ) {started done : Bool} {after : List ℕ}
     → (done ≡ false → (started ≡ false) × (after ≡ before ++ p)) → Piece started before p done after
 piece before p wrote = record { wrote = wrote }
 
--- one piece behind another
+-- one piece after another
 infixl 10 ◌>>◌
 pub ◌>>◌ : {before p q between after : List ℕ} {started half done : Bool}
     → Piece started before p half between → Piece half between q done after → Piece started before (p ++ q) done after

@@ -21,7 +21,7 @@ pub record IsPointer (region : ℕ) (lo hi : ℤ) (step : Step) : Type 0 where
   pub interval : IsInterval lo hi
   pub stepped : IsStepped step lo hi
 
--- a loop whose index begins at `base` may have so many turns: the number and the last index are words
+-- a loop whose index begins at `base` may have `count` turns: the number and the last index are words
 abbrev pub is_loop_length : ℤ → ℕ → Bool
 is_loop_length base count =
     nat_le 1 count && int_le (pos count) greatest_word && int_le (base +ℤ pos count) (pos 2147483648)
@@ -52,7 +52,7 @@ RegisterKeeps code_len (facts.CodeAddress offset) = offset ≤ code_len
 RegisterKeeps code_len (facts.Loop base count weight) = ⊥
 RegisterKeeps code_len facts.ReturnAddress = ⊥
 
--- A fact of so many frame words: not unknown, since a word without an entry is that. A loop has two words, and a return
+-- A fact of `span` frame words: not unknown, since a word without an entry is that. A loop has two words, and a return
 -- address one.
 abbrev pub WordKeeps : ℕ → ℕ → Fact → Type 0
 WordKeeps code_len span facts.Unknown = ⊥
@@ -62,11 +62,11 @@ WordKeeps code_len span (facts.CodeAddress offset) = offset ≤ code_len
 WordKeeps code_len span (facts.Loop base count weight) = (span ≡ 2) × IsLoop base count weight
 WordKeeps code_len span facts.ReturnAddress = span ≡ 1
 
--- the first word behind an entry
+-- the first word after an entry
 abbrev pub end_of : Entry → ℤ
 end_of e = e.word +ℤ pos e.span
 
--- an entry leaves the words behind it
+-- an entry leaves the words after it
 abbrev pub behind_entry : ℤ → Entry → ℤ
 behind_entry low e = end_of e
 
@@ -78,7 +78,7 @@ pub record EntryKeeps (code_len : ℕ) (low : ℤ) (e : Entry) : Type 0 where
   pub spans : 1 ≤ e.span
   pub fact : WordKeeps code_len e.span e.fact
 
--- the offset of a label row in this much code with these procedures, behind a row at offset `low`
+-- the offset of a label row in code of this length with these procedures, after a row at offset `low`
 pub record IsLabelOffset (code_len : ℕ) (procedures : List Procedure) (low offset : ℕ) : Type 0 where
   pub rises : low < offset
   pub in_code : offset < code_len
@@ -92,7 +92,7 @@ pub record FactsKeep (code_len : ℕ) (row : Label) : Type 0 where
   pub count_fits : length row.entries < 2 ^ 16
   pub entries : InOrder (EntryKeeps code_len) behind_entry least_word row.entries
 
--- a label row of a module with this much code and these procedures, behind a row at offset `low`
+-- a label row of a module with code of this length and these procedures, after a row at offset `low`
 pub record LabelKeeps (code_len : ℕ) (procedures : List Procedure) (low : ℕ) (row : Label) : Type 0 where
   pub offset : IsLabelOffset code_len procedures low row.offset
   pub context_fits : row.context < 2 ^ 16

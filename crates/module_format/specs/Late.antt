@@ -34,7 +34,7 @@ late_list item spelled at (x ∷ xs) = do
 
 -- ---- label rows
 
--- a pointer's region is there; `at` is the place of the fact, and its region stands behind the tag
+-- a pointer's region is there; `at` is the place of the fact, and its region is after the tag
 unfoldable pub late_fact : ℕ → ℕ → Fact → Result ⊤ FormatFault
 late_fact parameters at facts.Unknown = passes
 late_fact parameters at (facts.Number lo hi) = passes
@@ -44,15 +44,15 @@ late_fact parameters at (facts.CodeAddress offset) = passes
 late_fact parameters at (facts.Loop base count weight) = passes
 late_fact parameters at facts.ReturnAddress = passes
 
--- an entry's words lie in the frame; `at` is the place of the entry, and its fact stands 8 bytes behind
+-- an entry's words lie in the frame; `at` is the place of the entry, and its fact is 8 bytes after it
 unfoldable pub late_entry : Context → ℕ → Entry → Result ⊤ FormatFault
 late_entry context at e =
     if int_lt e.word context.lo then Err (fault faults.Range at)
     else (if int_lt context.hi (end_of e) then Err (fault faults.Range at) else late_fact context.parameters
     (at + ENTRY_HEAD_SIZE) e.fact)
 
--- what a label row says is there in its context; the facts stand 18 bytes behind the row's place, and
--- the entries behind them and their number
+-- what a label row says is there in its context; the facts are 18 bytes after the row's place, and the entries after
+-- them and their number
 unfoldable pub late_row : Context → ℕ → Label → Result ⊤ FormatFault
 late_row context at row =
     let at_a = at + LABEL_HEAD_SIZE in
@@ -63,7 +63,7 @@ late_row context at row =
       _ ← late_fact context.parameters at_c row.stack.c
       late_list (late_entry context) entry_bytes (at_c + length (fact_bytes row.stack.c) + COUNT_SIZE) row.entries
 
--- a label's context is there; it stands 4 bytes behind the row's place
+-- a label's context is there; its number is 4 bytes after the row's place
 abbrev pub late_in : Option Context → ℕ → Label → Result ⊤ FormatFault
 late_in None at row = Err (fault faults.Range (at + LABEL_OFFSET_SIZE))
 late_in (Some context) at row = late_row context at row
@@ -77,11 +77,11 @@ late_label c at row = late_in (context_at c row.context) at row
 unfoldable pub late_parameter : List Parameter → ℕ → ℕ → Result ⊤ FormatFault
 late_parameter parameters at j = if names is_region parameters j then passes else Err (fault faults.Range at)
 
--- the parameter that an end belongs to has that channel; its number stands behind the kind
+-- the parameter that an end belongs to has that channel; its number is after the kind
 unfoldable pub late_end : List Parameter → ℕ → EndRow → Result ⊤ FormatFault
 late_end parameters at e = if names_end parameters e.kind then passes else Err (fault faults.Range (at + TAG_SIZE))
 
--- what a branch is given is there; its intervals stand 18 bytes behind its place, and the parameters and ends behind
+-- what a branch is given is there; its intervals are 18 bytes after its place, and the parameters and ends after
 -- them
 unfoldable pub late_branch : List Parameter → ℕ → Branch → Result ⊤ FormatFault
 late_branch parameters at b =
@@ -92,13 +92,13 @@ late_branch parameters at b =
       _ ← late_list (late_parameter parameters) u16_bytes at_read b.read_parameters
       late_list (late_end parameters) end_bytes (at_read + length (flat_map u16_bytes b.read_parameters)) b.ends
 
--- the branches of a row stand 18 bytes behind its place and behind its channels
+-- the branches of a row are 18 bytes after its place and after its channels
 unfoldable pub late_par : Contents → ℕ → Par → Result ⊤ FormatFault
 late_par c at row =
     late_list (late_branch (parameters_at c row.context)) branch_bytes
     (at + PAR_HEAD_SIZE + length (flat_map channel_bytes row.channels)) row.branches
 
--- ---- both, where the label rows begin at `at` and the PAR rows stand behind them
+-- ---- both, where the label rows begin at `at` and the PAR rows follow them
 unfoldable pub late_at : ℕ → Contents → Result ⊤ FormatFault
 late_at at c = do
   _ ← late_list (late_label c) label_bytes at c.labels

@@ -24,7 +24,7 @@ viewed {V = V} view bytes Fits = record { Value = V; view = view; bytes = bytes;
 
 -- ---- lists
 
--- How items of type T are read one behind the other, where an item leaves an L to the next and a C is the same for
+-- How items of type T are read one after the other, where an item leaves an L to the next and a C is the same for
 -- each of them.
 pub record Listing (C T L : Type 0) : Type 1 where
   pub Value : Type 0

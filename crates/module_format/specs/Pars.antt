@@ -26,7 +26,7 @@ pub record ChannelKeeps (low : ℤ) (channel : ChannelRow) : Type 0 where
   pub has_length : 1 ≤ channel.length
   pub limit : channel.length ≤ MAX_MESSAGE
 
--- a channel leaves the words behind it
+-- a channel leaves the words after it
 abbrev pub behind_channel : ℤ → ChannelRow → ℤ
 behind_channel low channel = channel.word +ℤ pos 1
 
@@ -37,7 +37,7 @@ pub record IntervalKeeps (low : ℤ) (i : Interval) : Type 0 where
   pub apart : low ≤ℤ i.lo
   pub some : i.lo <ℤ i.hi
 
--- an interval leaves the words behind it: the next one may touch it
+-- an interval leaves the words after it: the next one may touch it
 abbrev pub behind_interval : ℤ → Interval → ℤ
 behind_interval low i = i.hi
 
@@ -107,7 +107,7 @@ EndKindKeeps (ends.FrameWord word) = FitsSigned w32 word
 EndKindKeeps (ends.Parameter number element) = FitsSigned w32 number × (element < 2 ^ 32)
 EndKindKeeps (ends.Link link) = link < 8
 
--- an end behind one with this key
+-- an end after one with this key
 pub record EndKeeps (before : EndKey) (e : EndRow) : Type 0 where
   pub kind : EndKindKeeps e.kind
   pub rises : IsTrue (is_below before (key_of e))
@@ -118,8 +118,8 @@ behind_end before e = key_of e
 
 -- ---- branches and PARs
 
--- What is known of the branches before one: the entries of all, and the entry behind which this one's stands, which
--- is 0 but for the first of a row.
+-- What is known of the branches before one: the entries of all, and the entry after which this one's is, which is 0
+-- but for the first of a row.
 pub record Before : Type 0 where
   pub low : ℕ
   pub entries : List ℕ
@@ -139,7 +139,7 @@ pub record GiftsKeep (b : Branch) : Type 0 where
   pub read_parameters : InOrder NumberKeeps behind_number 0 b.read_parameters
   pub ends : InOrder EndKeeps behind_end first_key b.ends
 
--- a branch in this much code, behind others
+-- a branch in code of this length, after others
 pub record BranchKeeps (code_len : ℕ) (before : Before) (b : Branch) : Type 0 where
   pub entry : IsBranchEntry code_len before b.entry
   pub workspace_fits : FitsSigned w32 b.workspace

@@ -1,4 +1,4 @@
--- Where the rows of branches stand, in the order of their contexts.
+-- Where the rows of branches are, in the order of their contexts.
 use Rattle.std.specs.Prelude.{◌≡◌, ℕ, ◌+◌, ◌<◌, ◌≤◌, nat_lt, if◌then◌else◌, List, map, length, take, slice_get}
 use Rattle.std.specs.Prelude.{slice_index_or, Option, Some, None, MatchOption}
 use Rattle.std.specs.List.{flat_map}
@@ -17,13 +17,13 @@ owner_at c n =
     let first = first_branch c in
     if nat_lt n (first + branch_count c.pars) then Some (owner first c.pars n) else None
 
--- this is the place of the branch with so many before it: its PAR row, its number in the row and its owner
+-- this is the place of the branch with `before` branches before it: its PAR row, its number in the row and its owner
 pub record IsPlace (c : Contents) (before : ℕ) (place : Place) : Type 0 where
   pub stands : MatchOption (slice_get c.pars place.par) ⊥ (λ row. MatchOption (slice_get row.branches place.branch) ⊥
       (λ b. slice_get (branches_of c.pars) before ≡ Some (row, b)))
   pub owner : place.owner ≡ owner (first_branch c) c.pars (first_branch c + before)
 
--- the places of so many branches, the first ones
+-- the places of the first `count` branches
 pub record ArePlaces (c : Contents) (count : ℕ) (places : List Place) : Type 0 where
   pub many : length places ≡ count
   pub each : (i : ℕ) (d : Place) → i < length places → IsPlace c i (slice_index_or places i d)
@@ -39,7 +39,7 @@ pub record IsRowOwner (c : Contents) (k : ℕ) (row : RowOwner) : Type 0 where
   pub end : row.end ≡ rows_end c (k + 1)
   pub owner : (n : ℕ) → rows_end c k ≤ n → n < rows_end c (k + 1) → owner (first_branch c) c.pars n ≡ row.owner
 
--- what the branches of so many rows belong to, the first ones
+-- what the branches of the first `count` rows belong to
 pub record AreRowOwners (c : Contents) (count : ℕ) (rows : List RowOwner) : Type 0 where
   pub many : length rows ≡ count
   pub each : (k : ℕ) (d : RowOwner) → k < length rows → IsRowOwner c k (slice_index_or rows k d)

@@ -19,7 +19,7 @@ abbrev pub RangeKeeps : Version → ℤ → ℤ → Type 0
 RangeKeeps versions.One lo hi = (lo ≡ least_word) × (hi ≡ greatest_word)
 RangeKeeps versions.Two lo hi = IsInterval lo hi
 
--- a region may have so many bytes: whole words, one at least
+-- a region may have `bytes` bytes: whole words, one at least
 abbrev pub is_region_size : ℕ → Bool
 is_region_size bytes = nat_le 4 bytes && is_multiple_of_four bytes
 
@@ -49,7 +49,7 @@ KindKeeps version (kinds.ReadRegion size lo hi) = IsRegion version size lo hi
 KindKeeps version (kinds.WrittenRegion size lo hi) = IsRegion version size lo hi
 KindKeeps version (kinds.Channels count len ends) = AreChannels count len ends.0
 
--- a parameter of a procedure whose frame ends at word `hi`, behind one in word `low`
+-- a parameter of a procedure whose frame ends at word `hi`, after one in word `low`
 pub record ParameterKeeps (version : Version) (hi : ℤ) (low : ℕ) (p : Parameter) : Type 0 where
   pub rises : low < p.word
   pub inside : pos p.word <ℤ hi
@@ -66,7 +66,7 @@ is_frame_start lo = int_le (negsuc 16383) lo && int_le lo (pos 0)
 abbrev pub is_frame_end : ℤ → Bool
 is_frame_end hi = int_le (pos 4) hi && int_le hi (pos 16384)
 
--- a procedure row of a module with this much code, behind a row with its entry at `low`
+-- a procedure row of a module with code of this length, after a row with its entry at `low`
 pub record ProcedureKeeps (version : Version) (code_len low : ℕ) (row : Procedure) : Type 0 where
   pub rises : low < row.entry
   pub in_code : row.entry < code_len
@@ -94,7 +94,7 @@ pub record IsWithin (lo hi word : ℤ) : Type 0 where
   pub low : lo ≤ℤ word
   pub high : word ≤ℤ hi
 
--- a table row over these constants, behind one that ends at `low`
+-- a table row over these constants, after one that ends at `low`
 pub record TableKeeps (constants : List ℕ) (low : ℕ) (row : TableRow) : Type 0 where
   pub start_aligned : IsTrue (is_multiple_of_four row.start)
   pub apart : low ≤ row.start

@@ -1,5 +1,5 @@
 -- Reading a file from its front, with the first fault that is met. A reader takes the bytes that are
--- left and gives a value and the bytes behind it; `size` is the length of the whole file, so that the
+-- left and gives a value and the bytes after it; `size` is the length of the whole file, so that the
 -- place of what is left is known.
 use Rattle.std.specs.Prelude.{◌≡◌, ⊤, ℕ, zero, suc, ◌-◌, ℤ, int_le, nat_lt, nat_le, Bool, ◌&&◌, if◌then◌else◌, List, []}
 use Rattle.std.specs.Prelude.{◌∷◌, length, take, drop, Result, Ok, Err}
@@ -52,11 +52,11 @@ number_of faults.Limit = LIMIT
 abbrev pub fault : FormatFaultKind → ℕ → FormatFault
 fault kind offset = record { number = number_of kind; offset = offset }
 
--- the answer where memory ran out
+-- the error if memory runs out
 abbrev pub out_of_memory : FormatFault
 out_of_memory = record { number = MEMORY; offset = 0 }
 
--- the fault that is told of a file whose reader gave this error
+-- the fault that is reported of a file whose reader returned this error
 abbrev pub fault_of : ReadError → FormatFault
 fault_of errors.Memory = out_of_memory
 fault_of (errors.Fault f) = f

@@ -123,7 +123,7 @@ contents_from h code constants procedures labels pars table_rows = record {
   table_rows = table_rows;
 }
 
--- the contents whose label rows began at `at`, where `rest` is what stands behind the last row
+-- the contents whose label rows began at `at`, where `rest` is what follows the last row
 unfoldable pub ended_at : ℕ → ℕ → Contents → List ℕ → Result Contents FormatFault
 ended_at size at c rest = do
   _ ← late_at at c

@@ -103,7 +103,7 @@ end_at size before rest = do
 
 -- ---- branches
 
--- the entry of a branch, behind `low`, and no other's
+-- the entry of a branch, after `low`, and no other's
 unfoldable pub branch_entry_at : ℕ → ℕ → Before → List ℕ → Read ℕ
 branch_entry_at size code_len before rest =
     let risen = tested (in_code_at size code_len rest) (nat_lt before.low) faults.Order (place size rest) in
@@ -133,7 +133,7 @@ branch_at size code_len before rest = do
 
 -- ---- rows
 
--- a context of which there are so many
+-- the number of a context, below `count`
 unfoldable pub context_number_at : ℕ → ℕ → List ℕ → Read ℕ
 context_number_at size count rest =
     tested (number_at size 2 rest) (λ context. nat_lt context count) faults.Range (place size rest)

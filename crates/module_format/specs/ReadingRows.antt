@@ -69,7 +69,7 @@ loop_at size rest = do
   weight ← number_at size 8 count.1
   Ok (facts.Loop base.0 count.0 weight.0, weight.1)
 
--- a fact that registers and words have alike, behind its tag at an offset
+-- a fact that registers and words have alike, after its tag at an offset
 unfoldable pub fact_at : ℕ → ℕ → ℕ → ℕ → List ℕ → Read Fact
 fact_at size code_len at tag rest =
     if tag == TAG_NUMBER then range_at size rest
@@ -82,7 +82,7 @@ register_at size code_len rest = do
   tag ← byte_at size rest
   if tag.0 == TAG_UNKNOWN then Ok (facts.Unknown, tag.1) else fact_at size code_len (place size rest) tag.0 tag.1
 
--- a fact of so many frame words
+-- a fact of `span` frame words
 unfoldable pub word_at : ℕ → ℕ → ℕ → List ℕ → Read Fact
 word_at size code_len span rest = do
   tag ← byte_at size rest
@@ -107,13 +107,13 @@ entry_at size code_len low rest = do
   fact ← word_at size code_len span.0 span.1
   Ok (record { word = word.0; span = span.0; fact = fact.0 }, fact.1)
 
--- the entries of a label row, behind their number
+-- the entries of a label row, after their number
 unfoldable pub entries_at : ℕ → ℕ → List ℕ → Read (List Entry)
 entries_at size code_len rest = do
   count ← number_at size 2 rest
   list_at (entry_at size code_len) behind_entry count.0 least_word count.1
 
--- the offset of a label row: no procedure's entry, and behind the row before, whose offset is `low`
+-- the offset of a label row: no procedure's entry, and after the row before, whose offset is `low`
 unfoldable pub label_offset_at : ℕ → ℕ → List Procedure → ℕ → List ℕ → Read ℕ
 label_offset_at size code_len procedures low rest =
     let begins = λ (offset : ℕ). list_any (λ p. p.entry == offset) procedures in
@@ -192,7 +192,7 @@ kind_at size version rest = do
       else (if kind.0 == KIND_WRITTEN_REGION then region_at size version kinds.WrittenRegion kind.1
       else (if kind.0 == KIND_CHANNELS then channels_at size kind.1 else Err (fault faults.Range (place size rest)))))
 
--- the word of a parameter: below word `hi`, and behind the parameter before, in word `low`
+-- the word of a parameter: below word `hi`, and after the parameter before, in word `low`
 unfoldable pub parameter_word_at : ℕ → ℤ → ℕ → List ℕ → Read ℕ
 parameter_word_at size hi low rest =
     let is_inside = λ (word : ℕ). nat_le 1 word && int_lt (pos word) hi in
@@ -210,14 +210,14 @@ parameters_at size version hi rest = do
   count ← limited_at size 2 MAX_PARAMETERS rest
   list_at (parameter_at size version hi) behind_parameter count.0 0 count.1
 
--- the first word of a frame, and the first word behind it
+-- the first word of a frame, and the first word after it
 unfoldable pub frame_start_at : ℕ → List ℕ → Read ℤ
 frame_start_at size rest = tested (int_at size rest) is_frame_start faults.Range (place size rest)
 
 unfoldable pub frame_end_at : ℕ → List ℕ → Read ℤ
 frame_end_at size rest = tested (int_at size rest) is_frame_end faults.Range (place size rest)
 
--- an offset in the code that isn't its first, behind `low`
+-- an offset in the code that isn't its first, after `low`
 unfoldable pub rising_at : ℕ → ℕ → ℕ → List ℕ → Read ℕ
 rising_at size code_len low rest = tested (in_code_at size code_len rest) (nat_lt low) faults.Order (place size rest)
 
@@ -236,13 +236,13 @@ procedure_rows_at size version code_len count rest =
 
 -- ---- table rows
 
--- the first byte of a table, behind those that end at `low`
+-- the first byte of a table, after those that end at `low`
 unfoldable pub table_start_at : ℕ → ℕ → List ℕ → Read ℕ
 table_start_at size low rest =
     let aligned = tested (number_at size 4 rest) is_multiple_of_four faults.Range (place size rest) in
     tested aligned (nat_le low) faults.Order (place size rest)
 
--- the end of a table in so many bytes of constants
+-- the end of a table in `const_len` bytes of constants
 unfoldable pub table_end_at : ℕ → ℕ → ℕ → List ℕ → Read ℕ
 table_end_at size const_len start rest =
     let is_inside = λ (end : ℕ). is_multiple_of_four end && nat_lt start end && nat_le end const_len in

@@ -1,4 +1,4 @@
--- The rows of a file, and what stands in them: places in the code are offsets, and contexts are numbers.
+-- The rows of a file, and what is in them: places in the code are offsets, and contexts are numbers.
 use Rattle.std.specs.Prelude.{ℕ}
 use Rattle.module_format.specs.declared.fact.Fact as fact
 use Rattle.module_format.specs.declared.rows.Entry as entry

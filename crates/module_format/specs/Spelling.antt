@@ -1,5 +1,5 @@
 -- The bytes of each field and row of a module file: least significant byte first, without padding.
--- Source: our own choice, told in docs/MODULE_FILE.md.
+-- Source: our own choice, described in docs/MODULE_FILE.md.
 use Rattle.std.specs.Prelude.{ℕ, ℤ, pos, Bool, if◌then◌else◌, List, [], ◌∷◌, ◌++◌, length}
 use Rattle.std.specs.List.{flat_map}
 use Rattle.std.specs.Int.{w16, w32, w64, to_le_bytes, cast_unsigned}
@@ -157,14 +157,14 @@ abbrev pub flag_bytes : Version → Bool → ℕ → List ℕ
 flag_bytes versions.One flag rows = []
 flag_bytes versions.Two flag rows = u32_bytes (if flag then 1 else 0) ++ u32_bytes rows
 
--- what stands behind the magic, in both versions
+-- what follows the magic, in both versions
 unfoldable pub header_bytes : Contents → List ℕ
 header_bytes c =
     u32_bytes (length c.code) ++ u32_bytes (length c.constants) ++ u32_bytes c.data_words ++ u32_bytes c.base
     ++ u64_bytes c.budget ++ u32_bytes c.finish ++ flat_map u32_bytes c.lengths
     ++ u32_bytes (length c.procedures) ++ u32_bytes (length c.labels) ++ u32_bytes (length c.pars)
 
--- the rows, which stand behind the code and the constants
+-- the rows, which follow the code and the constants
 unfoldable pub rows_bytes : Contents → List ℕ
 rows_bytes c =
     flat_map (procedure_bytes c.version) c.procedures ++ flat_map label_bytes c.labels ++ flat_map par_bytes c.pars

@@ -17,7 +17,7 @@ pub(crate) enum FormatFaultKind {
     Order,
     /// A value that is not allowed.
     Range,
-    /// Bytes behind the last row.
+    /// Bytes after the last row.
     LeftOver,
     /// A number above a limit of the format.
     Limit,
@@ -47,7 +47,7 @@ pub const TRUNCATED: u8 = 2;
 pub const ORDER: u8 = 3;
 /// The number of a value that is not allowed.
 pub const RANGE: u8 = 4;
-/// The number of bytes behind the last row.
+/// The number of bytes after the last row.
 pub const LEFT_OVER: u8 = 5;
 /// The number of a value above a limit of the format.
 pub const LIMIT: u8 = 6;
@@ -60,8 +60,8 @@ const NO_MEMORY: FormatFault = FormatFault {
     offset: 0,
 };
 
-/// The fault that is told of a file: the first in the order of its fields; but whether what rows name is
-/// there is looked at once all rows are read.
+/// The fault that is reported of a file: the first in the order of its fields. References are checked once all rows
+/// are read.
 #[derive(Clone, Copy, Debug, PartialEq, Eq)]
 pub struct FormatFault {
     /// Which of the seven faults, C1 to C7.
@@ -102,7 +102,7 @@ impl From<AllocError> for FormatFault {
     }
 }
 
-/// What a reader of one field answers in place of the field.
+/// What a reader of one field returns in place of the field.
 #[derive(Clone, Copy)]
 pub enum ReadError {
     Memory,

@@ -1,5 +1,5 @@
-//! Lists whose items stand one behind the other: how an item is read, what it keeps, and what it leaves to
-//! the one after it.
+//! Lists whose items follow one another: how an item is read, the rules it keeps, and what it leaves to the one after
+//! it.
 
 ghost use Rattle.std.specs.Prelude.{◌≡◌, ◌↔◌, IsTrue, ℕ, ℤ, List, map};
 ghost use Rattle.module_format.specs.Contents.{label_of, procedure_of};
@@ -55,7 +55,7 @@ pub(crate) trait Listed<C>: Drop {
         ensures { (low : Self.Low) → result ≡ listing.behind low (listing.view self.now) };
 }
 
-/// Entries of a label row, in so many bytes of code.
+/// Entries of a label row, in code of a given length.
 impl Listed<usize> for Entry {
     type Low = i64;
 
@@ -348,7 +348,7 @@ impl Listed<()> for u16 {
     }
 }
 
-/// Channel ends, behind one with the key `before`.
+/// Channel ends, after one with the key `before`.
 impl Listed<()> for EndRow {
     type Low = EndKey;
 

@@ -1,4 +1,4 @@
-//! Rows that stand at code offsets.
+//! Rows at code offsets.
 
 ghost use Rattle.std.specs.Prelude.{◌≡◌, ◌==◌, ℕ, map, MatchOption};
 ghost use Rattle.std.specs.List.{list_any};
@@ -8,7 +8,7 @@ ghost use Rattle.module_format.specs.Offsets.{IsNowhere, IsFirst, EntriesRise};
 
 use crate::rows::{LabelRow, ProcedureRow};
 
-/// A row that stands at a code offset.
+/// A row at a code offset.
 pub trait AtOffset: Drop {
     ghost place: { Self → ℕ };
 

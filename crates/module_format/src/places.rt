@@ -1,4 +1,4 @@
-//! Where the rows of branches stand.
+//! Where the rows of branches are.
 
 ghost use Rattle.std.specs.Prelude.{◌≡◌, ◌+◌, ◌<◌, IfOk, length};
 ghost use Rattle.module_format.specs.Contents.{contents_of};
@@ -9,7 +9,7 @@ ghost use Rattle.module_format.specs.Places.{ArePlaces};
 use crate::tables::Tables;
 use std::alloc::{AllocError, Global};
 
-/// Where the row of a branch stands, and what the branch belongs to.
+/// Where the row of a branch is, and what the branch belongs to.
 #[derive(Clone, Copy)]
 pub struct Place {
     /// The PAR row.

@@ -1,6 +1,6 @@
-//! The bytes of rows, and of what stands in them, in a file.
+//! The bytes of rows, and of their fields, in a file.
 
-/// The bytes before what a tag tells.
+/// The bytes of a tag, before what it describes.
 pub const TAG_SIZE: usize = 1;
 /// The bytes of a number of items.
 pub const COUNT_SIZE: usize = 2;

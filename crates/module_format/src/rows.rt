@@ -176,8 +176,8 @@ impl BranchRow {
     }
 }
 
-/// A PAR: the context and depth at which it stands, its join block's frame word, the code offset
-/// behind it, its channels and its branches.
+/// A PAR: its context and depth, its join block's frame word, the code offset after it,
+/// its channels and its branches.
 #[derive(Drop)]
 pub struct ParRow<At = u32, In = u16> {
     pub context: In,
@@ -197,7 +197,7 @@ pub struct TableRow {
     pub hi: i32,
 }
 
-/// The fields of an end, as they stand in a file. The ends of a branch rise by the first of them in
+/// The fields of an end, in the order of a file. The ends of a branch rise by the first of them in
 /// which they differ.
 #[derive(Clone, Copy, PartialEq, Eq)]
 pub struct EndKey {
@@ -227,7 +227,7 @@ impl EndKey {
         }
     }
 
-    /// Whether an end with the other key may stand behind this one.
+    /// Whether an end with the other key may follow this one.
     pub fn is_below(&self, other: &EndKey) -> bool
         ensures { result ≡ is_below self.now other.now }
     {

@@ -7,7 +7,7 @@ ghost use Rattle.module_format.specs.Procedures.{is_region_size, are_ends, is_fr
 
 use crate::limits::{MAX_FRAME_END, MAX_MESSAGE, MIN_FRAME_END, MIN_FRAME_START};
 
-/// Whether so many bytes are whole words.
+/// Whether a count of bytes is one of whole words.
 pub(crate) fn is_multiple_of_four(bytes: u32) -> bool
     ensures { result ≡ is_multiple_of_four bytes }
 {
@@ -21,8 +21,8 @@ pub(crate) fn is_stepped(offset: i32) -> bool
     is_multiple_of_four(offset.unsigned_abs())
 }
 
-/// Whether a loop whose index begins at `base` may have so many turns: one at least, and the number and
-/// the last index are words.
+/// Whether a loop whose index begins at `base` may have `count` turns: one at least, and the number and the last index
+/// are words.
 pub(crate) fn is_loop_length(base: i32, count: u32) -> bool
     ensures { result ≡ is_loop_length base count }
 {
@@ -30,7 +30,7 @@ pub(crate) fn is_loop_length(base: i32, count: u32) -> bool
     1 <= count && count <= i32::MAX as u32 && end <= 2_147_483_648
 }
 
-/// Whether a region may have so many bytes: whole words, one at least.
+/// Whether a region may have `bytes` bytes: whole words, one at least.
 pub(crate) fn is_region_size(bytes: u32) -> bool
     ensures { result ≡ is_region_size bytes }
 {
@@ -58,7 +58,7 @@ pub(crate) fn is_frame_end(hi: i32) -> bool
     MIN_FRAME_END <= hi && hi <= MAX_FRAME_END
 }
 
-/// Whether a message may have so many bytes: one at least.
+/// Whether a message may have `bytes` bytes: one at least.
 pub(crate) fn is_message_length(bytes: u32) -> bool
     ensures { IsTrue result ↔ ((1 ≤ bytes) × (bytes ≤ MAX_MESSAGE)) }
 {

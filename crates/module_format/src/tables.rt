@@ -22,7 +22,7 @@ pub struct Tables<'a> {
     pub version: Version,
     /// The code, of which the first byte has offset 0.
     pub code: &'a [u8],
-    /// The constants, which lie from the next word boundary behind the code.
+    /// The constants, which begin at the next word boundary after the code.
     pub constants: &'a [u8],
     /// The words of the data area.
     pub data_words: u32,
@@ -30,7 +30,7 @@ pub struct Tables<'a> {
     pub base: u32,
     /// How many instruction bytes a run may execute.
     pub budget: u64,
-    /// The code offset behind the stopp that finishes the module; 0 is none.
+    /// The code offset after the stopp that finishes the module; 0 is none.
     pub finish: u32,
     /// The bytes of a message on output links 0 to 3 and input links 0 to 3; 0 is a link not used.
     pub lengths: [u32; 8],
@@ -68,7 +68,7 @@ impl Tables<'_> {
         keeping::keeps(self)
     }
 
-    /// The first context that is a branch's: before it stand the root and the procedures.
+    /// The first context that is a branch's: before it are the root and the procedures.
     pub fn first_branch(&self) -> usize
         ensures { result ≡ first_branch (contents_of self.now) }
     {

@@ -1,4 +1,4 @@
-//! The numbers by which a file tells variants apart.
+//! The numbers by which a file distinguishes variants.
 
 /// The tag of `Fact::Unknown`.
 pub const TAG_UNKNOWN: u8 = 0;

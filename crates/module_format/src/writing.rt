@@ -82,7 +82,7 @@ fn put_extension(out: &mut Writer, tables: &Tables)
     }
 }
 
-/// The rows, which stand behind the code and the constants.
+/// The rows, which follow the code and the constants.
 #[tactic(auto, unfolding(crate::specs::Spelling::rows_bytes))]
 fn put_rows(out: &mut Writer, tables: &Tables)
     requires { Keeps (contents_of tables.now) }

@@ -55,7 +55,7 @@ pub fn meets_any(interval: &Interval, others: &[Interval]) -> bool
     }
 }
 
-/// So many intervals that are written.
+/// `count` intervals that are written.
 fn read_writes(count: u16, from: &mut Cursor<'_>) -> SmallVec<Interval, 2>
     ensures takes { Takes (λ size. list_at (words_at size) behind_interval count least_word)
         from.old result.items from.new }
@@ -64,7 +64,7 @@ fn read_writes(count: u16, from: &mut Cursor<'_>) -> SmallVec<Interval, 2>
     read_list(&(), LEAST_WORD, u32::from(count), from)
 }
 
-/// So many intervals that are read.
+/// `count` intervals that are read.
 fn read_reads(count: u16, intervals: &[Interval], from: &mut Cursor<'_>) -> SmallVec<Interval, 2>
     requires { from.old.failure ≡ None → InOrder IntervalKeeps behind_interval least_word intervals.now }
     ensures { Takes (λ size. list_at (read_words_at size intervals.now) behind_interval count least_word)
@@ -76,7 +76,7 @@ fn read_reads(count: u16, intervals: &[Interval], from: &mut Cursor<'_>) -> Smal
     read_list(&Written { intervals }, LEAST_WORD, u32::from(count), from)
 }
 
-/// So many numbers of parameters.
+/// `count` numbers of parameters.
 #[inline(always)]
 fn read_parameter_numbers(count: u16, from: &mut Cursor<'_>) -> SmallVec<u16, 4>
     ensures { Takes (λ size. list_at (parameter_number_at size) behind_number count 0) from.old result.items from.new }
@@ -84,7 +84,7 @@ fn read_parameter_numbers(count: u16, from: &mut Cursor<'_>) -> SmallVec<u16, 4>
     read_list(&(), 0, u32::from(count), from)
 }
 
-/// So many ends.
+/// `count` ends.
 fn read_ends(count: u16, from: &mut Cursor<'_>) -> Vec<EndRow>
     ensures { Takes (λ size. list_at (end_at size) behind_end count first_key) from.old result.items from.new }
 {
@@ -105,8 +105,8 @@ fn read_branch_counts(from: &mut Cursor<'_>) -> BranchCounts
     }
 }
 
-/// Branches in so much code, the first of them behind an entry at `low`. None begins where one begins
-/// that was taken.
+/// Branches in code of a given length, the first of them after an entry at `low`. None begins at an entry that was
+/// taken.
 #[derive(Drop)]
 pub(crate) struct Branches {
     pub code_len: usize,
@@ -175,7 +175,7 @@ impl Branches {
         }
     }
 
-    /// So many branches. Behind which entry the next row's first one stands is the caller's to set.
+    /// `count` branches. The caller sets the entry after which the next row's first branch is.
     pub fn branches(&mut self, count: u16, from: &mut Cursor<'_>) -> Vec<BranchRow>
         ensures takes { Takes (λ size. list_at (branch_at size self.old.code_len) behind_branch count
             (record { low = self.old.low; entries = self.old.taken.entries.items }))

@@ -120,7 +120,7 @@ impl<'a> Cursor<'a> {
         }
     }
 
-    /// Goes over so many bytes, and returns what was left before them.
+    /// Advances by `len` bytes, and returns what was left before them.
     fn advance(&mut self, len: usize) -> Option<&'a [u8]>
         ensures advanced { IfSome result (λ ahead. (self.old.failure ≡ None) × (self.new.failure ≡ None)
             × (len ≤ length self.old.rest.now)

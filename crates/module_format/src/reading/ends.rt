@@ -66,7 +66,7 @@ pub(crate) fn read_end_element(before: EndKey, kind: u8, number: i32, from: &mut
     element
 }
 
-/// The direction of an end, behind its other fields.
+/// The direction of an end, after its other fields.
 #[tactic(auto, unfolding(crate::specs::ReadingPars::end_direction_at, crate::specs::Reading::tested))]
 pub(crate) fn read_end_direction(
     before: EndKey,

@@ -100,7 +100,7 @@ fn read_loop(from: &mut Cursor<'_>) -> Fact
     }
 }
 
-/// A fact that registers and words have alike, behind its tag at an offset.
+/// A fact that registers and words have alike, after its tag at an offset.
 #[tactic(auto, unfolding(crate::specs::ReadingRows::fact_at))]
 #[inline(always)]
 fn read_common_fact(code_len: usize, at: usize, tag: u8, from: &mut Cursor<'_>) -> Fact
@@ -131,7 +131,7 @@ fn read_register(code_len: usize, from: &mut Cursor<'_>) -> Fact
     }
 }
 
-/// A fact of so many frame words.
+/// A fact of `span` frame words.
 #[tactic(auto, unfolding(crate::specs::ReadingRows::word_at, crate::specs::Reading::and_then))]
 pub(crate) fn read_word_fact(code_len: usize, span: u32, from: &mut Cursor<'_>) -> Fact
     ensures { Takes (λ size. word_at size code_len span) from.old result from.new }
@@ -167,14 +167,14 @@ pub fn read_span(from: &mut Cursor<'_>) -> u32
     span
 }
 
-/// The first word behind an entry.
+/// The first word after an entry.
 pub(crate) fn end_of(entry: &Entry) -> i64
     ensures { result ≡ end_of entry.now }
 {
     i64::from(entry.word) + i64::from(entry.span)
 }
 
-/// The entries of a label row, behind their number.
+/// The entries of a label row, after their number.
 #[tactic(auto, unfolding(crate::specs::ReadingRows::entries_at, crate::specs::Reading::and_then))]
 pub fn read_entries(code_len: usize, from: &mut Cursor<'_>) -> Vec<Entry>
     ensures { Takes (λ size. entries_at size code_len) from.old result.items from.new }

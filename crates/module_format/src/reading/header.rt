@@ -141,7 +141,7 @@ fn read_counts(version: Version, from: &mut Cursor<'_>) -> RowCounts
     }
 }
 
-/// What stands before the code.
+/// What is before the code.
 #[derive(Clone, Copy)]
 pub struct Header {
     pub version: Version,

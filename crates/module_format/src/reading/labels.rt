@@ -13,7 +13,7 @@ use crate::reading::cursor::Cursor;
 use crate::reading::list::read_list;
 use crate::rows::{LabelRow, ProcedureRow};
 
-/// The offset of a label row, behind a row at offset `low`.
+/// The offset of a label row, after a row at offset `low`.
 #[tactic(auto, unfolding(crate::specs::ReadingRows::label_offset_at, crate::specs::Reading::tested))]
 pub(crate) fn read_label_offset(
     code_len: usize,

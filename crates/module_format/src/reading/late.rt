@@ -29,14 +29,14 @@ pub(crate) trait Late<C>: Drop {
     /// Whether what the item at an offset names is there.
     ghost naming: { Naming C Self };
 
-    /// Answers the offset behind the item.
+    /// Returns the offset after the item.
     fn late(&self, context: &C, at: usize) -> Result<usize, FormatFault>
         requires { at + length (naming.bytes (naming.view self.now)) < 2 ^ 64 }
         ensures gives { Tells result (naming.looked context.now at (naming.view self.now)) }
         ensures behind { IfOk result (λ end. end ≡ at + length (naming.bytes (naming.view self.now))) };
 }
 
-/// Each item in turn, the first of them at offset `start`. Answers the offset behind the last.
+/// Each item in turn, the first of them at offset `start`. Returns the offset after the last.
 pub(crate) fn late_list<C, T: Late<C>>(
     context: &C,
     start: usize,
@@ -69,7 +69,7 @@ fn fact_size(fact: &Fact) -> usize
     }
 }
 
-/// A pointer's region is there; the fact stands at offset `at`.
+/// A pointer's region is there; the fact is at offset `at`.
 #[tactic(auto, unfolding(crate::specs::Late::late_fact))]
 fn late_fact(parameters: usize, at: usize, fact: &Fact) -> Result<(), FormatFault>
     requires { at + 1 < 2 ^ 64 }
@@ -100,7 +100,7 @@ impl Late<Context> for Entry {
     }
 }
 
-/// What the row at offset `at` says is there in its context. Answers the offset behind the row.
+/// What the row at offset `at` says is there in its context. Returns the offset after the row.
 #[tactic(auto, using(crate::proofs::Sizes::label_size), unfolding(crate::specs::Late::late_row, crate::specs::Reading::and_then))]
 fn late_row(context: &Context, at: usize, row: &LabelRow) -> Result<usize, FormatFault>
     requires { at + length (label_bytes (label_of row.now)) < 2 ^ 64 }

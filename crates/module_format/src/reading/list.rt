@@ -1,4 +1,4 @@
-//! Lists of items that stand one behind the other.
+//! Lists of items that follow one another.
 
 ghost use Rattle.std.specs.Prelude.{◌≡◌, ◌++◌, List, [], ◌∷◌, IfOk, None, map};
 ghost use Rattle.module_format.specs.Order.{behind_all};
@@ -19,7 +19,7 @@ pub(crate) trait Items<T: Drop>: Drop {
     fn empty(alloc: Global) -> Self
         ensures { items result ≡ [] };
 
-    /// Makes room for so many more items.
+    /// Reserves capacity for `count` more items.
     fn reserve(&mut self, count: usize) -> Result<(), AllocError>
         ensures { items self.new ≡ items self.old };
 
@@ -62,7 +62,7 @@ impl<T: MadeWith<Global> + Drop, const N: usize> Items<T> for SmallVec<T, N> {
     }
 }
 
-/// Reads the items of a list, one behind the other.
+/// Reads the items of a list, one after the other.
 pub(crate) trait Reader {
     type Item: Drop;
 
@@ -76,8 +76,8 @@ pub(crate) trait Reader {
         ensures same { walk.context self.new ≡ walk.context self.old };
 }
 
-/// Adds as many items as a number says to a list that is empty, as long as none fails. Room is made for all of them at
-/// once, but for no more than there are bytes left, since each item has one at least.
+/// Adds as many items as a number says to an empty list, as long as none fails. Capacity is reserved for all of them
+/// at once, but for no more than there are bytes left, since each item has at least one byte.
 #[inline(always)]
 pub(crate) fn fill<R: Reader, L: Items<R::Item>>(
     reader: &mut R,
@@ -111,7 +111,7 @@ pub(crate) fn fill<R: Reader, L: Items<R::Item>>(
     }
 }
 
-/// Items that are each read by itself, behind one that left `low`.
+/// Items that are each read by itself, after one that left `low`.
 #[derive(Drop)]
 struct Behind<'c, C, T: Listed<C>> {
     context: &'c C,
@@ -130,7 +130,7 @@ impl<C, T: Listed<C>> Reader for Behind<'_, C, T> {
     }
 }
 
-/// As many items as a number says, the first of them behind `low`.
+/// As many items as a number says, the first of them after `low`.
 #[inline(always)]
 pub(crate) fn read_list<C, T: Listed<C>, L: Items<T>>(
     context: &C,

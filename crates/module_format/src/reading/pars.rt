@@ -19,14 +19,14 @@ use crate::reading::list::{Reader, fill, read_list};
 use crate::reading::taken::Taken;
 use crate::rows::{BranchRow, ChannelRow, ParRow};
 
-/// So many channels of a PAR.
+/// `count` channels of a PAR.
 fn read_channels(count: u16, from: &mut Cursor<'_>) -> Vec<ChannelRow>
     ensures { Takes (λ size. list_at (channel_at size) behind_channel count least_word) from.old result.items from.new }
 {
     read_list(&(), LEAST_WORD, u32::from(count), from)
 }
 
-/// A context of which there are so many.
+/// The number of a context, below `count`.
 #[tactic(auto, unfolding(crate::specs::ReadingPars::context_number_at, crate::specs::Reading::tested))]
 fn read_context_number(count: usize, from: &mut Cursor<'_>) -> u16
     ensures { Takes (λ size. context_number_at size count) from.old result from.new }

@@ -51,7 +51,7 @@ pub(crate) enum Access {
 }
 
 impl Access {
-    /// The kind of a parameter that names a region of so many bytes, each word of them from `lo` to `hi`.
+    /// The kind of a parameter that names a region of `size` bytes, each word of them from `lo` to `hi`.
     fn region_kind(self, size: u32, lo: i32, hi: i32) -> ParameterKind
         ensures { result ≡ region_kind self size lo hi }
     {
@@ -127,7 +127,7 @@ pub(crate) fn read_parameter_kind(version: Version, from: &mut Cursor<'_>) -> Pa
     }
 }
 
-/// The word of a parameter: below word `hi`, and behind the parameter before, in word `low`.
+/// The word of a parameter: below word `hi`, and after the parameter before, in word `low`.
 #[tactic(auto, unfolding(crate::specs::ReadingRows::parameter_word_at, crate::specs::Reading::tested))]
 pub(crate) fn read_parameter_word(hi: i32, low: u16, from: &mut Cursor<'_>) -> u16
     ensures { Takes (λ size. parameter_word_at size hi low) from.old result from.new }
@@ -143,7 +143,7 @@ pub(crate) fn read_parameter_word(hi: i32, low: u16, from: &mut Cursor<'_>) -> u
     word
 }
 
-/// The parameters of a procedure, behind their number.
+/// The parameters of a procedure, after their number.
 #[tactic(auto, unfolding(crate::specs::ReadingRows::parameters_at, crate::specs::Reading::and_then))]
 pub(crate) fn read_parameters(version: Version, hi: i32, from: &mut Cursor<'_>) -> Vec<Parameter>
     ensures { Takes (λ size. parameters_at size version hi) from.old result.items from.new }
@@ -163,7 +163,7 @@ pub(crate) fn read_frame_start(from: &mut Cursor<'_>) -> i32
     lo
 }
 
-/// The first word behind a frame.
+/// The first word after a frame.
 #[tactic(auto, unfolding(crate::specs::ReadingRows::frame_end_at, crate::specs::Reading::tested))]
 pub(crate) fn read_frame_end(from: &mut Cursor<'_>) -> i32
     ensures { Takes frame_end_at from.old result from.new }
@@ -174,7 +174,7 @@ pub(crate) fn read_frame_end(from: &mut Cursor<'_>) -> i32
     hi
 }
 
-/// An offset in the code behind `low`.
+/// An offset in the code after `low`.
 #[tactic(auto, unfolding(crate::specs::ReadingRows::rising_at, crate::specs::Reading::tested))]
 pub(crate) fn read_procedure_entry(code_len: usize, low: u32, from: &mut Cursor<'_>) -> u32
     ensures { Takes (λ size. rising_at size code_len low) from.old result from.new }

@@ -14,7 +14,7 @@ use crate::rows::TableRow;
 use crate::rules::is_multiple_of_four;
 use byteorder::{ByteOrder, LittleEndian};
 
-/// The first byte of a table, behind those that end at `low`.
+/// The first byte of a table, after those that end at `low`.
 #[tactic(auto, unfolding(crate::specs::ReadingRows::table_start_at, crate::specs::Reading::tested))]
 pub(crate) fn read_table_start(low: u32, from: &mut Cursor<'_>) -> u32
     ensures { Takes (λ size. table_start_at size low) from.old result from.new }
@@ -26,7 +26,7 @@ pub(crate) fn read_table_start(low: u32, from: &mut Cursor<'_>) -> u32
     start
 }
 
-/// The end of a table in so many bytes of constants.
+/// The end of a table in `const_len` bytes of constants.
 #[tactic(auto, unfolding(crate::specs::ReadingRows::table_end_at, crate::specs::Reading::tested))]
 pub(crate) fn read_table_end(const_len: usize, start: u32, from: &mut Cursor<'_>) -> u32
     ensures takes { Takes (λ size. table_end_at size const_len start) from.old result from.new }

@@ -21,7 +21,7 @@ fn step_size(step: Step) -> u8
     }
 }
 
-/// A pointer: its region, bounds and step, behind the tag.
+/// A pointer: its region, bounds and step, after the tag.
 #[tactic(auto, unfolding(crate::specs::Spelling::fact_bytes))]
 #[inline(always)]
 fn put_pointer(out: &mut Writer, region: u16, lo: i32, hi: i32, step: Step)

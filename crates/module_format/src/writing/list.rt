@@ -8,7 +8,7 @@ ghost use Rattle.module_format.specs.Writable.{Writes};
 use crate::tables::Version;
 use crate::writing::writer::Writer;
 
-/// What stands in a file as an item of a list.
+/// What is written to a file as an item of a list.
 pub(crate) trait Put: Drop {
     ghost meaning: { Meaning Self };
 

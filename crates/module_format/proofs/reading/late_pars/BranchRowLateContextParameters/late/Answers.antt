@@ -16,7 +16,7 @@ sized : (b : Branch) → length (branch_bytes b) ≡ 18 + 8 * length b.writes + 
     + length (flat_map end_bytes b.ends)
 sized b = omega (arith, branch_size b, intervals_size b.writes, intervals_size b.reads)
 
--- where the lists behind the intervals stand
+-- where the lists after the intervals are
 behind_intervals : (b : Branch) (at writes reads : ℕ) → writes ≡ length b.writes → reads ≡ length b.reads
     → at + 18 + 8 * writes + 8 * reads
     ≡ at + 18 + length (flat_map interval_bytes b.writes) + length (flat_map interval_bytes b.reads)
