@@ -74,7 +74,7 @@ none_below x (z ∷ xs) h =
     let rest = none_below x xs (λ i d lt. h (suc i) d (omega arith)) in
     omega (arith, here, rest, sum_by-cons (below x) z xs)
 
--- the first is not less than another that stands first
+-- the first is not less than another that is first
 first_least : (x y : ℕ × ℕ) (xs ys : List (ℕ × ℕ))
     → IsSortedBy less (x ∷ xs)
     → sum_by (below x) (x ∷ xs) ≡ sum_by (below x) (y ∷ ys)

@@ -24,7 +24,7 @@ use Rattle.module_builder.specs.Placing.{label_offset, finish_offset, placed_pro
 use Rattle.module_builder.specs.Ordering.{IsOrder, rows_in, position}
 use Rattle.module_builder.specs.Limits.{branch_count, IsWithin}
 
--- how long each item is, and in which order the rows stand
+-- how long each item is, and the order of the rows
 pub record Arrangement : Type 0 where
   pub lengths : List ℕ
   pub procedures : List (ℕ × ℕ)
@@ -41,8 +41,8 @@ entry_of offsets (Some b) = label_offset offsets b.entry
 abbrev pub first_entry : List (Option ℕ) → ParRow Label ContextName → ℕ
 first_entry offsets row = entry_of offsets (slice_get row.branches.items 0)
 
--- Procedure rows stand by their entries, label rows by their offsets, PAR rows by the entries of their first branches,
--- and table rows by their starts, where labels have these offsets.
+-- Procedure rows are ordered by their entries, label rows by their offsets, PAR rows by the entries of their first
+-- branches, and table rows by their starts, where labels have these offsets.
 pub record AreInOrder (d : Draft) (offsets : List (Option ℕ)) (a : Arrangement) : Type 0 where
   pub procedures :
       IsOrder (map (λ (row : ProcedureRow Label). label_offset offsets row.entry) d.procedures.items) a.procedures
@@ -83,7 +83,7 @@ branch_number first branch None = None
 branch_number first branch (Some row) =
     if nat_lt branch (length row.branches.items) then nameable (first + branch) else None
 
--- the number of a context, if there is that context, where procedure rows and PAR rows stand in these orders
+-- the number of a context, if there is that context, where procedure rows and PAR rows are in these orders
 abbrev pub context_number : Draft → List (ℕ × ℕ) → List (ℕ × ℕ) → ContextName → Option ℕ
 context_number d procedures pars Root = Some 0
 context_number d procedures pars (Procedure row) =
@@ -163,7 +163,7 @@ pub record IsInvalid (d : Draft) : Type 0 where
 abbrev pub IsTooLarge : Draft → Type 0
 IsTooLarge d = (lengths : List ℕ) → IsLeast d.code lengths → IsWithinLimits d lengths → ⊥
 
--- what is answered, and when, where `view` shows the bytes
+-- what is returned, and when, where `view` shows the bytes
 abbrev pub Assembles : {V : Type 0} → (V → List ℕ) → Draft → Result V GenFault → Type 0
 Assembles view d (Ok file) = IsAssembled d (view file)
 Assembles view d (Err faults.Limit) = IsTooLarge d

@@ -20,7 +20,7 @@ target code label = slice_index_or code.labels label.index None
 abbrev pub IsMade : Code → Label → Type 0
 IsMade code label = label.index < length code.labels
 
--- the label that was made after so many others
+-- the label that was made after `number` others
 abbrev pub nth_label : Code → ℕ → Option Label
 nth_label code number = if nat_lt number (length code.labels) then Some (record { index = number }) else None
 

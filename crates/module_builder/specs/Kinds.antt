@@ -1,4 +1,4 @@
--- The four kinds of rows: where a row of a draft stands, the context that it names, and the row of a file.
+-- The four kinds of rows: how the rows of a draft are ordered, the context that one names, and the row of a file.
 use Rattle.std.specs.Prelude.{ℕ, List, Option}
 use Rattle.module_format.specs.declared.rows.ProcedureRow.{ProcedureRow}
 use Rattle.module_format.specs.declared.rows.LabelRow.{LabelRow}
@@ -16,13 +16,13 @@ pub record Kind (Row Placed : Type 0) : Type 1 where
   -- what a row of a file says
   pub Value : Type 0
   pub view : Placed → Value
-  -- rows stand by their keys
+  -- rows are ordered by their keys
   pub key : List (Option ℕ) → Row → ℕ
   pub context : Row → ContextName
   -- what the row of a file says, in the context with a number
   pub placed : List (Option ℕ) → ℕ → Row → Value
 
--- procedures, which name no context, stand by their entries
+-- procedures, which name no context, are ordered by their entries
 abbrev pub procedures : Kind (ProcedureRow Label) (ProcedureRow ℕ)
 procedures = record {
   Value = _;
@@ -41,7 +41,7 @@ labels = record {
   placed = placed_label;
 }
 
--- PARs stand by the entries of their first branches
+-- PARs are ordered by the entries of their first branches
 abbrev pub pars : Kind (ParRow Label ContextName) (ParRow ℕ ℕ)
 pars = record {
   Value = _;
@@ -51,7 +51,7 @@ pars = record {
   placed = placed_par;
 }
 
--- what is known of the constants stands by where they begin
+-- what is known of the constants is ordered by where they begin
 abbrev pub tables : Kind TableRow TableRow
 tables = record {
   Value = _;

@@ -27,7 +27,7 @@ value code lengths end (DistanceTo label) = pos (place code lengths label) -ℤ 
 value code lengths end (Between from to) = pos (place code lengths to) -ℤ pos (place code lengths from)
 
 -- The bytes of `ldc` in the address of a constant, which ends here. They are enough for each place that the
--- constants can have: they begin at a word, at most three bytes behind the code.
+-- constants can have: they begin at a word, at most three bytes after the code.
 abbrev pub load_len : List ℕ → ℕ → ℕ → ℕ
 load_len lengths end offset = length (spelling LoadConstant (pos ((sum lengths - end) + 3 + offset)))
 

@@ -14,7 +14,7 @@ numbered number (key ∷ keys) = (key, number) ∷ numbered (suc number) keys
 abbrev pub by_key : ℕ × ℕ → ℕ × ℕ → Ordering
 by_key x y = ordering_then (nat_cmp x.0 y.0) (nat_cmp x.1 y.1)
 
--- rows with these keys, each by its key and its number, stand in this order
+-- rows with these keys, each by its key and its number, are in this order
 pub record IsOrder (keys : List ℕ) (order : List (ℕ × ℕ)) : Type 0 where
   pub same : IsPermutation (numbered 0 keys) order
   pub rises : IsSorted by_key order

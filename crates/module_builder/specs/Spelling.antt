@@ -8,11 +8,11 @@ use Rattle.module_builder.specs.declared.item.Item.TheVariants.{Instruction, Con
 use Rattle.module_builder.specs.Drafts.{Code}
 use Rattle.module_builder.specs.Layouts.{offset, value, load_len}
 
--- where the constants begin: at the first word behind the code
+-- where the constants begin: at the first word after the code
 abbrev pub constants_start : ℕ → ℕ
 constants_start code_len = (code_len + 3) / 4 * 4
 
--- with `adc 0` behind them, if the bytes are fewer than this
+-- with `adc 0` after them, if the bytes are fewer than this
 abbrev pub filled : ℕ → List ℕ → List ℕ
 filled size bytes = if nat_lt (length bytes) size then bytes ++ spelling AddConstant (pos 0) else bytes
 

@@ -97,9 +97,9 @@ fn file(alloc: Global, draft: &Draft, layout: &Layout, code: &[u8]) -> Result<Ve
 }
 
 /// The module file of a draft. Its code is the instructions in their order, each as long as the least layout has it.
-/// Procedure rows stand by their entries, label rows by their offsets, PAR rows by the entries of their first
-/// branches and table rows by their starts, those at one place in the order of adding; lists inside a row stay as
-/// they are. Contexts have the numbers that follow from the order.
+/// Procedure rows are ordered by their entries, label rows by their offsets, PAR rows by the entries of their first
+/// branches and table rows by their starts, those at one place in the order of adding. Lists inside a row stay as they
+/// are. Contexts have the numbers that follow from the order.
 ///
 /// # Errors
 ///

@@ -1,4 +1,4 @@
-//! The branches of PAR rows that stand in an order.
+//! The branches of PAR rows in an order.
 
 ghost use Rattle.std.specs.Prelude.{◌≡◌, ◌≤◌, IfOk, length, slice_get};
 ghost use Rattle.std.specs.List.{AllByRecursion};

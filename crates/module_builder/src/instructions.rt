@@ -50,7 +50,7 @@ impl Instructions {
         Ok(Label { index })
     }
 
-    /// The label that was made after so many others, if it was made.
+    /// The label that was made after `number` others, if it was made.
     pub fn nth_label(&self, number: usize) -> Option<Label>
         ensures value { result ≡ nth_label self.now number }
         ensures made { IfSome result (IsMade self.now) }

@@ -18,7 +18,7 @@ pub(crate) trait Row {
 
     ghost kind: { Kind Self Self.Placed };
 
-    /// The number by which the rows of its kind stand in a file.
+    /// The number by which a file orders the rows of its kind.
     fn key(&self, layout: &Layout) -> u32
         ensures { result ≡ kind.key layout.now.places.items self.now };
 

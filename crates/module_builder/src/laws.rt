@@ -36,7 +36,7 @@ pub fn items_are_in_their_places()
 {}
 
 /// A context of a draft that is there has a number that a file can name: no number is too large where the draft is
-/// within the limits and its rows stand in order.
+/// within the limits and its rows are in order.
 pub fn contexts_have_numbers()
     ensures procedures { (d : Draft) (offsets : List (Option ℕ)) (a : Arrangement) (row : ℕ) → IsWithin d
         → AreInOrder d offsets a → row < length d.procedures.items

@@ -7,7 +7,7 @@ use crate::ordering::places_in;
 use crate::rows::order_of_rows;
 use std::alloc::{AllocError, Global};
 
-/// In which order the rows of each kind stand in a file: each row by its key and its number in the draft.
+/// The order of the rows of each kind in a file: each row by its key and its number in the draft.
 #[derive(Drop)]
 pub(crate) struct Orders {
     pub(crate) procedures: Vec<(u32, usize)>,

@@ -15,14 +15,14 @@ use crate::ordering::order_of;
 use crate::orders::Orders;
 use std::alloc::{AllocError, Global};
 
-/// The numbers by which rows stand in a file.
+/// The numbers by which a file orders rows.
 fn keys<R: Row>(alloc: Global, layout: &Layout, rows: &[R]) -> Result<Vec<u32>, AllocError>
     ensures { IfOk result (λ v. v.items ≡ map (R.kind.key layout.now.places.items) rows.now) }
 {
     rows.iter().map(|row| row.key(layout)).collect(alloc)
 }
 
-/// In which order rows stand in a file: each by its key and its number in the draft.
+/// The order of rows in a file: each by its key and its number in the draft.
 pub(crate) fn order_of_rows<R: Row>(
     alloc: Global,
     layout: &Layout,

@@ -20,7 +20,7 @@ use std::alloc::{AllocError, Global};
 /// The operation `ldpi`.
 const LDPI: i32 = 0x1b;
 
-/// Where the constants begin behind code of this length: at the next word.
+/// Where the constants begin after code of this length: at the next word.
 fn constants_start(code_len: u32) -> u32
     requires { code_len ≤ MAX_LONG_CODE }
     ensures { result ≡ constants_start code_len }
