@@ -28,7 +28,7 @@ use Rattle.certificate.proofs.NumberLaws.{many_branches}
 
 -- ---- the row of a branch
 
--- a branch is one of a row's, or stands in those behind
+-- a branch is one of a row's, or one of the rows after
 of_row : (row : Par) (branches : List Branch) (others : List (Par × Branch)) (i : ℕ) (x : Par × Branch)
     → slice_get (map (λ b. (row, b)) branches ++ others) i ≡ Some x
     → (x.0 ≡ row) ⊎ ((length branches ≤ i) × (slice_get others (i - length branches) ≡ Some x))
@@ -42,7 +42,7 @@ of_row row (b ∷ bs) others (suc i) x is = elim (of_row row bs others i x is) [
       inr (omega arith, ap (slice_get others) same ∙ later.1)
 ]
 
--- the row of a branch, which is among the first s, and of which no branch stands before the row's own
+-- the row of a branch, which is among the first s, and of which no branch is before the row's own
 pub record InRow (rows : List Par) (s i : ℕ) (row : Par) : Type 0 where
   pub at : ℕ
   pub below : at < s
@@ -84,7 +84,7 @@ by_listed (Some len) other = refl
 by_listed None other = refl
 
 module _ (c : Contents) (keeps : Keeps c) where
-  -- the row of a branch stands where its context is a branch of a row before
+  -- the row of a branch is in a context that is a branch of a row before it
   pub context_in : (s n : ℕ) (x : Par × Branch) → numbered_branch c n ≡ Some x
       → n < first_branch c + branch_count (take s c.pars)
       → (at : ℕ) × (at < s) × (x.0.context < first_branch c + branch_count (take at c.pars)) × (x.0.context < n)
@@ -93,7 +93,8 @@ module _ (c : Contents) (keeps : Keeps c) where
     | inr ge ↦
         let found = rw (le-ltb n (first_branch c) ge) at is in
         let row = in_row c.pars s (n - first_branch c) x found (omega arith) in
-        let known = context_before (first_branch c) (length c.code) no_branches c.pars row.at x.0 keeps.rows.pars row.is in
+        let known = context_before (first_branch c) (length c.code) no_branches c.pars row.at x.0
+            keeps.rows.pars row.is in
         let low = row.before in
         (row.at, row.below, omega arith, omega arith)
   ]
@@ -113,7 +114,7 @@ module _ (c : Contents) (keeps : Keeps c) where
         [ Some len ↦ Some len | None ↦ length_around m c y.0.context k ]
   ]) is ∙ by_listed (listed_length x.0.channels k) (length_around m c x.0.context k)
 
-  -- as many rows as stand before a context are enough to look up a length
+  -- as many rows as are before a context are enough to look up a length
   pub stable : (k : ℤ) (s r n more : ℕ) → r ≤ s → n < first_branch c + branch_count (take r c.pars)
       → length_around (s + more) c n k ≡ length_around s c n k
   stable k zero r n more le lt = on (numbered_branch c n) refl
@@ -193,8 +194,10 @@ pub given_more : (old new init : ℤ → Option ℕ) (chs : List ChannelRow) (i 
     → (k : ℤ) → new k ≡ nearer (listed_length (drop i chs) k) (init k)
 given_more old new init chs i d lt now before k =
     now k ∙ ap (cond (is_eq (int_cmp (get_or chs i d).word k)) (Some (get_or chs i d).length)) (before k)
-    ∙ by_word (is_eq (int_cmp (get_or chs i d).word k)) (get_or chs i d).length (listed_length (drop (i + 1) chs) k) (init k)
-    ∙ ap (λ (o : Option ℕ). nearer o (init k)) (sym (ap (λ (l : List ChannelRow). listed_length l k) (drop_more chs i d lt)
+    ∙ by_word (is_eq (int_cmp (get_or chs i d).word k)) (get_or chs i d).length
+        (listed_length (drop (i + 1) chs) k) (init k)
+    ∙ ap (λ (o : Option ℕ). nearer o (init k))
+        (sym (ap (λ (l : List ChannelRow). listed_length l k) (drop_more chs i d lt)
     ∙ listed_first (get_or chs i d) (drop (i + 1) chs) k))
 
 -- the length of one channel more is saved
@@ -315,7 +318,8 @@ same_length c keeps n m k (Some x) is (Some y) at same =
     ∙ ap (λ (r : Par). nearer (listed_length r.channels k) (channel_length c r.context k)) row
     ∙ sym (length_of_some c keeps m k y at)
 
-pub around_beside : (c : Contents) (keeps : Keeps c) (around new : Around) (row : Option ℕ) → IsRowOf c around.context row
+pub around_beside : (c : Contents) (keeps : Keeps c) (around new : Around) (row : Option ℕ)
+    → IsRowOf c around.context row
     → IsRowOf c new.context row → IsAround c around → new.lengths ≡ around.lengths → new.saved ≡ around.saved
     → IsAround c new
 around_beside c keeps around new row here there h lengths saved =

@@ -1,5 +1,6 @@
 -- Visits of all branches.
-use Rattle.std.proofs.Common.{◌≡◌, ℕ, zero, suc, ◌<◌, Bool, true, false, List, [], ◌∷◌, length, get_or, sym, ap, ◌∙◌, arith}
+use Rattle.std.proofs.Common.{◌≡◌, ℕ, zero, suc, ◌<◌, Bool, true, false, List, [], ◌∷◌, length, get_or, sym, ap, ◌∙◌,
+  arith}
 use Rattle.std.proofs.Common.{refl, subst, inl, inr, ◌+◌, ◌-◌, ◌≤◌, ◌^◌, ℤ, Option, Some, None, cond, ◌&&◌}
 use Rattle.std.specs.Prelude.{◌==◌, Vec, MatchOption, slice_get, is_some, if◌then◌else◌}
 use Rattle.std.specs.List.{list_any}
@@ -58,7 +59,8 @@ pub is_visited : (count : ℕ) (visits : List Visit) (n : ℕ) → AreVisits cou
 is_visited count visits n h lt = visited visits n (h n ∙ lt-ltb n count lt)
 
 -- the branches of the first visits have their runs
-pub record AreDone (c : Contents) (visits : List Visit) (so_far : ℕ) (runs : List (Vec ChannelRun Global)) : Type 0 where
+pub record AreDone (c : Contents) (visits : List Visit) (so_far : ℕ)
+    (runs : List (Vec ChannelRun Global)) : Type 0 where
   pub each : (j : ℕ) (d : Visit) (e : Vec ChannelRun Global) → j < so_far
       → AreRunsOf c (get_or visits j d).branch (get_or runs (get_or visits j d).branch e).items
 
@@ -153,9 +155,10 @@ pub runs_missing : (c : Contents) (all : List (Vec ChannelRun Global)) (n : ℕ)
 runs_missing c all n h ge past =
     let many = h.many in
     let count = many_branches c.pars in
-    rw (le-ltb n (first_branch c) ge) (slice_get_past (branches_of c.pars) (n - first_branch c) (omega (arith, many, count, past)))
+    rw (le-ltb n (first_branch c) ge)
+        (slice_get_past (branches_of c.pars) (n - first_branch c) (omega (arith, many, count, past)))
 
--- the run that stands at the place of a word's end
+-- the run that is at the place of a word's end
 pub run_at : (c : Contents) (n : ℕ) (k : ℤ) (d : Direction) (x : Par × Branch) (runs : List ChannelRun) (place : ℕ)
     (none : ChannelRun) → numbered_branch c n ≡ Some x → is_some (context_at c n) ≡ true
     → MatchOption (numbered_branch c n) ⊥ (λ y. AreRuns (channel_length c n) y.1.ends runs)

@@ -27,7 +27,7 @@ use Rattle.certificate.specs.Runs.{word_end}
 
 -- ---- the order
 
--- less in a first field, or the same there and less behind it
+-- less in a first field, or the same there and less in the fields after it
 lex_trans : (l1 e1 r1 l2 e2 r2 l e r : Bool) → (l1 ≡ true → l2 ≡ true → l ≡ true) → (l1 ≡ true → e2 ≡ true → l ≡ true)
     → (e1 ≡ true → l2 ≡ true → l ≡ true)
     → (e1 ≡ true → e2 ≡ true → e ≡ true) → (r1 ≡ true → r2 ≡ true → r ≡ true)
@@ -106,7 +106,7 @@ above_differs x y a = grind (arith, nat_tests, ints)
 pub neither_below : (x y : EndKey) → is_below x y ≡ false → is_below y x ≡ false → is_same_end x y ≡ true
 neither_below x y a b = grind (arith, nat_tests, ints)
 
--- what `==` answers at two numbers, and at two keys
+-- what `==` returns for two numbers, and for two keys
 same_number : (a b : ℤ) → int_eq a b ≡ (int_le a b && int_le b a)
 same_number a b = same_from_decides _ (int_le a b && int_le b a) (Decides-int_eq a b)
     (λ t. grind (arith, ints), λ e. grind (arith, ints))
@@ -165,7 +165,7 @@ module _ (key low : EndKey) (es : List EndRow) (n : ℕ) (h : InOrder EndKeeps b
   none_listed d past =
       list_any_none is_it es (All-from_get_or (λ e. is_it e ≡ false) es d (λ i lt. differs_before d i (omega arith)))
 
-  -- the end behind them is it, or none is
+  -- the end after them is it, or none is
   pub one_tells : (d : EndRow) → n < length es → is_it (get_or es n d) ≡ list_any is_it es
   one_tells d inside = elim (is_it (get_or es n d)) as (λ b. is_it (get_or es n d) ≡ b → b ≡ list_any is_it es) [
     | true ↦ λ e. sym (list_any_at is_it es n d inside e)
@@ -241,7 +241,7 @@ word_found (x ∷ xs) (suc i) k d h = word_found xs i k d h
 
 -- ---- neighbouring words
 
--- the end of the next word's channel stands behind that of a word's
+-- the end of the next word's channel is after that of a word's
 pub word_before : (es : List EndRow) (i j : ℕ) (k : ℤ) (d : Direction) → InOrder EndKeeps behind_end first_key es
     → slice_get es i ≡ Some (word_end k d) → slice_get es j ≡ Some (word_end (k +ℤ pos 1) d) → i < j
 word_before es i j k d h here next = elim (cases_lt i j) [
@@ -249,12 +249,14 @@ word_before es i j k d h here next = elim (cases_lt i j) [
   | inr ge ↦ elim (cases_lt j i) [
     | inl behind ↦
         let rises = rise (word_end k d) first_key es j i h behind (slice_get_within es i (word_end k d) here) in
-        let below = rw (get_or_from_slice_get es i _ (word_end k d) here, get_or_from_slice_get es j _ (word_end k d) next)
+        let below = rw (get_or_from_slice_get es i _ (word_end k d) here,
+            get_or_from_slice_get es j _ (word_end k d) next)
         at rises in
         absurd (grind (arith, nat_tests, ints))
     | inr le ↦
         let same : j ≡ i = omega arith in
-        let both : Some (word_end k d) ≡ Some (word_end (k +ℤ pos 1) d) = sym here ∙ ap (slice_get es) (sym same) ∙ next in
+        let both : Some (word_end k d) ≡ Some (word_end (k +ℤ pos 1) d) =
+            sym here ∙ ap (slice_get es) (sym same) ∙ next in
         let same_end : word_end k d ≡ word_end (k +ℤ pos 1) d = cc in
         let word : k ≡ k +ℤ pos 1 = ap (λ (x : EndRow). number_of x.kind) same_end in
         absurd (omega (arith, ints))

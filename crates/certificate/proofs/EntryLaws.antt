@@ -1,5 +1,6 @@
 -- What the entries of a label say of words: they rise, and a search finds the one that is about a word.
-use Rattle.std.proofs.Common.{◌≡◌, ℕ, zero, suc, ◌<◌, ◌≤◌, ℤ, pos, ◌+ℤ◌, ◌≤ℤ◌, ◌<ℤ◌, Bool, true, false, ◌&&◌, ◌||◌, not, List}
+use Rattle.std.proofs.Common.{◌≡◌, ℕ, zero, suc, ◌<◌, ◌≤◌, ℤ, pos, ◌+ℤ◌, ◌≤ℤ◌, ◌<ℤ◌, Bool, true, false, ◌&&◌, ◌||◌,
+  not, List}
 use Rattle.std.proofs.Common.{[], ◌∷◌, length, get_or, Some, find, refl, sym, subst, arith, int_le, int_lt}
 use Rattle.std.specs.Prelude.{◌==◌}
 use Rattle.std.specs.List.{AllByRecursion, list_any}
@@ -35,7 +36,8 @@ found_item {X} P test (y ∷ xs) x h is = elim (test y) as (λ b. test y ≡ b �
 pub label_rises : (c : Contents) (at : ℕ) (t : Label) → Keeps c → label_at c at ≡ Some t → EntriesRise t.entries
 label_rises c at t keeps is =
     let rows = each (LabelKeeps (length c.code) c.procedures) behind_label (λ (row : Label). EntriesRise row.entries)
-    (λ low row h. record { low = least_word; order = order_kept (length c.code) least_word row.entries h.facts.entries })
+    (λ low row h.
+        record { low = least_word; order = order_kept (length c.code) least_word row.entries h.facts.entries })
     0 c.labels keeps.rows.labels in
     found_item (λ (row : Label). EntriesRise row.entries) (λ (row : Label). row.offset == at) c.labels t rows is
 
@@ -102,7 +104,7 @@ module _ (k : ℤ) where
       rw (before_word k e (before 0 (omega arith)))
       (one_says (end_of e) es n d h.1 (omega arith) (λ j less. before (suc j) (omega arith)) here)
 
-  -- the first entry that ends after the word tells
+  -- the first entry that ends after the word decides
   pub found_says : (low : ℤ) (es : List Entry) (n : ℕ) (d : Entry) → InOrder EntryBegins behind_entry low es
       → n < length es
       → IsPartitionPoint (λ (e : Entry). int_le (end_of e) k ≡ true) (λ (e : Entry). int_le (end_of e) k ≡ false) es n
@@ -124,7 +126,8 @@ none_any : {X : Type 0} (xs : List X) → list_any (λ (x : X). false) xs ≡ fa
 none_any [] = refl
 none_any (x ∷ xs) = none_any xs
 
-any_and : {X : Type 0} (b : Bool) (test : X → Bool) (xs : List X) → list_any (λ x. b && test x) xs ≡ (b && list_any test xs)
+any_and : {X : Type 0} (b : Bool) (test : X → Bool) (xs : List X)
+    → list_any (λ x. b && test x) xs ≡ (b && list_any test xs)
 any_and true test xs = refl
 any_and false test xs = none_any xs
 

@@ -170,7 +170,7 @@ numbered_from (x ∷ xs) n at =
       ]
     ]
 
--- looking up the branch of the number that stands at an offset
+-- looking up the branch of the number that is at an offset
 pub branch_of_number : (c : Contents) (at : ℕ)
     → let v = number_from (first_branch c) (map (λ x. x.1.entry) (branches_of c.pars)) at in
     branch_at c at ≡ option_map (forked v) (numbered_branch c v)

@@ -18,7 +18,8 @@ use Rattle.certificate.specs.Rights.{is_same_end}
 use Rattle.certificate.proofs.EndOrder.{found_listed, word_before, same_itself}
 
 -- the ends from this one on have their runs, and no run goes further than the ends do
-pub record AreRunsFrom (length_of : ℤ → Option ℕ) (listed : List EndRow) (runs : List ChannelRun) (from : ℕ) : Type 0 where
+pub record AreRunsFrom (length_of : ℤ → Option ℕ) (listed : List EndRow) (runs : List ChannelRun)
+    (from : ℕ) : Type 0 where
   pub many : length runs ≡ length listed
   pub few : (i : ℕ) (k : ℤ) (direction : Direction) (d : ChannelRun) → from ≤ i
       → slice_get listed i ≡ Some (word_end k direction) → i + (get_or runs i d).count ≤ length listed
@@ -114,7 +115,8 @@ module _ (length_of : ℤ → Option ℕ) (listed : List EndRow) (runs : List Ch
         → IsRun held k (record { count = count; length = length_of k }) × (i + count ≤ length listed)
     run_here None count none is =
         let inside = slice_get_within listed i (word_end k direction) here in
-        let stops : held (k +ℤ pos 1) ≡ Some (length_of k) → ⊥ = λ e. absurd (let no : None ≡ Some (length_of k) = rw none at e in cc) in
+        let stops : held (k +ℤ pos 1) ≡ Some (length_of k) → ⊥ =
+            λ e. absurd (let no : None ≡ Some (length_of k) = rw none at e in cc) in
         (rw is (one_alone held k (length_of k) held_here stops), omega arith)
     run_here (Some run) count has is =
         let j = has.at in
@@ -150,14 +152,16 @@ few_enough length_of listed runs i h few order k direction here (Some run) has =
     let behind = word_before listed i has.at k direction order here has.end in
     let found = get_or_from_slice_get runs has.at run run has.is in
     let most : has.at + run.count ≤ length listed =
-    subst (λ (r : ChannelRun). has.at + r.count ≤ length listed) found (h.few has.at _ direction run (omega arith) has.end)
+    subst (λ (r : ChannelRun). has.at + r.count ≤ length listed) found
+        (h.few has.at _ direction run (omega arith) has.end)
     in
     omega arith
 
 -- all have their runs
 pub runs_all : (length_of : ℤ → Option ℕ) (listed : List EndRow) (runs : List ChannelRun)
     → AreRunsFrom length_of listed runs 0 → AreRuns length_of listed runs
-runs_all length_of listed runs h = record { many = h.many; each = λ i k direction d is. h.each i k direction d (omega arith) is }
+runs_all length_of listed runs h =
+    record { many = h.many; each = λ i k direction d is. h.each i k direction d (omega arith) is }
 
 -- ---- the same lengths, and the same ends
 

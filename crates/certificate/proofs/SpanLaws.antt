@@ -1,6 +1,8 @@
 -- Neighbouring words that a context may use.
-use Rattle.std.proofs.Common.{◌≡◌, ℕ, zero, suc, ◌+◌, ◌-◌, ◌<◌, ◌≤◌, ℤ, pos, ◌+ℤ◌, ◌-ℤ◌, ◌≤ℤ◌, ◌<ℤ◌, Bool, true, false, ◌&&◌}
-use Rattle.std.proofs.Common.{◌||◌, not, List, length, get_or, Option, Some, None, MatchOption, refl, sym, ap, subst, ◌∙◌, arith}
+use Rattle.std.proofs.Common.{◌≡◌, ℕ, zero, suc, ◌+◌, ◌-◌, ◌<◌, ◌≤◌, ℤ, pos, ◌+ℤ◌, ◌-ℤ◌, ◌≤ℤ◌, ◌<ℤ◌, Bool, true, false,
+  ◌&&◌}
+use Rattle.std.proofs.Common.{◌||◌, not, List, length, get_or, Option, Some, None, MatchOption, refl, sym, ap, subst,
+  ◌∙◌, arith}
 use Rattle.std.proofs.Common.{int_le, int_lt}
 use Rattle.std.proofs.Math.Bool.{and-false, or-true}
 use Rattle.std.proofs.lemmas.Bool.{le-ltb}
@@ -128,7 +130,7 @@ module _ (c : Contents) (n : ℕ) (first : ℤ) (count : ℕ) where
 
   module _ (own : OwnWords) (h : MatchOption (numbered_branch c n) ⊥ (λ x. AreOwn x.1 own))
       (e : all_words (has_word (context_at c n)) first count ≡ true) where
-    -- of words of the frame, the joined intervals of a branch tell
+    -- of words of the frame, the joined intervals of a branch decide
     pub own_writes : all_words (is_among own.writes.items) first count ≡ all_words (may_write_word c n) first count
     own_writes = on (numbered_branch c n) h
       where
@@ -154,7 +156,8 @@ module _ (c : Contents) (n : ℕ) (first : ℤ) (count : ℕ) where
             same_words (is_among own.reads.items) (λ k. is_among x.1.writes k || is_among x.1.reads k) first count
             (λ k low high. are.reads.each k)
             ∙ ap (λ (b : Bool). b && all_words (λ k. is_among x.1.writes k || is_among x.1.reads k) first count) (sym e)
-            ∙ sym (both_pass (has_word (context_at c n)) (λ k. is_among x.1.writes k || is_among x.1.reads k) first count)
+            ∙ sym (both_pass (has_word (context_at c n)) (λ k. is_among x.1.writes k || is_among x.1.reads k)
+                first count)
 
 -- ---- looked up
 

@@ -13,7 +13,8 @@ use Rattle.module_format.specs.Order.{InOrder, least_word}
 use Rattle.module_format.specs.Pars.{IntervalKeeps, behind_interval}
 use Rattle.module_format.proofs.FieldLaws.{int_le-false, int_le-true, int_le-le, int_lt-false}
 use Rattle.certificate.specs.Rights.{is_among}
-use Rattle.certificate.specs.Words.{all_words, is_within, beyond_interval, BeginBy, BeginsFrom, from_begin, BeginInOrder}
+use Rattle.certificate.specs.Words.{all_words, is_within, beyond_interval, BeginBy, BeginsFrom, from_begin,
+  BeginInOrder}
 use Rattle.certificate.specs.Words.{IsAdded}
 
 -- ---- intervals by their first words
@@ -49,8 +50,10 @@ pub record Joining (joined rest : List Interval) : Type 0 where
   pub order : InOrder BeginsFrom from_begin low rest
 
 -- before the first one
-pub starts : (joined rest sorted : List Interval) → joined ≡ [] → rest ≡ sorted → BeginInOrder sorted → Joining joined rest
-starts joined rest sorted none same h = rw (none, same) (record { low = h.low; apart = tt; begun = tt; order = h.order })
+pub starts : (joined rest sorted : List Interval) → joined ≡ [] → rest ≡ sorted → BeginInOrder sorted
+    → Joining joined rest
+starts joined rest sorted none same h =
+    rw (none, same) (record { low = h.low; apart = tt; begun = tt; order = h.order })
 
 begin_by : (low k : ℤ) (is : List Interval) → low ≤ℤ k → BeginBy low is → BeginBy k is
 begin_by low k [] le h = tt
@@ -63,14 +66,16 @@ begin_by low k (i ∷ is) le h =
 pub first_is_next : (joined rest after : List Interval) (i : Interval) → rest ≡ i ∷ after → Joining joined rest
     → BeginBy i.lo joined
 first_is_next joined rest after i is h =
-    let order : InOrder BeginsFrom from_begin h.low (i ∷ after) = subst (InOrder BeginsFrom from_begin h.low) is h.order in
+    let order : InOrder BeginsFrom from_begin h.low (i ∷ after) =
+        subst (InOrder BeginsFrom from_begin h.low) is h.order in
     begin_by h.low i.lo joined order.0 h.begun
 
 -- one of the rest is joined
 pub goes_on : (joined rest after now : List Interval) (i : Interval) → rest ≡ i ∷ after → Joining joined rest
     → InOrder IntervalKeeps beyond_interval least_word now → BeginBy i.lo now → Joining now after
 goes_on joined rest after now i is h apart begun =
-    let order : InOrder BeginsFrom from_begin h.low (i ∷ after) = subst (InOrder BeginsFrom from_begin h.low) is h.order in
+    let order : InOrder BeginsFrom from_begin h.low (i ∷ after) =
+        subst (InOrder BeginsFrom from_begin h.low) is h.order in
     record { low = i.lo; apart = apart; begun = begun; order = order.1 }
 
 -- ---- one more interval
@@ -106,7 +111,8 @@ last_changed : {X : Type 0} (P : X → Type 0) (xs : List X) (x y : X) → AllBy
 last_changed P [] x y h change = (change h.0, tt)
 last_changed P (z ∷ xs) x y h change = (h.0, last_changed P xs x y h.1 change)
 
-one_more : {X : Type 0} (P : X → Type 0) (xs : List X) (y : X) → AllByRecursion P xs → P y → AllByRecursion P (xs ++ y ∷ [])
+one_more : {X : Type 0} (P : X → Type 0) (xs : List X) (y : X) → AllByRecursion P xs → P y
+    → AllByRecursion P (xs ++ y ∷ [])
 one_more P [] y h last = (last, tt)
 one_more P (z ∷ xs) y h last = (h.0, one_more P xs y h.1 last)
 
@@ -195,7 +201,7 @@ before_all k low (i ∷ is) h lt =
     let later : k <ℤ (i.hi +ℤ pos 1) = grind (arith, ints) in
     rw here (before_all k (i.hi +ℤ pos 1) is h.1 later)
 
--- nor is one behind them
+-- nor is one after them
 pub behind_them : (k : ℤ) (is : List Interval) (d : Interval)
     → ((j : ℕ) → j < length is → int_le (get_or is j d).hi k ≡ true) → is_among is k ≡ false
 behind_them k [] d past = refl
@@ -241,7 +247,7 @@ module _ (first : ℤ) (count : ℕ) (some : 1 ≤ count) where
             rw inside refl),
       ) refl))
 
-  -- so the one after those that end before them tells
+  -- so the one after those that end before them decides
   one_has : (low : ℤ) (is : List Interval) (n : ℕ) (d : Interval) → InOrder IntervalKeeps beyond_interval low is
       → n < length is → ((j : ℕ) → j < n → int_le (get_or is j d).hi first ≡ true)
       → int_le (get_or is n d).hi first ≡ false
@@ -291,7 +297,8 @@ added_none is i h begun none = record {
   words = λ k. rw (no_word i k none) (sym (or_none (is_among is k)));
 }
 
-module _ (is : List Interval) (last i : Interval) (h : InOrder IntervalKeeps beyond_interval least_word (is ++ last ∷ []))
+module _ (is : List Interval) (last i : Interval)
+    (h : InOrder IntervalKeeps beyond_interval least_word (is ++ last ∷ []))
     (begun : BeginBy i.lo (is ++ last ∷ [])) where
   -- an interval that begins in the last one, or where it ends, widens it
   pub added_wide : (wide : Interval) → wide.lo ≡ last.lo → last.hi ≤ℤ wide.hi → FitsSigned w32 wide.hi

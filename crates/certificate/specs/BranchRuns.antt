@@ -1,5 +1,6 @@
 -- The runs of channels of all branches.
-use Rattle.std.specs.Prelude.{◌≡◌, ℕ, ◌+◌, ◌<◌, List, length, get_or, Option, Some, None, MatchOption, Vec, nat_lt, ◌==◌}
+use Rattle.std.specs.Prelude.{◌≡◌, ℕ, ◌+◌, ◌<◌, List, length, get_or, Option, Some, None, MatchOption, Vec, nat_lt,
+  ◌==◌}
 use Rattle.std.specs.List.{list_any}
 use Rattle.std.specs.Global.{Global}
 use Rattle.std.specs.Borrow.{Bor}
@@ -11,7 +12,7 @@ use Rattle.certificate.specs.Branches.{numbered_branch}
 use Rattle.certificate.specs.Rights.{channel_length}
 use Rattle.certificate.specs.Runs.{AreRuns}
 
--- these are the runs of the branch with so many before it
+-- these are the runs of the branch with `before` branches before it
 abbrev pub AreRunsOf : Contents → ℕ → List ChannelRun → Type 0
 AreRunsOf c before runs = (x : Par × Branch) → numbered_branch c (first_branch c + before) ≡ Some x
     → AreRuns (channel_length c (first_branch c + before)) x.1.ends runs
@@ -21,7 +22,7 @@ pub record AreBranchRuns (c : Contents) (runs : List (Vec ChannelRun Global)) : 
   pub many : length runs ≡ branch_count c.pars
   pub each : (i : ℕ) (d : Vec ChannelRun Global) → i < length runs → AreRunsOf c i (get_or runs i d).items
 
--- so many branches are visited, and no other
+-- the first `count` branches are visited, and no other
 abbrev pub AreVisits : ℕ → List Visit → Type 0
 AreVisits count visits = (n : ℕ) → list_any (λ visit. visit.branch == n) visits ≡ nat_lt n count
 

@@ -16,7 +16,7 @@ pub record IsJudged (c : Contents) (n : ℕ) (judged : Judged) : Type 0 where
   pub words : judged.has_words ≡ gives_words c judged.giver n
   pub label : judged.label_is_seen ≡ label_is_seen c n
 
--- this was judged of so many branches, the first ones
+-- this was judged of a number of branches, the first ones
 pub record AreJudged (c : Contents) (judged : List Judged) : Type 0 where
   pub each : (i : ℕ) (d : Judged) → i < length judged → IsJudged c (first_branch c + i) (get_or judged i d)
 
@@ -25,6 +25,6 @@ pub record IsRowJudged (c : Contents) (row : ℕ) (judged : JudgedRow) : Type 0 
   pub loops : judged.leaves_loops ≡ leaves_loops_of c row
   pub hidden : judged.hides_words ≡ hides_words_of c row
 
--- this was judged of so many PAR rows, the first ones
+-- this was judged of a number of PAR rows, the first ones
 pub record AreRowsJudged (c : Contents) (judged : List JudgedRow) : Type 0 where
   pub each : (row : ℕ) (d : JudgedRow) → row < length judged → IsRowJudged c row (get_or judged row d)

@@ -17,7 +17,7 @@ pub record AreOwn (b : Branch) (own : OwnWords) : Type 0 where
 abbrev pub AreOwnOf : Contents → ℕ → OwnWords → Type 0
 AreOwnOf c n own = (x : Par × Branch) → numbered_branch c n ≡ Some x → AreOwn x.1 own
 
--- the words of so many branches, the first ones
+-- the words of the first `count` branches
 pub record AreAllOwn (c : Contents) (count : ℕ) (own : List OwnWords) : Type 0 where
   pub many : length own ≡ count
   pub each : (i : ℕ) (d : OwnWords) → i < length own → AreOwnOf c (first_branch c + i) (get_or own i d)

@@ -48,7 +48,7 @@ abbrev pub listed_length : List ChannelRow → ℤ → Option ℕ
 listed_length channels k =
     option_map (λ channel. channel.length) (find (λ channel. int_le channel.word k && int_le k channel.word) channels)
 
--- the length that the nearest PAR row gives the channel in word k, of so many rows around context n: the row of
+-- the length that the nearest PAR row gives the channel in word k, of a number of rows around context n: the row of
 -- which it is a branch, the row of which that row's context is a branch, and so on
 abbrev pub length_around : ℕ → Contents → ℕ → ℤ → Option ℕ
 length_around zero c n k = None

@@ -1,5 +1,6 @@
 -- Runs of neighbouring channels of which a context has the ends.
-use Rattle.std.specs.Prelude.{◌≡◌, ◌⊎◌, ℕ, ◌+◌, ◌<◌, ◌≤◌, ℤ, pos, ◌+ℤ◌, Bool, if◌then◌else◌, List, length, get_or, slice_get}
+use Rattle.std.specs.Prelude.{◌≡◌, ◌⊎◌, ℕ, ◌+◌, ◌<◌, ◌≤◌, ℤ, pos, ◌+ℤ◌, Bool, if◌then◌else◌, List, length, get_or,
+  slice_get}
 use Rattle.std.specs.Prelude.{Option, Some, None}
 use Rattle.std.specs.List.{list_any}
 use Rattle.module_format.specs.declared.rows.EndKind.TheVariants as ends
@@ -18,8 +19,8 @@ word_end k direction = record { kind = ends.FrameWord k; direction = direction }
 abbrev pub held_length : (ℤ → Bool) → (ℤ → Option ℕ) → ℤ → Option (Option ℕ)
 held_length is_held length_of k = if is_held k then Some (length_of k) else None
 
--- from word k on, the ends of so many channels are held, which have one length; of the next one it is not, or it has
--- another length
+-- from word k on, the ends of `run.count` channels are held, which have one length; the end of the next one is not
+-- held, or it has another length
 pub record IsRun (held : ℤ → Option (Option ℕ)) (k : ℤ) (run : ChannelRun) : Type 0 where
   pub some : 1 ≤ run.count
   pub each : (i : ℕ) → i < run.count → held (k +ℤ pos i) ≡ Some run.length
@@ -48,7 +49,7 @@ pub record HasRun (listed : List EndRow) (runs : List ChannelRun) (k : ℤ) (dir
   pub end : slice_get listed at ≡ Some (word_end k direction)
   pub is : slice_get runs at ≡ Some run
 
--- so many are one more than those of the next word's run, if this one's have such messages, and one alone if not
+-- the count is one more than that of the next word's run, if its channels have messages of this length, and 1 if not
 abbrev pub IsCount : Option ℕ → ChannelRun → ℕ → Type 0
 IsCount len next count =
     ((next.length ≡ len) × (count ≡ next.count + 1)) ⊎ ((next.length ≡ len → ⊥) × (count ≡ 1))

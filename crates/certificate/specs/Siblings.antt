@@ -35,7 +35,7 @@ share_what_is_written b other =
 abbrev pub is_beside : Branch → Branch → Bool
 is_beside b other = (other.entry == b.entry) || not (share_what_is_written b other)
 
--- the first so many branches of a PAR row
+-- the first `count` branches of a PAR row
 abbrev pub first_branches : Contents → ℕ → ℕ → List Branch
 first_branches c row count = elim (slice_get c.pars row) [ None ↦ [] | Some par ↦ take count par.branches ]
 
@@ -43,7 +43,7 @@ first_branches c row count = elim (slice_get c.pars row) [ None ↦ [] | Some pa
 abbrev pub of_branch : Contents → ℕ → (Par → Branch → Bool) → Bool
 of_branch c n test = elim (numbered_branch c n) [ None ↦ true | Some found ↦ test found.0 found.1 ]
 
--- the branch that is context n is beside each of the first so many branches of a row
+-- the branch that is context n is beside each of the first `count` branches of a row
 abbrev pub is_beside_first : Contents → ℕ → ℕ → ℕ → Bool
 is_beside_first c n row count = of_branch c n (λ par b. list_all (is_beside b) (first_branches c row count))
 
@@ -58,7 +58,7 @@ have_common_end listed others =
 abbrev pub has_other_ends : Contents → ℕ → Branch → Bool
 has_other_ends c n other = not (list_any (has_end c n) other.ends)
 
--- context n has no end that one of the first so many branches of a row has
+-- context n has no end that one of the first `count` branches of a row has
 abbrev pub has_other_ends_than_first : Contents → ℕ → ℕ → ℕ → Bool
 has_other_ends_than_first c n row count = list_all (has_other_ends c n) (first_branches c row count)
 

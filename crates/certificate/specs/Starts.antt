@@ -26,7 +26,7 @@ is_start c at =
     is_some (label_at c at) || is_some (procedure_at c at)
     || list_any (λ entry. entry == at) (entries_of_rows c.pars) || list_any (λ row. row.successor == at) c.pars
 
--- whether a mark stands at the offset
+-- whether there is a mark at the offset
 abbrev pub has_mark : List Bool → ℕ → Bool
 has_mark marks at = get_or marks at false
 

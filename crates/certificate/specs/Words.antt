@@ -1,4 +1,4 @@
--- Words that pass a test: so many from a first one on, those of an interval, and those of joined intervals.
+-- Words that pass a test: a count of words from a first one on, those of an interval, and those of joined intervals.
 use Rattle.std.specs.Prelude.{◌≡◌, ℕ, zero, suc, ℤ, pos, ◌+ℤ◌, ◌-ℤ◌, ◌≤ℤ◌, int_le, int_lt, nat_abs, ◌&&◌, ◌||◌, Bool}
 use Rattle.std.specs.Prelude.{true, List}
 use Rattle.std.specs.List.{AllByRecursion}
@@ -7,7 +7,7 @@ use Rattle.module_format.specs.Order.{InOrder, least_word}
 use Rattle.module_format.specs.Pars.{IntervalKeeps}
 use Rattle.certificate.specs.Rights.{is_among}
 
--- each of so many words from the first on passes the test
+-- each of a count of words from the first on passes the test
 abbrev pub all_words : (ℤ → Bool) → ℤ → ℕ → Bool
 all_words test first zero = true
 all_words test first (suc more) = test (first +ℤ pos more) && all_words test first more
@@ -22,7 +22,7 @@ is_within i k = int_le i.lo k && int_lt k i.hi
 
 -- ---- joined intervals
 
--- an interval leaves the words behind the next one: no interval after it touches it
+-- an interval leaves the words after the one next to it: no interval after it touches it
 abbrev pub beyond_interval : ℤ → Interval → ℤ
 beyond_interval low i = i.hi +ℤ pos 1
 

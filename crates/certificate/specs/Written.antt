@@ -6,7 +6,7 @@ use Rattle.module_format.specs.Contents.{Contents}
 use Rattle.certificate.specs.Starting.{is_written_in}
 use Rattle.certificate.specs.Words.{AreJoined}
 
--- these are the words of so many rows, the first ones
+-- these are the words of the first `count` rows
 pub record AreWritten (c : Contents) (count : ℕ) (written : List (Vec Interval Global)) : Type 0 where
   pub many : length written ≡ count
   pub each : (row : ℕ) (d : Vec Interval Global) → row < length written

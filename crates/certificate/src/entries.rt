@@ -19,7 +19,7 @@ pub(crate) fn is_unknown(fact: Fact) -> bool
     }
 }
 
-/// The word behind those of an entry.
+/// The word after those of an entry.
 fn end_of(entry: &Entry) -> i64
     ensures { result ≡ end_of entry.now }
 {

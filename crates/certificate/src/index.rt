@@ -24,7 +24,7 @@ use std::alloc::{AllocError, Global};
 pub(crate) struct Index {
     /// Where instructions start.
     pub starts: Marks,
-    /// Where the rows of branches stand, in the order of their contexts.
+    /// Where the rows of branches are, in the order of their contexts.
     pub places: Vec<Place>,
     /// At each code offset the context of the branch that begins there, or 0, up to the last branch.
     pub numbers: Vec<u32>,

@@ -75,7 +75,7 @@ pub(crate) fn joined(
     Ok(joined)
 }
 
-/// Whether joined intervals have so many words from the first one on. It takes time logarithmic in them.
+/// Whether joined intervals have `count` words from the first one on. It takes time logarithmic in them.
 pub(crate) fn have_words(joined: &[Interval], first: i32, count: u32) -> bool
     requires { InOrder IntervalKeeps beyond_interval least_word joined.now }
     ensures { result ≡ all_words (is_among joined.now) first count }

@@ -124,8 +124,8 @@ impl Module<'_> {
     }
 
     /// Whether the label after a PAR says nothing of the two words of its block and of its channels, if there is that
-    /// label. It takes constant time, since that was judged when the module was read. Where there is no such row, nothing
-    /// is hidden.
+    /// label. It takes constant time, since that was judged when the module was read. Where there is no such row,
+    /// nothing is hidden.
     pub fn hides_words_of(&self, row: usize) -> bool
         ensures { result ≡ hides_words_of self.now row }
     {

@@ -57,10 +57,10 @@ impl<'a> Module<'a> {
     ghost use Rattle.module_format.specs.Reading.{out_of_memory};
     ghost use Rattle.module_format.specs.ReadingFile.{read_contents};
 
-    /// What the bytes say, or the first fault in the order of the fields; but whether what rows name is there
-    /// is looked at once all rows are read.
-    // A body that always answers want of memory meets these clauses too, since no clause can say that
-    // memory is left: tests show that files are read.
+    /// What the bytes say, or the first fault in the order of the fields. References are checked once all rows are
+    /// read.
+    // A body that always returns out of memory meets these clauses too, since no clause can say that memory is left:
+    // tests show that files are read.
     pub fn read(alloc: Global, bytes: &'a [u8]) -> Result<Module<'a>, FormatFault>
         // What is read is what the bytes spell.
         ensures found { IfOk result (Format bytes.now) }
@@ -94,7 +94,7 @@ impl<'a> Module<'a> {
         Ok(())
     }
 
-    /// What the file says. It keeps the format.
+    /// What the file says. It is valid.
     pub fn tables(&self) -> &Tables<'a>
         ensures contents { contents_of result.now ≡ self.now }
         ensures kept { Keeps self.now }
@@ -164,7 +164,7 @@ impl<'a> Module<'a> {
     pub fn branch(&self, number: u32) -> Option<(&ParRow, &BranchRow)>
         ensures found { MatchOption result (numbered_branch self.now number ≡ None)
             (λ found. numbered_branch self.now number ≡ Some (par_of found.0.now, branch_of found.1.now)) }
-        // What the rows say keeps the format.
+        // What the rows say is valid.
         ensures kept { IfSome result (λ found. GiftsKeep (branch_of found.1.now)
             × InOrder ChannelKeeps behind_channel least_word found.0.now.channels.items) }
     {

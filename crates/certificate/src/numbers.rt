@@ -10,7 +10,7 @@ ghost use Rattle.certificate.specs.Branches.{AreNumbers};
 use module_format::{Place, Tables};
 use std::alloc::{AllocError, Global};
 
-/// Makes room for an offset.
+/// Allocates a place for an offset.
 fn grow(numbers: &mut Vec<u32>, offset: u32) -> Result<(), AllocError>
     ensures room { IfOk result (λ _. offset < length numbers.new.items) }
     ensures same { IfOk result (λ _. (at : ℕ) → slice_index numbers.new.items at ≡ slice_index numbers.old.items at) }

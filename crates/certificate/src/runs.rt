@@ -31,7 +31,7 @@ pub(crate) fn place_of_word(ends: &[EndRow], word: i32, direction: Direction) ->
     place_of(ends, &EndRow { kind, direction })
 }
 
-/// The run from the word behind this one on, where its end is among those that have their runs.
+/// The run from the word after this one on, where its end is among those that have their runs.
 fn next_run(
     ends: &[EndRow],
     runs: &[ChannelRun],

@@ -9,7 +9,7 @@ use crate::joining::have_words;
 use crate::modules::Module;
 use module_format::{Context, Interval};
 
-/// Whether so many words from the first one on are those of a context's frame.
+/// Whether `count` words from the first one on are those of a context's frame.
 fn frame_has(frame: Context, first: i32, count: u32) -> bool
     ensures { result ≡ all_words (has_word (Some frame)) first count }
 {
@@ -20,7 +20,7 @@ fn frame_has(frame: Context, first: i32, count: u32) -> bool
     frame.lo <= first && first + i64::from(count) <= frame.hi
 }
 
-/// Whether none of so many words from the first one on is one that scheduling takes below a workspace.
+/// Whether none of `count` words from the first one on is one that scheduling takes below a workspace.
 pub(crate) fn leaves_scheduling(workspace: i32, first: i32, count: u32) -> bool
     ensures { result ≡ all_words (λ k. not (is_scheduling_word workspace k)) first count }
 {
@@ -39,7 +39,7 @@ impl Module<'_> {
     ghost use Rattle.certificate.specs.Rights.{has_word, may_write_word, may_read_word};
     ghost use Rattle.certificate.specs.Words.{all_words, all_within};
 
-    /// Whether so many words from the first one on are those of a context's frame.
+    /// Whether `count` words from the first one on are those of a context's frame.
     fn has_words(&self, context: u32, first: i32, count: u32) -> bool
         ensures { result ≡ all_words (has_word (context_at self.now context)) first count }
     {
@@ -49,7 +49,7 @@ impl Module<'_> {
         }
     }
 
-    /// Whether a context may write so many words from the first one on. It takes time logarithmic in the intervals of
+    /// Whether a context may write `count` words from the first one on. It takes time logarithmic in the intervals of
     /// the row.
     pub(crate) fn may_write_words(&self, context: u32, first: i32, count: u32) -> bool
         ensures { result ≡ all_words (may_write_word self.now context) first count }
@@ -63,7 +63,7 @@ impl Module<'_> {
         }
     }
 
-    /// Whether a context may read so many words from the first one on. It takes time logarithmic in the intervals of
+    /// Whether a context may read `count` words from the first one on. It takes time logarithmic in the intervals of
     /// the row.
     pub(crate) fn may_read_words(&self, context: u32, first: i32, count: u32) -> bool
         ensures { result ≡ all_words (may_read_word self.now context) first count }

@@ -24,7 +24,7 @@ impl Module<'_> {
         }
     }
 
-    /// Whether a context may read so many words from the first one on, and scheduling takes none of them.
+    /// Whether a context may read `count` words from the first one on, and scheduling takes none of them.
     fn sees_words(&self, context: u32, workspace: i32, first: i32, count: u32) -> bool
         ensures { result ≡ all_words (is_seen self.now context workspace) first count }
     {

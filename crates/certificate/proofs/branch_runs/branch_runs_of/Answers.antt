@@ -9,7 +9,9 @@ use Rattle.certificate.proofs.branch_runs.branch_runs_of.Goals as goal
 
 pub loop-index-init : goal.loop-index-init
 loop-index-init c = record {
-  many = let most = c.loop.auto.counter-end in let past = c.loop-test.false in let is = c.loop.invariant in omega (arith, is);
+  many =
+      let most = c.loop.auto.counter-end in let past = c.loop-test.false in
+      let is = c.loop.invariant in omega (arith, is);
   around = c.new-around.ensures (contents_of c.args.tables.now) c.requires.keeps;
   done = record { each = λ j d e lt. absurd (omega arith) };
 }

@@ -7,7 +7,8 @@ loop-interval-init c =
     let none : c.new-joined.result.items ≡ [] = search rules in
     let same : c.as_slice-rest.result.now ≡ c.sort.new.intervals.items = search rules in
     record {
-      are = starts c.new-joined.result.items c.as_slice-rest.result.now c.sort.new.intervals.items none same c.sort.ensures.order;
+      are = starts c.new-joined.result.items c.as_slice-rest.result.now c.sort.new.intervals.items none same
+          c.sort.ensures.order;
       words = λ k. rw (none, same) (c.sort.ensures.same k);
     }
 
@@ -22,7 +23,8 @@ add-requires-clause-begun c =
 pub loop-interval-preserved : goal.loop-interval-preserved
 loop-interval-preserved c = record {
   are = goes_on c.loop-interval.joined.items c.loop-interval.rest.now c.in-Some.after.now c.add.new.joined.items
-      c.in-Some.interval.now (search rules) c.loop-interval.invariant.are c.in_ok-add.ensures.apart c.in_ok-add.ensures.begun;
+      c.in-Some.interval.now (search rules) c.loop-interval.invariant.are c.in_ok-add.ensures.apart
+          c.in_ok-add.ensures.begun;
   words = λ k. word_goes_on k c.loop-interval.joined.items c.loop-interval.rest.now c.in-Some.after.now
       c.add.new.joined.items c.in-Some.interval.now (search rules) (c.in_ok-add.ensures.words k)
       ∙ c.loop-interval.invariant.words k;

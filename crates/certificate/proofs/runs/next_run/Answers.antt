@@ -10,7 +10,8 @@ pub returns-in_err-checked_add : goal.returns-in_err-checked_add
 returns-in_err-checked_add c =
     let fits : FitsSigned w32 c.args.word = search rules in
     let far = rw (c.in_err-checked_add.was, to_z-of_z w32 c.args.word fits) at c.checked_add.ensures in
-    rw c.from_residual.ensures (no_word c.args.ends.now first_key (c.args.word +ℤ pos 1) c.args.direction c.requires.order
+    rw c.from_residual.ensures (no_word c.args.ends.now first_key (c.args.word +ℤ pos 1) c.args.direction
+        c.requires.order
     far)
 
 pub offset_bounds-runs-index : goal.offset_bounds-runs-index

@@ -10,7 +10,8 @@ loop-one-preserved-then-one-other c =
     let there = first_fits c.loop-one.right.now c.in-Some-split_first.after_other.now c.in-Some-split_first.other.now
     (search rules) c.loop-one.invariant.right in
     record {
-      left = rise_left c.loop-one.left.now c.in-Some.after_one.now c.in-Some.one.now (search rules) c.loop-one.invariant.left;
+      left = rise_left c.loop-one.left.now c.in-Some.after_one.now c.in-Some.one.now (search rules)
+          c.loop-one.invariant.left;
       right = c.loop-one.invariant.right;
       same = one_left c.loop-one.left.now c.loop-one.right.now c.in-Some.one.now c.in-Some-split_first.other.now
           c.in-Some.after_one.now c.in-Some-split_first.after_other.now (search rules) (search rules)

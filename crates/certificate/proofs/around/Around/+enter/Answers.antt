@@ -6,7 +6,7 @@ use Rattle.certificate.specs.Around.{IsRowOf}
 use Rattle.certificate.proofs.AroundLaws.{around_beside, around_entered, context_below}
 use Rattle.certificate.proofs.around.Around.+enter.Goals as goal
 
--- two rows that are told to be the same
+-- two rows for which the test says that they are the same
 same_row : (a b : Option ℕ) → option_eq eqb a b ≡ true → a ≡ b
 same_row None None e = refl
 same_row None (Some y) e = absurd cc
@@ -33,14 +33,16 @@ returns-in_default-clause-around t c =
       context = c.args.context;
       lengths = c.leave_until.new.self.lengths;
       saved = c.leave_until.new.self.saved;
-    }) None (c.in_ok-leave_until.ensures.outside refl) c.in_default.ensures.found c.in_ok-leave_until.ensures.around refl
+    }) None (c.in_ok-leave_until.ensures.outside refl) c.in_default.ensures.found
+        c.in_ok-leave_until.ensures.around refl
     refl
 
 pub enter-requires : goal.enter-requires
 enter-requires t c =
     let below = context_below (contents_of c.args.tables.now) c.requires.keeps c.args.context
     (par_of c.in-Some.par.now, branch_of c.in-Some._branch.now) c.in-Some.ensures.found in
-    let outer : c.from-outer.result < t = let d = c.decreases in let e = c.from-outer.ensures in omega (arith, d, e, below) in
+    let outer : c.from-outer.result < t =
+        let d = c.decreases in let e = c.from-outer.ensures in omega (arith, d, e, below) in
     (outer, (c.requires.keeps, (c.requires.places, c.in_ok-leave_until-2.ensures.around)))
 
 pub returns-clause-around : goal.returns-clause-around

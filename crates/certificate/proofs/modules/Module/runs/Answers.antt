@@ -27,4 +27,5 @@ returns c =
     let ge : first_branch t ≤ c.args.context = rw c.first_branch.ensures at c.in_ok-number.ensures.0 in
     rw c.deref-2.ensures.value (subst (λ (m : Contents). MatchOption (numbered_branch m c.args.context) ⊥
     (λ x. AreRuns (channel_length m c.args.context) x.1.ends c.in_ok-runs.runs.now.items)) c.self.view_is
-    (runs_there t c.self.inside.index.runs.items c.args.context c.in_ok-runs.runs.now c.self.invariant.1.runs ge within is))
+    (runs_there t c.self.inside.index.runs.items c.args.context c.in_ok-runs.runs.now c.self.invariant.1.runs
+        ge within is))
