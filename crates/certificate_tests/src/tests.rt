@@ -92,7 +92,7 @@ fn a_file_is_refused(rt: HostRuntime) {
     );
 }
 
-/// With memory refused at any moment, the answer is the plain one or out of memory, and nothing else.
+/// If an allocation fails at any moment, the result is the plain one or out of memory, and nothing else.
 #[test]
 fn memory_runs_out(rt: HostRuntime) {
     for file in [

@@ -109,7 +109,7 @@ fn written_by_hand(rt: HostRuntime) -> Result<(), Fail> {
     Ok(())
 }
 
-/// An item of a list that keeps the format, by its number from 0 on.
+/// An item of a valid list, by its number from 0 on.
 trait Numbered: Drop {
     fn numbered(alloc: Global, number: u16) -> Result<Self, AllocError>;
 }
@@ -283,7 +283,7 @@ enum Items {
 }
 
 /// Lists by the number of their last item, from 0 on: the longest ones, and one item more, or more than a file can
-/// tell; and whether they keep the format.
+/// count; and whether they are valid.
 const LISTS: [(Items, u16, bool); 17] = [
     (Items::Labels, 8_191, true),
     (Items::Labels, 8_192, false),

@@ -36,7 +36,7 @@ fn rights(module: &Module) -> [bool; 4] {
     ]
 }
 
-/// Which answers are right, of rows by offsets, of contexts, and of rights.
+/// Which results are right, of rows by offsets, of contexts, and of rights.
 fn answers(alloc: Global) -> Option<([bool; 4], [bool; 3], [bool; 4])> {
     let module = Module::read(alloc, &EVERY_ROW).ok()?;
     Some((rows_by_offsets(&module), contexts(&module), rights(&module)))
