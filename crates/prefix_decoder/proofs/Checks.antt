@@ -34,7 +34,7 @@ tested code at start i written differs start-is was is test =
     rw (all, is) at test in
     rw (was', test') (sym (turned (bytes_eq (take i.len (drop at code)) (spelling i.fun i.operand)) i))
 
--- a fault that was read is the answer
+-- a fault that was read is the result
 pub refused : (code : List ℕ) (at start : ℕ) (e : DecodeFault)
     → start ≡ min at (length code)
     → read 8 (slice_from code start) (pos 0) 0 ≡ Err e

@@ -121,7 +121,7 @@ outcome (suc fuel) (byte ∷ bytes) register taken ok h =
     (outcome fuel bytes (after_prefix (function_code byte) e) (taken + 1) (IsRegister-after (function_code byte) e fits)
     (IsBytes-tail byte bytes h))
 
--- ---- where the first byte that is no prefix stands
+-- ---- where the first byte that is no prefix is
 
 All-middle : (xs : List ℕ) (y : ℕ) (ys : List ℕ) → All IsPrefix (xs ++ y ∷ ys) → IsPrefix y
 All-middle [] y ys all = All-head IsPrefix y ys all
@@ -192,7 +192,7 @@ checked-spelling f e front rest bytes s parts =
     (bytes_eq-Decides (take (length front) (front ++ rest)) (spelling f e)).1 first in
     rw (parts, read-spelling f e front rest s, passes) refl
 
--- when each fault is told
+-- when each fault is reported
 ends_is : (bytes : List ℕ) (r : Result Instr DecodeFault)
     → Outcome 8 bytes 0 r
     → (checked bytes r ≡ Err EndOfCode) ↔ EndsTooSoon bytes

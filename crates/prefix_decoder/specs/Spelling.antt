@@ -31,7 +31,7 @@ pub record IsSpelling (f : Fun) (e : ℤ) (bytes : List ℕ) : Type 0 where
   pub fits : FitsSigned w32 e
   pub spells : Spells (code_of f) e bytes
 
--- the spelling of the function with this code and a natural operand, after at most so many prefixes
+-- the spelling of the function with this code and a natural operand, after at most a given count of prefixes
 abbrev pub natural_spelling : ℕ → ℕ → ℕ → List ℕ
 natural_spelling zero code n = byte_of code (pos n) ∷ []
 natural_spelling (suc more) code n =

@@ -18,7 +18,7 @@ pub struct Instr {
     pub len: usize,
 }
 
-/// Why no instruction stands at a place of the code.
+/// Why there is no instruction at a place of the code.
 #[derive(Clone, Copy, Debug, PartialEq, Eq)]
 pub enum DecodeFault {
     /// P1: the code ends before a byte that is no prefix, within the first eight.
@@ -29,7 +29,7 @@ pub enum DecodeFault {
     TooLong,
 }
 
-/// What the device reads from these bytes on.
+/// What the T414 reads from these bytes on.
 fn decode(bytes: &[u8]) -> Result<Instr, DecodeFault>
     ensures { result ≡ read 8 bytes.now (pos 0) 0 }
 {
@@ -65,12 +65,11 @@ fn instruction_at(code: &[u8], at: usize) -> Result<Instr, DecodeFault>
     Ok(instr)
 }
 
-/// The instruction whose one spelling stands at a place of the code. Beyond the end of the code that is
-/// `EndOfCode`.
+/// The instruction whose one spelling is at a place of the code. Beyond the end of the code that is `EndOfCode`.
 pub fn fetch(code: &[u8], at: usize) -> Result<Instr, DecodeFault>
     ensures exact { result ≡ fetched code.now at }
 
-    // What is told stands there, and what stands there is told, whatever follows it.
+    // What is returned is there, and what is there is returned, whatever follows it.
     ensures found { IfOk result (StandsAt code.now at) }
     ensures length { IfOk result (λ i. (1 ≤ i.len) × (i.len ≤ 8)) }
     ensures only { (f : Fun) (e : ℤ) (bytes rest : List ℕ) → IsSpelling f e bytes → drop at code.now ≡ bytes ++ rest

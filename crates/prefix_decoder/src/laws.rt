@@ -21,8 +21,7 @@ pub fn each_operand_has_a_spelling()
     ensures { (f : Fun) (e : ℤ) → FitsSigned w32 e → IsSpelling f e (spelling f e) }
 {}
 
-/// From an operand register of 0 the device has the operand at the last byte of a spelling, whatever
-/// follows it.
+/// From an operand register of 0 the T414 has the operand at the last byte of a spelling, whatever follows it.
 pub fn device_reads_each_spelling()
     ensures { (f : Fun) (e : ℤ) (bytes rest : List ℕ) → IsSpelling f e bytes
         → read 8 (bytes ++ rest) (pos 0) 0 ≡ Ok (record { fun = f; operand = e; len = length bytes }) }

@@ -1,4 +1,4 @@
-//! What the device does to the operand register with one instruction byte. Between two bytes the register
+//! What the T414 does to the operand register with one instruction byte. Between two bytes the register
 //! is a word whose low nibble is 0, at the start of an instruction it is 0.
 ghost use Rattle.std.specs.Prelude.{◌≡◌};
 ghost use Rattle.prefix_decoder.specs.Functions.{nibble};

@@ -46,7 +46,7 @@ fn codes(rt: HostRuntime) {
     }
 }
 
-/// -31 is `61 41`: the device's register on the way.
+/// -31 is `61 41`: the T414's register on the way.
 #[test]
 fn operand_register(rt: HostRuntime) {
     assert_eq!(rt; operand::with_nibble(0, 0x61), 1);
