@@ -18,7 +18,7 @@ use Rattle.word_arithmetic.proofs.ModularLaws.{in_full}
 
 -- ---- words
 
--- what the bits of some number below 2^32 stand for is a word
+-- the signed value of the bits of a number below 2^32 is a word
 pub cast_fits : (n : ℕ) → n < 2 ^ 32 → FitsSigned w32 (cast_signed w32 n)
 cast_fits n h = omega (arith, ints)
 
@@ -26,7 +26,7 @@ cast_fits n h = omega (arith, ints)
 pub bits_below : (x : ℤ) → FitsSigned w32 x → cast_unsigned w32 x < 2 ^ 32
 bits_below x f = omega (arith, ints)
 
--- what is left modulo 2^32 stands for a word
+-- the signed value of what is left modulo 2^32 is a word
 pub wrapped_fits : (n : ℕ) → FitsSigned w32 (cast_signed w32 (n % 2 ^ 32))
 wrapped_fits n = cast_fits (n % 2 ^ 32) (mod_below n (2 ^ 32) (omega arith))
 
@@ -111,7 +111,7 @@ bits_hold f hi r s p q words naturals x y m n =
     (naturals a.0 b.0 (subst (InRange r) a.1 m) (subst (InRange s) b.1 n))))
     (λ d. in_full (f x y) (words x y (member_fits r x p m) (member_fits s y q n))))
 
--- what is below 2^31 is read as it stands
+-- what is below 2^31 is read unchanged
 cast_low : (n : ℕ) → n < 2147483648 → cast_signed w32 n ≡ pos n
 cast_low n h = to_z_pos w32 n h
 

@@ -11,7 +11,7 @@ use Rattle.word_arithmetic.specs.Range.{Ends, InRange, BoundsExactly, corners, p
 use Rattle.word_arithmetic.proofs.EndsLaws.{lo_in, hi_in}
 use Rattle.word_arithmetic.proofs.SumLaws.{AtMembers, at_members, fitting_exact}
 
--- z lies between p and q, which may stand in either order
+-- z lies between p and q, which may be in either order
 pub record Between (p q z : ℤ) : Type 0 where
   pub above : (p ≤ℤ z) ⊎ (q ≤ℤ z)
   pub below : (z ≤ℤ p) ⊎ (z ≤ℤ q)

@@ -1,5 +1,6 @@
 -- The range of the results of ranges is one: its ends are words, in order.
-use Rattle.std.proofs.Common.{◌≡◌, ℕ, ◌&&◌, Bool, true, false, cond, Option, Some, None, unwrap_or, refl, sym, subst, ap}
+use Rattle.std.proofs.Common.{◌≡◌, ℕ, ◌&&◌, Bool, true, false, cond, Option, Some, None, unwrap_or, refl, sym, subst,
+  ap}
 use Rattle.std.proofs.Common.{ℤ, pos, negsuc, ◌+ℤ◌, ◌-ℤ◌, ◌*ℤ◌, ◌≤ℤ◌, int_le, int_div, FitsSigned, IsSomeAnd, arith}
 use Rattle.std.specs.Int.{w32, int_min, int_max}
 use Rattle.std.proofs.lemmas.Int.{ints, clamps}
@@ -109,7 +110,8 @@ unfolding result_range
 words binary.Add r s t p q h = fitting_words (sums r s) t h
 words binary.Subtract r s t p q h = fitting_words (differences r s) t h
 words binary.Multiply r s t p q h = fitting_words (corners (λ x y. x *ℤ y) r s) t h
-words binary.Divide r s t p q h = fitting_words (corners int_div r s) t (unless (in_range s (pos 0)) (fitting (corners int_div r s)) t h)
+words binary.Divide r s t p q h =
+    fitting_words (corners int_div r s) t (unless (in_range s (pos 0)) (fitting (corners int_div r s)) t h)
 words binary.Remainder r s t p q h =
     some_words (remainder_ends r (greatest_size s)) t
     (unless (can_fail_to_divide r s) (Some (remainder_ends r (greatest_size s))) t h)

@@ -36,7 +36,7 @@ pub record AtMembers (f : ℤ → ℤ → ℤ) (r s : Ends) (z : ℤ) : Type 0 w
 pub at_members : (f : ℤ → ℤ → ℤ) (r s : Ends) (x y : ℤ) → InRange r x → InRange s y → AtMembers f r s (f x y)
 at_members f r s x y h k = record { x = x; y = y; x_in = h; y_in = k; is = refl }
 
--- If g is the number f where a word stands for it, and the range e holds each result of f and both its ends are such
+-- If g is the number f where a word represents it, and the range e holds each result of f and both its ends are such
 -- results, then e is exact for g where its ends fit, and where one doesn't, some members set the error flag.
 pub fitting_exact : (g : ℤ → ℤ → Option ℤ) (f : ℤ → ℤ → ℤ) (r s e : Ends)
     → ((x y : ℤ) → InRange r x → InRange s y → g x y ≡ checked (f x y))

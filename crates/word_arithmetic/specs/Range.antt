@@ -262,8 +262,8 @@ at_least v = record { lo = v; hi = greatest_word }
 abbrev pub at_most : ℤ → Ends
 at_most v = record { lo = least_word; hi = v }
 
--- what is left of the range by a test whether a number lies in another one: the part inside where it does, else the part
--- outside
+-- what is left of the range by a test whether a number lies in another one: the part inside where it does, else the
+-- part outside
 abbrev pub left_by : Bool → Ends → Ends → Ends
 left_by true r other = inside r other
 left_by false r other = outside r other
@@ -284,8 +284,8 @@ words_above v = range_between (v +ℤ pos 1) greatest_word
 abbrev pub words_below : ℤ → Option Ends
 words_below v = range_between least_word (v -ℤ pos 1)
 
--- A comparison with a word as a test: whether a number lies in a range, or, by false, whether it does not. No number lies
--- in a range that is not there.
+-- A comparison with a word as a test: whether a number lies in a range, or, by false, whether it does not. No number
+-- lies in a range that is not there.
 abbrev pub as_test : Comparison → ℤ → Bool × Option Ends
 as_test Equal v = (true, Some (constant v))
 as_test NotEqual v = (false, Some (constant v))

@@ -1,6 +1,5 @@
--- What the T414 computes on words. A word has 32 bits and stands here for its signed value; "unsigned" says
--- where it is read as a number from 0 to 2^32 - 1. From the T414 compiler writer's guide, but for what is
--- marked as our own choice.
+-- What the T414 computes on words. A word has 32 bits and means its signed value here; "unsigned" says where it is read
+-- as a number from 0 to 2^32 - 1. From the T414 compiler writer's guide, except what is marked as our own choice.
 use Rattle.std.specs.Prelude.{◌≡◌, ◌↔◌, IsTrue, FitsSigned, ◌≤ℤ◌, ℕ, zero, ◌/◌, ◌^◌, Bool, Option, Some, None}
 use Rattle.std.specs.Prelude.{if◌then◌else◌, nat_lt, ℤ, pos, negsuc, ◌+ℤ◌, ◌-ℤ◌, ◌*ℤ◌, int_div, int_rem, is_some}
 use Rattle.std.specs.Int.{w32, cast_signed, cast_unsigned, int_wrapping_add, int_wrapping_sub, int_wrapping_mul}
@@ -13,7 +12,7 @@ least_word = negsuc 2147483647
 abbrev pub greatest_word : ℤ
 greatest_word = pos 2147483647
 
--- the number is one that a word stands for, from -2^31 to 2^31 - 1
+-- the number is one that a word represents, from -2^31 to 2^31 - 1
 abbrev pub is_word : ℤ → Bool
 is_word (pos n) = nat_lt n (2 ^ 31)
 is_word (negsuc n) = nat_lt n (2 ^ 31)

@@ -4,21 +4,21 @@ ghost use Rattle.std.specs.Prelude.{◌≡◌};
 ghost use Rattle.word_arithmetic.specs.Word.{checked_sum, checked_difference, checked_product, checked_quotient};
 ghost use Rattle.word_arithmetic.specs.Word.{checked_remainder};
 
-/// The sum; `None` where no word stands for it.
+/// The sum; `None` if no word represents it.
 pub fn checked_add(left: i32, right: i32) -> Option<i32>
     ensures { result ≡ checked_sum left right }
 {
     left.checked_add(right)
 }
 
-/// The first less the second; `None` where no word stands for it.
+/// The first less the second; `None` if no word represents it.
 pub fn checked_sub(left: i32, right: i32) -> Option<i32>
     ensures { result ≡ checked_difference left right }
 {
     left.checked_sub(right)
 }
 
-/// The product; `None` where no word stands for it.
+/// The product; `None` if no word represents it.
 pub fn checked_mul(left: i32, right: i32) -> Option<i32>
     ensures { result ≡ checked_product left right }
 {

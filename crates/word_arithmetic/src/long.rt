@@ -3,8 +3,8 @@ ghost use Rattle.std.specs.Prelude.{◌≡◌, ◌+◌, ◌*◌, ◌%◌, ◌^�
 ghost use Rattle.std.specs.Int.{w32, cast_unsigned};
 ghost use Rattle.word_arithmetic.specs.Long.{two_words, borrowing, long_sum, long_difference, long_product};
 
-/// The two words of a long operation. Beside the low word stands the carry of a sum, the borrow of a
-/// difference (0 or 1), or the high word of a product.
+/// The two words of a long operation. The high word is the carry of a sum, the borrow of a difference (0 or 1), or the
+/// high word of a product.
 #[derive(Clone, Copy, Debug, PartialEq, Eq, Hash)]
 pub struct LongResult {
     pub low: i32,

@@ -47,8 +47,8 @@ impl Range {
         self
     }
 
-    /// What is left of the range by a test whether a number lies in another one, where that is one range; else the range
-    /// itself.
+    /// What is left of the range by a test whether a number lies in another one, where that is one range; else the
+    /// range itself.
     pub fn left_by(self, is_inside: bool, other: Range) -> Range
         ensures rule { ends_of result ≡ left_by is_inside (ends_of self) (ends_of other) }
         ensures narrows { Narrows (λ v. in_range (ends_of other) v ≡ is_inside) (ends_of self) (ends_of result) }

@@ -4,7 +4,7 @@ use Rattle.word_arithmetic.specs.Range.{Ends, ends_of, constant, full, zero_to, 
 use Rattle.word_arithmetic.specs.Range.{is_not_negative}
 use Rattle.word_arithmetic.proofs.ranges.Range.bits.Goals as goal
 
--- the range, by the answers of both tests
+-- the range, by the results of both tests
 by_tests : (r s : Ends) (value hi : ℤ) {single natural tested signed : Bool}
     → single ≡ (is_constant r && is_constant s) → single ≡ tested
     → natural ≡ (is_not_negative r && is_not_negative s) → natural ≡ signed
