@@ -28,7 +28,7 @@ Covers seen place n = (i : ℕ) → i < n → seen (place + i) ≡ true
 abbrev Same : Memory → Memory → ℕ → ℕ → Type 0
 Same m n place count = (i : ℕ) → i < count → byte_at n (place + i) ≡ byte_at m (place + i)
 
--- the same of the bytes behind the first
+-- the same of the bytes after the first
 behind : (m n : Memory) (place count : ℕ) → Same m n place (suc count) → Same m n (place + 1) count
 behind m n place count same i inside =
     let e : place + 1 + i ≡ place + (i + 1) = omega arith in

@@ -1,4 +1,4 @@
--- What stands in a list, and what a test says of it.
+-- What is in a list, and what a test says of it.
 use Rattle.std.proofs.Common.{◌≡◌, Bool, true, false, ◌⊎◌, inl, inr, List, [], ◌∷◌, ◌++◌, length, map, filter, refl}
 use Rattle.std.proofs.Common.{sym, ap, ◌∙◌, subst, arith, eqb-true, if◌then◌else◌}
 use Rattle.std.specs.Prelude.{◌==◌}

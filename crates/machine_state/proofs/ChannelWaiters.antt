@@ -71,7 +71,7 @@ new_is_quiet h w cells (change.by_first target workspace found is none tests) k 
     let plan = plan_of h w found in made_is_quiet h.process plan.base plan.par.channels w.channels k c here
 new_is_quiet h w cells change.by_later k c here = inl here
 
--- ---- conditions in which nobody waits on an internal channel
+-- ---- conditions in which no process waits on an internal channel
 
 abbrev pub IsCalm : Condition → Type 0
 IsCalm c = (e : Exchange) → (c ≡ Sending e) ⊎ (c ≡ Receiving e) → ⊥

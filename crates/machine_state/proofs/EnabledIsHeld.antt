@@ -1,4 +1,4 @@
--- What a process has enabled it holds, and nobody else receives there.
+-- What a process has enabled it holds, and no other process receives there.
 use Rattle.std.proofs.Common.{◌≡◌, ◌≢◌, ℕ, zero, suc, ◌<◌, ◌^◌, true, ◌⊎◌, inl, inr, List, Option, Some, None, refl}
 use Rattle.std.proofs.Common.{sym, ap, ◌∙◌, subst, slice_get, arith, replicate}
 use Rattle.std.proofs.lemmas.Bool.{cases_eq}
@@ -252,7 +252,7 @@ enabled_is_held m es =
     (λ es ts rs cs ls held x. passed m (world_after m es) (reached m es) (channels_have_their_waiters m es)
     (who_enabled_alternates m es) held ts rs cs ls x) es
 
--- ---- nobody else receives there
+-- ---- no other process receives there
 
 place_address : (a b : ℕ) → a < 2 ^ 32 → b < 2 ^ 32 → place_of a ≡ place_of b → a ≡ b
 unfolding place_of
@@ -280,7 +280,7 @@ word_of m w st p end c at holds =
       | inr own ↦ own.1
     ]
 
--- what a process has enabled is received from by nobody else
+-- what a process has enabled is received from by no other process
 pub only_receiver : (m : Contents) (w : World) → Stands m w → AllApart w.roles w.channels
     → EnabledIsHeld w.roles w.channels w.links.inputs → (k p q a : ℕ) (c : Channel)
     → slice_get w.channels k ≡ Some (Some c) → c.enabled ≡ Some p → cell_of a ≡ k

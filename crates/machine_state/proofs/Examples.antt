@@ -16,7 +16,7 @@ use Rattle.machine_state.specs.Happens.{turn}
 use Rattle.machine_state.specs.SmallModules.{FirstEnds, JumpEnds, SlicedJumpEnds, CallEnds, LoopEnds, PairEnds}
 use Rattle.machine_state.specs.SmallModules.{PairFaults, EchoWaits, ChannelEnds, ChoiceWaits}
 
--- each module ends or waits with no fault, or with the fault that is told
+-- each module ends or waits with no fault, or with the fault that is stated
 pub small_modules_end : FirstEnds × JumpEnds × SlicedJumpEnds × CallEnds × LoopEnds × PairEnds × PairFaults
     × EchoWaits × ChannelEnds × ChoiceWaits
 unfolding turn local_step step_of instruction_of op_of instruction_step operation_step computes computed

@@ -60,7 +60,7 @@ pub record Opens (pars : List Par) (own : ℕ → Holding) (opened later : ℕ �
   pub both : (x : ℕ) → InBlock j x → owns (x / 4) ≡ Some p → ⊥
   pub place : AtPlace pars j
 
--- What a branch is given was its opener's to give, and nobody under the opener claims what clashes with it.
+-- What a branch is given was its opener's to give, and no process under the opener claims what clashes with it.
 pub record IsGiven (own : ℕ → Holding) (opener : ℕ → Option ℕ) (opened : ℕ → Option Join) (owner : ℕ → Option ℕ)
     (p : ℕ) (j : Join) (c : Claim) : Type 0 where
   pub from : (claims (own p) c ≡ true) ⊎ OwnEnd owner p c
@@ -462,7 +462,7 @@ module _ {size : ℕ} {pars : List Par} {own : ℕ → Holding} {opener : ℕ �
     has_none : (q : ℕ) (x : Join) → opened q ≡ Some x → new ≢ q
     has_none q x now e = let z : None ≡ Some x = sym g.shut ∙ (ap opened e ∙ now) in cc
 
-    -- the constants are nobody's to write
+    -- no process may write the constants
     behind : (q : ℕ) (c : Claim) → IsBehind size c → claims (own q) (clash c) ≡ true → ⊥
     behind q (to_write x) far claimed = far
     behind q (to_read x) far claimed = let near = t.inside q x claimed in omega (arith, near, far)
@@ -475,7 +475,7 @@ module _ {size : ℕ} {pars : List Par} {own : ℕ → Holding} {opener : ℕ �
         let near = t.inside q n (held_write t q x n now claimed) in omega (arith, near, far)
     behind_rest q x (to_use e) now far claimed = far
 
-    -- an end of the opener's channels is nobody's who is beside the opener
+    -- no process beside the opener has an end of the opener's channels
     end_beside : (s : ℕ) (c : Claim) → OwnEnd owner p c → (Under opener p s → ⊥) → claims (own s) (clash c) ≡ true → ⊥
     end_beside s (to_write x) end apart claimed = end
     end_beside s (to_read x) end apart claimed = end
@@ -596,6 +596,6 @@ module _ {size : ℕ} {pars : List Par} {own : ℕ → Holding} {opener : ℕ �
       places = t.places;
     }
       where
-        -- nobody beside the new process is its opener
+        -- no process beside the new process is its opener
         up_is : (a b : ℕ) → new ≡ a → p ≡ b → (Under by b a → ⊥) → ⊥
         up_is a b e same apart = apart (subst (λ n. Under by b n) e (subst (λ n. Under by n new) same is_under))

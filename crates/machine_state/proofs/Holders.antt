@@ -66,7 +66,7 @@ module _ {size : ℕ} {pars : List Par} {own : ℕ → Holding} {opener : ℕ �
         lent.0.above
   ]
 
-  -- a place that nobody has a channel in, since it is one's own who has no join open
+  -- a place that no process has a channel in, since it belongs to a process that has no join open
   pub not_owned : (p q x : ℕ) → opened p ≡ None → may_write (own p) x ≡ true → owner (x / 4) ≡ Some q → ⊥
   not_owned p q x none mine owned = elim (cases_eq p q) [
     | inl e ↦
@@ -156,7 +156,7 @@ module _ {size : ℕ} {pars : List Par} {own : ℕ → Holding} {opener : ℕ �
       let e : None ≡ Some k.0 = sym is ∙ k.1 in cc
   on_itself p x keeps (Some j) is read = t.hidden p j x is read keeps
 
-  -- what a join keeps is held by nobody
+  -- what a join keeps is held by no process
   pub kept_is_free : (p q x : ℕ) → KeepsPlace opened owner p x → may_read (held_now q) x ≡ true → ⊥
   kept_is_free p q x keeps read = elim (cases_eq p q) [
     | inl e ↦ on_itself q x (subst (λ n. KeepsPlace opened owner n x) e keeps) (opened q) refl read

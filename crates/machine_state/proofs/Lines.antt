@@ -28,7 +28,7 @@ got_within [] p low = absurd (omega (arith, low))
 got_within (x ∷ xs) zero low = (x, refl)
 got_within (x ∷ xs) (suc p) low = got_within xs p (omega (arith, low))
 
--- what stands there after one was set: the new one, at its place, or what stood there, at another
+-- what is there after one was set: the new one, at its place, or what was there, at another
 pub set_either : {A : Type 0} (xs : List A) (k : ℕ) (y : A) (j : ℕ) (x : A) → slice_get (slice_set xs k y) j ≡ Some x
     → ((k ≡ j) × (x ≡ y)) ⊎ ((k ≢ j) × (slice_get xs j ≡ Some x))
 set_either [] k y j x is = absurd (cc)
@@ -40,7 +40,7 @@ set_either (z ∷ zs) (suc k) y (suc j) x is = elim (set_either zs k y j x is) [
   | inr old ↦ inr ((λ e. old.0 (omega (arith, e))), old.1)
 ]
 
--- the one of which something is told
+-- the item of which a function returns something
 pub told_in : {A B : Type 0} (told : B → Option A) (xs : List B) (p : ℕ) (x : A)
     → elim (slice_get xs p) as (λ o. Option A) [ None ↦ None | Some y ↦ told y ] ≡ Some x
     → (y : B) × (slice_get xs p ≡ Some y) × (told y ≡ Some x)
@@ -80,7 +80,7 @@ all_ready_without tasks p t (q ∷ qs) absent all = (
   all_ready_without tasks p t qs absent.1 all.1,
 )
 
--- who is not ready stands in no line
+-- a process that is not ready is in no line
 pub absent_by_condition : (tasks : List Task) (p : ℕ) (t : Task) (qs : List ℕ) → slice_get tasks p ≡ Some t
     → (t.condition ≡ Ready → ⊥) → AllReady tasks qs → IsAbsent p qs
 absent_by_condition tasks p t [] here waits all = tt
@@ -187,7 +187,7 @@ pub got_last : {A : Type 0} (xs : List A) (y : A) → slice_get (xs ++ y ∷ [])
 got_last [] y = refl
 got_last (x ∷ xs) y = got_last xs y
 
--- what stands there is the last, or stood there before
+-- what is there is the last, or was there before
 pub got_either : {A : Type 0} (xs : List A) (y : A) (p : ℕ) (x : A) → slice_get (xs ++ y ∷ []) p ≡ Some x
     → (slice_get xs p ≡ Some x) ⊎ ((p ≡ length xs) × (x ≡ y))
 got_either [] y zero x h = inr (refl, let e : y ≡ x = cc in sym e)
@@ -209,7 +209,7 @@ all_ready_before tasks more (q ∷ qs) all = (
   all_ready_before tasks more qs all.1,
 )
 
--- a number behind the last stands in no line
+-- a number after the last is in no line
 pub new_absent : (tasks : List Task) (qs : List ℕ) → AllReady tasks qs → IsAbsent (length tasks) qs
 new_absent tasks [] all = tt
 new_absent tasks (q ∷ qs) all = (

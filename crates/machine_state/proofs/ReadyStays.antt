@@ -51,7 +51,7 @@ abbrev TasksStay : World → List Task → Type 0
 TasksStay w tasks = (k p q : ℕ) (e : Exchange) → HasSender w.tasks w.channels k (Some p) q e
     → IsWaiting tasks q (Sending e)
 
--- its channel has it still, and is enabled by the same, or by nobody if that one runs
+-- its channel has it still, and is enabled by the same, or by none if that one runs
 abbrev CellsStay : World → List (Option Channel) → Type 0
 CellsStay w cells = (k p q : ℕ) (e : Exchange) → HasSender w.tasks w.channels k (Some p) q e
     → (d : Channel) × (slice_get cells k ≡ Some (Some d)) × (d.waiting ≡ Some q)
@@ -153,7 +153,7 @@ input_set w n old new at kept k p byte x = elim (cases_eq n k) [
   })
 ]
 
--- nobody has enabled it, or this process has
+-- no process has enabled it, or this one has
 not_enabled : {A : Type 0} (o : Option ℕ) (p : ℕ) → is_some o ≡ false → o ≡ Some p → A
 not_enabled o p nobody by = absurd (
     let x : false ≡ true = sym nobody ∙ ap (λ (o : Option ℕ). is_some o) by in cc)

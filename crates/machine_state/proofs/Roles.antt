@@ -74,7 +74,7 @@ module _ {A : Type 0} (f : Role → A) (d : A) where
       → elim (slice_get roles (length roles)) as (λ o. A) [ None ↦ d | Some role ↦ f role ] ≡ d
   field_past roles = ap at (got_past roles)
 
--- the role of which something is told
+-- the role of which a function returns something
 pub told_of : {A : Type 0} (f : Role → Option A) (roles : List Role) (p : ℕ) (x : A)
     → elim (slice_get roles p) as (λ o. Option A) [ None ↦ None | Some role ↦ f role ] ≡ Some x
     → (r : Role) × (slice_get roles p ≡ Some r) × (f r ≡ Some x)

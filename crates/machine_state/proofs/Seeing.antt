@@ -1,4 +1,4 @@
--- A step answers the same in two worlds whose memories agree on what it sees.
+-- A step returns the same in two worlds whose memories agree on what it sees.
 use Rattle.std.proofs.Common.{◌≡◌, ℕ, ◌+◌, ◌&&◌, Bool, true, false, if◌then◌else◌, nat_le, nat_lt, ℤ, pos, List, []}
 use Rattle.std.proofs.Common.{◌∷◌, ◌++◌, map, length, Option, Some, None, is_some, Err, refl, sym, ap, ◌∙◌, subst}
 use Rattle.std.proofs.Common.{slice_get, arith}
@@ -813,7 +813,8 @@ module _ (seen : ℕ → Bool) where
           ∙ ap (λ (size : ℕ). plan_by found size (map (plans.word_in mine w.memory base) names)) here_agree.size
 
       opens : (plan : plans.Plan) (found : lookups.Found) (workspace : ℕ) (r : Registers) (m n : Memory)
-          → Agree seen m n → SameTurn seen (join.start_or_fail h (plans.first_faults h.contents w.memory mine plan found workspace)
+          → Agree seen m n → SameTurn seen
+              (join.start_or_fail h (plans.first_faults h.contents w.memory mine plan found workspace)
           (join.started h plan found workspace (join.opened h plan (here r m) w).0 (join.opened h plan (here r m) w).1)
           w)
           (join.start_or_fail h (plans.first_faults h.contents n0 mine plan found workspace)

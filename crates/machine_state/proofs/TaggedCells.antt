@@ -156,7 +156,7 @@ lent_from bytes tags place (suc n) same defined =
     ∙ ap (λ (p : ℕ). take n (drop p bytes)) next)
     ∙ sym (ap (take (suc n)) (drop-cons bytes place 0 here.0))
 
--- so many bytes of a memory, which bytes and tags of one length make, are defined
+-- `count` bytes of a memory, which bytes and tags of one length make, are defined
 pub record Defines (cells : Memory) (bytes : List ℕ) (tags : List Bool) (place count : ℕ) : Type 0 where
   pub same : length tags ≡ length bytes
   pub made : tagged_cells bytes tags ≡ cells

@@ -89,7 +89,7 @@ module _ (h : Here) (w : World) where
       → c.waiting ≡ Some other → (condition : Condition) → condition_of w other ≡ condition
       → Ends h w o (met_by c other condition)
 
-  -- a channel is a link's end, or lies inside, where nobody waits, or another process does
+  -- a channel is a link's end, or lies inside, where no process waits, or another process does
   at_end : (o : Outcome) → NeedsNext o → (e : Exchange) (link : ℕ → Option ℕ) (outside : ℕ → Turn)
       (first : Channel → Turn) (met_by : Channel → ℕ → Condition → Turn)
       → (link e.channel ≡ None → channel_at w e.channel ≡ None → Refused h w o EndNotHeld)

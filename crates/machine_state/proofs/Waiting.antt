@@ -1,4 +1,4 @@
--- Whoever stands in the line is ready, and stands there once; whoever a link says to wait does wait there.
+-- A process in the line is ready, and is there once; a process that a link says to wait does wait there.
 use Rattle.std.proofs.Common.{◌≡◌, ◌≢◌, ℕ, zero, suc, ◌+◌, ◌*◌, ◌<◌, ◌≤◌, Bool, true, false, if◌then◌else◌, ◌⊎◌, inl}
 use Rattle.std.proofs.Common.{inr, ℤ, List, [], ◌∷◌, ◌++◌, length, Option, Some, None, is_some, refl, sym, ap, ◌∙◌}
 use Rattle.std.proofs.Common.{subst, slice_get, arith, eqb-true}
@@ -454,7 +454,7 @@ input_words k = omega arith
 pub output_words : (k : ℕ) → output_word 0 + 4 * k ≡ output_word k
 output_words k = omega arith
 
--- the role of a process of which something is told
+-- the role of a process of which a function returns something
 role_tells : {A : Type 0} (told : Role → Option A) (w : World) (p : ℕ) (x : A)
     → elim (slice_get w.roles p) as (λ o. Option A) [ None ↦ None | Some role ↦ told role ] ≡ Some x
     → (r : Role) × (slice_get w.roles p ≡ Some r) × (told r ≡ Some x)
@@ -1189,7 +1189,7 @@ same_link tasks p word other x y =
     let e : x.exchange ≡ y.exchange = cc in
     sym x.on ∙ (ap (λ (e : Exchange). e.channel) e ∙ y.on)
 
--- who waits on a link has not ended, and stands in no line
+-- a process that waits on a link has not ended, and is in no line
 not_over : (t : Task) (e : Exchange) (done : ℕ) → t.condition ≡ OnLink e done → t.condition ≡ Ended → ⊥
 not_over t e done waits over = let x : OnLink e done ≡ Ended = sym waits ∙ over in cc
 

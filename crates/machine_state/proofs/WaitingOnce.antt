@@ -1,4 +1,4 @@
--- Nobody waits for messages in two places, and no two processes wait in one.
+-- No process waits for messages in two places, and no two processes wait in one.
 use Rattle.std.proofs.Common.{◌≡◌, ℕ, inl, inr, Option, Some, None, refl, sym, ap, ◌∙◌, subst, slice_get}
 use Rattle.std.proofs.Common.{List, arith}
 use Rattle.machine_state.specs.declared.link.InputLink.{InputLink}
@@ -22,7 +22,7 @@ use Rattle.machine_state.proofs.ChannelWaiters.{waits_once, channels_have_their_
 use Rattle.machine_state.proofs.WhoWaits.{who_waits_is_recorded}
 use Rattle.machine_state.proofs.WhoWaitsOnLinks.{who_waits_on_links_is_recorded}
 
--- what stands where a process is recorded
+-- what is where a process is recorded
 cell_there : (w : World) (k p : ℕ) → recorded_at w (a_cell k) ≡ Some p
     → (c : Channel) × (slice_get w.channels k ≡ Some (Some c)) × (c.waiting ≡ Some p)
 cell_there w k p is = on (slice_get w.channels k) refl is

@@ -49,7 +49,7 @@ not_disabling mode c is ready (inr waits) = let x : Ready ≡ Alternating = sym 
 
 -- ---- a process that was roused does not wait any more
 
--- who may wait after someone was roused is another one, as it was
+-- a process that may wait after one was roused is another one, as it was
 roused_may_wait : (tasks later : List Task) (o : Option ℕ) → Roused tasks o later → (p : ℕ) (t : Task)
     → IsInAlternation tasks p → slice_get later p ≡ Some t → MayWait t
     → (o ≡ Some p → ⊥) × (slice_get tasks p ≡ Some t)
@@ -219,7 +219,7 @@ module _ (h : Here) (w : World) (runs : w.queue.running ≡ Some h.process)
       → NothingIsReady (going h w r mode c) w.channels w.links.inputs
   stays r mode c silent mays = goes r mode c silent mays w.channels w.links.inputs same_cells same_inputs
 
-  -- a channel was changed, where nobody waits now, or the process itself
+  -- a channel was changed, where no process waits now, or the process itself
   fewer_cells : (n : ℕ) (new : Channel) → ((q : ℕ) → new.waiting ≡ Some q → h.process ≡ q) → (k : ℕ) (c : Channel)
       (p q : ℕ) → slice_get (slice_set w.channels n (Some new)) k ≡ Some (Some c) → c.enabled ≡ Some p
       → c.waiting ≡ Some q → h.process ≢ q → slice_get w.channels k ≡ Some (Some c)
@@ -230,7 +230,7 @@ module _ (h : Here) (w : World) (runs : w.queue.running ≡ Some h.process)
     | inr old ↦ old.1
   ]
 
-  -- a channel was changed, which nobody has enabled now
+  -- a channel was changed, which no process has enabled now
   freed_cells : (n : ℕ) (new : Channel) → new.enabled ≡ None → (k : ℕ) (c : Channel) (p q : ℕ)
       → slice_get (slice_set w.channels n (Some new)) k ≡ Some (Some c) → c.enabled ≡ Some p → c.waiting ≡ Some q
       → h.process ≢ q → slice_get w.channels k ≡ Some (Some c)
@@ -241,7 +241,7 @@ module _ (h : Here) (w : World) (runs : w.queue.running ≡ Some h.process)
     | inr old ↦ old.1
   ]
 
-  -- a link was changed, on which no byte is kept now, or which is enabled by nobody
+  -- a link was changed, on which no byte is kept now, or which is enabled by none
   fewer_inputs : (n : ℕ) (new : InputLink) → ((p byte : ℕ) → new.enabled ≡ Some p → new.kept ≡ Some byte → ⊥)
       → (k : ℕ) (l : InputLink) (p byte : ℕ) → slice_get (slice_set w.links.inputs n new) k ≡ Some l
       → l.enabled ≡ Some p → l.kept ≡ Some byte
@@ -430,7 +430,7 @@ module _ (h : Here) (w : World) (runs : w.queue.running ≡ Some h.process)
         | inr other ↦ all p t other.1 waits (was p never has)
       ]
 
-  -- it meets the one that waits at a channel, where nobody waits then
+  -- it meets the one that waits at a channel, where no process waits then
   meets : (r : Registers) (other address : ℕ) (c : Channel) (d : Condition) (x : Partner h w other d)
       → NothingIsReady
       (slice_set (going h w r h.from.mode h.from.condition) other (record x.task { condition = Ready }))

@@ -1,4 +1,4 @@
--- Who has a join open is starting branches or has ended, and nobody else is in the mode of a start.
+-- A process that has a join open is starting branches or has ended, and no other one is in the mode of a start.
 use Rattle.std.proofs.Common.{◌≡◌, ℕ, zero, suc, ◌+◌, Bool, true, ◌⊎◌, inl, inr, List, [], ◌∷◌, ◌++◌, length, Option}
 use Rattle.std.proofs.Common.{Some, None, is_some, refl, sym, ap, ◌∙◌, subst, slice_get}
 use Rattle.std.proofs.lemmas.Bool.{cases_eq}

@@ -121,7 +121,7 @@ idle m h w o roles t (change.a_branch opener role here mine none differ) c by cl
     nothing_claimed c (subst (λ (g : Holding). claims g c ≡ true) (field_set (λ (x : Role). x.own) nothing w.roles
     h.process role (record role { own = nothing }) here) claimed)
 
--- nobody else holds an end of a channel of the join once no member is left
+-- no other process holds an end of a channel of the join once no member is left
 pub not_theirs : (m : Contents) (h : Here) (w : World) (o : ℕ) (roles : List Role) (x : Leaves h w o roles) (par : Par)
     → HoldersIn m w.roles w.channels → is_last h.process x.join ≡ true → (p : ℕ) (end : End) (c : Channel)
     → slice_get w.channels (cell_of end.address) ≡ Some (Some c) → has_end (holding_at roles p) end ≡ true → o ≢ p
@@ -224,7 +224,7 @@ module _ (h : Here) (w : World) (runs : w.queue.running ≡ Some h.process)
   goes_with r mode address old new is same p t d e here waits = kept_there address old new is same p d e
       (all p t d e (was r mode h.from.condition calm_from p t d e here waits).1 waits)
 
-  -- a channel was changed that is another one's, or nobody's
+  -- a channel was changed that is another one's, or no process's
   elsewhere : (k : ℕ) (old : Channel) (new : Option Channel) → slice_get w.channels k ≡ Some (Some old)
       → (p : ℕ) (d : Direction) (e : Exchange) → (old.waiting ≡ Some p → ⊥) → IsRecorded w.roles w.channels p d e
       → IsRecorded w.roles (slice_set w.channels k new) p d e
@@ -242,7 +242,7 @@ module _ (h : Here) (w : World) (runs : w.queue.running ≡ Some h.process)
     }
   ]
 
-  -- it waits on a channel where nobody did
+  -- it waits on a channel where no process did
   waits_there : (r : Registers) (a : Condition) (d : Direction) (e : Exchange) → WaitsTo d a e
       → ((g : Direction) (x : Exchange) → WaitsTo g a x → (g ≡ d) × (x ≡ e))
       → has_end (holding_at w.roles h.process) (record { address = e.channel; direction = d }) ≡ true → (c : Channel)

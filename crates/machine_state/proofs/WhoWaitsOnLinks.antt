@@ -124,7 +124,7 @@ waits_pushed tasks u roles links ready all p t e done here is = elim (got_either
 
 -- ---- an instruction of the running process
 
--- nobody waits on a link in this condition
+-- no process waits on a link in this condition
 abbrev IsOff : Condition → Type 0
 IsOff c = (e : Exchange) (done : ℕ) → c ≡ OnLink e done → ⊥
 
@@ -171,7 +171,7 @@ module _ (h : Here) (w : World) (runs : w.queue.running ≡ Some h.process)
   woken ts rs ls before q u ready p t e n here is =
       before p t e n (ready_was (λ c. c ≡ OnLink e n) (λ z. cc) ts q u ready p t here is).1 is
 
-  -- nobody else holds the end of a link that it holds
+  -- no other process holds the end of a link that it holds
   not_another : (p : ℕ) (e x : Exchange) → h.process ≢ p → e.channel ≡ x.channel → (direction : Direction)
       → has_end (holding_at w.roles h.process) (record { address = e.channel; direction = direction }) ≡ true
       → has_end (holding_at w.roles p) (record { address = x.channel; direction = direction }) ≡ true → ⊥

@@ -93,7 +93,7 @@ waited h l w = answered ran (waited_in h h.from.mode l w)
 
 -- ---- disabling
 
--- Of what is ready, the first that is disabled is selected: A tells whether it is this one.
+-- Of what is ready, the first that is disabled is selected: register A says whether it is this one.
 abbrev pub selected : Mode → Bool → ℤ → Bool
 selected (Disabling None) is_ready distance = is_ready
 selected mode is_ready distance = false

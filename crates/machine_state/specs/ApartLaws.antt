@@ -1,4 +1,4 @@
--- Holdings stay apart, whatever a module that keeps the format does.
+-- Holdings stay apart, whatever a valid module does.
 use Rattle.std.specs.Prelude.{List}
 use Rattle.module_format.specs.Contents.{Contents}
 use Rattle.module_format.specs.Keeping.{Keeps}

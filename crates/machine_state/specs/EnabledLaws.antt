@@ -69,7 +69,7 @@ abbrev pub WhoMayWaitHasNothingReady : Type 0
 WhoMayWaitHasNothingReady = (m : Contents) (es : List Event)
     → let w = world_after m es in NothingIsReady w.tasks w.channels w.links.inputs
 
--- ---- what is enabled is held by who has enabled it, so that nobody else receives there
+-- ---- what is enabled is held by the process that has enabled it, so that no other process receives there
 
 -- it holds the end of the channel, or of the link, to receive by
 pub record EnabledIsHeld (roles : List Role) (channels : List (Option Channel)) (inputs : List InputLink) : Type 0
@@ -87,7 +87,7 @@ pub record IsSending (tasks : List Task) (p : ℕ) : Type 0 where
   pub exchange : Exchange
   pub sends : task.condition ≡ Sending exchange
 
--- who waits on a channel that is enabled is its sender, and nobody waits on an input link that is
+-- a process that waits on a channel that is enabled is its sender, and no process waits on an input link that is
 pub record NobodyElseReceives (tasks : List Task) (channels : List (Option Channel)) (inputs : List InputLink) : Type 0
   where
     pub at_channels : (k : ℕ) (channel : Channel) (p q : ℕ) → slice_get channels k ≡ Some (Some channel)
@@ -102,7 +102,7 @@ WhoEnabledHolds = (m : Contents) (es : List Event) → Keeps m
 
 -- ---- one event: what is enabled and has a sender or a byte keeps it until it is disabled
 
--- the channel in a data word is enabled by this process, or by nobody, and another one waits there to send this
+-- the channel in a data word is enabled by this process, or by none, and another one waits there to send this
 pub record HasSender (tasks : List Task) (channels : List (Option Channel)) (k : ℕ) (enabled : Option ℕ) (q : ℕ)
     (e : Exchange) : Type 0 where
   pub channel : Channel

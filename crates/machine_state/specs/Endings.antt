@@ -270,7 +270,7 @@ pub data Ends (h : Here) (w : World) : Outcome → Turn → Type 0 where
 abbrev pub local_here : Task → World → Local
 local_here task w = record { registers = task.registers; memory = w.memory }
 
--- the answers to events that leave the world as it was
+-- the results of events that leave the world as it was
 pub data Rests : Event → Effect → Type 0 where
   is_idle : {slice : Bool} {pick : ℕ} → Rests (Step slice pick) idle
   is_busy : {link : Link} {byte : ℕ} → Rests (Arrive link byte) busy

@@ -7,7 +7,7 @@ use Rattle.machine_state.specs.World.{World}
 use Rattle.machine_state.specs.Turn.{Effect, ran, emitted}
 use Rattle.machine_state.specs.Happens.{turn}
 
--- how many bytes were executed, by the answer to an event
+-- how many bytes were executed, by the result of an event
 abbrev pub bytes_of : Result Effect Fault → ℕ
 bytes_of (Ok ran) = 1
 bytes_of (Ok (emitted link bytes)) = 1

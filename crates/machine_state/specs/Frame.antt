@@ -1,5 +1,5 @@
--- One instruction of one process changes no byte but those that the process may write. This is our own choice: the
--- device has no such bound.
+-- One instruction of one process changes no byte but those that the process may write. This is our own choice: the T414
+-- has no such bound.
 use Rattle.std.specs.Prelude.{◌≡◌, ⊤, ℕ, ℤ, false, length}
 use Rattle.prefix_decoder.specs.declared.function.Fun.{Fun}
 use Rattle.machine_state.specs.Memory.{Memory, byte_at}

@@ -17,7 +17,7 @@ abbrev pub found_in_row : ℕ → ℕ → List Branch → Option (ℕ × Branch)
 found_in_row target i [] = None
 found_in_row target i (b ∷ bs) = if b.entry == target then Some (i, b) else found_in_row target (i + 1) bs
 
--- a branch, and where it stands: its row by number, and its own number in the row
+-- a branch, and where it is: its row by number, and its own number in the row
 pub record Found : Type 0 where
   pub row : ℕ
   pub par : Par

@@ -27,7 +27,7 @@ claims h (to_write x) = may_write h x
 claims h (to_read x) = may_read h x
 claims h (to_use e) = has_end h e
 
--- the claim that nobody else may have beside this one
+-- the claim that no other process may have beside this one
 abbrev pub clash : Claim → Claim
 clash (to_write x) = to_read x
 clash (to_read x) = to_write x
@@ -95,7 +95,7 @@ pub record Holders (size : ℕ) (pars : List Par) (own : ℕ → Holding) (opene
   pub counted : (p o : ℕ) (c : Claim) → opener p ≡ Some o → claims (own p) c ≡ true → Counted opened o p
   -- what may be written is data
   pub inside : (p x : ℕ) → may_write (own p) x ≡ true → x < size
-  -- an end is of a link, or of a channel that someone above has opened
+  -- an end is of a link, or of a channel that a process above has opened
   pub ends : (p : ℕ) (e : End) → has_end (own p) e ≡ true
       → (size ≤ place_of e.address) ⊎ (Lent opener owner p (cell_of e.address) × IsWord e.address)
   -- what branches have not been given was the opener's, but for the ends of its channels
@@ -131,7 +131,7 @@ abbrev pub HoldersIn : Contents → List Role → List (Option Channel) → Type
 HoldersIn m roles channels =
     Holders (4 * m.data_words) m.pars (own_in roles) (opener_in roles) (opened_in roles) (owner_in channels)
 
--- whatever a module that keeps the format does
+-- whatever a valid module does
 abbrev pub HoldersAreInOrder : Type 0
 HoldersAreInOrder = (m : Contents) (es : List Event) → Keeps m
     → HoldersIn m (world_after m es).roles (world_after m es).channels

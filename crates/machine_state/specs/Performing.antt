@@ -65,7 +65,7 @@ pub record Asks {S : Type 0} (ghosts : Ghosts S) (before after : Cpu S) (request
   pub memory : ghosts.cells after.store ≡ ghosts.cells before.store
   pub grantable : IsGrantable request (site_of ghosts before) after.registers (ghosts.cells before.store)
 
--- by the answer: where the process goes on, that it stops, or what it asks of others; a fault changes nothing
+-- by the result: where the process continues, that it stops, or what it asks of others; a fault changes nothing
 abbrev pub HasOutcome : {S : Type 0} → Ghosts S → Cpu S → Cpu S → Result Flow FaultKind → Outcome → Type 0
 HasOutcome ghosts before after (Ok Next) outcome = outcome ≡ goes (local_of ghosts after)
 HasOutcome ghosts before after (Ok (Jump to)) outcome = outcome ≡ jumps to (local_of ghosts after)

@@ -45,7 +45,7 @@ pub record Agree (seen : ℕ → Bool) (m n : Memory) : Type 0 where
   pub size : length n ≡ length m
   pub same : (place : ℕ) → seen place ≡ true → byte_at n place ≡ byte_at m place
 
--- the same answer, and worlds that differ in memory alone and agree there
+-- the same result, and worlds that differ in memory alone and agree there
 pub record SameTurn (seen : ℕ → Bool) (t u : Turn) : Type 0 where
   pub answer : u.answer ≡ t.answer
   pub world : u.world ≡ record t.world { memory = u.world.memory }

@@ -60,7 +60,7 @@ JumpEnds = IsFinished (world_after jump (steps 6)) 6
 abbrev pub SlicedJumpEnds : Type 0
 SlicedJumpEnds = IsFinished (world_after jump (steps 2 ++ Step true 0 ∷ steps 3)) 6
 
--- this count of bytes executed, no fault, and nobody runs
+-- this count of bytes executed, no fault, and no process is running
 pub record IsQuiet (w : World) (executed : ℕ) : Type 0 where
   pub no_fault : w.fault ≡ None
   pub count : w.counters.executed ≡ executed
@@ -70,7 +70,7 @@ pub record IsQuiet (w : World) (executed : ℕ) : Type 0 where
 abbrev pub IsAtFault : World → ℕ → ℕ → ℕ → Type 0
 IsAtFault w number process offset = w.fault ≡ Some (record { number = number; process = process; offset = offset })
 
--- a module of so many data words, of which the root's workspace is this one
+-- a module with `words` data words, of which the root's workspace is this one
 abbrev pub sized : ℕ → ℕ → Contents → Contents
 sized words base m = record m { data_words = words; base = base }
 
@@ -92,8 +92,8 @@ loop = sized 7 3 (of_code (0x40 ∷ 0xd1 ∷ 0x43 ∷ 0xd2 ∷ 0x47 ∷ 0xd3 ∷
 abbrev pub LoopEnds : Type 0
 LoopEnds = IsFinished (world_after loop (steps 24)) 24
 
--- a branch whose workspace is so many words below the frame: with the three words below it one word of the frame is
--- its own
+-- a branch whose workspace is `below + 1` words below the frame: with the three words below it one word of the
+-- frame is its own
 abbrev pub branch_with : ℕ → ℕ → ℕ → List EndRow → Branch
 branch_with entry below word ends = record {
   entry = entry;

@@ -54,7 +54,7 @@ is_same_end a b = (a.address == b.address) && same_direction a.direction b.direc
 abbrev pub is_listed : List End → End → Bool
 is_listed ends end = list_any (is_same_end end) ends
 
--- no end stands twice
+-- no end occurs twice
 abbrev pub differ : List End → Bool
 differ [] = true
 differ (end ∷ ends) = not (is_listed ends end) && differ ends

@@ -43,7 +43,7 @@ line_of (Some p) ready = p ∷ ready
 abbrev pub line : Queue → List ℕ
 line queue = line_of queue.running queue.ready
 
--- each is ready, and none stands there twice
+-- each is ready, and none is there twice
 pub record Line (tasks : List Task) (queue : Queue) : Type 0 where
   pub ready : AllReady tasks (line queue)
   pub once : AllDiffer (line queue)
@@ -112,7 +112,7 @@ pub record HasOpened (roles : List Role) (p : ℕ) : Type 0 where
   pub join : Join
   pub is_open : role.opened ≡ Some join
 
--- who has a join open is starting branches, or has done its own endp; nobody else is in the mode of a start
+-- a process that has a join open is starting branches, or has done its own endp; no other one is in the mode of a start
 pub record Starters (tasks : List Task) (roles : List Role) : Type 0 where
   pub openers : (p : ℕ) → HasOpened roles p → IsStarting tasks p ⊎ IsOver tasks p
   pub starters : (p : ℕ) (task : Task) → slice_get tasks p ≡ Some task → task.mode ≡ Starting → HasOpened roles p

@@ -1,4 +1,4 @@
--- Nobody waits for messages in two places, and no two processes wait in one.
+-- No process waits for messages in two places, and no two processes wait in one.
 use Rattle.std.specs.Prelude.{◌≡◌, ℕ, List, Option, Some, None, slice_get}
 use Rattle.module_format.specs.Contents.{Contents}
 use Rattle.module_format.specs.declared.rows.Direction.{Direction}

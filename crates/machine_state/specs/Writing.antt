@@ -83,7 +83,7 @@ pub record WritesWell (own : ℕ → Bool) (d : Option Delivery) (old new : Memo
   pub become : (x : Delivery) → d ≡ Some x → (i : ℕ) → i < x.sent.length → place_of x.wanted.address + i < length old
       → byte_at new (place_of x.wanted.address + i) ≡ byte_at old (place_of x.sent.address + i)
 
--- by the answer: a fault changes no byte, nor does a Step with no process running
+-- by the result: a fault changes no byte, nor does a Step with no process running
 abbrev pub StepWrites : (ℕ → Bool) → Option Delivery → Memory → Memory → Result Effect Fault → Type 0
 StepWrites own d old new (Err f) = new ≡ old
 StepWrites own d old new (Ok idle) = new ≡ old

@@ -21,7 +21,7 @@ pub(crate) fn byte_at(bytes: &[u8], tags: &[bool], place: usize) -> Option<u8>
     }
 }
 
-/// Whether so many bytes from a place on are defined.
+/// Whether `count` bytes from a place on are defined.
 pub(crate) fn are_defined(bytes: &[u8], tags: &[bool], place: usize, count: usize) -> bool
     requires lengths { length tags.now ≡ length bytes.now }
     requires place { place < 2 ^ 32 }
@@ -89,7 +89,7 @@ pub(crate) fn set_word(bytes: &mut [u8], tags: &mut [bool], place: usize, value:
     }
 }
 
-/// So many bytes from one place on go to another, the first byte first: so none is overwritten before it is copied.
+/// Copies `count` bytes from one place to another, the first byte first: so none is overwritten before it is copied.
 fn copy_down(bytes: &mut [u8], tags: &mut [bool], source: usize, to: usize, count: usize)
     requires lengths { length tags.old ≡ length bytes.old }
     requires down { to ≤ source }
@@ -104,7 +104,7 @@ fn copy_down(bytes: &mut [u8], tags: &mut [bool], source: usize, to: usize, coun
     }
 }
 
-/// So many bytes from one place on go to another, the last byte first: so none is overwritten before it is copied.
+/// Copies `count` bytes from one place to another, the last byte first: so none is overwritten before it is copied.
 fn copy_up(bytes: &mut [u8], tags: &mut [bool], source: usize, to: usize, count: usize)
     requires lengths { length tags.old ≡ length bytes.old }
     requires up { source ≤ to }
@@ -120,7 +120,7 @@ fn copy_up(bytes: &mut [u8], tags: &mut [bool], source: usize, to: usize, count:
     }
 }
 
-/// So many bytes from one place on go to another, as they were before.
+/// Copies `count` bytes from one place to another, as they were before.
 pub(crate) fn copy(bytes: &mut [u8], tags: &mut [bool], source: usize, to: usize, count: usize)
     requires lengths { length tags.old ≡ length bytes.old }
     requires source { source < 2 ^ 32 }

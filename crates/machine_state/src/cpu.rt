@@ -36,7 +36,7 @@ pub struct Cpu<S> {
     pub store: S,
 }
 
-/// Whether so many bytes at one address meet so many at another.
+/// Whether `size` bytes at one address meet `other_size` bytes at another.
 fn meet(one: u32, size: u32, other: u32, other_size: u32) -> bool
     ensures { result ≡ meet (place_of one) size (place_of other) other_size }
 {
@@ -56,7 +56,7 @@ pub enum Flow {
     Land { to: u32 },
     /// It stops for good.
     Stop,
-    /// It asks this of others, and goes on as whoever grants it says.
+    /// It asks this of others, and continues as the one that grants it says.
     Ask(Request),
 }
 
@@ -172,7 +172,7 @@ impl<S> Cpu<S> {
         }
     }
 
-    /// Whether so many bytes at an address are apart from the three words that scheduling takes.
+    /// Whether `count` bytes at an address are apart from the three words that scheduling takes.
     pub fn is_apart_from_scheduling(&self, address: u32, count: u32) -> bool
         ensures { let lowest = place_of (local_address self.now.registers.workspace (negsuc 2)) in
             result ≡ not (meet (place_of address) count lowest 12) }
@@ -185,7 +185,7 @@ impl<S> Cpu<S> {
         )
     }
 
-    /// Whether so many bytes at an address are apart from each of these words, wherever it lies.
+    /// Whether `count` bytes at an address are apart from each of these words, wherever it lies.
     fn is_beside_scheduling(&self, address: u32, count: u32) -> bool
         ensures { result ≡ is_beside_scheduling self.now.registers.workspace (place_of address) count }
     {
@@ -263,7 +263,7 @@ impl<S: Store> Cpu<S> {
         self.check(self.store.can_store_byte(address), FaultKind::NotOwn)
     }
 
-    /// Whether so many bytes may be read at one address and written at another, and the two blocks do not meet.
+    /// Whether `count` bytes may be read at one address and written at another, and the two blocks do not meet.
     pub fn may_copy(&self, from: u32, to: u32, count: u32) -> bool
         ensures value { let holding = S.holding self.now.store in
             let apart = not (meet (place_of from) count (place_of to) count) in
@@ -275,7 +275,7 @@ impl<S: Store> Cpu<S> {
             && !meet(from, count, to, count)
     }
 
-    /// Whether so many bytes at an address are defined once the three words that scheduling takes are not.
+    /// Whether `count` bytes at an address are defined once the three words that scheduling takes are not.
     #[tactic(auto, using(crate::proofs::Defined::defined_once_scheduled))]
     pub fn stays_defined(&self, address: u32, count: u32) -> bool
         requires { 1 ≤ count }

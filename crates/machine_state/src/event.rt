@@ -1,4 +1,4 @@
-//! What can happen to a machine, and what it answers.
+//! What can happen to a machine, and what it returns.
 
 use crate::link::Link;
 

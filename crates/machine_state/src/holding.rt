@@ -113,14 +113,14 @@ impl Holding {
         true
     }
 
-    /// Whether all of so many bytes from the place on may be read.
+    /// Whether all of `count` bytes from the place on may be read.
     pub fn may_read_bytes(&self, place: u32, count: u32) -> bool
         ensures { result ≡ all_places (may_read (holding_view self.now)) place count }
     {
         self.may_all(Access::Read, place, count)
     }
 
-    /// Whether all of so many bytes from the place on may be written.
+    /// Whether all of `count` bytes from the place on may be written.
     pub fn may_write_bytes(&self, place: u32, count: u32) -> bool
         ensures { result ≡ all_places (may_write (holding_view self.now)) place count }
     {

@@ -67,16 +67,16 @@ pub fn events_write_their_own()
     ensures acknowledgements { AcknowledgementsWriteNothing }
 {}
 
-/// A step depends on no byte but those that the running process may read, and where it meets a sender, those that
-/// are sent: in two worlds that differ elsewhere in memory it answers the same, and they differ no more.
+/// A step depends on no byte but those that the running process may read, and where it meets a sender, those that are
+/// sent. In two worlds that differ elsewhere in memory it returns the same, and they differ no more.
 pub fn steps_see_what_they_read()
     ensures { StepsSeeWhatTheyRead }
 {}
 
-/// Who runs or waits for its turn is ready, and stands in the line once. Whoever a link says to wait there does wait
-/// there; in all that a module that keeps the format does, whoever waits on a link is recorded there, and holds that
-/// end of it. Each live branch is counted by the join that its opener has open; who has a join open is one of its
-/// members, or has done its own endp. Until it has, it is starting branches, and nobody else is.
+/// A process that runs or waits for its turn is ready, and is in the line once. A process that a link says to wait
+/// there does wait there; in all that a valid module does, a process that waits on a link is recorded there, and holds
+/// that end of it. Each live branch is counted by the join that its opener has open; a process that has a join open is
+/// one of its members, or has done its own endp. Until it has, it is starting branches, and no other process is.
 #[tactic(auto, using(crate::proofs::InOrder::waiting))]
 pub fn waiting_is_in_order()
     ensures lines { LinesAreReady }
@@ -86,12 +86,12 @@ pub fn waiting_is_in_order()
     ensures starters { OpenersAreStarting }
 {}
 
-/// Whoever an internal channel says to wait there does wait there. In all that a module that keeps the format does, a
-/// process that waits on an internal channel is recorded there and at no other channel, and holds that end of it.
-/// Whoever has enabled a channel or a link enables, waits or disables; while it waits, or enables and is not ready,
-/// nothing that it has enabled has a sender or a byte. Where the module keeps the format, it holds what it has enabled,
-/// and nobody else waits there to receive. What is enabled and has a sender or a byte keeps it, and stays enabled until
-/// its owner disables it.
+/// A process that an internal channel says to wait there does wait there. In all that a valid module does, a process
+/// that waits on an internal channel is recorded there and at no other channel, and holds that end of it.
+/// A process that has enabled a channel or a link enables, waits or disables; while it waits, or enables and is not
+/// ready, nothing that it has enabled has a sender or a byte. If the module is valid, it holds what it has enabled, and
+/// no other process waits there to receive. What is enabled and has a sender or a byte keeps it, and stays enabled
+/// until its owner disables it.
 #[tactic(auto, using(crate::proofs::InOrder::channels))]
 pub fn channels_are_in_order()
     ensures waiters { ChannelsHaveTheirWaiters }
@@ -102,22 +102,22 @@ pub fn channels_are_in_order()
     ensures kept { WhatIsReadyStays }
 {}
 
-/// A process that waits for a message is recorded at one channel or link. In all that a module that keeps the format
-/// does, no other one waits on the same.
+/// A process that waits for a message is recorded at one channel or link. In all that a valid module does, no other one
+/// waits on the same.
 pub fn nobody_waits_twice()
     ensures places { NobodyWaitsTwice }
     ensures alone { NoTwoWaitTogether }
 {}
 
-/// Whatever a module that keeps the format does, no two processes hold the same, and nobody holds the blocks of open
-/// joins or the words of channels, no two of which have a byte in common.
+/// Whatever a valid module does, no two processes hold the same, and no process holds the blocks of open joins or the
+/// words of channels, no two of which have a byte in common.
 pub fn holdings_stay_apart()
     ensures { HoldingsStayApart }
 {}
 
-/// Whatever a module that keeps the format does, who holds what for good, who has opened whom and whose channels lie
-/// where are in order: of two processes neither of which is under the other what they have for good is apart, and of
-/// one under another it is apart from what the other one's open join has not given, and from what that join keeps.
+/// Whatever a valid module does, these are in order: who holds what for good, who has opened whom and whose channels
+/// lie where. Of two processes neither of which is under the other what they have for good is apart, and of one under
+/// another it is apart from what the other one's open join has not given, and from what that join keeps.
 #[tactic(auto, using(crate::proofs::ApartLaws::holders_are_in_order))]
 pub fn holders_stay_in_order()
     ensures { HoldersAreInOrder }
@@ -136,7 +136,7 @@ pub fn links_stay_four_each_way()
 {}
 
 /// The branch that a start finds at a code offset, by its row, is the one that the tables find there by its context. In
-/// a module that keeps the format that context comes after the one of its PAR, and has the same frame and parameters.
+/// a valid module that context comes after the one of its PAR, and has the same frame and parameters.
 pub fn branches_are_contexts()
     ensures found { BranchesAreFoundAlike }
     ensures contexts { BranchesAreContexts }

@@ -39,11 +39,11 @@ pub trait LoadStore {
     fn can_store_word(&self, address: u32) -> bool
         ensures { result ≡ may_write_word (holding self.now) (place_of address) };
 
-    /// Whether all of so many bytes from the address on may be read.
+    /// Whether all of `count` bytes from the address on may be read.
     fn can_load_bytes(&self, address: u32, count: u32) -> bool
         ensures { result ≡ all_places (may_read (holding self.now)) (place_of address) count };
 
-    /// Whether all of so many bytes from the address on may be written.
+    /// Whether all of `count` bytes from the address on may be written.
     fn can_store_bytes(&self, address: u32, count: u32) -> bool
         ensures { result ≡ all_places (may_write (holding self.now)) (place_of address) count };
 
@@ -51,7 +51,7 @@ pub trait LoadStore {
     fn has_end(&self, end: End) -> bool
         ensures { result ≡ has_end (holding self.now) end };
 
-    /// Whether all of so many bytes from the address on are defined.
+    /// Whether all of `count` bytes from the address on are defined.
     fn defines_bytes(&self, address: u32, count: u32) -> bool
         ensures { result ≡ are_defined (cells self.now) address count };
 
@@ -86,12 +86,12 @@ pub trait LoadStore {
         ensures holding { holding self.new ≡ holding self.old }
         ensures roles { roles self.new ≡ roles self.old };
 
-    /// So many bytes from the address on, all of which are defined, whoever holds them.
+    /// `count` bytes from the address on, all of which are defined, whoever holds them.
     fn lend(&self, address: u32, count: u32) -> &[u8]
         requires { IsTrue (are_defined (cells self.now) address count) }
         ensures { result.now ≡ bytes_at (cells self.now) (place_of address) count };
 
-    /// So many bytes from one address on, all of which are defined, go to another, whoever holds them. Where the two
+    /// Copies `count` bytes from one address to another, all of which are defined, whoever holds them. Where the two
     /// blocks meet, each byte is copied as it was before; outside the memory nothing changes.
     fn copy_defined(&mut self, from: u32, to: u32, count: u32)
         requires { IsTrue (are_defined (cells self.old) from count) }
@@ -117,7 +117,7 @@ pub trait Store: LoadStore {
         ensures holding { Self.holding self.new ≡ Self.holding self.old }
         ensures roles { Self.roles self.new ≡ Self.roles self.old };
 
-    /// So many bytes from one address on go to another, whoever holds them. Undefined bytes stay undefined, and those
+    /// Copies `count` bytes from one address to another, whoever holds them. Undefined bytes stay undefined, and those
     /// from outside the memory are undefined too. Where the two blocks meet, each byte is copied as it was before;
     /// outside the memory nothing changes.
     fn copy(&mut self, from: u32, to: u32, count: u32)
