@@ -23,7 +23,7 @@ use Rattle.states.specs.Blocks.{block_words, no_block, block_at, first_of, AreSu
 use Rattle.states.proofs.FrameFacts.{word-cases}
 use Rattle.states.proofs.SpanFacts.{and-yes}
 
--- ---- one span behind the other
+-- ---- one span after the other
 
 pub min-assoc : (a b c : ℤ) → int_min (int_min a b) c ≡ int_min a (int_min b c)
 min-assoc a b c = omega (arith, ints, clamps)

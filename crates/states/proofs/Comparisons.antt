@@ -187,7 +187,7 @@ block-more first facts wanted n earlier here = λ j h. elim (cases_lt j n) [
       ap (λ (i : ℕ). says (facts (first +ℤ pos i)) (wanted (first +ℤ pos i))) same ∙ here
 ]
 
--- of each word of so many blocks that was left at least that is known which is wanted
+-- of each word of the first `count` blocks that was left, at least what is wanted is known
 abbrev pub BlocksSay : List Block → ℤ → Facts → Facts → ℕ → Type 0
 BlocksSay blocks lo facts wanted count =
     (n : ℕ) → n < count → is_some (block_at blocks n).left ≡ true
@@ -229,7 +229,7 @@ left-says blocks lo facts wanted each = λ k leaving left. on k (k -ℤ lo) leav
 
 -- ---- the list of what was written
 
--- of the words of so many items of the list at least that is known which is wanted
+-- of the words of the first `n` items of the list, at least what is wanted is known
 abbrev pub ItemsSay : List Written → ℕ → ℤ → Facts → Facts → Type 0
 ItemsSay written n lo facts wanted = (i : ℕ) → i < n → (d : Written)
     → says (facts (lo +ℤ pos ((get_or written i d).index))) (wanted (lo +ℤ pos ((get_or written i d).index))) ≡ true
@@ -256,7 +256,7 @@ items-more written n lo facts wanted e low earlier here = λ i h d. elim (cases_
       ap (λ (w : Written). says (facts (lo +ℤ pos w.index)) (wanted (lo +ℤ pos w.index))) item ∙ here
 ]
 
--- what is found stands in the list
+-- what is found is in the list
 found-at : (written : List Written) (index : ℕ) (fact : Fact) (d : Written) → lookup written index ≡ Some fact
     → (i : ℕ) × (i < length written) × ((get_or written i d).index ≡ index) × ((get_or written i d).fact ≡ fact)
 found-at [] index fact d h = absurd (cc)

@@ -28,7 +28,7 @@ use Rattle.states.proofs.RowFacts.{unknown-below, entry_fact-before, entry_fact-
 use Rattle.states.proofs.Comparisons.{entries_hold-says}
 use Rattle.states.proofs.Entering.{plain-by}
 
--- ---- pieces, each behind the one before it
+-- ---- pieces, each after the one before it
 
 between-parts : (low high : ℤ) (entry : Entry) (entries : List Entry) → rise_between low high (entry ∷ entries) ≡ true
     → (low ≤ℤ entry.word) × (rise_between (end_of entry) high entries ≡ true)
@@ -64,7 +64,7 @@ between-more low high end (entry ∷ entries) piece h le ends =
     let p = and-parts _ _ h in
     and-both _ _ p.0 (between-more (end_of entry) high end entries piece p.1 le ends)
 
--- nothing is said behind them
+-- nothing is said of the words after them
 unknown-behind : (low high k : ℤ) (entries : List Entry) → rise_between low high entries ≡ true → high ≤ℤ k
     → entry_fact entries k ≡ Alone Unknown
 unknown-behind low high k [] h le = refl

@@ -340,7 +340,7 @@ walk-over said facts row base rest entry later paid walk is over =
     (over-entered base entry said facts over (walk-base said facts row base rest entry later paid walk is))
     (omega arith) (λ k l. refl)
 
--- so many entries are passed that the first of the one row is over
+-- `n` entries are passed, each of which the first entry of the one row covers
 pub walks-over : (said facts : Facts) (row base : List Entry) (n : ℕ) (rest : List Entry) (paid : ℕ)
     → n ≤ length rest → ((i : ℕ) → i < n → (d : Entry) → SaysEntry base (get_or rest i d))
     → IsWalk said facts row base rest paid → IsWalk said facts row base (drop n rest) paid
@@ -489,7 +489,7 @@ agrees-first v t b is =
     ap (λ (c : Bool). stands v t && c) is
     ∙ and-assoc (stands v t) (entries_hold v.frame t.entries) (list_all (is_whole v.frame) t.entries)
 
--- one who stands there and of whom all is known which the label wants pays this
+-- a view that is where the label is, and that knows all that the label wants, pays this
 pub compared-paid : (number paid cost : ℕ) (v : View) (t : Label) → stands v t ≡ true
     → entries_hold v.frame t.entries ≡ true → list_all (is_whole v.frame) t.entries ≡ true
     → sum_by (price v.frame) t.entries ≡ paid → cost ≡ paid + t.number → cost ≤ number

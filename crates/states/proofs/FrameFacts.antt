@@ -129,7 +129,8 @@ parted-word w j (Count loop) =
 
 -- a word is written once the words are parted that can be in a loop with it
 pub parts-write : (w : ℤ) (fact : Fact) (facts : Facts)
-    → with_alone w fact (parted words.Count (w +ℤ pos 1) (parted words.Index (w -ℤ pos 1) facts)) ≡ with_fact w fact facts
+    → with_alone w fact (parted words.Count (w +ℤ pos 1) (parted words.Index (w -ℤ pos 1) facts))
+      ≡ with_fact w fact facts
 parts-write w fact facts = fun_ext (λ j. elim (word-cases j w) [
   | inl h ↦ rw h.0 refl
   | inr h ↦ rw h (parted-word w j (facts j))
@@ -138,12 +139,13 @@ parts-write w fact facts = fun_ext (λ j. elim (word-cases j w) [
 -- the same, step by step
 pub write-steps : (w here before behind : ℤ) (fact : Fact) (facts first second new : Facts) → here ≡ w
     → before ≡ w -ℤ pos 1 → behind ≡ w +ℤ pos 1
-    → first ≡ parted words.Index before facts → second ≡ parted words.Count behind first → new ≡ with_alone here fact second
+    → first ≡ parted words.Index before facts → second ≡ parted words.Count behind first
+    → new ≡ with_alone here fact second
     → new ≡ with_fact w fact facts
 write-steps w here before behind fact facts first second new here_is before_is behind_is one two three =
     three ∙ (rw (here_is, two, behind_is, one, before_is) (parts-write w fact facts))
 
--- how far a word lies behind another
+-- how far a word is after another
 distance-of : (a b z : ℤ) (n : ℕ) → b ≤ℤ a → z ≡ a -ℤ b → n ≡ nat_abs z → a ≡ b +ℤ pos n
 distance-of a b (pos m) n h e n_is = omega (arith, ints)
 distance-of a b (negsuc m) n h e n_is = absurd (omega (arith, ints))

@@ -48,7 +48,7 @@ from-least low (i ∷ is) le h =
     let apart = h.0.apart in
     (record { lo_fits = h.0.lo_fits; hi_fits = h.0.hi_fits; apart = omega (arith, ints); some = h.0.some }, h.1)
 
--- those behind the first rise
+-- those after the first rise
 pub behind-first : (i : Interval) (is : List Interval) → Rise least_word (i ∷ is) → Rise least_word is
 behind-first i is h =
     let apart = h.0.apart in

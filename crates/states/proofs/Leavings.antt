@@ -74,9 +74,11 @@ left-after (Some (Widen low high)) (Widen lo hi) said =
 
 -- a word is one of a block's, or none of them
 pub data InBlock (lo : ℤ) (number : ℕ) (k : ℤ) : Type 0 where
-  inside : (j : ℕ) → j < block_words → k ≡ first_of lo number +ℤ pos j → is_in_span (first_of lo number) block_words k ≡ true
+  inside : (j : ℕ) → j < block_words
+      → k ≡ first_of lo number +ℤ pos j → is_in_span (first_of lo number) block_words k ≡ true
       → InBlock lo number k
-  outside : is_in_span (first_of lo number) block_words k ≡ false → ((n : ℕ) → k -ℤ lo ≡ pos n → n / block_words ≢ number)
+  outside : is_in_span (first_of lo number) block_words k ≡ false
+      → ((n : ℕ) → k -ℤ lo ≡ pos n → n / block_words ≢ number)
       → InBlock lo number k
 
 pub in-block : (lo : ℤ) (number : ℕ) (k : ℤ) → InBlock lo number k
@@ -257,7 +259,8 @@ word-settled lo word blocks facts new index leaving fact said word_is left said_
 -- the words of a block were written as what is known of them, so that it is left no more
 pub block-settled : (lo : ℤ) (blocks others : List Block) (facts : Facts) (number : ℕ) (block : Block)
     → block.left ≡ None → IsSet blocks number block others
-    → ((j : ℕ) → j < block_words → facts (first_of lo number +ℤ pos j) ≡ facts_left lo blocks facts (first_of lo number +ℤ pos j))
+    → ((j : ℕ) → j < block_words → facts (first_of lo number +ℤ pos j)
+        ≡ facts_left lo blocks facts (first_of lo number +ℤ pos j))
     → facts_left lo others facts ≡ facts_left lo blocks facts
 unfolding facts_left
 block-settled lo blocks others facts number block none kept settled = fun_ext (λ k. elim (in-block lo number k) [
@@ -278,7 +281,7 @@ unfolding AreSummed
 summed-same facts new lo blocks others summed new_is same = λ n sum is.
     summed n sum (sym (same n) ∙ is) ∙ ap (λ (f : Facts). together f (first_of lo n) block_words) (sym new_is)
 
--- ---- one span behind the other
+-- ---- one span after the other
 
 pub span-further : (first word : ℤ) (n m k : ℕ) (leaving : Leaving) (facts before new : Facts) → word ≡ first +ℤ pos n
     → k ≡ n + m → before ≡ with_span first n leaving facts → new ≡ with_span word m leaving before
@@ -358,7 +361,8 @@ none-left blocks each n = elim (cases_lt n (length blocks)) [
 ]
 
 -- nothing was written and no block was left
-pub facts-cleared : (lo : ℤ) (blocks : List Block) (row : List Entry) (written : List Written) → blocks ≡ [] → written ≡ []
+pub facts-cleared : (lo : ℤ) (blocks : List Block) (row : List Entry) (written : List Written)
+    → blocks ≡ [] → written ≡ []
     → facts_left lo blocks (facts_over lo row written) ≡ entry_fact row
 facts-cleared lo blocks row written none nothing =
     left-cleared lo blocks (facts_over lo row written) none
@@ -440,7 +444,8 @@ one-twice ReturnAddress = refl
 
 -- of words of each of which the same is known
 together-alike : (facts : Facts) (first : ℤ) (fact : Fact) (n : ℕ)
-    → ((j : ℕ) → j < suc n → facts (first +ℤ pos j) ≡ Alone fact) → together facts first (suc n) ≡ with_one (Alone fact) of_none
+    → ((j : ℕ) → j < suc n → facts (first +ℤ pos j) ≡ Alone fact)
+    → together facts first (suc n) ≡ with_one (Alone fact) of_none
 together-alike facts first fact zero each = ap (λ (f : WordFact). with_one f of_none) (each 0 (omega arith))
 together-alike facts first fact (suc n) each =
     ap (λ (f : WordFact). with_one f (together facts first (suc n))) (each (suc n) (omega arith))
@@ -463,7 +468,8 @@ widened-more : (lo hi : ℤ) (said : Fact) (t u : Together) (alone : Bool) → W
     → Widened lo hi (with_plain (handed_out said) (record t { are_alone = t.are_alone && alone }))
     (with_plain (handed_out (widened lo hi said)) (record u { are_alone = u.are_alone && true }))
 widened-more lo hi (Number a b) t u alone (no_number tl th ul uh numbers lone) =
-    a_number (omega (arith, ints, clamps, tl, ul)) (omega (arith, ints, clamps, th, uh)) numbers (and-yes u.are_alone ∙ lone)
+    a_number (omega (arith, ints, clamps, tl, ul)) (omega (arith, ints, clamps, th, uh)) numbers
+      (and-yes u.are_alone ∙ lone)
 widened-more lo hi (Number a b) t u alone (a_number ul uh numbers lone) =
     a_number (omega (arith, ints, clamps, ul)) (omega (arith, ints, clamps, uh)) numbers (and-yes u.are_alone ∙ lone)
 widened-more lo hi Unknown t u alone w = widened-other lo hi t u alone w
@@ -492,11 +498,13 @@ span-word facts first n j leaving less =
     (in-span first n (first +ℤ pos j) (omega (arith, ints)) (omega (arith, ints)))
 
 -- the bounds tell that there is a number
-sum-widened : (lo hi : ℤ) (t u sum : Together) → Widened lo hi t u → sum_left (Some t) (Widen lo hi) ≡ Some sum → sum ≡ u
+sum-widened : (lo hi : ℤ) (t u sum : Together) → Widened lo hi t u
+    → sum_left (Some t) (Widen lo hi) ≡ Some sum → sum ≡ u
 sum-widened lo hi t u sum (no_number tl th ul uh numbers lone) is =
     let unbounded = and-both _ _ (is_word-same t.lo greatest_word tl) (is_word-same t.hi least_word th) in
     let clash : None ≡ Some sum =
-    sym (ap (λ (b : Bool). cond b None (Some (record t { lo = int_min t.lo lo; hi = int_max t.hi hi; are_alone = true })))
+    sym (ap (λ (b : Bool). cond b None (Some
+      (record t { lo = int_min t.lo lo; hi = int_max t.hi hi; are_alone = true })))
     unbounded) ∙ is in
     absurd (cc)
 sum-widened lo hi t u sum (a_number ul uh numbers lone) is = on (is_unbounded t) is

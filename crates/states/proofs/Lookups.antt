@@ -22,7 +22,7 @@ indices-at [] p d h = absurd (omega arith)
 indices-at (w ∷ ws) zero d h = refl
 indices-at (w ∷ ws) (suc p) d h = indices-at ws p d (omega arith)
 
--- an index that stands nowhere was not written
+-- an index that is at no place was not written
 pub lookup-none : (ws : List Written) (index : ℕ) → ((j : ℕ) → j < length ws → get_or (indices ws) j 0 ≢ index)
     → lookup ws index ≡ None
 lookup-none [] index h = refl
@@ -31,7 +31,7 @@ lookup-none (w ∷ ws) index h =
     let rest = lookup-none ws index (λ j low. h (suc j) (omega arith)) in
     grind (arith, nat_tests)
 
--- the fact at the first place where an index stands
+-- the fact at the first place where an index is
 pub lookup-first : (ws : List Written) (index p : ℕ) (d : Written) → p < length ws → get_or (indices ws) p 0 ≡ index
     → ((j : ℕ) → j < p → get_or (indices ws) j 0 ≢ index)
     → lookup ws index ≡ Some ((get_or ws p d).fact)
@@ -43,7 +43,7 @@ lookup-first (w ∷ ws) index (suc p) d low is others =
     let rest = lookup-first ws index p d (omega arith) is (λ j l. others (suc j) (omega arith)) in
     grind (arith, nat_tests)
 
--- the fact at the place where an index stands
+-- the fact at the place where an index is
 pub lookup-at : (places : List ℕ) (ws : List Written) (index p : ℕ) (d : Written) → ArePlaced places ws → p < length ws
     → get_or (indices ws) p 0 ≡ index → lookup ws index ≡ Some ((get_or ws p d).fact)
 lookup-at places ws index p d placed low is =
@@ -53,7 +53,7 @@ lookup-at places ws index p d placed low is =
     let same : p ≡ j = sym here ∙ (ap (λ n. get_or places n 0) (is ∙ sym e) ∙ there) in
     absurd (omega arith))
 
--- an index that does not stand where the table says was not written
+-- an index that is not where the table says was not written
 pub lookup-absent : (places : List ℕ) (ws : List Written) (index : ℕ) → ArePlaced places ws
     → ((p : ℕ) → p ≡ get_or places index 0 → p < length ws → index < length places → get_or (indices ws) p 0 ≢ index)
     → lookup ws index ≡ None
@@ -119,7 +119,7 @@ lookup-set places ws p w j placed low is = elim (cases_eq j w.index) [
 
 -- ---- a fact written for the first time
 
--- an index that was not written stands nowhere
+-- an index that was not written is at no place
 pub stands-nowhere : (places : List ℕ) (ws : List Written) (index i : ℕ) (w : Written) → ArePlaced places ws
     → lookup ws index ≡ None → i < length ws → get_or (indices ws) i 0 ≢ index
 stands-nowhere places ws index i w placed none low e =
@@ -175,7 +175,7 @@ lookup-push (v ∷ ws) w j none = elim (cases_eq v.index w.index) [
       grind (arith, nat_tests)
 ]
 
--- ---- there is room
+-- ---- the capacity is enough
 
 member-at : (xs : List ℕ) (q : ℕ) → list_any (eqb q) xs ≡ true → (i : ℕ) × (i < length xs) × (get_or xs i 0 ≡ q)
 member-at [] q h = absurd (false≢true h)

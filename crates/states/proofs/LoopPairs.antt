@@ -44,7 +44,7 @@ alone-more row rest entry later is none so_far = λ k. elim (so_far k) [
   | inr h ↦ inr h
 ]
 
--- the next entry begins behind a word
+-- the next entry begins after a word
 pub alone-before : (row rest : List Entry) (entry : Entry) (later : List Entry) (k : ℤ) → AreApart rest
     → rest ≡ entry ∷ later → AloneSoFar row rest → k <ℤ entry.word → is_alone (entry_fact row k) ≡ true
 alone-before row rest entry later k apart is so_far less = elim (so_far k) [

@@ -41,7 +41,7 @@ loop-known (Alone fact) h = absurd (cc)
 loop-known (Index loop) h = refl
 loop-known (Count loop) h = refl
 
--- an index that was written stands in the list
+-- an index that was written is in the list
 written-at : (ws : List Written) (index : ℕ) (fact : Fact) → lookup ws index ≡ Some fact
     → (i : ℕ) × (i < length ws) × (slice_index (indices ws) i ≡ index)
 written-at [] index fact h = absurd (cc)
@@ -53,7 +53,7 @@ written-at (w ∷ ws) index fact h = elim (eqb_tells w.index index) [
       (suc rest.0, omega (arith, rest.1), rest.2)
 ]
 
--- what was written has room
+-- what was written is within the capacity
 pub index-below : (places : List ℕ) (ws : List Written) (index : ℕ) (fact : Fact) → ArePlaced places ws
     → lookup ws index ≡ Some fact → index < length places
 index-below places ws index fact placed h =
@@ -108,7 +108,8 @@ room-known frame k fact is known =
         record { low = omega (arith, ints, at); high = omega (arith, ints, at, below) }
 
     on_word : (z : ℤ) → k -ℤ frame.lo ≡ z
-        → is_silent (unwrap_or (option_map Alone (fact_of_index frame.overlay.written.items z)) (entry_fact frame.row.now k))
+        → is_silent (unwrap_or (option_map Alone (fact_of_index frame.overlay.written.items z))
+            (entry_fact frame.row.now k))
         ≡ false → HasRoom frame k
     on_word (pos index) at h = on_index index at (lookup frame.overlay.written.items index) refl h
     on_word (negsuc n) at h = of_row h

@@ -26,7 +26,7 @@ read-own m n k h = (and-parts _ _ h).0
 module _ {may_use : Contents → ℕ → ℤ → Bool}
     (own : (m : Contents) (n : ℕ) (k : ℤ) → may_use m n k ≡ true → has_word (context_at m n) k ≡ true)
     (s : InMemory) (word : ℤ) where
-  -- there is room for a word that the state's module lets its context use
+  -- a word that the state's module lets its context use is within the capacity
   has-room : (m : Contents) → BelongsTo m s → may_use s.module.now s.context word ≡ true → CanWrite s word
   has-room m b h =
       b.room s.context word (own m s.context word (ap (λ (m : Contents). may_use m s.context word) (sym b.is) ∙ h))

@@ -7,7 +7,7 @@ use Rattle.states.specs.declared.known.WordFact.{WordFact}
 use Rattle.states.specs.State.{Facts, is_alone}
 use Rattle.states.specs.Below.{are_alike, is_whole, holds_constant, price}
 
--- a test of two answers
+-- the test that two booleans are equal
 pub alike : (a b : Bool) → beq a b ≡ are_alike a b
 alike true true = refl
 alike true false = refl

@@ -50,7 +50,7 @@ procedure-at m n p some is =
 
 -- ---- the words of parameters
 
--- what a row keeps, wherever it stands
+-- a row is valid, wherever it is
 pub at-row : (version : Version) (code_len low : ℕ) (rows : List Procedure) (i : ℕ) (p : Procedure)
     → InOrder (ProcedureKeeps version code_len) behind_procedure low rows → slice_get rows i ≡ Some p
     → (l : ℕ) × ProcedureKeeps version code_len l p

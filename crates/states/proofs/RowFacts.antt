@@ -75,7 +75,7 @@ rise-lower l low (entry ∷ entries) h r =
     let p = rise-parts low entry entries r in
     and-both _ _ (le-yes l entry.word (omega (arith, ints))) p.1
 
--- the entries behind the first
+-- the entries after the first
 pub rise-tail : (low : ℤ) (entry : Entry) (entries : List Entry) → rise_from low (entry ∷ entries) ≡ true
     → rise_from low entries ≡ true
 rise-tail low entry entries r =
@@ -117,7 +117,7 @@ rise-drop low [] (suc n) r = refl
 rise-drop low (entry ∷ entries) zero r = r
 rise-drop low (entry ∷ entries) (suc n) r = rise-drop low entries n (rise-tail low entry entries r)
 
--- a word at or behind an entry's first: the entries before that one say nothing of it
+-- a word at or after an entry's first: the entries before that one say nothing of it
 pub entry_fact-drop : (low k : ℤ) (entries : List Entry) (n : ℕ) (d : Entry) → rise_from low entries ≡ true
     → n < length entries → (get_or entries n d).word ≤ℤ k
     → entry_fact (drop n entries) k ≡ entry_fact entries k
@@ -128,7 +128,7 @@ entry_fact-drop low k (entry ∷ entries) (suc n) d r l h =
     let next = rise-at (end_of entry) entries n d p.1 (omega arith) in
     rw (about-behind entry k (omega (arith, ints))) (entry_fact-drop (end_of entry) k entries n d p.1 (omega arith) h)
 
--- a word before an entry's first: that one and those behind it say nothing of it
+-- a word before an entry's first: that one and those after it say nothing of it
 pub entry_fact-take : (low k : ℤ) (entries : List Entry) (n : ℕ) (d : Entry) → rise_from low entries ≡ true
     → n < length entries → k <ℤ (get_or entries n d).word
     → entry_fact (take n entries) k ≡ entry_fact entries k
@@ -159,7 +159,7 @@ entry_fact-within k entry entries l h = rw (about-within entry k l h) refl
 
 -- ---- a binary search
 
--- the half from an entry on, where the word lies at or behind that entry's first
+-- the half from an entry on, where the word is at or after that entry's first
 pub row-back : (rest back : List Entry) (mid : ℕ) (k w : ℤ) (d : Entry) → AreApart rest → back ≡ drop mid rest
     → mid < length rest → w ≡ (get_or back 0 d).word → w ≤ℤ k
     → AreApart back × (entry_fact back k ≡ entry_fact rest k)
@@ -187,7 +187,7 @@ row-front rest front back mid k w d apart first_half half low first lt =
 
 -- ---- a row from a word on
 
--- a row that begins behind a word says nothing from there up to its first entry
+-- a row that begins after a word says nothing from there up to its first entry
 pub segment-before : (row : List Entry) (entry : Entry) (later : List Entry) (start k : ℤ) → AreApart row
     → row ≡ entry ∷ later → start ≡ entry.word → k <ℤ start → entry_fact row k ≡ Alone Unknown
 segment-before row entry later start k apart is start_is h =

@@ -58,7 +58,8 @@ not-above first count k high = and-no _ _ (lt-no k (first +ℤ pos count) high)
 -- ---- one word after the other
 
 on-word : (first : ℤ) (n : ℕ) (leaving : Leaving) (facts : Facts) (j : ℤ)
-    → cond (is_word j (first +ℤ pos n)) (Alone (left_of leaving (by_itself (with_span first n leaving facts (first +ℤ pos n)))))
+    → cond (is_word j (first +ℤ pos n))
+        (Alone (left_of leaving (by_itself (with_span first n leaving facts (first +ℤ pos n)))))
     (with_span first n leaving facts j)
     ≡ with_span first (n + 1) leaving facts j
 on-word first n leaving facts j = by_lt_z j (first +ℤ pos n)
@@ -81,18 +82,21 @@ on-word first n leaving facts j = by_lt_z j (first +ℤ pos n)
     )
     (ap (λ (k : ℤ). Alone (left_of leaving (by_itself (facts k)))) (sym same))))
 
-pub leave-more : (first word : ℤ) (n m : ℕ) (leaving : Leaving) (facts before new : Facts) (here : WordFact) (said left : Fact)
+pub leave-more : (first word : ℤ) (n m : ℕ) (leaving : Leaving)
+    (facts before new : Facts) (here : WordFact) (said left : Fact)
     → word ≡ first +ℤ pos n → m ≡ n + 1 → before ≡ with_span first n leaving facts → here ≡ before word
     → said ≡ by_itself here → left ≡ left_of leaving said → new ≡ with_alone word left before
     → new ≡ with_span first m leaving facts
-leave-more first word n m leaving facts before new here said left word_is m_is before_is here_is said_is left_is new_is =
+leave-more first word n m leaving facts before new here said left
+      word_is m_is before_is here_is said_is left_is new_is =
     let left_there : left ≡ left_of leaving (by_itself (with_span first n leaving facts (first +ℤ pos n))) =
     left_is ∙ ap (left_of leaving) (said_is ∙ ap by_itself (here_is ∙ (ap (λ (f : Facts). f word) before_is
     ∙ ap (with_span first n leaving facts) word_is))) in
     new_is
     ∙ (ap (λ (w : ℤ). with_alone w left before) word_is
     ∙ (ap (λ (x : Fact). with_alone (first +ℤ pos n) x before) left_there
-    ∙ (ap (with_alone (first +ℤ pos n) (left_of leaving (by_itself (with_span first n leaving facts (first +ℤ pos n))))) before_is
+    ∙ (ap (with_alone (first +ℤ pos n) (left_of leaving (by_itself (with_span first n leaving facts (first +ℤ pos n)))))
+      before_is
     ∙ (fun_ext (λ j. on-word first n leaving facts j)
     ∙ ap (λ (k : ℕ). with_span first k leaving facts) (sym m_is)))))
 
@@ -120,7 +124,7 @@ part-index : (before behind : Bool) (loop : Loop)
 part-index true behind loop = refl
 part-index false behind loop = refl
 
--- a word that lies before the span is next to it exactly if the word behind it is in the span
+-- a word before the span is next to it exactly if the word after it is in the span
 next-before : (first : ℤ) (count : ℕ) (j : ℤ) → 0 < count → is_in_span first count j ≡ false
     → is_word j (first -ℤ pos 1) ≡ is_in_span first count (j +ℤ pos 1)
 next-before first count j some out = elim (lies-by first count (j +ℤ pos 1)) [
@@ -161,7 +165,8 @@ inside first count j facts low high =
     ∙ none-parted words.Index (facts j)))
 
 pub parts-leave : (first : ℤ) (count : ℕ) (leaving : Leaving) (facts : Facts) → 0 < count
-    → with_span first count leaving (parted words.Count (first +ℤ pos count) (parted words.Index (first -ℤ pos 1) facts))
+    → with_span first count leaving (parted words.Count (first +ℤ pos count)
+      (parted words.Index (first -ℤ pos 1) facts))
     ≡ changed (on_span first count leaving) facts
 parts-leave first count leaving facts some = fun_ext (λ j. elim (lies-by first count j) [
   | below l e ↦ rw e (beside first count j (facts j) some e)
@@ -183,8 +188,9 @@ pub and-yes : (b : Bool) → b && true ≡ b
 and-yes true = refl
 and-yes false = refl
 
--- the same so far, with so many more of which nothing is known
-pub silent-more : (facts : Facts) (first : ℤ) (n k : ℕ) → ((j : ℕ) → n ≤ j → j < n + k → facts (first +ℤ pos j) ≡ Alone Unknown)
+-- the same so far, with `k` more of which nothing is known
+pub silent-more : (facts : Facts) (first : ℤ) (n k : ℕ)
+    → ((j : ℕ) → n ≤ j → j < n + k → facts (first +ℤ pos j) ≡ Alone Unknown)
     → together facts first (n + k) ≡ with_silent k (together facts first n)
 silent-more facts first n zero silent =
     ap (together facts first) (let e : n + 0 ≡ n = omega arith in e)
@@ -234,7 +240,7 @@ silent-before frame first lo n lo_is before =
     let from = room.low in
     omega (arith, ints))))
 
--- words that come behind them
+-- words that come after them
 pub silent-behind : (frame : Frame) (first end : ℤ) (n count : ℕ) (all : Together) → n ≤ count
     → end ≡ frame.lo +ℤ pos (vec_len frame.overlay.places) → ((j : ℕ) → n ≤ j → j < count → end ≤ℤ (first +ℤ pos j))
     → all ≡ together (frame_facts frame) first n
@@ -264,9 +270,9 @@ changed-fields first w count leaving s a b c frame p q r f w_is =
     let frame_is = f ∙ ap (λ (z : ℤ). changed (on_span z count leaving) s.frame) w_is in
     λ i. record s { stack = record { a = a_is i; b = b_is i; c = c_is i }; frame = frame_is i }
 
--- ---- room
+-- ---- capacity
 
--- parts leave the room of a span
+-- parting leaves the capacity for a span
 pub span-room : (a b c : Frame) (first w : ℤ) (count : ℕ) → SameRoom a b → SameRoom b c → w ≡ first
     → HasRoomForSpan a first count → HasRoomForSpan c w count
 span-room a b c first w count one two w_is room = record {

@@ -45,7 +45,7 @@ pub record RowWithin (lo hi : ℤ) (row : ProcedureRow) : Type 0 where
   pub low : lo ≤ℤ row.lo
   pub high : row.hi ≤ℤ hi
 
--- so do those of so many rows
+-- so do those of the first `n` rows
 abbrev pub RowsWithin : ℤ → ℤ → List ProcedureRow → ℕ → Type 0
 RowsWithin lo hi rows n = (i : ℕ) → i < n → (d : ProcedureRow) → RowWithin lo hi (get_or rows i d)
 

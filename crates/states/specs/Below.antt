@@ -1,4 +1,4 @@
--- When a state may go on as a label's: it knows at least as much, and can pay.
+-- When a state is at least as strong as a label's state: it knows at least as much, and can pay.
 use Rattle.std.specs.Prelude.{ℕ, zero, suc, ◌+◌, ◌-◌, ◌*◌, ℤ, pos, ◌+ℤ◌, int_le, nat_lt, ◌==◌, ◌&&◌, Bool, true, false}
 use Rattle.std.specs.Prelude.{not, if◌then◌else◌, List, sum_by, Result, Ok, Err}
 use Rattle.std.specs.List.{list_all}
@@ -64,7 +64,7 @@ says _ _ = false
 
 -- ---- entries
 
--- of each of so many words of an entry that is said which the entry says
+-- the first `n` words of an entry say at least what the entry says
 abbrev pub words_say : Facts → Entry → ℕ → Bool
 words_say facts entry zero = true
 words_say facts entry (suc more) =
@@ -122,8 +122,8 @@ agrees v t =
     && implies v.stack.a t.stack.a && implies v.stack.b t.stack.b && implies v.stack.c t.stack.c
     && entries_hold v.frame t.entries && list_all (is_whole v.frame) t.entries
 
--- What it costs one who may pay this number to go on as the label, or the rule that is broken: the number does not
--- cover it, or less is known. The number has no bound.
+-- What it costs to go on as the label with this number to pay from, or the rule that is broken: the number does not
+-- cover the cost, or less is known than the label says. The number has no bound.
 abbrev pub compared : ℕ → View → Label → Result ℕ Rule
 compared number v t =
     if nat_lt number (cost v t) then Err rules.Budget

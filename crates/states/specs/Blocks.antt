@@ -32,7 +32,7 @@ block_at blocks number = get_or blocks number no_block
 abbrev pub first_of : ℤ → ℕ → ℤ
 first_of lo number = lo +ℤ pos (number * block_words)
 
--- so many words have room for so many blocks
+-- this number of words holds this number of blocks
 unfoldable pub HaveRoom : ℕ → ℕ → Type 0
 HaveRoom words blocks = blocks * block_words ≤ words
 

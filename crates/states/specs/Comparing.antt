@@ -36,7 +36,7 @@ abbrev pub WrittenSaysAll : List Written → ℤ → Facts → Facts → Type 0
 WrittenSaysAll written lo facts wanted =
     (k : ℤ) (fact : Fact) → fact_of_index written (k -ℤ lo) ≡ Some fact → says (facts k) (wanted k) ≡ true
 
--- so it is of so many words from `first` on
+-- so it is of `count` words from `first` on
 abbrev pub BlockSaysAll : ℤ → Facts → Facts → ℕ → Type 0
 BlockSaysAll first facts wanted count =
     (j : ℕ) → j < count → says (facts (first +ℤ pos j)) (wanted (first +ℤ pos j)) ≡ true
@@ -63,7 +63,7 @@ SaysEntry [] wanted = ⊥
 SaysEntry (entry ∷ later) wanted = IsOver entry wanted
 
 -- What is left of a row from the word `next` on: it says of the words from there on what the row says. Of the words
--- before, from `word` on, none of which is behind `end`, the row says what is wanted.
+-- before, from `word` on, none of which is after `end`, the row says what is wanted.
 pub record IsPast (row : List Entry) (word end : ℤ) (wanted : Fact) (left : List Entry) (next : ℤ) : Type 0 where
   pub ahead : word ≤ℤ next
   pub within : next ≤ℤ end
@@ -145,8 +145,8 @@ pub record IsInto (said facts : Facts) (first second wanted : Entry) (paid next 
   pub count : IsConstantAt second (wanted.word +ℤ pos 1) (pos loop.count)
   pub sum : next ≡ paid + loop.weight * (loop.count - 1)
 
--- What is left of a row that is wanted: of each word before at least that is known which the row wants, by one of the
--- two, and so much is paid. From its first word on, what is left of the one row says what that row says.
+-- What is left of a row that is wanted. Of each word before, one of the two says at least what the row wants, and
+-- `paid` is paid. From its first word on, what is left of the one row says what that row says.
 pub record IsWalk (said facts : Facts) (row base rest : List Entry) (paid : ℕ) : Type 0 where
   pub low : ℤ
   pub rises : rise_from low rest ≡ true

@@ -54,7 +54,7 @@ pub record AreCut (side : Side) (intervals : List Interval) (entries pieces : Li
 
 -- ---- one pass over entries and intervals
 
--- the entries begin at `low` or later, each behind the one before it, and none ends behind `high`
+-- the entries begin at `low` or later, each after the one before it, and none ends after `high`
 abbrev pub rise_between : ℤ → ℤ → List Entry → Bool
 rise_between low high [] = int_le low high
 rise_between low high (entry ∷ entries) = int_le low entry.word && rise_between (end_of entry) high entries

@@ -1,5 +1,5 @@
--- Facts by index, as they are kept in memory: the last fact of each index that was written, in a list,
--- and for each index the place in the list at which it may stand.
+-- Facts by index, as they are kept in memory: the last fact of each index that was written, in a list, and for each
+-- index the place in the list at which it may be.
 use Rattle.std.specs.Prelude.{◌≡◌, ℕ, ◌<◌, ◌==◌, if◌then◌else◌, List, [], ◌∷◌, length, map, slice_index, Option, Some}
 use Rattle.std.specs.Prelude.{None, ℤ, pos, negsuc, ◌-ℤ◌, option_map, unwrap_or}
 use Rattle.module_format.specs.Rows.{Fact}
@@ -16,7 +16,7 @@ lookup (w ∷ ws) index = if w.index == index then Some w.fact else lookup ws in
 abbrev pub indices : List Written → List ℕ
 indices written = map (λ w. w.index) written
 
--- the table of places tells the place in the list of each index that was written
+-- the table of places gives the place in the list of each index that was written
 abbrev pub ArePlaced : List ℕ → List Written → Type 0
 ArePlaced places written =
     (i : ℕ) → i < length written → (slice_index (indices written) i < length places)

@@ -31,7 +31,7 @@ fault_of rule = record { number = number_of rule }
 abbrev pub out_of_memory : RuleFault
 out_of_memory = record { number = MEMORY }
 
--- an answer, as it is reported
+-- a result, as it is reported
 abbrev pub reported : {A : Type 0} → Result A Rule → Result A RuleFault
 reported (Ok x) = Ok x
 reported (Err rule) = Err (fault_of rule)

@@ -1,4 +1,4 @@
--- What a state has room for: the frame words of all contexts of a module, and guards.
+-- The capacity of a state: the frame words of all contexts of a module, and guards.
 use Rattle.std.specs.Prelude.{◌≡◌, ℕ, ℤ, ◌≤◌, ◌≤ℤ◌, ◌<ℤ◌, true, vec_capacity}
 use Rattle.module_format.specs.Contents.{Contents}
 use Rattle.module_format.specs.Contexts.{context_at}

@@ -12,7 +12,7 @@ use Rattle.states.specs.declared.known.WordFact.{WordFact}
 use Rattle.states.specs.declared.known.WordFact.TheVariants.{Alone, Index, Count}
 use Rattle.states.specs.State.{is_silent, entry_fact}
 
--- the entries begin at this word or later, each behind the one before it
+-- the entries begin at this word or later, each after the one before it
 abbrev pub rise_from : ℤ → List Entry → Bool
 rise_from low [] = true
 rise_from low (entry ∷ entries) = int_le low entry.word && rise_from (end_of entry) entries
@@ -26,7 +26,7 @@ LoopFits (Alone fact) = ⊤
 LoopFits (Index loop) = IsLoop loop.base loop.count loop.weight
 LoopFits (Count loop) = IsLoop loop.base loop.count loop.weight
 
--- the entries of a frame that has so many words from lo on: each word of which something is known is one of them
+-- the entries of a frame of `room` words from `lo` on: each word of which something is known is one of them
 pub record IsRow (lo : ℤ) (room : ℕ) (entries : List Entry) : Type 0 where
   pub apart : AreApart entries
   pub loops : (k : ℤ) → LoopFits (entry_fact entries k)

@@ -1,4 +1,4 @@
--- Spans of words: so many words from a first one on, what is known of them together, and how all of them change.
+-- Spans of words: a number of words from a first one on, what is known of them together, and how all of them change.
 use Rattle.std.specs.Prelude.{ℕ, zero, suc, ℤ, pos, ◌+ℤ◌, int_le, int_lt, ◌&&◌, ◌==◌, Bool, true, false}
 use Rattle.std.specs.Int.{int_min, int_max}
 use Rattle.module_format.specs.Rows.{Fact}
@@ -11,7 +11,7 @@ use Rattle.states.specs.declared.span.Leaving.{Leaving}
 use Rattle.states.specs.declared.span.Leaving.TheVariants as leavings
 use Rattle.states.specs.State.{State, Facts, Change, plain, is_alone, forgets, changed}
 
--- word k is one of so many from `first` on
+-- word `k` is one of `count` words from `first` on
 abbrev pub is_in_span : ℤ → ℕ → ℤ → Bool
 is_in_span first count k = int_le first k && int_lt k (first +ℤ pos count)
 
@@ -34,7 +34,7 @@ abbrev pub together : Facts → ℤ → ℕ → Together
 together facts first zero = of_none
 together facts first (suc more) = with_one (facts (first +ℤ pos more)) (together facts first more)
 
--- the same of so many more, of which nothing is known
+-- the same with `count` more, of which nothing is known
 abbrev pub with_silent : ℕ → Together → Together
 with_silent count t = record t { are_numbers = t.are_numbers && (count == 0) }
 

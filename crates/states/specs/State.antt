@@ -146,7 +146,7 @@ written k fact s = record s { stack = mapped (forgets (is_at k)) s.stack; frame 
 
 -- ---- states
 
--- the state in a context at a depth, with this known of the frame, nothing of the registers, and so much to pay
+-- the state in a context at a depth, with this known of the frame, nothing of the registers, and this number to pay
 abbrev pub begun : ℕ → ℤ → ℕ → Facts → State
 begun context depth number frame = record {
   context = context;

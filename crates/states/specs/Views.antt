@@ -21,35 +21,34 @@ state_of s = record {
   guards = s.guards.items;
 }
 
--- there is room for word k
+-- word `k` is within the capacity
 pub record CanWrite (s : InMemory) (k : ℤ) : Type 0 where
   pub room : HasRoom s.frame k
 
--- The state is one of this module, which keeps the format: it asks the module, and has room for each word of each
--- context.
+-- The state is one of this valid module: it asks the module, and has capacity for each word of each context.
 pub record BelongsTo (m : Contents) (s : InMemory) : Type 0 where
   pub kept : Keeps m
   pub is : s.module.now ≡ m
   pub room : (n : ℕ) (k : ℤ) → has_word (context_at m n) k ≡ true → CanWrite s k
 
--- A word is handed out exactly where the state's context may use it so, as the word that it is, and there is room for
--- it.
+-- A word is returned exactly if the state's context may use it so. It is returned as the word that it is, and is within
+-- the capacity.
 pub record IsUsable (may_use : Contents → ℕ → ℤ → Bool) (s : InMemory) (word : ℤ) (usable : Option ℤ) : Type 0 where
   pub some : IfSome usable (λ k. k ≡ word)
   pub allowed : (m : Contents) → BelongsTo m s → is_some usable ≡ may_use m s.context word
   pub room : (m : Contents) → BelongsTo m s → IfSome usable (CanWrite s)
 
--- there is room for the words of a span
+-- the words of a span are within the capacity
 pub record CanWriteSpan (s : InMemory) (first : ℤ) (count : ℕ) : Type 0 where
   pub each : (k : ℤ) → first ≤ℤ k → k <ℤ (first +ℤ pos count) → CanWrite s k
 
--- The state's context may use each word of a span so, where there is room for each.
+-- The state's context may use each word of a span so, and each is within the capacity.
 pub record AreUsable (may_use : Contents → ℕ → ℤ → Bool) (s : InMemory) (first : ℤ) (count : ℕ)
     (usable : Bool) : Type 0 where
   pub allowed : (m : Contents) → BelongsTo m s → usable ≡ all_words (may_use m s.context) first count
   pub room : (m : Contents) → BelongsTo m s → usable ≡ true → CanWriteSpan s first count
 
--- The state is what it was, and belongs to what it did; there is the same room for words and for guards.
+-- The state is what it was, and belongs to the same module; its capacity for words and for guards is the same.
 pub record IsLeft (old new : InMemory) : Type 0 where
   pub state : state_of new ≡ state_of old
   pub belongs : (m : Contents) → BelongsTo m old → BelongsTo m new

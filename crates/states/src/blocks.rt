@@ -34,11 +34,11 @@ impl Block {
     };
 }
 
-/// What is kept for blocks, by their numbers, which are below a room that is set when it is made. Nothing is allocated
-/// later.
+/// What is kept for blocks, by their numbers. The numbers are below a capacity that is set at construction. Nothing is
+/// allocated later.
 #[derive(Debug, Drop)]
 pub(crate) struct Blocks {
-    /// Nothing is kept for the blocks behind the last of these.
+    /// Nothing is kept for the blocks after the last of these.
     pub(crate) kept: Vec<Block>,
     pub(crate) room: usize,
     ghost reserved: { room ≤ vec_capacity kept },

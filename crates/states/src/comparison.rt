@@ -1,4 +1,4 @@
-//! When a state may go on as a label's.
+//! When a state is at least as strong as a label's state.
 
 ghost use Rattle.std.specs.Prelude.{◌≡◌, ◌≤◌, SomeIff, IfOk, IfSome, Ok};
 ghost use Rattle.module_format.specs.Contents.{label_of};
@@ -20,7 +20,7 @@ fn is_plain(mode: Mode) -> bool
     mode == Mode::Plain
 }
 
-/// Whether a state stands where a label's does, and knows at least as much of the registers.
+/// Whether a state is where a label is (stands there), and knows at least as much of the registers.
 fn stands(state: &State, row: &LabelRow) -> bool
     ensures { result ≡ stands (view (state_of state.now)) (label_of row.now) }
 {
@@ -32,7 +32,7 @@ fn stands(state: &State, row: &LabelRow) -> bool
         && implies(state.stack.c.fact, row.stack.c)
 }
 
-/// The same by one pass over the entries of both rows, where that tells it.
+/// The same by one pass over the entries of both rows. `None` if that pass does not decide it.
 fn compare_quickly(number: u128, state: &State, row: &LabelRow) -> Option<u128>
     requires { AreApart row.now.entries.items }
     ensures compared { IfSome result
@@ -50,7 +50,7 @@ fn compare_quickly(number: u128, state: &State, row: &LabelRow) -> Option<u128>
     Some(cost)
 }
 
-/// Whether a state stands where a label's does, and knows at least as much, asked word by word.
+/// Whether a state is where a label is, and knows at least as much, tested word by word.
 fn agrees(state: &State, row: &LabelRow) -> bool
     requires { AreApart row.now.entries.items }
     ensures { result ≡ agrees (view (state_of state.now)) (label_of row.now) }
@@ -67,9 +67,9 @@ fn cost(number: u128, state: &State, row: &LabelRow) -> Option<u128>
     Some(number - left)
 }
 
-/// What it costs a state that may pay this number to go on as a label's, by what it knows. `Rule::Budget`: the
-/// number does not cover it. `Rule::Label`: it is elsewhere, or knows less. Only where one pass over the entries does
-/// not tell it, it is asked word by word.
+/// What it costs a state that may pay this number to go on as a label's, by what it knows. `Rule::Budget`: the number
+/// does not cover it. `Rule::Label`: it is elsewhere, or knows less. It is tested word by word only if one pass over
+/// the entries does not decide it.
 pub fn compare(number: u128, state: &State, row: &LabelRow) -> Result<u128, Rule>
     requires { AreApart row.now.entries.items }
     ensures compared { result ≡ compared number (view (state_of state.now)) (label_of row.now) }
@@ -85,10 +85,10 @@ pub fn compare(number: u128, state: &State, row: &LabelRow) -> Result<u128, Rule
     Ok(cost)
 }
 
-/// What it costs a state to go on as a label's: the label's number, and for each loop that it enters the
-/// loop's weight for each turn but the first. `Rule::Budget`: it cannot pay. `Rule::Label`: it stands
-/// elsewhere, or knows less. The time goes with the entries of the row and of the label before, and with
-/// the words written or left since then, each of which is sought in the row, or else with the words of the row.
+/// What it costs a state to go on as a label's: the label's number, and for each loop that it enters the loop's weight
+/// for each turn but the first. `Rule::Budget`: it cannot pay. `Rule::Label`: it is elsewhere, or knows less. The time
+/// grows with the entries of the row and of the label before, and with the words written or left since then, each of
+/// which is sought in the row, or else with the words of the row.
 #[tactic(auto, unfolding(crate::specs::Below::below))]
 pub fn cost_below(state: &State, row: &LabelRow) -> Result<u64, Rule>
     requires { AreApart row.now.entries.items }
@@ -98,7 +98,7 @@ pub fn cost_below(state: &State, row: &LabelRow) -> Result<u64, Rule>
     Ok(cost as u64)
 }
 
-/// What `cost_below` answers, with the rule as its number.
+/// What `cost_below` returns, with the rule as its number.
 pub fn below(state: &State, row: &LabelRow) -> Result<u64, RuleFault>
     requires { AreApart row.now.entries.items }
     ensures { result ≡ reported (below (state_of state.now) (label_of row.now)) }

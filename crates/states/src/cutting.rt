@@ -91,7 +91,7 @@ fn cut_run<'a>(
     Some(run)
 }
 
-/// What is left of the intervals behind an entry of no loop, of whose words those that are kept are put to the pieces.
+/// What is left of the intervals after an entry of no loop, whose words that are kept are pushed to the pieces.
 fn cut_words<'a>(
     pieces: &mut Vec<Entry>,
     side: Side,
@@ -115,8 +115,8 @@ fn cut_words<'a>(
     Some(left)
 }
 
-/// What is left of the intervals behind an entry that has words, if they have none of these. It is put to the pieces as
-/// it is, if such words are kept.
+/// What is left of the intervals after an entry that has words, if they have none of these. The entry is pushed to the
+/// pieces as it is, if such words are kept.
 fn cut_loop<'a>(
     pieces: &mut Vec<Entry>,
     side: Side,
@@ -144,7 +144,7 @@ fn cut_loop<'a>(
     Some(run.rest)
 }
 
-/// What is left of the intervals behind an entry, of whose words those that are kept are put to the pieces.
+/// What is left of the intervals after an entry, whose words that are kept are pushed to the pieces.
 fn cut_entry<'a>(
     pieces: &mut Vec<Entry>,
     side: Side,

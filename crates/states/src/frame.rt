@@ -49,7 +49,7 @@ impl<'a> Frame<'a> {
     ghost use Rattle.states.specs.Blocks.{block_at, first_of, leaving_at};
     ghost use Rattle.states.specs.Frames.{HasRoomForAll, SameRoom};
 
-    /// The frame of so many words from `lo` on, of which nothing is known.
+    /// The frame of `room` words from `lo` on, of which nothing is known.
     pub(crate) fn new(alloc: Global, lo: i32, room: usize) -> Result<Self, AllocError>
         requires { (lo +ℤ pos room) ≤ℤ pos (2 ^ 31) }
         ensures facts { IfOk result (λ f. frame_facts f ≡ no_facts) }
@@ -205,7 +205,7 @@ impl<'a> Frame<'a> {
         self.place(word, fact);
     }
 
-    /// The first word behind those that can be written.
+    /// The first word after those that can be written.
     pub(crate) fn end(&self) -> i64
         ensures value { result ≡ self.now.lo +ℤ pos (vec_len self.now.overlay.places) }
     {

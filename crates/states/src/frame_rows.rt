@@ -1,4 +1,4 @@
-//! Whether a frame says what a row wants, by one pass over the entries of both. Where that fails it tells nothing.
+//! Whether a frame says what a row wants, by one pass over the entries of both. A pass that fails decides nothing.
 #![tactic(auto, unfolding(crate::specs::Blocks::HaveRoom))]
 
 ghost use Rattle.std.specs.Prelude.{◌≡◌, ◌-◌, ◌*◌, ◌<◌, ◌≤◌, ℕ, pos, ◌+ℤ◌, ◌<ℤ◌, ◌^◌, List, length, drop, get_or};
@@ -35,7 +35,7 @@ struct Walk<'a> {
     paid: u128,
 }
 
-/// So many loops that are entered, and what is paid then.
+/// A number of loops that are entered, and what is paid then.
 #[derive(Clone, Copy)]
 struct Entering {
     count: usize,

@@ -45,7 +45,7 @@ impl Frame<'_> {
         self.by_block.get(number).sum
     }
 
-    /// The first of so many words from a word on: those of the block that begins there, if it was summed, else one.
+    /// The first of `most` words from a word on: those of the block that begins there, if it was summed, else one.
     fn piece(&self, word: i64, most: u32) -> Piece
         requires { 1 ≤ most }
         ensures some { 1 ≤ result.count }
@@ -64,8 +64,8 @@ impl Frame<'_> {
         }
     }
 
-    /// What is known of so many words from `first` on together. Words that cannot be written are not looked at:
-    /// nothing is known of them. A block that was summed is one step.
+    /// What is known of `count` words from `first` on together. Words that cannot be written are not looked at: nothing
+    /// is known of them. A block that was summed is one step.
     pub(crate) fn together(&self, first: i32, count: u32) -> Together
         ensures { result ≡ together (frame_facts self.now) first count }
     {
@@ -116,7 +116,7 @@ impl Frame<'_> {
         1
     }
 
-    /// The blocks are summed from now on that lie among so many words from `first` on.
+    /// The blocks within `count` words from `first` on are summed from now on.
     pub(crate) fn sum(&mut self, first: i32, count: u32)
         ensures facts { frame_facts self.new ≡ frame_facts self.old }
         ensures room { SameRoom self.old self.new }
@@ -132,7 +132,7 @@ impl Frame<'_> {
         }
     }
 
-    /// A block that is to be widened is summed before, so that its sum is known behind that too.
+    /// A block that is to be widened is summed before, so that its sum is known after that too.
     fn sum_widened(&mut self, number: usize, word: i32, leaving: Leaving)
         requires room { number < self.old.by_block.room }
         requires begins { first_of self.old.lo number ≡ word }
@@ -220,8 +220,8 @@ impl Frame<'_> {
         self.place(word, leaving.left_of(said));
     }
 
-    /// The first of so many words from a word on are left so, those of the block that begins there or else one, and
-    /// the others what they are. Returned is how many.
+    /// The first of `most` words from a word on are left so, those of the block that begins there or else one, and the
+    /// others stay what they are. Returns how many.
     fn leave_some(&mut self, word: i64, most: u32, leaving: Leaving) -> u32
         requires some { 1 ≤ most }
         requires room { HasRoom self.old word }
@@ -241,7 +241,7 @@ impl Frame<'_> {
         1
     }
 
-    /// Each of so many words from `first` on is left so, and the others what they are. A block is one step.
+    /// Each of `count` words from `first` on is left so, and the others stay what they are. A block is one step.
     fn leave(&mut self, first: i32, count: u32, leaving: Leaving)
         requires { HasRoomForSpan self.old first count }
         ensures facts { frame_facts self.new ≡ with_span first count leaving (frame_facts self.old) }
@@ -254,8 +254,8 @@ impl Frame<'_> {
         }
     }
 
-    /// Each of so many words from `first` on, at least one, is left so from now on. A loop that loses one of
-    /// its words leaves what the other says by itself.
+    /// Each of `count` words from `first` on, at least one, is left so from now on. A loop that loses one of its words
+    /// leaves what the other says by itself.
     pub(crate) fn change_span(&mut self, first: i32, count: u32, leaving: Leaving)
         requires room { HasRoomForSpan self.old first count }
         requires some { 0 < count }
@@ -269,7 +269,7 @@ impl Frame<'_> {
     }
 }
 
-/// How many of so many words from `first` on come before a word.
+/// How many of `count` words from `first` on come before a word.
 fn words_before(first: i32, count: u32, word: i64) -> u32
     ensures few { result ≤ count }
     ensures before { (j : ℕ) → j < result → (first +ℤ pos j) <ℤ word }

@@ -14,7 +14,7 @@ pub(crate) struct Run<'a> {
     pub rest: &'a [Interval],
     /// Whether an interval has the words.
     pub is_among: bool,
-    /// The first word behind them.
+    /// The first word after them.
     pub end: i64,
 }
 
@@ -59,7 +59,7 @@ pub(crate) fn run_from<'a>(intervals: &'a [Interval], word: i64, end: i64) -> Ru
 struct Stretch<'a> {
     /// The intervals without those that end at the word or before it.
     rest: &'a [Interval],
-    /// The first word behind those that an interval has from the word on: the word itself, if none has it.
+    /// The first word after those that an interval has from the word on: the word itself, if none has it.
     end: i64,
 }
 

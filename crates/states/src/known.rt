@@ -152,8 +152,8 @@ pub enum Mode {
     Plain,
     /// Between `alt` and `altwt`.
     Enabling,
-    /// Between `altwt` and `altend`, with so many guards disabled.
+    /// Between `altwt` and `altend`, with `done` guards disabled.
     Disabling { done: u32 },
-    /// Starting the branches of a PAR row, of which so many are started.
+    /// Starting the branches of a PAR row, of which `started` are started.
     Starting { row: u32, started: u32 },
 }

@@ -5,8 +5,8 @@ ghost use Rattle.module_format.specs.Contents.{Contents, Label, label_at};
 ghost use Rattle.module_format.specs.Keeping.{Keeps};
 ghost use Rattle.states.specs.Rows.{IsRowOf};
 
-/// The label rows of a module that keeps the format are rows that states can be compared with: their entries are
-/// apart, and lie in the frame of their context.
+/// The label rows of a valid module are rows that states can be compared with: their entries are apart, and lie in the
+/// frame of their context.
 #[tactic(auto, using(crate::proofs::LabelRows::label_rows))]
 pub fn label_rows_are_sound()
     ensures each { (m : Contents) → Keeps m → AllByRecursion (IsRowOf m) m.labels }

@@ -14,11 +14,10 @@ pub(crate) struct Written {
     pub fact: Fact,
 }
 
-/// The facts that were written, for indices below a room that is set when it is made. Nothing is
-/// allocated later.
+/// The facts that were written, for indices below a capacity that is set at construction. Nothing is allocated later.
 #[derive(Debug, Drop)]
 pub(crate) struct Overlay {
-    /// For each index where in `written` it may stand. What is told there decides.
+    /// For each index where in `written` it may be. The index that is found there decides.
     pub(crate) places: Vec<usize>,
     pub(crate) written: Vec<Written>,
     ghost placed: { ArePlaced places.items written.items },
@@ -45,7 +44,7 @@ impl Overlay {
         Ok(Overlay { places, written })
     }
 
-    /// Where an index stands in the list, if it was written.
+    /// Where an index is in the list, if it was written.
     fn place(&self, index: usize) -> Option<usize>
         ensures found { IfSome result (λ p. (p < vec_len self.now.written) × (slice_index (indices self.now.written.items) p ≡ index)) }
         ensures none { IfNone result (lookup self.now.written.items index ≡ None) }

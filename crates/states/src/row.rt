@@ -23,7 +23,7 @@ pub(crate) fn start_of(entry: &Entry) -> i64
     i64::from(entry.word)
 }
 
-/// The first word behind an entry.
+/// The first word after an entry.
 #[inline(always)]
 pub(crate) fn end_of(entry: &Entry) -> i64
     ensures value { result ≡ end_of entry.now }
@@ -85,8 +85,7 @@ pub(crate) fn said_of(fact: Fact, is_first: bool) -> WordFact
     }
 }
 
-/// Whether a row's entries have at most so many words. No entries are looked at behind those that
-/// have more.
+/// Whether a row's entries have at most `count` words. No entries are looked at after those that have more.
 pub(crate) fn has_at_most(row: &[Entry], count: u64) -> bool {
     let mut left = count;
     for entry in row {
@@ -195,8 +194,8 @@ pub(crate) struct RowRest<'a> {
     pub word: i64,
 }
 
-/// What is left of a row from a word on, behind the words up to `end` of which it says what is wanted. The time goes
-/// with the entries that are passed.
+/// What is left of a row from a word on, after the words up to `end` of which it says what is wanted. The time grows
+/// with the number of entries that are passed.
 pub(crate) fn past_saying<'a>(row: &'a [Entry], word: i64, end: i64, wanted: Fact) -> RowRest<'a>
     requires apart { AreApart row.now }
     requires rises { word ≤ℤ end }

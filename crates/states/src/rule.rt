@@ -5,9 +5,9 @@ use std::alloc::{AllocError, AllocFailed};
 /// A rule that a certificate can break. Running out of memory breaks none.
 #[derive(Clone, Copy, Debug, PartialEq, Eq)]
 pub enum Rule {
-    /// V1: no spelling of an instruction that is known stands here.
+    /// V1: no known spelling of an instruction is here.
     Spelling = 1,
-    /// V2: a label, an entry or a successor stands within an instruction.
+    /// V2: a label, an entry or a successor is within an instruction.
     InstructionStart = 2,
     /// V3: nothing leads here, or control falls off the code or into a procedure.
     Flow = 3,
@@ -29,7 +29,7 @@ pub enum Rule {
     Forward = 11,
     /// V12: an instruction is out of the order of a PAR, or does not agree with its row.
     Par = 12,
-    /// V13: a call or a return stands where there can be none.
+    /// V13: a call or a return is where there can be none.
     Call = 13,
     /// V14: a word is not the context's to use.
     OwnWord = 14,

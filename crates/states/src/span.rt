@@ -106,7 +106,7 @@ impl Together {
         }
     }
 
-    /// The same of so many more, of which nothing is known.
+    /// The same with `count` more, of which nothing is known.
     pub(crate) fn with_silent(self, count: u32) -> Self
         ensures { result ≡ with_silent count self }
     {

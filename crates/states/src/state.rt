@@ -41,7 +41,7 @@ pub struct State<'a> {
     pub depth: i32,
     pub stack: Stack<Known>,
     pub(crate) frame: Frame<'a>,
-    /// The module that the state is one of, which tells what its context may do.
+    /// The module that the state is one of, which says what its context may do.
     pub(crate) module: &'a Module<'a>,
     /// What may still be paid.
     pub number: u64,
@@ -72,7 +72,7 @@ fn forgets(word: i32, known: Known) -> Known
     }
 }
 
-/// Whether a word is one of so many from `first` on.
+/// Whether a word is one of `count` words from `first` on.
 fn is_in_span(first: i32, count: u32, word: i32) -> bool
     ensures { result ≡ is_in_span first count word }
 {
@@ -118,7 +118,7 @@ impl Known {
     }
 }
 
-/// The first word that some context of the module has, and the first behind all of them.
+/// The first word that some context of the module has, and the first after all of them.
 fn room_of(tables: &Tables) -> (i32, i32)
     requires { Keeps (contents_of tables.now) }
     ensures covers { Covers (contents_of tables.now) result.0 result.1 }
@@ -242,8 +242,8 @@ impl<'a> State<'a> {
         }
     }
 
-    /// Whether the state's context may write each of so many words from `first` on. The time goes with the
-    /// intervals of a branch's row.
+    /// Whether the state's context may write each of `count` words from `first` on. The time grows with the intervals
+    /// of a branch's row.
     pub fn writes_words(&self, first: i32, count: u32) -> bool
         ensures { AreUsable may_write_word self.now first count result }
     {
@@ -258,8 +258,8 @@ impl<'a> State<'a> {
         }
     }
 
-    /// Whether the state's context may read each of so many words from `first` on. The time goes with the
-    /// intervals of a branch's row.
+    /// Whether the state's context may read each of `count` words from `first` on. The time grows with the intervals of
+    /// a branch's row.
     pub fn reads_words(&self, first: i32, count: u32) -> bool
         ensures { AreUsable may_read_word self.now first count result }
     {
@@ -274,9 +274,10 @@ impl<'a> State<'a> {
         }
     }
 
-    /// The words of the frame from `first` on, so many, are summed in blocks of 64 from now on, each block until one of
-    /// its words is written by itself or a label comes. What is known stays what it is. The time goes with the number
-    /// of words in blocks that are not summed, and with the number of blocks. Fewer words than a block's are not summed.
+    /// The `count` words of the frame from `first` on are summed in blocks of 64 from now on, each block until one of
+    /// its words is written by itself or a label comes. What is known stays what it is. The time grows with the number
+    /// of words in blocks that are not summed, and with the number of blocks. Fewer words than a block's are not
+    /// summed.
     pub fn sum_words(&mut self, first: i32, count: u32)
         ensures state { state_of self.new ≡ state_of self.old }
         ensures belongs { (m : Contents) → BelongsTo m self.old → BelongsTo m self.new }
@@ -285,7 +286,7 @@ impl<'a> State<'a> {
         self.frame.sum(first, count);
     }
 
-    /// What is known of so many words of the frame from `first` on together. The time goes with the number of blocks
+    /// What is known of `count` words of the frame from `first` on together. The time grows with the number of blocks
     /// that are summed, and with the number of the other words.
     pub fn together(&self, first: i32, count: u32) -> Together
         ensures { result ≡ together (state_of self.now).frame first count }
@@ -293,10 +294,9 @@ impl<'a> State<'a> {
         self.frame.together(first, count)
     }
 
-    /// So many words of the frame from `first` on, at least one, are left so from now on, and no register
-    /// speaks of what they were. A loop that loses one of its words leaves what the other says by itself.
-    /// The time goes with the number of blocks of 64 among them, and of the other words. A block that is
-    /// widened is summed before.
+    /// Each of `count` words of the frame from `first` on, at least one, is left so from now on, and no register speaks
+    /// of what they were. A loop that loses one of its words leaves what the other says by itself. The time grows with
+    /// the number of blocks of 64 among them, and of the other words. A block that is widened is summed before.
     pub fn change_span(&mut self, first: i32, count: u32, leaving: Leaving)
         requires room { CanWriteSpan self.old first count }
         requires some { 0 < count }
@@ -310,9 +310,9 @@ impl<'a> State<'a> {
         self.stack.c = forgets_span(first, count, self.stack.c);
     }
 
-    /// What is paid for the loops that entries want and that are entered, where of each word at least that is known which
-    /// the entries want, and no loop that they want is half known. None: one of these fails, or too many words were
-    /// changed since the last label. The time goes as that of `cost_below`.
+    /// What is paid for the loops that entries want and that are entered. Of each word at least what the entries want
+    /// is known, and no loop that they want is half known. `None`: one of these fails, or too many words were changed
+    /// since the last label. The time is as that of `cost_below`.
     pub fn paid(&self, entries: &[Entry]) -> Option<u128>
         requires { AreApart entries.now }
         ensures hold { IfSome result (λ _. entries_hold (state_of self.now).frame entries.now ≡ true) }
@@ -353,8 +353,8 @@ impl<'a> State<'a> {
         self.frame.paid(&self.pieces).is_some()
     }
 
-    /// Whether no word is one of a loop by what is known and by what entries want. The time goes with the entries of the
-    /// label before and with these.
+    /// Whether no word is one of a loop by what is known and by what entries want. The time grows with the entries of
+    /// the label before and these.
     pub fn has_loops_apart(&self, entries: &[Entry]) -> bool
         requires { AreApart entries.now }
         ensures { IsTrue result → AreLoopsApart (state_of self.now).frame (entry_fact entries.now) }
