@@ -1,4 +1,4 @@
--- What functions tell of facts, where their arguments are told otherwise.
+-- What functions return of facts, with other terms for their arguments.
 use Rattle.std.proofs.Common.{◌≡◌, ℕ, ◌+◌, ℤ, pos, ◌-ℤ◌, nat_abs, ◌+ℤ◌, Bool, true, false, cond, ◌≤ℤ◌, negsuc, sym, ap}
 use Rattle.std.proofs.Common.{◌∙◌}
 use Rattle.std.proofs.lemmas.Bool.{eq-eqb}
@@ -26,7 +26,7 @@ touched_told first end y z last low n y_is last_is z_is low_is n_is =
     ∙ (ap (λ (w : ℤ). nat_abs (w -ℤ low)) (last_is ∙ ap word_of_byte y_is)
     ∙ ap (λ (w : ℤ). nat_abs (word_of_byte (end -ℤ pos 1) -ℤ w)) (low_is ∙ ap word_of_byte z_is)))
 
--- ---- bytes that may be read, where their bounds are told otherwise
+-- ---- bytes that may be read, with other terms for their bounds
 
 pub reads_told : (site : Site) (s : State) (region : ℕ) (first end a b : ℤ) → a ≡ first → b ≡ end
     → true ≡ may_read_bytes site.contents s.context region a b → (k : Ruling)
@@ -48,7 +48,7 @@ reads_not_told site s region first end a b a_is b_is may = λ k.
 
 -- ---- what is known of words of the frame
 
--- the words that are touched, where their bounds are told otherwise
+-- the words that are touched, with other terms for their bounds
 span_told : (first lo hi w x y f : ℤ) (count : ℕ) → w ≡ lo → first ≡ word_of_byte w → x ≡ lo → y ≡ hi +ℤ pos 1
     → count ≡ words_touched x y → f ≡ first → (f ≡ word_of_byte lo) × (count ≡ words_touched lo (hi +ℤ pos 1))
 span_told first lo hi w x y f count w_is first_is x_is y_is count_is f_is = (
@@ -85,7 +85,7 @@ near_end lo hi h =
 
 -- ---- bytes that are moved
 
--- all bytes are those of numbers, where the last is told otherwise
+-- all bytes are those of numbers, with another term for the last
 pub numbers_told : (s : State) (p : Pointed) (count low last : ℤ) (byte : Fact) (r : Bool) → low ≡ p.lo
     → last ≡ p.hi +ℤ count -ℤ pos 1 → byte ≡ byte_read s p.region low last → r ≡ is_number_in full byte
     → r ≡ are_numbers s p count

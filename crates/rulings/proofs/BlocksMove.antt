@@ -123,7 +123,7 @@ defined_of ReturnAddress mem place n t means = absurd (cc)
 
 -- ---- bytes that are read
 
--- So many bytes of a region from an offset on, each of which may be read, and what is known of each.
+-- The `n` bytes of a region from an offset on, each of which may be read, and what is known of each.
 pub record Source (m : Contents) (h : Holding) (layout : Layout) (memory : Memory) (start offset : ℤ) (n : ℕ)
     (said : Fact) : Type 0 where
   pub place : ℕ
@@ -189,7 +189,7 @@ parameter_of zero e f = absurd (cc)
 parameter_of (suc zero) e f = absurd (cc)
 parameter_of (suc (suc j)) e f = omega arith
 
--- bytes that a region has so many of are some that its parameter names
+-- a byte within the size of a region is one that its parameter names
 named_at : (kind : ParameterKind) (size start place : ℕ) → readable_size kind ≡ Some size → place_of start ≤ place
     → place < place_of start + size → IsNamedAt kind start place
 named_at (Value lo hi) size start place e low high = absurd (cc)
@@ -292,7 +292,8 @@ module _ (m : Contents) (h : Holding) (scope : Scope) (memory : Memory) (place :
       read_in_parameter j p e found (named_too p.kind (layout.starts j) at)
 
   -- what is named is no byte of a word of the frame that counts
-  pub named_beside : (kind : ParameterKind) (start : ℕ) → IsNamed m h scope memory kind start → IsNamedAt kind start place
+  pub named_beside : (kind : ParameterKind) (start : ℕ) → IsNamed m h scope memory kind start
+      → IsNamedAt kind start place
       → (k : ℤ) → scope.words.reads k ≡ true → IsByteOf scope.layout.origin k place → ⊥
   named_beside (Value lo hi) start named at k counts b = at
   named_beside (ReadRegion size lo hi) start named at k counts b = in_region named k counts b at.0 at.1
@@ -362,7 +363,7 @@ within_touched first end k low high =
     let to = word_of_byte_low end in
     touched_span first end k (omega (arith, ints)) (omega (arith, ints))
 
--- so where what is told of them is told otherwise
+-- the same with other terms for the bounds
 pub within_told : (first end w x y b z k : ℤ) (n : ℕ) → w ≡ first → b ≡ word_behind w → x ≡ first → y ≡ end
     → n ≡ words_within x y → z ≡ b → z ≤ℤ k → k <ℤ (z +ℤ pos n)
     → (word_of_byte first ≤ℤ k) × (k <ℤ (word_of_byte first +ℤ pos (words_touched first end)))
@@ -374,7 +375,7 @@ within_told first end w x y b z k n w_is b_is x_is y_is n_is z_is low high =
 
 -- ---- what is left
 
--- So many bytes of the process's own from a place on, which lies behind where a region starts by an offset.
+-- The `n` bytes of the process's own from a place on, which is at `offset` after the start of a region.
 pub record Room (h : Holding) (size : ℕ) (start offset : ℤ) (n : ℕ) : Type 0 where
   pub place : ℕ
   pub is : pos place ≡ start +ℤ offset
@@ -382,7 +383,7 @@ pub record Room (h : Holding) (size : ℕ) (start offset : ℤ) (n : ℕ) : Type
   pub fits : place + n ≤ size
   pub own : (i : ℕ) → i < n → may_write h (place + i) ≡ true
 
--- So many bytes of a memory are moved to a place, and what is known then.
+-- The `n` bytes of a memory are moved to a place, and what is known then.
 pub record Moved {m : Contents} {h : Holding} {mode : machine.Mode} {act : Activation} {s : State} {l : Local}
     (a : Within ArePlain m h mode act s l) (from : Memory) (source place n : ℕ) (left : State) : Type 0 where
   pub after : Within ArePlain m h mode act left (record l { memory = copied from source place n l.memory })
@@ -651,7 +652,8 @@ module _ {m : Contents} {h : Holding} {mode : machine.Mode} {act : Activation} {
           inside place t less is at first_is end_is start end k_low k_high (inl before) = omega (arith, ints)
           inside place t less is at first_is end_is start end k_low k_high (inr behind) = omega (arith, ints)
 
-      numbers_follow : Follows m (words_in m s.context).reads act.layout (on_span first count stored_byte) l.memory after_it
+      numbers_follow : Follows m (words_in m s.context).reads act.layout (on_span first count stored_byte)
+          l.memory after_it
       numbers_follow = record {
         touched = λ k said counts e means. byte_left m act.layout said _ _
             (λ least most known. mixed k least most counts known) means;

@@ -159,7 +159,7 @@ module _ {E : Modes} {x : Here} {s : State} {l : Local} (d : Scheduled x E s l) 
       let at = λ (n : ℕ). place_of (scheduling_word l.registers.workspace n) in
       word_agrees seen _ _ (at 2) None (word_agrees seen _ _ (at 1) None (word_agrees seen old new (at 0) None agree))
 
-  -- so many bytes of which each lies beside them do not meet them
+  -- `n` bytes of which each is beside them do not meet them
   pub beside_scheduling : (place n : ℕ) → 0 < n
       → ((i : ℕ) → i < n → IsOff x.act.layout.origin s.depth (place + i))
       → not (step.meet place n (place_of (scheduling_word l.registers.workspace 2)) 12) ≡ true

@@ -120,7 +120,8 @@ pub record MaySchedule (m : Contents) (context : ℕ) (depth : ℤ) : Type 0 whe
 -- a state in which they are unknown
 abbrev pub unscheduled : State → State
 unscheduled s =
-    written (s.depth +ℤ negsuc 2) Unknown (written (s.depth +ℤ negsuc 1) Unknown (written (s.depth +ℤ negsuc 0) Unknown s))
+    written (s.depth +ℤ negsuc 2) Unknown (written (s.depth +ℤ negsuc 1) Unknown
+      (written (s.depth +ℤ negsuc 0) Unknown s))
 
 -- memory in which they are undefined
 abbrev pub scheduled : Local → Memory
@@ -142,7 +143,7 @@ below_not a b low t = elim (leb_tells (suc a) b) [
       let high : b < suc a = p.1 in omega arith
 ]
 
--- ---- what holds behind an instruction, where it changes one thing
+-- ---- what holds after an instruction that changes one thing
 
 -- the number
 pub paid : {m : Contents} {h : Holding} {mode : machine.Mode} {act : Activation} {s : State} {l : Local} {scope : Scope}
@@ -259,7 +260,7 @@ module _ (x : Here) where
   unfolding rule.wants
   wants_fits b broken r o go = wanted_fits b r broken o go
 
-  -- an answer, unless it is that a rule is broken
+  -- a result, unless it is that a rule is broken
   pub settles_fits : {A : Type 0} (r : Result A Rule) (k : A → Ruling) (o : Outcome)
       → ((v : A) → r ≡ Ok v → FitsIf x (k v) o)
       → FitsIf x (rule.settles r k) o
@@ -384,7 +385,8 @@ module _ (x : Here) where
     whole = a.whole;
   }
 
-  pub write_step : {E : Modes} (s : State) (l : Local) (e : ℤ) (f : Fact) (v : Option ℤ) (r : Ruling) (o : Local → Outcome)
+  pub write_step : {E : Modes} (s : State) (l : Local) (e : ℤ) (f : Fact) (v : Option ℤ)
+      (r : Ruling) (o : Local → Outcome)
       → Within E x.m x.h x.mode x.act s l → s.context ≡ x.context → Changes x l.memory
       → FitsSigned w32 e → rights.may_write_word x.m s.context (s.depth +ℤ e) ≡ true
       → ((place : ℕ) → place + 4 ≤ length l.memory
@@ -405,7 +407,7 @@ module _ (x : Here) where
             (ap (λ (n : ℕ). rights.may_write_word x.m n (s.depth +ℤ e)) (sym same) ∙ t)) w);
       }))
 
-  -- ---- scheduling, and what stands behind it
+  -- ---- scheduling, and the words after it
 
   -- one word below the workspace
   record Undefines (E : Modes) (s : State) (l : Local) (e : ℤ) (place : ℕ) : Type 0 where
@@ -453,11 +455,15 @@ module _ (x : Here) where
         keeps = keeps_more (keeps_more one.keeps two.keeps) three.keeps;
       }
     where
-      places : pos (place_of (scheduling_word l.registers.workspace 0)) ≡ place_in x.act.layout.origin (s.depth +ℤ negsuc 0)
-          → pos (place_of (scheduling_word l.registers.workspace 1)) ≡ place_in x.act.layout.origin (s.depth +ℤ negsuc 1)
-          → pos (place_of (scheduling_word l.registers.workspace 2)) ≡ place_in x.act.layout.origin (s.depth +ℤ negsuc 2)
+      places : pos (place_of (scheduling_word l.registers.workspace 0))
+          ≡ place_in x.act.layout.origin (s.depth +ℤ negsuc 0)
+          → pos (place_of (scheduling_word l.registers.workspace 1))
+            ≡ place_in x.act.layout.origin (s.depth +ℤ negsuc 1)
+          → pos (place_of (scheduling_word l.registers.workspace 2))
+            ≡ place_in x.act.layout.origin (s.depth +ℤ negsuc 2)
           → (n : ℕ) → n < 3
-          → pos (place_of (scheduling_word l.registers.workspace n)) ≡ place_in x.act.layout.origin (s.depth +ℤ negsuc n)
+          → pos (place_of (scheduling_word l.registers.workspace n))
+            ≡ place_in x.act.layout.origin (s.depth +ℤ negsuc n)
       places a b c zero less = a
       places a b c (suc zero) less = b
       places a b c (suc (suc zero)) less = c

@@ -47,7 +47,7 @@ below m n h = elim (leb_tells (suc m) n) [
 is_less : (m n : ℕ) → m < n → nat_lt m n ≡ true
 is_less m n h = elim (leb_tells (suc m) n) [ inl e ↦ e.0 | inr e ↦ absurd (omega (arith, e.1)) ]
 
--- each parameter keeps the format
+-- each parameter is valid
 pub parameter_keeps : (version : Version) (hi : ℤ) (low : ℕ) (ps : List Parameter) (j : ℕ) (q : Parameter)
     → InOrder (ParameterKeeps version hi) behind_parameter low ps → slice_get ps j ≡ Some q
     → (before : ℕ) × ParameterKeeps version hi before q
@@ -145,7 +145,7 @@ own_kind m keeps k j p h = elim (cases_Bool (k == 0)) [
         let row = at-row m.version (length m.code) 0 m.procedures (k - 1) q keeps.rows.procedures e in
         (parameter_keeps m.version q.hi 0 q.parameters j p row.1.parameters g).1.kind
 
--- what each parameter of a context's procedure names keeps the format
+-- the kind of each parameter of a context's procedure is valid
 pub parameter_kind : (m : Contents) → Keeps m → (n j : ℕ) (p : Parameter) → slice_get (parameters_at m n) j ≡ Some p
     → KindKeeps m.version p.kind
 unfolding parameters_at
@@ -178,7 +178,7 @@ of_parameters m n (ends.Parameter (pos j) a) d keeps h = on (slice_get (paramete
 
 -- ---- ends
 
--- what tells whether a context has an end, by its branch
+-- whether a context has an end, by its branch
 abbrev tells_end : Contents → ℕ → EndRow → Option (Par × Branch) → Bool
 tells_end m n e found = is_some (context_at m n) && elim found [
   | Some found ↦ list_any (λ other. is_same_end (key_of other) (key_of e)) found.1.ends
@@ -301,7 +301,7 @@ above_words : (z : ℤ) → negsuc 2147483647 ≤ℤ z → (FitsSigned w32 z →
 above_words z low never =
     by_lt_z (pos 2147483647) z (λ high. high) (λ less. absurd (never (search (rules, arith, ints))))
 
--- the same of a word so many further
+-- the same of a word `n` words further
 pub above_by : (z w : ℤ) (n : ℕ) (o : Option ℤ) → z ≡ w +ℤ pos n → FitsSigned w32 w → o ≡ None
     → SomeIff o (FitsSigned w32 z) z → pos 2147483647 <ℤ (w +ℤ pos n)
 above_by z w n (Some x) z_is fits none told = absurd (cc)

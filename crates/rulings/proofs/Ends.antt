@@ -60,7 +60,7 @@ link_address x n i e whole low =
 
 -- ---- channels that a word names
 
--- A word names a channel: it has its address, and those of the channels behind it.
+-- A word names a channel: it has its address, and those of the channels after it.
 pub record Names (layout : Layout) (first : EndKind) (v : Option ℤ) : Type 0 where
   pub x : ℤ
   pub is : v ≡ Some x

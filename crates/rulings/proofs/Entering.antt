@@ -93,7 +93,8 @@ same_loop loop other t =
     )
 
 -- a number that is exactly this one
-pub constant_means : (m : Contents) (layout : Layout) (f : Fact) (v : Option ℤ) (number : ℤ) → is_constant f number ≡ true
+pub constant_means : (m : Contents) (layout : Layout) (f : Fact) (v : Option ℤ) (number : ℤ)
+    → is_constant f number ≡ true
     → Means m layout f v → (FitsSigned w32 number) × (v ≡ Some number)
 constant_means m layout (Number lo hi) None number t means = elim means [ ]
 constant_means m layout (Number lo hi) (Some x) number t (is_number low high fits) =
@@ -207,7 +208,7 @@ entries_said facts (entry ∷ entries) k t =
       | inr e ↦ ap (says (facts k)) (entry_later entry entries k e) ∙ entries_said facts entries k both.1
     ]
 
--- what rises behind a word says nothing of words before
+-- what rises after a word says nothing of words before
 index_behind : (low : ℤ) (entries : List Entry) (k : ℤ) (loop : CountedLoop) → rise_from low entries ≡ true
     → entry_fact entries k ≡ Index loop → low ≤ℤ k
 index_behind low [] k loop rise h = absurd (cc)

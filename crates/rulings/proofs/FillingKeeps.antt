@@ -155,7 +155,7 @@ module _ {m : Contents} {h : Holding} {mode : machine.Mode} {act : Activation} {
   abbrev all : Scope
   all = scope_of m s.context act.layout
 
-  -- so many bytes behind where a region starts are awaited
+  -- the awaited bytes are among `n` bytes from `lo` after the start of a region
   record Awaits (start : ℤ) : Type 0 where
     place : ℕ
     is : pos place ≡ start +ℤ lo

@@ -31,7 +31,7 @@ place_of_address z place is low =
     ∙ ap (λ (n : ℕ). (n + 2147483392) % 4294967296) (address_of_word (data_start + place))
     ∙ omega arith
 
--- so many bytes behind an address
+-- `n` bytes after an address
 pub place_behind : (address n : ℕ) → place_of address + n < 4294967296
     → place_of ((address + n) % 4294967296) ≡ place_of address + n
 unfolding place_of
@@ -88,7 +88,7 @@ word_of_byte_is (negsuc n) (negsuc k) low high = omega (arith, ints)
 pub word_of_offset : (word : ℤ) → word_of_byte (pos 4 *ℤ word) ≡ word
 word_of_offset word = word_of_byte_is (pos 4 *ℤ word) word (omega (arith, ints)) (omega (arith, ints))
 
--- so many whole words have as many words between their first byte and their last
+-- a region of `count` whole words has as many words between its first byte and its last
 pub words_of_region : (word : ℤ) (count : ℕ) → 1 ≤ count
     → words_touched (pos 4 *ℤ word) (pos 4 *ℤ word +ℤ pos (4 * count)) ≡ count
 words_of_region word count some =
@@ -104,7 +104,7 @@ words_of_region word count some =
     same : (n count : ℕ) → n + 1 ≡ count → pos count -ℤ pos 1 ≡ pos n
     same n count e = omega (arith, ints)
 
--- each of so many words passes the test that all pass
+-- each of `count` words passes the test that all pass
 pub all_words_at : (test : ℤ → Bool) (first : ℤ) (count i : ℕ) → all_words test first count ≡ true → i < count
     → test (first +ℤ pos i) ≡ true
 all_words_at test first zero i all low = absurd (omega arith)

@@ -1,4 +1,4 @@
--- In an alternation, and among the starts of a PAR, an instruction that may not stand there breaks a rule.
+-- In an alternation, and among the starts of a PAR, an instruction that is not allowed there breaks a rule.
 use Rattle.std.proofs.Common.{◌≡◌, ℕ, ℤ, pos, negsuc, Bool, true, false, cond, Result, Ok, Err, refl, sym, ap, ◌∙◌}
 use Rattle.std.proofs.Common.{subst, Option, Some, None}
 use Rattle.std.specs.Prelude.{◌==◌}

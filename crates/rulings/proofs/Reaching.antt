@@ -138,14 +138,14 @@ inside_memory memory place b found = elim (cases_lt place (length memory)) [
   | inr past ↦ let none : None ≡ Some b = sym (get_or_past memory place None past) ∙ found in absurd (cc)
 ]
 
--- the word of a byte, by how far it lies behind word 0, or before it
+-- the word of a byte, by how far it is after word 0, or before it
 pub word_behind : (z : ℤ) (n : ℕ) (r : ℤ) → z ≡ negsuc n → r ≡ negsuc (n / 4) → r ≡ word_of_byte z
 word_behind z n r z_is r_is = r_is ∙ sym (ap word_of_byte z_is)
 
 pub word_ahead : (z : ℤ) (n : ℕ) (r : ℤ) → z ≡ pos n → r ≡ pos (n / 4) → r ≡ word_of_byte z
 word_ahead z n r z_is r_is = r_is ∙ sym (ap word_of_byte z_is)
 
--- ---- words behind an address
+-- ---- words after an address
 
 local_below : (a : ℕ) (e : ℤ) → local_address a e < 4294967296
 unfolding local_address
@@ -170,7 +170,7 @@ word_place v start offset e place v_is fits at low =
     assoc : (x y z : ℤ) → x +ℤ y +ℤ z ≡ x +ℤ (y +ℤ z)
     assoc x y z = omega (arith, ints)
 
--- the address is a multiple of 4 where that of a word behind it is
+-- the address is a multiple of 4 where that of a word after it is
 pub even_word : (v start offset e : ℤ) (place : ℕ) → v ≡ int_wrap w32 (start +ℤ offset)
     → IsAt (start +ℤ (offset +ℤ (pos 4 *ℤ e))) place → place % 4 ≡ 0 → (step.address v % 4 == 0) ≡ true
 even_word v start offset e place v_is at even =

@@ -174,7 +174,7 @@ number_inside {m} {layout} {lo} {hi} memory place means = elim (cases_lt place (
 
 -- ---- parameters, as a context uses them
 
--- the parameter of whose region so many bytes may be used
+-- the parameter of whose region `size` bytes may be used
 pub record Usable (m : Contents) (size_of : ParameterKind → Option ℕ) (context j size : ℕ) : Type 0 where
   pub parameter : Parameter
   pub found : parameter_used m context j ≡ Some parameter

@@ -55,7 +55,7 @@ reads_by m context region first end frame constants =
     cond frame (all_touched (context_reads m context) first end)
     (lie_in (cond constants (Some (length m.constants)) (readable_bytes m context (region - 2))) first end)
 
--- so many bytes from an offset on lie in a region, each wherever a pointer points, if it is one
+-- the `width` bytes from an offset on lie in a region, each wherever a pointer points, if it is one
 pub inside_some : (size : Option ℕ) (width : ℕ) (lo hi offset : ℤ) → lo ≤ℤ offset → offset ≤ℤ hi
     → lie_in size lo (hi +ℤ pos width) ≡ true
     → (total : ℕ) × (size ≡ Some total) × (n : ℕ) × (offset ≡ pos n) × (n + width ≤ total)
@@ -87,7 +87,8 @@ record Readable (m : Contents) (h : Holding) (scope : Scope) (context : ℕ) (me
   to : end ≤ℤ pos size
 
 named_readable : {m : Contents} {h : Holding} {mode : machine.Mode} {act : Activation} {s : State} {l : Local}
-    → Within ArePlain m h mode act s l → (j : ℕ) (first end : ℤ) → lie_in (readable_bytes m s.context j) first end ≡ true
+    → Within ArePlain m h mode act s l → (j : ℕ) (first end : ℤ)
+    → lie_in (readable_bytes m s.context j) first end ≡ true
     → Readable m h (scope_of m s.context act.layout) s.context l.memory j first end
 named_readable {m} {h} {mode} {act} {s} {l} a j first end inside =
     let f = lies_inside (readable_bytes m s.context j) first end inside in
@@ -103,7 +104,8 @@ named_readable {m} {h} {mode} {act} {s} {l} a j first end inside =
     }
 
 module _ {m : Contents} {h : Holding} {mode : machine.Mode} {act : Activation} {s : State} {l : Local}
-    (wf : IsWellFormed m) (a : Within ArePlain m h mode act s l) (lo hi offset : ℤ) (low : lo ≤ℤ offset) (high : offset ≤ℤ hi)
+    (wf : IsWellFormed m) (a : Within ArePlain m h mode act s l) (lo hi offset : ℤ)
+    (low : lo ≤ℤ offset) (high : offset ≤ℤ hi)
     (aligned : IsTrue (is_stepped offset)) where
   -- a word of the frame
   through_frame : all_touched (context_reads m s.context) lo (hi +ℤ pos 4) ≡ true

@@ -1,4 +1,4 @@
--- The rules, one test behind another.
+-- The rules, one test after another.
 use Rattle.std.proofs.Common.{◌≡◌, ℕ, ℤ, negsuc, ◌+ℤ◌, Result, Ok, Err, Option, Some, None, sym, ap, ◌∙◌, subst}
 use Rattle.std.proofs.Common.{refl, Bool, cond, is_some}
 use Rattle.std.specs.Prelude.{ok_or, IfSome, IfOk}
@@ -14,7 +14,7 @@ use Rattle.rulings.specs.Rulings.{forks_to, falls_or_leads, Ruling, Site, leads,
 use Rattle.rulings.specs.Rulings.{leads_to}
 use Rattle.rulings.specs.Telling.{Admits, Advances}
 
--- the same ruling, told otherwise
+-- the same ruling, in another form
 pub advances-by : (r : Result Continuation Rule) (after : State) (p q : Ruling) → p ≡ q → Advances r after q
     → Advances r after p
 advances-by r after p q e h = subst (λ x. Advances r after x) (sym e) h

@@ -44,7 +44,8 @@ pub record Within (E : Modes) (m : Contents) (h : Holding) (mode : machine.Mode)
 -- all that holds of its context holds of what it has in its mode, and the other way round
 pub whole_after : {E : Modes} {m : Contents} {h : Holding} {mode : machine.Mode} {act : Activation} {s : State}
     {l : Local} → Within E m h mode act s l → After m h mode act s l
-whole_after {E} {m} {h} {mode} {act} {s} {l} a = subst (λ (scope : Scope). Described m h mode act s l scope) (sym a.whole)
+whole_after {E} {m} {h} {mode} {act} {s} {l} a = subst (λ (scope : Scope). Described m h mode act s l scope)
+    (sym a.whole)
     (record { frame = a.frame; knows = a.knows; named = a.named; same_mode = a.modes })
 
 -- the number changes
@@ -119,7 +120,9 @@ which {m} {h} {mode} {act} {s} {l} a = on_mode s.mode mode refl refl a.same_mode
     on_mode : (p : states.Mode) (q : machine.Mode) → s.mode ≡ p → mode ≡ q → SameMode p q → Which m h mode act s l
     on_mode p q is at both_plain = in_plain_mode (within (ap is_starting is) (record { rule = is; step = at }) a)
     on_mode p q is at both_enabling =
-        in_alternation (λ e. cc) (within (ap is_starting is) (record { modes = a.same_mode; still = ap is_starting is }) a)
+        in_alternation (λ e. cc) (within (ap is_starting is)
+          (record { modes = a.same_mode; still = ap is_starting is }) a)
     on_mode p q is at both_disabling =
-        in_alternation (λ e. cc) (within (ap is_starting is) (record { modes = a.same_mode; still = ap is_starting is }) a)
+        in_alternation (λ e. cc) (within (ap is_starting is)
+          (record { modes = a.same_mode; still = ap is_starting is }) a)
     on_mode p q is at both_starting = among_starts (ap is_starting is)

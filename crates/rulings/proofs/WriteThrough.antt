@@ -143,7 +143,8 @@ module _ {m : Contents} {h : Holding} {mode : machine.Mode} {act : Activation} {
       }
 
   -- what is known changes as memory does
-  pub after_followed : (change : Change) (new : Memory) → Follows m (words_in m s.context).reads act.layout change l.memory new
+  pub after_followed : (change : Change) (new : Memory)
+      → Follows m (words_in m s.context).reads act.layout change l.memory new
       → Keeps m h (scope_of m s.context act.layout) l.memory new
       → Within ArePlain m h mode act (after_change change s) (record l { memory = new })
   unfolding after_change
@@ -169,7 +170,8 @@ module _ {m : Contents} {h : Holding} {mode : machine.Mode} {act : Activation} {
 
   pub after_beside : (new : Memory) → ((k : ℤ) → (words_in m s.context).reads k ≡ true
       → frame_word new act.layout.origin k ≡ frame_word l.memory act.layout.origin k)
-      → Keeps m h (scope_of m s.context act.layout) l.memory new → Within ArePlain m h mode act s (record l { memory = new })
+      → Keeps m h (scope_of m s.context act.layout) l.memory new
+      → Within ArePlain m h mode act s (record l { memory = new })
   after_beside new same keeps = record {
     frame = same_frame (sym keeps.size) a.frame;
     knows = record {

@@ -9,7 +9,7 @@ use Rattle.machine_state.specs.Holding.{Holding, may_read}
 abbrev pub message_place : Exchange → ℕ → ℕ
 message_place e j = place_of ((e.address + j) % 2 ^ 32)
 
--- the place is that of one of so many bytes of a message from byte j on
+-- the place is that of one of a number of bytes of a message from byte `j` on
 abbrev pub is_filled : Exchange → ℕ → ℕ → ℕ → Bool
 is_filled e j zero place = false
 is_filled e j (suc more) place = (place == message_place e j) || is_filled e (j + 1) more place

@@ -54,7 +54,7 @@ names_channel fact k =
     wants (is_near_pointer fact) rules.Pointer
     (elim (channel_of (Alone fact)) [ None ↦ breaks rules.Channel | Some kind ↦ k kind ])
 
--- so many channels further
+-- the channel `n` channels further
 abbrev pub further : EndKind → ℕ → EndKind
 further (ends.FrameWord word) n = ends.FrameWord (word +ℤ pos n)
 further (ends.Parameter number element) n = ends.Parameter number (element + n)
@@ -70,7 +70,7 @@ IsNumbered (ends.Link link) = link < 2 ^ 8
 abbrev pub runs_meet : ℤ → ℕ → ℤ → ℕ → Bool
 runs_meet first count other more = int_lt first (other +ℤ pos more) && int_lt other (first +ℤ pos count)
 
--- so many channels from the one on and so many from the other on have one in common
+-- the `count` channels from the one on and the `more` channels from the other on have one in common
 abbrev pub channels_meet : EndKind → ℕ → EndKind → ℕ → Bool
 channels_meet (ends.FrameWord word) count (ends.FrameWord other) more = runs_meet word count other more
 channels_meet (ends.Parameter j element) count (ends.Parameter k other) more =
@@ -84,7 +84,7 @@ channels_meet _ count _ more = false
 abbrev pub has_direction : ℕ → Direction → Bool
 has_direction ends direction = not (bit_and ends (direction_number direction) == 0)
 
--- a context has the end, in a direction, of the channel so many further
+-- a context has the end, in a direction, of the channel `n` channels further
 abbrev pub has_end_further : Contents → ℕ → EndKind → Direction → ℕ → Bool
 has_end_further m context first direction n =
     has_end m context (record { kind = further first n; direction = direction })
@@ -110,6 +110,6 @@ abbrev pub is_length : ℕ → Option ℕ → Bool
 is_length len None = false
 is_length len (Some other) = other == len
 
--- the channel so many further has messages of this length
+-- the channel `n` channels further has messages of this length
 abbrev pub has_length_further : Contents → ℕ → EndKind → ℕ → ℕ → Bool
 has_length_further m context first len n = is_length len (message_length m context (further first n))

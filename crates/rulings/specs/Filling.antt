@@ -10,7 +10,7 @@ use Rattle.rulings.specs.Reach.{word_of_byte}
 use Rattle.rulings.specs.declared.pointers.Pointed.{Pointed}
 use Rattle.rulings.specs.Pointers.{is_number_in, byte_read, number_within, stored_byte, leaves_words}
 
--- what is known of each of so many bytes from a place on
+-- what is known of each of `count` bytes from where a pointer leads
 abbrev pub any_byte : State → Pointed → ℤ → Fact
 any_byte s p count = byte_read s p.region p.lo (p.hi +ℤ count -ℤ pos 1)
 
@@ -18,7 +18,7 @@ any_byte s p count = byte_read s p.region p.lo (p.hi +ℤ count -ℤ pos 1)
 abbrev pub are_numbers : State → Pointed → ℤ → Bool
 are_numbers s p count = is_number_in full (any_byte s p count)
 
--- the first word that begins at an offset or behind it
+-- the first word that begins at an offset or after it
 abbrev pub word_behind : ℤ → ℤ
 word_behind offset = word_of_byte (offset +ℤ pos 3)
 

@@ -136,8 +136,9 @@ pub record GoesOver (x : Here) (direction : Direction) (e : Exchange) : Type 0 w
   pub len : (scope_of x.m x.context x.act.layout).lengths kind ≡ Some e.length
   pub some : 1 ≤ e.length
 
--- The process may write the buffer of a message that comes. Whatever bytes come there, and whatever happens to bytes that
--- it may not read, what is known of the state holds once all are there; and as long as some come, it keeps the rest.
+-- The process may write the buffer of a message that comes. Whatever bytes come there, and whatever happens to bytes
+-- that it may not read, what is known of the state holds once all are there; and as long as some come, it keeps the
+-- rest.
 pub record Receives (x : Here) (s : State) (l : Local) (e : Exchange) : Type 0 where
   pub over : GoesOver x In e
   pub room : (place : ℕ) → is_of_message e place ≡ true → (may_write x.h place ≡ true) × (place < length l.memory)
@@ -156,8 +157,7 @@ pub record Sends (x : Here) (s : State) (l : Local) (e : Exchange) : Type 0 wher
       → (may_read x.h (message_place e j) ≡ true) × IsByte (byte_at l.memory (message_place e j))
   pub after : After x.m x.h x.mode x.act s l
 
--- An instruction of plain mode that asks for a message: the state that falls behind it, what it leaves of memory, and
--- what it pays.
+-- An instruction of plain mode that asks for a message: the state after it, what it leaves of memory, and what it pays.
 pub record Exchanges (x : Here) (r : Ruling) (s : State) (l : Local) : Type 0 where
   pub is : falling r ≡ Some s
   pub plain : s.mode ≡ Plain
@@ -169,7 +169,7 @@ pub record Exchanges (x : Here) (r : Ruling) (s : State) (l : Local) : Type 0 wh
 
 -- ---- alternations
 
--- An instruction of an alternation: the state that falls behind it, what it leaves of memory, and what it pays.
+-- An instruction of an alternation: the state after it, what it leaves of memory, and what it pays.
 pub record Alters (x : Here) (r : Ruling) (s : State) (l : Local) : Type 0 where
   pub is : falling r ≡ Some s
   pub low : x.at + x.len < length x.m.code
@@ -184,7 +184,7 @@ pub record Begins (x : Here) (s : State) (l : Local) : Type 0 where
   pub none : s.guards ≡ []
   pub after : After x.m x.h (machine_modes.Enabling false) x.act s l
 
--- The guards of the state behind the instruction fit as those before it did, of which each has its value still.
+-- The guards of the state after the instruction fit as those before it did, each of which still has its value.
 pub record KeepsGuards (x : Here) (s : State) (l : Local) : Type 0 where
   pub fit : GuardsFit x.m x.before → GuardsFit x.m s
   pub values : GuardsFit x.m x.before → (i : ℕ) (g : Guard) → slice_get x.before.guards i ≡ Some g
@@ -216,7 +216,7 @@ pub record AwaitsGuards (x : Here) (s : State) (l : Local) : Type 0 where
   pub keeps : KeepsGuards x s l
   pub after : (selection : Option ℤ) → After x.m x.h (machine_modes.Disabling selection) x.act s l
 
--- The next guard is disabled, whatever was selected before. A tells whether it is selected.
+-- The next guard is disabled, whatever was selected before. A says whether it is selected.
 pub record Disables (x : Here) (kind : GuardKind) (holds : Bool) (distance : ℤ) (s : State) (l : Local) : Type 0 where
   pub done : ℕ
   pub before : x.before.mode ≡ Disabling done
@@ -291,6 +291,6 @@ pub data Fits (x : Here) : Ruling → Outcome → Type 0 where
   it_asks : {r : Ruling} {o : Outcome} → Asks x r o → x.len ≤ x.owed → Fits x r o
   it_breaks : {broken : Rule} {o : Outcome} → Fits x (breaks broken) o
 
--- what falls through has code behind it
+-- what falls through has code after it
 abbrev pub HasNext : Here → Ruling → Type 0
 HasNext x r = (s : State) → falling r ≡ Some s → x.at + x.len < length x.m.code

@@ -15,7 +15,7 @@ use Rattle.rulings.specs.Regions.{Scope}
 abbrev pub IsRegionKind : ParameterKind → ℕ → ℤ → ℤ → Type 0
 IsRegionKind kind size lo hi = (kind ≡ ReadRegion size lo hi) ⊎ (kind ≡ WrittenRegion size lo hi)
 
--- So many words of a region from a byte on, where the caller has them: `base` is its word that is word 0 of the
+-- The `count` words of a region from a byte on, where the caller has them: `base` is its word that is word 0 of the
 -- callee's frame.
 pub data IsPart (m : Contents) (caller callee : Scope) (base : ℤ) (region : ℕ) (first : ℤ) (count : ℕ) (lo hi : ℤ)
     (written : Bool) (place : ℕ) : Type 0 where

@@ -127,8 +127,8 @@ pub record IsOwnWord (h : Holding) (size : ℕ) (origin k : ℤ) : Type 0 where
   pub inside : place + 4 ≤ size
   pub mine : may_write_word h place ≡ true
 
--- the words of a frame that count for a process: those that it may write, and those that it may read; and the first
--- word of the frame, with the first behind it
+-- the words of a frame that count for a process: those that it may write, and those that it may read; and the bounds of
+-- the frame, the second of which is the first word after it
 pub record Words : Type 0 where
   pub writes : ℤ → Bool
   pub reads : ℤ → Bool
@@ -151,7 +151,7 @@ words_in m context = record {
   hi = frame_hi m context;
 }
 
--- the words that the opener of a PAR has left in a context, once so many branches are started: a word that a branch
+-- the words that the opener of a PAR has left in a context, once `started` branches are started: a word that a branch
 -- was given to read is only read
 abbrev pub words_left : Contents → Par → ℕ → ℕ → Words
 words_left m par context started = record {
@@ -217,7 +217,7 @@ loop_due (Alone fact) turns = 0
 loop_due (Index loop) turns = loop.weight * (turns - 1)
 loop_due (Count loop) turns = 0
 
--- what the loops have still to pay whose indices are in so many words from this one on
+-- what the loops whose indices are in a number of words from this one on have still to pay
 abbrev pub dues_from : Facts → (ℤ → ℕ) → ℤ → ℕ → ℕ
 dues_from facts turns word zero = 0
 dues_from facts turns word (suc more) =
@@ -237,13 +237,13 @@ owed s act = s.number + dues s.frame act.turns
 
 -- ---- loops at a label
 
--- the turns left of a loop where a label stands: those that it had, where it is under way, else all
+-- the turns left of a loop at a label: those that it had, if it is under way, else all
 abbrev pub turns_from : WordFact → WordFact → ℕ → ℕ
 turns_from (Index loop) wanted turns = turns
 turns_from said (Index loop) turns = loop.count
 turns_from said wanted turns = turns
 
--- what turns are left where these facts go on as those of a label
+-- the turns that are left where a state with these facts goes on at a label
 abbrev pub label_turns : Facts → List Entry → (ℤ → ℕ) → ℤ → ℕ
 label_turns facts entries turns = λ k. turns_from (facts k) (entry_fact entries k) (turns k)
 
@@ -253,7 +253,7 @@ at_label s t act = with_turns (label_turns s.frame t.entries act.turns) act
 
 -- ---- modules
 
--- a fact may be said of so many words: a loop has two
+-- a fact may be said of this number of words: a loop has two
 abbrev pub IsSpan : ℕ → Fact → Type 0
 IsSpan span (Loop base count weight) = span ≡ 2
 IsSpan span _ = ⊤

@@ -59,7 +59,7 @@ abbrev pub may_write_parameter : Contents → ℕ → ℕ → Bool
 may_write_parameter m context j =
     elim (numbered_branch m context) [ None ↦ true | Some found ↦ is_listed found.1.written_parameters j ]
 
--- bytes from the first up to `end` lie in so many
+-- bytes from the first up to `end` lie in a region of this size, if there is one
 abbrev pub lie_in : Option ℕ → ℤ → ℤ → Bool
 lie_in None first end = false
 lie_in (Some size) first end = int_le (pos 0) first && int_le end (pos size)

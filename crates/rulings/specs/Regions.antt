@@ -68,7 +68,7 @@ length_left m par context (kinds.FrameWord word) = elim (rights.listed_length pa
 ]
 length_left m par context kind = message_length m context kind
 
--- what the opener of a PAR has left, once so many branches are started
+-- what the opener of a PAR has left, once `started` branches are started
 abbrev pub scope_left : Contents → Par → ℕ → ℕ → Layout → Scope
 scope_left m par context started layout = record {
   words = words_left m par context started;
@@ -93,8 +93,8 @@ scope_in m s layout = scope_among m s.context s.mode layout
 
 -- ---- what parameters name
 
--- So many bytes from a place on, both multiples of 4, each of which may be used so. No word of the frame that counts as
--- read has one of them, and each word is a number from lo to hi.
+-- A region: its `size` bytes from a place on, both multiples of 4, each of which may be used so. No word of the frame
+-- that counts as read has one of them, and each word is a number from lo to hi.
 pub record IsRegion (m : Contents) (may_use : ℕ → Bool) (scope : Scope) (memory : Memory) (place size : ℕ)
     (lo hi : ℤ) : Type 0 where
   pub aligned : IsTrue (is_multiple_of_four place)
@@ -139,7 +139,7 @@ channel_address layout (kinds.Parameter (pos j) element) = (layout.starts j + 4 
 channel_address layout (kinds.Parameter (negsuc j) element) = 0
 channel_address layout (kinds.Link link) = (link_words + 4 * link) % 2 ^ 32
 
--- The process has the constants of the module: they may be read, and lie behind all that it may write.
+-- The process has the constants of the module: they may be read, and lie after all that it may write.
 pub record HasConstants (m : Contents) (h : Holding) (memory : Memory) : Type 0 where
   pub readable : (i : ℕ) → i < length m.constants → may_read h (constants_start m + i) ≡ true
   pub bytes : (i : ℕ) → i < length m.constants → byte_at memory (constants_start m + i) ≡ Some (get_or m.constants i 0)

@@ -16,7 +16,7 @@ use Rattle.certificate.specs.Rights.{is_among, is_same_end}
 use Rattle.states.specs.State.{is_word}
 use Rattle.rulings.specs.Reach.{is_listed}
 
--- the first so many branches pass a test, or one of them does
+-- one of the first `started` branches passes a test
 abbrev pub some_started : Par → ℕ → (Branch → Bool) → Bool
 some_started par started test = list_any test (take started par.branches)
 
@@ -30,7 +30,7 @@ is_channel_word par k = list_any (λ (c : ChannelRow). is_word c.word k) par.cha
 abbrev pub is_hidden : Par → ℤ → Bool
 is_hidden par k = is_word par.block k || is_word (par.block +ℤ pos 1) k || is_channel_word par k
 
--- one of the first so many branches has word k to write, or has it to read
+-- one of the first `started` branches has word `k` to write, or has it to read
 abbrev pub word_given_to_write : Par → ℕ → ℤ → Bool
 word_given_to_write par started k = some_started par started (λ b. is_among b.writes k)
 
@@ -64,7 +64,7 @@ kind_left par started j kind =
 
 -- ---- ends
 
--- the end is given to one of the first so many branches
+-- the end is given to one of the first `started` branches
 abbrev pub end_given : Par → ℕ → EndRow → Bool
 end_given par started e =
     some_started par started (λ b. list_any (λ other. is_same_end (key_of other) (key_of e)) b.ends)

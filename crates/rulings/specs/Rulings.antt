@@ -74,26 +74,26 @@ pub record Site : Type 0 where
 unfoldable pub wants : Bool → Rule → Ruling → Ruling
 wants holds rule next = if holds then next else breaks rule
 
--- what an answer leads to, unless it is that a rule is broken
+-- what a result leads to, unless it is that a rule is broken
 unfoldable pub settles : {A : Type 0} → Result A Rule → (A → Ruling) → Ruling
 settles (Ok x) k = k x
 settles (Err broken) k = breaks broken
 
--- an instruction that may not stand in an alternation
+-- an instruction that is not allowed in an alternation
 unfoldable pub outside_alternation : Mode → Ruling → Ruling
 outside_alternation Plain k = k
 outside_alternation Enabling k = breaks rules.Alternation
 outside_alternation (Disabling done) k = breaks rules.Alternation
 outside_alternation (Starting row started) k = k
 
--- one that may not stand among the starts of a PAR
+-- one that is not allowed among the starts of a PAR
 unfoldable pub outside_starts : Mode → Ruling → Ruling
 outside_starts Plain k = k
 outside_starts Enabling k = k
 outside_starts (Disabling done) k = k
 outside_starts (Starting row started) k = breaks rules.Par
 
--- one that may stand in neither
+-- one that is allowed in neither
 abbrev pub alone : Mode → Ruling → Ruling
 alone mode k = outside_alternation mode (outside_starts mode k)
 

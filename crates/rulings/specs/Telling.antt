@@ -1,4 +1,4 @@
--- What the functions of the code tell, in terms of the rules.
+-- What the functions of the code return, in terms of the rules.
 use Rattle.std.specs.Prelude.{◌≡◌, ℕ, Result, Ok, Err}
 use Rattle.states.specs.declared.rule.Rule.{Rule}
 use Rattle.states.specs.State.{State}

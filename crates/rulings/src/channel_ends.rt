@@ -10,7 +10,7 @@ impl Place<'_, '_> {
     ghost use Rattle.module_format.specs.Keeping.{Keeps};
     ghost use Rattle.rulings.specs.Channels.{message_length, further, has_end_further, length_of_parameter};
 
-    /// Whether a context has an end, in a direction, of the channel so many further.
+    /// Whether a context has an end, in a direction, of the channel `n` channels further.
     pub fn has_end(&self, context: u32, first: EndKind, n: u32, direction: Direction) -> bool
         requires { Keeps self.now.module.now }
         ensures { let has = has_end_further self.now.module.now context first direction in result ≡ has n }
@@ -47,7 +47,7 @@ impl Place<'_, '_> {
         }
     }
 
-    /// The bytes of the messages of the channel so many further, if a context knows that channel.
+    /// The bytes of the messages of the channel `n` channels further, if a context knows that channel.
     pub fn message_length(&self, context: u32, first: EndKind, n: u32) -> Option<u32>
         requires { Keeps self.now.module.now }
         ensures { let kind = further first n in result ≡ message_length self.now.module.now context kind }

@@ -1,4 +1,4 @@
-//! The channels that words name, and those behind them.
+//! The channels that words name, and those after them.
 
 ghost use Rattle.std.specs.Int.{w32};
 ghost use Rattle.std.specs.Prelude.{◌≡◌, SomeIff, FitsSigned, ◌==◌, bit_and, ◌≤ℤ◌, pos, negsuc};
@@ -78,7 +78,7 @@ pub fn as_word(number: i64) -> Option<i32>
     i32::try_from(number).ok()
 }
 
-/// The channel so many further; `None` where no end has its number.
+/// The channel `n` channels further. `None` if no end has its number.
 pub fn further(first: EndKind, n: u32) -> Option<EndKind>
     ensures { SomeIff result (IsNumbered (further first n)) (further first n) }
 {
@@ -125,7 +125,7 @@ fn runs_meet(first: i64, count: u32, other: i64, more: u32) -> bool
     first < other + i64::from(more) && other < first + i64::from(count)
 }
 
-/// Whether so many channels from the one on and so many from the other on have one in common.
+/// Whether the `count` channels from the one on and the `more` channels from the other on have one in common.
 pub fn channels_meet(first: EndKind, count: u32, other: EndKind, more: u32) -> bool
     ensures { result ≡ channels_meet first count other more }
 {

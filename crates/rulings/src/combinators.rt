@@ -7,7 +7,7 @@ ghost use Rattle.rulings.specs.Telling.{Admits, Gives};
 use module_format::Fact;
 use states::{Known, Mode, Rule};
 
-/// An instruction that may not stand in an alternation.
+/// An instruction that is not allowed in an alternation.
 #[tactic(auto, unfolding(crate::specs::Rulings::outside_alternation))]
 pub fn outside_alternation(mode: Mode) -> Result<(), Rule>
     ensures { Admits result (outside_alternation mode) }
@@ -18,7 +18,7 @@ pub fn outside_alternation(mode: Mode) -> Result<(), Rule>
     }
 }
 
-/// An instruction that may not stand among the starts of a PAR.
+/// An instruction that is not allowed among the starts of a PAR.
 #[tactic(auto, unfolding(crate::specs::Rulings::outside_starts))]
 pub fn outside_starts(mode: Mode) -> Result<(), Rule>
     ensures { Admits result (outside_starts mode) }
@@ -29,7 +29,7 @@ pub fn outside_starts(mode: Mode) -> Result<(), Rule>
     }
 }
 
-/// An instruction that may stand in neither.
+/// An instruction that is allowed in neither.
 pub fn alone(mode: Mode) -> Result<(), Rule>
     ensures { Admits result (alone mode) }
 {
@@ -48,7 +48,7 @@ pub fn uses(known: Known) -> Result<Fact, Rule>
     }
 }
 
-/// A jump by so many bytes from the next instruction leads forward.
+/// A jump by `distance` bytes from the next instruction leads forward.
 #[tactic(auto, unfolding(crate::specs::Rulings::forward))]
 pub fn forward(distance: i32) -> Result<(), Rule>
     ensures { Admits result (forward distance) }

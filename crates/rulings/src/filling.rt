@@ -14,7 +14,7 @@ use crate::writing::{is_number_in, leave_words, stored_byte};
 use module_format::Fact;
 use states::{Leaving, State};
 
-/// Whether all of so many bytes from where a pointer leads are bytes of numbers.
+/// Whether all `count` bytes from where a pointer leads are bytes of numbers.
 pub fn are_numbers(state: &State, pointer: Pointed, count: i32) -> bool
     requires near { are_near pointer.lo pointer.hi ≡ true }
     requires few { (pos 0 <ℤ count) × (count ≤ℤ pos 65536) }
@@ -27,7 +27,7 @@ pub fn are_numbers(state: &State, pointer: Pointed, count: i32) -> bool
     is_number_in(full(), byte_read(state, all))
 }
 
-/// The first word that begins at an offset or behind it.
+/// The first word that begins at an offset or after it.
 fn word_behind(offset: i32) -> i32
     requires { offset ≤ℤ pos 1073741823 }
     ensures { result ≡ word_behind offset }

@@ -89,7 +89,7 @@ impl Place<'_, '_> {
         Ok(Continuation::Falls)
     }
 
-    /// The code offset that is so many bytes from the next instruction.
+    /// The code offset `distance` bytes from the next instruction.
     pub fn target(&self, distance: i32) -> u32
         ensures { result ≡ target (self.now.at + self.now.len) distance }
     {
@@ -98,7 +98,7 @@ impl Place<'_, '_> {
         (to % (1 << 32)) as u32
     }
 
-    /// There is a label at the offset, and the state may go on as it.
+    /// There is a label at the offset, and the state is at least as strong as the label's.
     #[tactic(auto, using(crate::proofs::Steps::leads_forked))]
     pub fn leads_to(&self, state: &State, to: u32) -> Result<Continuation, Rule>
         requires { Keeps self.now.module.now }
@@ -108,7 +108,8 @@ impl Place<'_, '_> {
         Ok(Continuation::Leads { to })
     }
 
-    /// There is a label at the offset, and the state may go on as it, or after the instruction as another one.
+    /// There is a label at the offset, and the state is at least as strong as the label's. The process goes on there,
+    /// or after the instruction in another state.
     #[tactic(auto, unfolding(crate::specs::Rulings::forks_to))]
     pub fn forks_to(&self, state: &State, to: u32) -> Result<(), Rule>
         requires { Keeps self.now.module.now }

@@ -1,4 +1,4 @@
-//! What facts say of pointers and numbers, each answer with the rule that it keeps.
+//! What facts say of pointers and numbers, each result with the rule that it keeps.
 
 ghost use Rattle.std.specs.Prelude.{IfOk, true, ◌≡◌, ◌≤ℤ◌, pos, negsuc};
 ghost use Rattle.rulings.specs.Pointers.{is_near, near, are_near, pointer_of, number_of, constant_of, exact_pointer};
@@ -25,7 +25,7 @@ impl Pointed {
     ghost use Rattle.std.specs.Prelude.{◌≡◌, ◌≤ℤ◌, ◌+ℤ◌, pos, negsuc, true};
     ghost use Rattle.rulings.specs.Pointers.{are_near};
 
-    /// The first offset behind so many bytes wherever the pointer leads.
+    /// The first offset after `size` bytes, wherever the pointer leads.
     #[tactic(auto, using(crate::proofs::ArgumentsAgree::near_end))]
     pub fn end(self, size: i32) -> i32
         requires near { are_near self.lo self.hi ≡ true }

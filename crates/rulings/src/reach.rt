@@ -40,7 +40,7 @@ pub fn words_touched(first: i32, end: i32) -> u32
     last.abs_diff(word_of_byte(first)) + 1
 }
 
-/// Whether bytes from the first up to `end` lie in so many.
+/// Whether bytes from the first up to `end` lie in a region of this size, if there is one.
 pub fn lie_in(size: Option<u32>, first: i32, end: i32) -> bool
     ensures { result ≡ lie_in size first end }
 {

@@ -88,7 +88,7 @@ impl Place<'_, '_> {
         lie_in(size, first, end)
     }
 
-    /// The state's context may read so many bytes wherever a pointer points.
+    /// The state's context may read `size` bytes wherever a pointer points.
     #[tactic(auto, unfolding(crate::specs::Pointers::reads_bytes))]
     pub fn reads_bytes(&self, state: &State, pointer: Pointed, size: i32) -> Result<(), Rule>
         requires belongs { BelongsTo self.now.module.now state.now }
@@ -149,7 +149,7 @@ impl Place<'_, '_> {
     }
 }
 
-/// The words of the frame are summed from now on that have one of so many bytes wherever a pointer points.
+/// The words of the frame that have one of `size` bytes, wherever a pointer points, are summed from now on.
 pub fn sum_reached(state: &mut State, pointer: Pointed, size: i32)
     requires near { are_near pointer.lo pointer.hi ≡ true }
     requires small { (pos 0 ≤ℤ size) × (size ≤ℤ pos 65536) }
