@@ -1,5 +1,5 @@
--- The rule and the step of an instruction of this family fit each other: where the rule is not broken, the step is no
--- fault, and what the rule says of the state behind holds.
+-- The rule and the step of an instruction of this family fit each other: if the rule is not broken, the step is no
+-- fault, and what the rule says of the state after it holds.
 use Rattle.std.proofs.Common.{◌≡◌, ◌+◌, ◌≤◌, ◌-◌, ℤ, pos, negsuc, FitsSigned, arith, true, refl}
 use Rattle.std.specs.Int.{w32}
 use Rattle.machine_state.specs.declared.op.Op.{Op}
@@ -56,7 +56,8 @@ module _ (x : Here) (wf : IsWellFormed x.m) (s : State) (l : Local) (a : Within 
     stop_fits =
         in_plain_step x s a.same_mode _ _ (in_plain_rule x s a.same_mode _ _ (beside_plain_rule x s a.same_mode _ _
         (schedules_fits x s l _ _ a same changes
-        (λ s' memory b same' c e. pays_fits x s' _ _ (omega (arith, e, n)) (λ left next. it_ends a.same_mode.step c (omega arith))))))
+        (λ s' memory b same' c e. pays_fits x s' _ _ (omega (arith, e, n))
+          (λ left next. it_ends a.same_mode.step c (omega arith))))))
 
     operation_fits : (op : Op) → FitsIf x (table.local_operation_rule (rule_site x) op s)
         (step.operation_step (step_site x) op l)

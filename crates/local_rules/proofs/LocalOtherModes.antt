@@ -1,4 +1,5 @@
--- In an alternation, and among the starts of a PAR, an instruction of this family that may not stand there breaks a rule.
+-- In an alternation, and among the starts of a PAR, an instruction of this family that is not allowed there breaks a
+-- rule.
 use Rattle.std.proofs.Common.{◌≡◌, ℤ, pos, ◌+ℤ◌, Bool, true, false, cond, Option, Some, None, refl, sym, ◌∙◌}
 use Rattle.module_format.specs.Rows.{Fact}
 use Rattle.module_format.specs.declared.fact.Step.{Step}
@@ -69,7 +70,7 @@ module _ (site : Site) (s : State) (busy : IsBusy s.mode) where
   unfolding amount
   amount_breaks a b r all = settles_break _ _ (λ count. bounds_break _ _ (all count))
 
-  -- mint alone may stand in an alternation
+  -- mint alone is allowed in an alternation
   abbrev pub IsFreeOperation : Op → Bool
   IsFreeOperation ops.MinimumInteger = true
   IsFreeOperation op = false
@@ -109,7 +110,7 @@ module _ (site : Site) (s : State) (busy : IsBusy s.mode) where
       finds_break _ _ (λ begins. finds_break _ _ (λ block. starts_break s.mode starting _)))))
   operation_breaks _ e = (rules.Spelling, refl)
 
-  -- so may ldl and ldnlp; ldc and ldlp may stand anywhere
+  -- so are ldl and ldnlp; ldc and ldlp are allowed anywhere
   abbrev pub IsFree : Instruction → Bool
   IsFree instructions.LoadConstant = true
   IsFree instructions.LoadLocal = true
@@ -141,7 +142,7 @@ module _ (site : Site) (s : State) (busy : IsBusy s.mode) where
   instruction_breaks instructions.Call e free = (rules.Spelling, refl)
   instruction_breaks (instructions.Operate op) e free = operation_breaks op free
 
-  -- among the starts only ldc and ldlp may stand
+  -- among the starts only ldc and ldlp are allowed
   pub mint_breaks : is_starting s.mode ≡ true → Breaks (local_operation_rule site ops.MinimumInteger s)
   unfolding local_operation_rule
   mint_breaks starting = starts_break s.mode starting _

@@ -1,4 +1,4 @@
--- The rules of instructions on words, one test behind another.
+-- The rules of instructions on words, one test after another.
 use Rattle.std.proofs.Common.{◌≡◌, ℤ, pos, ◌*ℤ◌, ◌+ℤ◌, ◌+◌, sym, ap, ◌∙◌, to_z, of_z}
 use Rattle.std.proofs.lemmas.Int.{to_z-of_z}
 use Rattle.std.specs.Prelude.{FitsSigned}

@@ -315,7 +315,8 @@ module _ (x : Here) where
   taken_fits : (turns : ℤ → ℕ) (s : State) (l : Local) (r : Ruling) (o : Local → Outcome)
       → Within ArePlain x.m x.h x.mode (with_turns turns x.act) s l → s.context ≡ x.context → Changes x l.memory
       → ((n : ℕ) → n < 3 → rights.may_write_word x.m s.context (s.depth +ℤ negsuc n) ≡ true)
-      → ((memory : Memory) → Within ArePlain x.m x.h x.mode (with_turns turns x.act) (taken s) (record l { memory = memory })
+      → ((memory : Memory) → Within ArePlain x.m x.h x.mode (with_turns turns x.act) (taken s)
+        (record l { memory = memory })
       → Changes x memory → FitsIf x r (o (record l { memory = memory })))
       → FitsIf x r (step.schedules (step_site x) l o)
   unfolding step.schedules written
@@ -362,7 +363,7 @@ module _ (x : Here) (wf : IsWellFormed x.m) (s : State) (l : Local) (a : Within 
   abbrev second : IsOwnWord x.h (length l.memory) x.act.layout.origin (k +ℤ pos 1)
   second = a.frame.own (k +ℤ pos 1) found.second
 
-  -- the state without registers, with so much to pay
+  -- the state without registers, with this number to pay
   abbrev settled : ℕ → State
   settled number = record s { stack = of_empty unknown; number = number }
 
@@ -515,7 +516,8 @@ module _ (x : Here) (wf : IsWellFormed x.m) (s : State) (l : Local) (a : Within 
 
   leads_fit : (number cost : ℕ) (r : Ruling) (memory : Memory) → leading r ≡ begins.at ∷ []
       → compared (number + block.turning.weight) (view (taken (settled number))) begins.label ≡ Ok cost
-      → 2 ≤ x.act.turns k → Within ArePlain x.m x.h x.mode turning (taken (settled number)) (record l { memory = memory })
+      → 2 ≤ x.act.turns k
+      → Within ArePlain x.m x.h x.mode turning (taken (settled number)) (record l { memory = memory })
       → Changes x memory → number + dues (taken s).frame x.act.turns + x.len ≤ x.owed
       → FitsIf x r (step.leads_to (step_site x) begins.at (step.without_registers (record l { memory = memory })))
   unfolding step.leads_to written below
@@ -532,7 +534,8 @@ module _ (x : Here) (wf : IsWellFormed x.m) (s : State) (l : Local) (a : Within 
       (λ u next. it_leads (label_turns after.frame t.entries (one_turn_less x.act.turns k)) led is_jump e
       (wf.labels begins.at t e)
       (label_after x.m x.h x.mode turning after t _ wf begins.at e g.1
-      (whole_after (after_stack (record x { act = turning }) {number = number + block.turning.weight} b unknown_registers)))
+      (whole_after (after_stack (record x { act = turning }) {number = number + block.turning.weight}
+        b unknown_registers)))
       (sym g.1.context ∙ same) c (omega (arith, less, turned, left)))
       (λ u. absurd (below_not begins.at (length x.m.code) (wf.labels begins.at t e) u))
 

@@ -53,7 +53,7 @@ use Rattle.rulings.proofs.Combining.{reads_fits, settles_fits, reads_bytes_fits,
 use Rattle.rulings.proofs.Reaching.{place_at, region_at, word_place, even_word}
 use Rattle.rulings.proofs.PointerFacts.{ok_if, constant_is, pointer_is}
 
--- ---- what answers tell
+-- ---- what results say
 
 -- what is known of a number
 pub record Lies (r : Bounds) (v : ℤ) : Type 0 where
@@ -183,7 +183,7 @@ module _ (m : Contents) (layout : Layout) where
       (let low = lies.low in omega (arith, ints)) (let high = lies.high in omega (arith, ints))
       (keeps_step p.step (pos 4 *ℤ u) (stepped_words u)))
 
-  -- the address of a place behind the first byte of the code
+  -- the address of a place after the first byte of the code
   place_means : (n : ℕ) (fact : Fact) (v : ℤ) → place_fact m (pos n) ≡ Ok fact
       → v ≡ int_wrap w32 (pos (code_address m n))
       → Means m layout fact (Some v)
@@ -247,7 +247,7 @@ module _ (m : Contents) (layout : Layout) where
       at_place (pos n) e h = place_means n fact _ h (wrapped_sum (data_start + 4 * m.data_words + next) v fits
           ∙ ap (int_wrap w32) (omega (arith, ints)))
 
--- an offset from which a pointer that is so many words further leads, as one of words does
+-- the offset at which `v` points, in the region of `q`: the offset `e` words after it is one of `p`'s
 pub record WordsBehind (m : Contents) (layout : Layout) (e v : ℤ) (q p : Pointed) : Type 0 where
   pub region : q.region ≡ p.region
   pub offset : ℤ
@@ -326,7 +326,7 @@ module _ (x : Here) where
     popped : Within ArePlain x.m x.h x.mode x.act (rule.pop s) (step.pop l)
     popped = after_stack x a (record { a = a.knows.registers.b; b = a.knows.registers.c; c = unknown_means })
 
-    -- A becomes the byte, or the word, of number B behind it, whose address is such a sum
+    -- A becomes the byte, or the word, of number B after it, whose address is such a sum
     element_fits : (element : Step) (sum : ℤ → ℤ → ℤ)
         → ((p : Pointed) (r : Bounds) (v u : ℤ) (fact : Fact) → element_of element p r ≡ Ok fact
         → Means x.m x.act.layout (Pointer p.region p.lo p.hi p.step) (Some v) → Lies r u

@@ -34,7 +34,7 @@ ranged-known (Alone ReturnAddress) r is = absurd (cc)
 ranged-known (Index loop) r is = absurd (cc)
 ranged-known (Count loop) r is = absurd (cc)
 
--- what a test of a word that is a number tells
+-- what a test of a word that is a number shows
 pub narrowed-is : (source : Source) (word w lo l hi h : ℤ) (within holds : Bool) (facts : Facts) (said : WordFact)
     (r t : Ends) (fact : Fact) → source ≡ Test word lo hi within → w ≡ word → l ≡ lo → h ≡ hi → said ≡ facts w
     → Some r ≡ own_range said → Some t ≡ range_between l h → fact ≡ number_in (left_by (same within holds) r t)

@@ -1,4 +1,4 @@
--- What a condition tells of a word holds of it, where the condition came out so.
+-- What a condition shows of a word holds of it, if the condition had that result.
 use Rattle.std.proofs.Common.{◌≡◌, ◌≢◌, zero, suc, ◌≤◌, ℕ, ℤ, pos, ◌+ℤ◌, neg_ℤ, ◌*◌, Bool, true, false, not, cond}
 use Rattle.std.proofs.Common.{◌&&◌, inl, inr, Option, Some, None, refl, sym, ap, ◌∙◌, subst, arith}
 use Rattle.std.specs.Prelude.{int_le}

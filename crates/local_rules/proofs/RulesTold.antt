@@ -1,4 +1,4 @@
--- What functions tell of shifted pointers, and of what is stored and moved, where their arguments are told otherwise.
+-- What functions return of shifted pointers, and of what is stored and moved, with other terms for their arguments.
 use Rattle.std.proofs.Common.{◌≡◌, ℕ, ℤ, pos, ◌*ℤ◌, ◌+ℤ◌, Result, Err, Bool, true, cond, sym, ap, ◌∙◌, subst}
 use Rattle.std.specs.Prelude.{int_le}
 use Rattle.module_format.specs.Rows.{Fact}
@@ -32,7 +32,7 @@ near_told r region steps lo hi a b a_is b_is told =
     subst (λ (z : ℤ). Tells r (near_fact region lo z steps)) b_is
     (subst (λ (z : ℤ). Tells r (near_fact region z b steps)) a_is told)
 
--- a pointer so many bytes further, whose offsets are near
+-- a pointer `by` bytes further, whose offsets are near
 pub pointer_told : (r : Result Fact Rule) (by : ℤ) (region : ℕ) (steps : Step) (lo hi x y a b : ℤ) → true ≡ are_near x y
     → x ≡ lo → y ≡ hi → a ≡ lo +ℤ by → b ≡ hi +ℤ by → Tells r (near_fact region a b steps)
     → Tells r (shifted by (Pointer region lo hi steps))
@@ -83,7 +83,7 @@ stores_told r after site e d s a b q p leaving holds size first second holds_is 
     is : stores_word site e s ≡ writes_through site p (pos 4) (stored_word p b) s
     is = first _ ∙ (second _ ∙ (there _ ∙ (leads _ ∙ behind _)))
 
--- two numbers are in order, where they are told otherwise
+-- two numbers are in order, with other terms for them
 pub order_told : (a b first second : ℤ) → a ≡ first → b ≡ second → int_le a b ≡ int_le first second
 order_told a b first second a_is b_is = ap (λ (z : ℤ). int_le z b) a_is ∙ ap (int_le first) b_is
 

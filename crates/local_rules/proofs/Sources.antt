@@ -1,4 +1,4 @@
--- Where the result of a comparison comes from: it tells where a word lies.
+-- Where the result of a comparison comes from: it shows the range of a word.
 use Rattle.std.proofs.Common.{◌≡◌, ℤ, pos, ◌+ℤ◌, ◌-ℤ◌, ◌&&◌, FitsSigned, Bool, true, false, not, cond, if◌then◌else◌}
 use Rattle.std.proofs.Common.{inl, inr, Option, Some, None, refl, sym, ap, ◌∙◌, subst, arith}
 use Rattle.std.proofs.lemmas.Int.{ints}

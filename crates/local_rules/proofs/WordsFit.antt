@@ -154,7 +154,8 @@ module _ (x : Here) (s : State) (l : Local) (a : After x.m x.h x.mode x.act s l)
 
 -- ---- but among the starts of a PAR
 
-module _ (x : Here) (s : State) (l : Local) (a : Within AreStill x.m x.h x.mode x.act s l) (same : s.context ≡ x.context)
+module _ (x : Here) (s : State) (l : Local) (a : Within AreStill x.m x.h x.mode x.act s l)
+    (same : s.context ≡ x.context)
     (changes : Changes x l.memory) (n : owed s x.act ≤ x.owed) (here : StandsAt x s l) where
   pub ldl_fits : (e : ℤ) → FitsSigned w32 e
       → FitsIf x (table.local_rule (rule_site x) instructions.LoadLocal e s)
@@ -185,7 +186,8 @@ module _ (x : Here) (s : State) (l : Local) (a : Within AreStill x.m x.h x.mode 
 
 -- ---- in plain mode
 
-module _ (x : Here) (s : State) (l : Local) (a : Within ArePlain x.m x.h x.mode x.act s l) (same : s.context ≡ x.context)
+module _ (x : Here) (s : State) (l : Local) (a : Within ArePlain x.m x.h x.mode x.act s l)
+    (same : s.context ≡ x.context)
     (changes : Changes x l.memory) (n : owed s x.act ≤ x.owed) where
   pub stl_fits : (e : ℤ) → FitsSigned w32 e
       → FitsIf x (table.local_rule (rule_site x) instructions.StoreLocal e s)
@@ -202,7 +204,8 @@ module _ (x : Here) (s : State) (l : Local) (a : Within ArePlain x.m x.h x.mode 
 
   -- what A becomes
   becomes_fits : (s' : State) (l' : Local) (fact : Option Fact) (source : Source) (result : Option ℤ)
-      → Within ArePlain x.m x.h x.mode x.act s' l' → s'.context ≡ x.context → Changes x l'.memory → owed s' x.act ≤ x.owed
+      → Within ArePlain x.m x.h x.mode x.act s' l' → s'.context ≡ x.context → Changes x l'.memory
+      → owed s' x.act ≤ x.owed
       → ResultMeans x.m x.act.layout fact result
       → ((f : Fact) → fact ≡ Some f
       → ComesFrom (words_in x.m s'.context).reads l'.memory x.act.layout.origin source result)
@@ -291,7 +294,8 @@ module _ (x : Here) (s : State) (l : Local) (a : Within ArePlain x.m x.h x.mode 
       (after_stack x a (record { a = a.knows.registers.b; b = a.knows.registers.a; c = a.knows.registers.c }))
       same changes n)))
 
-  pub binary_fits : (op : BinaryOperation) → FitsIf x (table.local_operation_rule (rule_site x) (operations.Binary op) s)
+  pub binary_fits : (op : BinaryOperation)
+      → FitsIf x (table.local_operation_rule (rule_site x) (operations.Binary op) s)
       (step.operation_step (step_site x) (operations.Binary op) l)
   unfolding table.local_operation_rule step.operation_step
   binary_fits op =
@@ -452,7 +456,8 @@ module _ (x : Here) (s : State) (l : Local) (a : Within ArePlain x.m x.h x.mode 
   -- where the condition came out so
   after_narrowing : (s' : State) (l' : Local) (source : Source) (holds : Bool) (v : ℤ)
       → Within ArePlain x.m x.h x.mode x.act s' l'
-      → ComesFrom (words_in x.m s'.context).reads l'.memory x.act.layout.origin source (Some v) → (holds ≡ true → v ≢ pos 0)
+      → ComesFrom (words_in x.m s'.context).reads l'.memory x.act.layout.origin source (Some v)
+      → (holds ≡ true → v ≢ pos 0)
       → (holds ≡ false → v ≡ pos 0)
       → Within ArePlain x.m x.h x.mode x.act (record s' { frame = word.narrowed source holds s'.frame }) l'
   after_narrowing s' l' source holds v b comes so not_so = record {

@@ -128,9 +128,10 @@ pub record IsOwnAt (h : Holding) (place : ℕ) : Type 0 where
   pub mine : may_write_word h place ≡ true
   pub even : place % 4 ≡ 0
 
--- Memory with so many bytes written at a place, from where a region starts by an offset, and what is known then.
+-- Memory with bytes written at a place, which is at `offset` after the start of a region, and what is known then.
 pub record Written {m : Contents} {h : Holding} {mode : machine.Mode} {act : Activation} {s : State} {l : Local}
-    (a : Within ArePlain m h mode act s l) (start offset : ℤ) (new : ℕ → Memory) (mine : ℕ → Type 0) (left : State) : Type 0 where
+    (a : Within ArePlain m h mode act s l) (start offset : ℤ) (new : ℕ → Memory)
+    (mine : ℕ → Type 0) (left : State) : Type 0 where
   pub place : ℕ
   pub is : pos place ≡ start +ℤ offset
   pub small : place < 4294967296
@@ -491,7 +492,8 @@ module _ {m : Contents} {h : Holding} {mode : machine.Mode} {act : Activation} {
 
 -- ---- the instructions
 
-module _ (x : Here) (s : State) (l : Local) (a : Within ArePlain x.m x.h x.mode x.act s l) (same : s.context ≡ x.context)
+module _ (x : Here) (s : State) (l : Local) (a : Within ArePlain x.m x.h x.mode x.act s l)
+    (same : s.context ≡ x.context)
     (changes : Changes x l.memory) (n : owed s x.act ≤ x.owed) where
   -- A is a pointer that may be used, and B may be stored where it leads
   stored_fits : (may_store : Fact → Fact → Bool) (r : Fact → Pointed → Ruling) (o : ℤ → ℤ → Outcome)
@@ -623,7 +625,8 @@ module _ (x : Here) (s : State) (l : Local) (a : Within ArePlain x.m x.h x.mode 
   stnl_fits e fits =
       in_plain_step x s a.same_mode _ _ (stored_fits (may_store_word x.m s.context) _ _ (λ v u q means other stores.
       settles_fits x (words_behind (pos 4 *ℤ e) q) _ _ (λ p is.
-      writes_bytes_fits x s p.region p.lo (p.hi +ℤ pos 4) _ _ (λ may. stnl_word e v u q p is fits means other stores may))))
+      writes_bytes_fits x s p.region p.lo (p.hi +ℤ pos 4) _ _ (λ may.
+        stnl_word e v u q p is fits means other stores may))))
 
   -- ---- sb
 

@@ -1,5 +1,5 @@
--- The rule of each instruction that concerns one process and its memory alone: what it wants of the state before it, and
--- what it leaves. The rules mirror the steps of the machine, and their tests are in rising order of the numbers of
+-- The rule of each instruction that concerns one process and its memory alone: what it wants of the state before it,
+-- and what it leaves. The rules mirror the steps of the machine, and their tests are in rising order of the numbers of
 -- rules.
 use Rattle.std.specs.Prelude.{◌+◌, ◌&&◌, ℤ, pos, ◌+ℤ◌, ◌*ℤ◌}
 use Rattle.word_arithmetic.specs.Word.{least_word}

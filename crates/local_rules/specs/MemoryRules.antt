@@ -39,7 +39,7 @@ is_of_a_word z = int_le least_word z && int_le z greatest_word
 unfoldable pub word_fact : ℤ → ℤ → Result Fact Rule
 word_fact lo hi = if is_of_a_word lo && is_of_a_word hi then Ok (Number lo hi) else Err rules.Number
 
--- so many bytes further: a number, or a pointer
+-- `by` bytes further: a number, or a pointer
 unfoldable pub shifted : ℤ → Fact → Result Fact Rule
 shifted by (Number lo hi) = word_fact (lo +ℤ by) (hi +ℤ by)
 shifted by (Pointer region lo hi step) =
@@ -56,23 +56,23 @@ shifts_pointer site e s =
 abbrev pub further : Pointed → ℤ → ℤ → Step → Result Fact Rule
 further p low high step = near_fact p.region (p.lo +ℤ low) (p.hi +ℤ high) step
 
--- the step of a pointer that is so many bytes further
+-- the step of a pointer after a shift by a number of bytes
 abbrev pub step_after : Step → Bounds → Step
 step_after step r = if is_same r.lo r.hi && is_stepped r.lo then step else Byte
 
--- what a pointer is so many bytes, or words, further
+-- what a pointer is, shifted by a number of bytes or words
 unfoldable pub element_of : Step → Pointed → Bounds → Result Fact Rule
 element_of Byte p r = further p r.lo r.hi (step_after p.step r)
 element_of Word p r = further p (pos 4 *ℤ r.lo) (pos 4 *ℤ r.hi) p.step
 
--- bsub, wsub: the byte, or the word, of number B behind A
+-- bsub, wsub: the byte, or the word, of number B after A
 abbrev pub subscripts : Step → Site → State → Ruling
 subscripts element site s =
     uses s.stack.a (λ a. uses s.stack.b (λ b. settles (number_of b) (λ r. settles (pointer_of a) (λ p.
     settles (element_of element p r) (λ fact. with_fact_a site fact (pop s))))))
 
--- the address of a place so far behind the first byte of the code: it is one of the code, or of the constants, which
--- begin at a word
+-- the address of a place at this offset from the first byte of the code: it is one of the code, or of the constants,
+-- which begin at a word
 unfoldable pub place_fact : Contents → ℤ → Result Fact Rule
 place_fact m (negsuc n) = Err rules.Pointer
 place_fact m (pos n) =
@@ -82,7 +82,7 @@ place_fact m (pos n) =
     then Ok (Pointer 1 (pos (n - behind)) (pos (n - behind)) (if is_stepped (pos (n - behind)) then Word else Byte))
     else Err rules.Pointer
 
--- ldpi: the address so far behind the instruction
+-- ldpi: the address at this distance after the instruction
 abbrev pub loads_place : Site → State → Ruling
 loads_place site s =
     uses s.stack.a (λ a. settles (constant_of a) (λ v.
@@ -95,11 +95,11 @@ unfoldable pub words_at : ℕ → ℤ → ℤ → Result Pointed Rule
 words_at region lo hi =
     if are_near lo hi then Ok (record { region = region; lo = lo; hi = hi; step = Word }) else Err rules.Pointer
 
--- what a pointer to words is so many bytes further
+-- what a pointer to words is `by` bytes further
 unfoldable pub words_behind : ℤ → Pointed → Result Pointed Rule
 words_behind by p = elim p.step [ Byte ↦ Err rules.Pointer | Word ↦ words_at p.region (p.lo +ℤ by) (p.hi +ℤ by) ]
 
--- ldnl: the word e words behind A
+-- ldnl: the word e words after A
 abbrev pub loads_word : Site → ℤ → State → Ruling
 loads_word site e s =
     uses s.stack.a (λ a. settles (pointer_of a) (λ p. settles (words_behind (pos 4 *ℤ e) p) (λ p.
@@ -134,13 +134,13 @@ stored_word p b = if is_same p.lo p.hi then Become b else widened_by b
 abbrev pub pops_two : Site → State → Ruling
 pops_two site s = alone s.mode (goes_on site (pop (pop s)))
 
--- so many bytes are written wherever a pointer leads, and A and B are used up
+-- `size` bytes are written wherever a pointer leads, and A and B are used up
 abbrev pub writes_through : Site → Pointed → ℤ → Leaving → State → Ruling
 writes_through site p size leaving s =
     let end = p.hi +ℤ size in
     writes_bytes site s p.region p.lo end (pops_two site (leaves_words p end leaving s))
 
--- stnl: B becomes the word e words behind A
+-- stnl: B becomes the word e words after A
 abbrev pub stores_word : Site → ℤ → State → Ruling
 stores_word site e s =
     uses s.stack.a (λ a. uses s.stack.b (λ b. in_bounds (may_store_word site.contents s.context a b)

@@ -11,7 +11,7 @@ use Rattle.rulings.specs.Filling.{are_numbers, filled}
 
 -- ---- what is asked
 
--- so many bytes may be moved at once
+-- this number of bytes may be moved at once
 abbrev pub is_movable : ℤ → Bool
 is_movable count = int_le (pos 0) count && int_le count (pos 65536)
 
@@ -21,7 +21,7 @@ amount site s a b k =
     settles (constant_of a) (λ count.
     in_bounds (is_movable count && takes_any site.contents s.context b) (k count))
 
--- so many bytes from two places on are apart, as those of different regions are
+-- the `count` bytes from two places on are apart, as those of different regions are
 abbrev pub are_apart : ℤ → Pointed → Pointed → Bool
 are_apart count p q =
     not (p.region == q.region) || int_le (p.lo +ℤ count) q.lo || int_le (q.lo +ℤ count) p.lo
@@ -36,13 +36,13 @@ clears site s = alone s.mode (goes_on site (record s { stack = of_empty unknown 
 abbrev pub may_come : ℤ → Pointed → Pointed → Bool → Bool
 may_come count from to numbers = are_apart count from to && ((to.region == 0) || numbers)
 
--- so many bytes that may be read, at least one, come to where they may be written
+-- `count` bytes that may be read, at least one, come to where they may be written
 unfoldable pub come : Site → ℤ → Pointed → Pointed → State → Ruling
 come site count from to s =
     let numbers = are_numbers s from count in
     if may_come count from to numbers then clears site (filled numbers to (to.hi +ℤ count) s) else breaks rules.Pointer
 
--- so many bytes, at least one, go from one place to another
+-- `count` bytes, at least one, go from one place to another
 unfoldable pub moves_some : Site → ℤ → Pointed → Pointed → State → Ruling
 moves_some site count from to s =
     let end = to.hi +ℤ count in

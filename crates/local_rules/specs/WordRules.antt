@@ -1,5 +1,5 @@
 -- What the rules say of words: what is loaded, the results of operations and where they come from, and what a condition
--- tells of a word.
+-- shows of a word.
 use Rattle.std.specs.Prelude.{Bool, true, false, not, ◌&&◌, if◌then◌else◌, ℤ, pos, int_le, int_lt, Option, Some, None}
 use Rattle.std.specs.Prelude.{is_some}
 use Rattle.std.specs.Option.{option_map, option_and_then}
@@ -142,7 +142,7 @@ word_and_constant one other = elim one.source [
   | _ ↦ None
 ]
 
--- whether the first is greater tells where a word lies, if the other one is a constant
+-- whether the first is greater shows the range of a word, if the other one is a constant
 unfoldable pub greater_source : Known → Known → Source
 greater_source left right = elim (word_and_constant left right) [
   | Some found ↦ test_of found.0 (words_above found.1)
@@ -152,7 +152,7 @@ greater_source left right = elim (word_and_constant left right) [
   ]
 ]
 
--- whether something is a constant tells whether a word is it; whether it is 0 is the opposite of what it tells
+-- whether something is a constant shows whether a word is it; whether it is 0 is the opposite of what it shows
 unfoldable pub equal_source : Known → ℤ → Source
 equal_source left v = elim left.source [
   | Nowhere ↦ Nowhere

@@ -20,7 +20,7 @@ use rulings::combinators::{outside_alternation, outside_starts, uses};
 use rulings::{Continuation, Place};
 use states::{Known, Loop, Rule, State, WordFact, compare, label_rows_are_sound};
 
-/// The block of a loop: two words of the frame, its index and, behind it, its count.
+/// The block of a loop: two words of the frame, its index and, after it, its count.
 #[derive(Clone, Copy)]
 pub struct Block {
     /// The word that has the index.

@@ -34,7 +34,7 @@ pub(crate) fn with_fact_a(
     place.goes_on(state)
 }
 
-/// `ldnlp`: A is so many words further.
+/// `ldnlp`: A is shifted by a number of words.
 pub(crate) fn load_non_local_pointer(
     place: &Place,
     state: &mut State,
@@ -51,7 +51,7 @@ pub(crate) fn load_non_local_pointer(
     place.goes_on(state)
 }
 
-/// `bsub` and `wsub`: the byte, or the word, of number B behind A.
+/// `bsub` and `wsub`: the byte, or the word, of number B after A.
 pub(crate) fn subscript(
     place: &Place,
     state: &mut State,
@@ -70,8 +70,8 @@ pub(crate) fn subscript(
     with_fact_a(place, state, fact)
 }
 
-/// The address of a place so far behind the first byte of the code: it is one of the code, or of the
-/// constants, which begin at a word.
+/// The address of a place at this offset from the first byte of the code: it is one of the code, or of the constants,
+/// which begin at a word.
 #[tactic(auto, unfolding(rulings::specs::Rulings::settles, crate::specs::MemoryRules::place_fact))]
 fn place_fact(place: &Place, offset: i128) -> Result<Fact, Rule>
     ensures { Gives (λ fact. fact) result (settles (place_fact place.now.module.now offset)) }
@@ -103,7 +103,7 @@ fn place_fact(place: &Place, offset: i128) -> Result<Fact, Rule>
     })
 }
 
-/// The address of a place so far behind the instruction.
+/// The address of a place at this distance after the instruction.
 fn place_behind(place: &Place, distance: i32) -> Result<Fact, Rule>
     ensures { let there = pos (place.now.at + place.now.len) +ℤ distance in
         Gives (λ fact. fact) result (settles (place_fact place.now.module.now there)) }
@@ -112,7 +112,7 @@ fn place_behind(place: &Place, distance: i32) -> Result<Fact, Rule>
     place_fact(place, next + i128::from(distance))
 }
 
-/// `ldpi`: the address so far behind the instruction.
+/// `ldpi`: the address at this distance after the instruction.
 pub(crate) fn load_pointer_to_instruction(
     place: &Place,
     state: &mut State,
@@ -126,7 +126,7 @@ pub(crate) fn load_pointer_to_instruction(
     with_fact_a(place, state, fact)
 }
 
-/// `ldnl`: the word so many words behind A.
+/// `ldnl`: the word that is a number of words after A.
 pub(crate) fn load_non_local(
     place: &Place,
     state: &mut State,

@@ -22,7 +22,7 @@ use states::{Known, Rule, State};
 /// How many bytes may be moved at once.
 const MOST_BYTES: i32 = 65_536;
 
-/// So many bytes that go from one place to another, each of which is known.
+/// Bytes that go from one place to another: how many, and both places, all of which are known.
 #[derive(Clone, Copy)]
 struct Block {
     count: i32,
@@ -122,21 +122,21 @@ pub(crate) fn move_bytes(place: &Place, state: &mut State) -> Result<Continuatio
     moves_bytes(place, state, Block { count, from, to })
 }
 
-/// Whether so many bytes may be moved at once.
+/// Whether `count` bytes may be moved at once.
 fn is_movable(count: i32) -> bool
     ensures value { result ≡ is_movable count }
 {
     0 <= count && count <= MOST_BYTES
 }
 
-/// Whether so many bytes from an offset on end where another offset is, or before it.
+/// Whether `count` bytes from an offset on end where another offset is, or before it.
 fn end_before(offset: i32, count: i32, other: i32) -> bool
     ensures { result ≡ int_le (offset +ℤ count) other }
 {
     i64::from(offset) + i64::from(count) <= i64::from(other)
 }
 
-/// Whether so many bytes from two places on are apart, as those of different regions are.
+/// Whether the `count` bytes from two places on are apart, as those of different regions are.
 fn are_apart(count: i32, from: Pointed, to: Pointed) -> bool
     ensures { result ≡ are_apart count from to }
 {

@@ -1,4 +1,4 @@
-//! What a condition tells of a word.
+//! What a condition shows of a word.
 
 ghost use Rattle.std.specs.Prelude.{◌≡◌, IfSome, true, false};
 ghost use Rattle.std.specs.Option.{option_map};
@@ -13,7 +13,7 @@ use module_format::Fact;
 use states::{Source, State, WordFact};
 use word_arithmetic::Range;
 
-/// What a condition tells of a word of the frame, which is a number.
+/// What a condition shows of a word of the frame, which is a number.
 #[derive(Clone, Copy)]
 pub(crate) struct Narrowing {
     pub word: i32,
@@ -39,7 +39,7 @@ fn left_fact(is_inside: bool, holds: bool, range: Range, other: Range) -> Fact
     number_in(range.left_by(is_within, other))
 }
 
-/// What a condition that comes from there tells of a word. `None`: nothing more than is known.
+/// What a condition that comes from there shows of a word. `None`: nothing more than is known.
 #[tactic(auto, unfolding(crate::specs::WordRules::narrowed))]
 pub(crate) fn told_by(state: &State, source: Source) -> Option<Narrowing>
     ensures if_false { narrowed source false (state_of state.now).frame
@@ -66,7 +66,7 @@ pub(crate) fn told_by(state: &State, source: Source) -> Option<Narrowing>
     })
 }
 
-/// The word is what the condition tells of it where it came out so.
+/// The word is what the condition shows of it when it has this result.
 pub(crate) fn narrow(state: &mut State, narrowing: Option<Narrowing>, holds: bool)
     requires { IfSome narrowing (λ n. CanWrite state.old n.word) }
     ensures state { state_of state.new

@@ -193,7 +193,7 @@ fn below(word: i32) -> Option<Range>
     Range::between(i32::MIN, word.checked_sub(1)?)
 }
 
-/// Whether the first is greater tells where a word lies, if the other one is a constant.
+/// Whether the first is greater shows the range of a word, if the other one is a constant.
 #[tactic(auto, unfolding(crate::specs::WordRules::greater_source))]
 fn greater_source(left: Known, right: Known) -> Source
     ensures { result ≡ greater_source left right }
@@ -207,7 +207,7 @@ fn greater_source(left: Known, right: Known) -> Source
     }
 }
 
-/// Whether something is a constant tells whether a word is it; whether it is 0 is the opposite of what it tells.
+/// Whether something is a constant shows whether a word is it; whether it is 0 is the opposite of what it shows.
 #[tactic(auto, unfolding(crate::specs::WordRules::equal_source))]
 fn equal_source(left: Known, constant: i32) -> Source
     ensures { result ≡ equal_source left constant }

@@ -1,4 +1,4 @@
-//! Numbers and pointers that are shifted, each answer with the rule that it keeps.
+//! Numbers and pointers that are shifted, each result with the rule that it keeps.
 
 ghost use Rattle.std.specs.Prelude.{IfOk, true, ◌≡◌, ◌≤ℤ◌, ◌*ℤ◌, pos, negsuc};
 ghost use Rattle.module_format.specs.Order.{is_stepped};
@@ -52,7 +52,7 @@ fn words_at(region: u16, lo: i64, hi: i64) -> Result<Pointed, Rule>
     })
 }
 
-/// What a pointer to words is so many words further.
+/// What a pointer to words is `words` words further.
 #[tactic(auto, unfolding(rulings::specs::Rulings::settles, crate::specs::MemoryRules::words_behind))]
 pub(crate) fn words_behind(words: i32, pointer: Pointed) -> Result<Pointed, Rule>
     ensures answer { Gives (λ pointer. pointer) result (settles (words_behind (pos 4 *ℤ words) pointer)) }
@@ -90,7 +90,7 @@ fn word_fact(lo: i64, hi: i64) -> Result<Fact, Rule>
     })
 }
 
-/// What a fact says so many bytes further: of a number, or of a pointer.
+/// What a fact says `by` bytes further: of a number, or of a pointer.
 #[tactic(auto, unfolding(rulings::specs::Rulings::settles, crate::specs::MemoryRules::shifted))]
 fn shifted(by: i64, fact: Fact) -> Result<Fact, Rule>
     requires { (negsuc 8589934591 ≤ℤ by) × (by ≤ℤ pos 8589934592) }
@@ -114,7 +114,7 @@ fn shifted(by: i64, fact: Fact) -> Result<Fact, Rule>
     }
 }
 
-/// What a fact says so many words further.
+/// What a fact says `words` words further.
 pub(crate) fn words_further(words: i32, fact: Fact) -> Result<Fact, Rule>
     ensures { Gives (λ fact. fact) result (settles (shifted (pos 4 *ℤ words) fact)) }
 {
@@ -131,7 +131,7 @@ fn further(pointer: Pointed, low: i64, high: i64, step: Step) -> Result<Fact, Ru
     near_fact(pointer.region, lo + low, hi + high, step)
 }
 
-/// The step of a pointer that is so many bytes further.
+/// The step of a pointer after a shift by a number of bytes.
 fn step_after(step: Step, number: Bounds) -> Step
     ensures { result ≡ step_after step number }
 {
@@ -142,7 +142,7 @@ fn step_after(step: Step, number: Bounds) -> Step
     }
 }
 
-/// What a pointer is so many bytes, or words, further.
+/// What a pointer is, shifted by a number of bytes or words.
 #[tactic(auto, unfolding(rulings::specs::Rulings::settles, crate::specs::MemoryRules::element_of))]
 pub(crate) fn element_of(element: Step, pointer: Pointed, number: Bounds) -> Result<Fact, Rule>
     ensures { Gives (λ fact. fact) result (settles (element_of element pointer number)) }

@@ -56,7 +56,7 @@ fn pops_two(place: &Place, state: &mut State) -> Result<Continuation, Rule>
     place.goes_on(state)
 }
 
-/// So many bytes are written wherever a pointer leads, and A and B are used up.
+/// `size` bytes are written wherever a pointer leads, and A and B are used up.
 fn writes_through(
     place: &Place,
     state: &mut State,
@@ -77,7 +77,7 @@ fn writes_through(
     pops_two(place, state)
 }
 
-/// `stnl`: B becomes the word so many words behind A.
+/// `stnl`: B becomes the word that is a number of words after A.
 pub(crate) fn store_non_local(
     place: &Place,
     state: &mut State,
