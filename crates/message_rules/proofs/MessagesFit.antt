@@ -299,7 +299,7 @@ module _ (x : Here) (wf : IsWellFormed x.m) (s : State) (l : Local) (a : Within 
       let is = k.1 in
       (k.0, k.1, omega (arith, ints), omega (arith, ints))
 
-  -- a message of so many bytes
+  -- a message of `count` bytes
   some_sent : (v u w count : ℤ) → Means x.m x.act.layout s.stack.a.fact (Some v)
       → Means x.m x.act.layout s.stack.b.fact (Some u) → Means x.m x.act.layout s.stack.c.fact (Some w)
       → constant_of s.stack.a.fact ≡ Ok count
@@ -537,7 +537,7 @@ module _ (x : Here) (wf : IsWellFormed x.m) (s : State) (l : Local) (a : Within 
   unfolding takes_any
   takes_wide fact p is t = subst (λ (f : Fact). takes_any x.m s.context f ≡ true) is t
 
-  -- a message of so many bytes
+  -- a message of `count` bytes
   some_received : (v u w count : ℤ) → Means x.m x.act.layout s.stack.a.fact (Some v)
       → Means x.m x.act.layout s.stack.b.fact (Some u) → Means x.m x.act.layout s.stack.c.fact (Some w)
       → constant_of s.stack.a.fact ≡ Ok count

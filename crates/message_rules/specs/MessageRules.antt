@@ -35,11 +35,11 @@ abbrev pub is_length : ℤ → Option ℕ → Bool
 is_length count None = false
 is_length count (Some len) = is_word count (pos len)
 
--- the channel has messages of so many bytes
+-- the channel has messages of `count` bytes
 abbrev pub has_length : Site → State → EndKind → ℤ → Bool
 has_length site s kind count = is_length count (message_length site.contents s.context kind)
 
--- a channel of which the context has the end, with messages of so many bytes
+-- a channel of which the context has the end, with messages of `count` bytes
 unfoldable pub over_channel : Site → State → Fact → Direction → ℤ → Ruling → Ruling
 over_channel site s fact direction count next =
     names_channel fact (λ kind.
@@ -52,7 +52,7 @@ over_channel site s fact direction count next =
 abbrev pub word_before : ℤ → ℤ
 word_before end = word_of_byte (end -ℤ pos 1)
 
--- bytes up to `end` lie in words before the three below a depth, and bytes from the first on in words behind them
+-- bytes up to `end` lie in words before the three below a depth, and bytes from the first on in words after them
 abbrev pub ends_before : ℤ → ℤ → Bool
 ends_before depth end = int_lt (word_before end) (depth -ℤ pos 3)
 
@@ -74,7 +74,7 @@ exchanges site s = alone s.mode (schedules site s (λ s. goes_on site (without_r
 
 -- ---- in
 
--- a message of so many bytes may come to where a pointer leads
+-- a message of `count` bytes may come to where a pointer leads
 unfoldable pub takes : Site → State → ℤ → Pointed → Ruling → Ruling
 takes site s count p next =
     let end = p.hi +ℤ count in
@@ -102,7 +102,7 @@ in_rule site s =
 
 -- ---- out
 
--- a message of so many bytes may go from where a pointer leads
+-- a message of `count` bytes may go from where a pointer leads
 unfoldable pub gives : Site → State → ℤ → Pointed → Ruling → Ruling
 gives site s count p next =
     wants (are_numbers s p count) rules.UnknownRegister

@@ -22,7 +22,7 @@ fn holds_end(place: &Place, state: &State, kind: EndKind, direction: Direction) 
         .has_end(state.context, EndRow { kind, direction })
 }
 
-/// Whether messages have so many bytes.
+/// Whether the length of messages is `count` bytes.
 fn is_length(count: i32, length: Option<u32>) -> bool
     ensures { result ≡ is_length count length }
 {
@@ -32,7 +32,7 @@ fn is_length(count: i32, length: Option<u32>) -> bool
     }
 }
 
-/// Whether the channel has messages of so many bytes.
+/// Whether the channel has messages of `count` bytes.
 #[tactic(auto, using(rulings::proofs::HeldChannels::none_further))]
 fn has_length(place: &Place, state: &State, kind: EndKind, count: i32) -> bool
     requires { Keeps place.now.module.now }
@@ -41,7 +41,7 @@ fn has_length(place: &Place, state: &State, kind: EndKind, count: i32) -> bool
     is_length(count, place.message_length(state.context, kind, 0))
 }
 
-/// A word names a channel of which the context has the end, with messages of so many bytes.
+/// A word names a channel of which the context has the end, with messages of `count` bytes.
 #[tactic(auto, unfolding(crate::specs::MessageRules::over_channel))]
 pub(crate) fn over_channel(
     place: &Place,

@@ -25,7 +25,7 @@ use rulings::writing::{leave_words, stored_byte};
 use rulings::{Continuation, Place};
 use states::{Known, Rule, State};
 
-/// A message of so many bytes, and its buffer.
+/// A message of `count` bytes, and its buffer.
 #[derive(Clone, Copy)]
 struct Message {
     count: i32,
@@ -38,7 +38,7 @@ struct Message {
 impl Message {
     ghost use Rattle.std.specs.Prelude.{◌≡◌, ◌≤ℤ◌, ◌+ℤ◌, negsuc};
 
-    /// The first offset behind the buffer, wherever the pointer leads.
+    /// The first offset after the buffer, wherever the pointer leads.
     fn end(self) -> i32
         ensures value { result ≡ self.buffer.hi +ℤ self.count }
         ensures near { negsuc 2147483646 ≤ℤ result }
@@ -47,7 +47,7 @@ impl Message {
     }
 }
 
-/// Whether a message can have so many bytes.
+/// Whether a message can have `count` bytes.
 fn is_message(count: i32) -> bool
     ensures { result ≡ is_message count }
 {
@@ -71,7 +71,7 @@ fn ends_before(depth: i32, end: i32) -> bool
     i64::from(last) < i64::from(depth) - 3
 }
 
-/// Whether bytes from the first on lie in words behind the three below a depth.
+/// Whether bytes from the first on lie in words after the three below a depth.
 fn begins_behind(depth: i32, first: i32) -> bool
     ensures { result ≡ begins_behind depth first }
 {
@@ -158,7 +158,7 @@ fn receives(
     exchanges(place, state)
 }
 
-/// A message of so many bytes comes to where a pointer leads.
+/// A message of `count` bytes comes to where a pointer leads.
 #[tactic(auto, unfolding(crate::specs::MessageRules::receives_some))]
 fn receives_some(
     place: &Place,
@@ -229,7 +229,7 @@ fn sends(
     exchanges(place, state)
 }
 
-/// A message of so many bytes goes from where a pointer leads.
+/// A message of `count` bytes goes from where a pointer leads.
 #[tactic(auto, unfolding(crate::specs::MessageRules::sends_some))]
 fn sends_some(
     place: &Place,
