@@ -105,7 +105,7 @@ module _ (x : Here) where
       it_asks (asks (record { is = refl; low = next _ refl; same = same; changes = changed; pay = pay }))
       (omega (arith, pay)))
 
-  -- the code goes on behind it
+  -- the code goes on after it
   followed_fits : (t : State) (new : Local) (o : Outcome) → t.context ≡ x.context → Changes x new.memory
       → owed t x.act ≤ x.owed
       → (Alters x (falls (paid_state t)) (paid_state t) new → Asks x (falls (paid_state t)) o)
@@ -266,7 +266,7 @@ module _ (x : Here) (s : State) (l : Local) (a : Within AreStill x.m x.h x.mode 
       ];
     }
 
-    -- what is known behind it, with the value of A
+    -- what is known after it, with the value of A
     enables_of : (v : ℤ) → MeansKnown x.m (words_in x.m s.context).reads x.act.layout l.memory s.stack.a (Some v)
         → name_of s.stack.a ≡ Ok name
         → Enables x kind (not (step.address v == 0)) one_more (step.with_a_alone (Some v) l)

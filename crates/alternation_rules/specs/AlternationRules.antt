@@ -39,14 +39,14 @@ while_plain Enabling k = breaks rules.Alternation
 while_plain (Disabling done) k = breaks rules.Alternation
 while_plain (Starting row started) k = breaks rules.Alternation
 
--- one that may stand between `alt` and `altwt` alone
+-- one that is allowed between `alt` and `altwt` only
 unfoldable pub while_enabling : Mode → Ruling → Ruling
 while_enabling Plain k = breaks rules.Alternation
 while_enabling Enabling k = k
 while_enabling (Disabling done) k = breaks rules.Alternation
 while_enabling (Starting row started) k = breaks rules.Alternation
 
--- one that may stand between `altwt` and `altend` alone, with so many guards disabled
+-- one that is allowed between `altwt` and `altend` only, with this number of guards disabled
 unfoldable pub while_disabling : Mode → (ℕ → Ruling) → Ruling
 while_disabling Plain k = breaks rules.Alternation
 while_disabling Enabling k = breaks rules.Alternation
@@ -75,7 +75,7 @@ abbrev pub with_enabled : GuardKind → GuardName → State → State
 with_enabled kind name s =
     record (with_a_alone s.stack.a s) { guards = s.guards ++ enabled_guard kind name ∷ [] }
 
--- the guard of this number is disabled, and A tells whether it is selected
+-- the guard of this number is disabled, and A says whether it is selected
 abbrev pub with_disabled : ℕ → Guard → State → State
 with_disabled done guard s = record (with_a_alone (known (Number (pos 0) (pos 1))) s) {
   mode = Disabling (done + 1);

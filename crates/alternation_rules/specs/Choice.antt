@@ -64,14 +64,14 @@ exactly value = Number value value
 abbrev pub input_address : ℕ → ℤ
 input_address n = least_word +ℤ pos (16 + 4 * n)
 
--- the guard and the link are loaded, in so many bytes
+-- the guard and the link are loaded, which takes 4 bytes
 abbrev pub with_guard : ℕ → ℕ → State → State
 with_guard link guard s = record s {
   stack = record { a = known (exactly (pos guard)); b = known (exactly (input_address link)); c = known Unknown };
   number = s.number - 4;
 }
 
--- the distance, the guard and the link are loaded, in so many bytes
+-- the distance, the guard and the link are loaded, which takes 5 bytes
 abbrev pub with_distance : ℕ → ℕ → ℕ → State → State
 with_distance link guard distance s = record s {
   stack = record {

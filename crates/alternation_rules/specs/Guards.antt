@@ -85,7 +85,7 @@ abbrev pub is_new : GuardKind → List Guard → Bool
 is_new Skip guards = true
 is_new (Channel kind) guards = not (list_any (λ (g : Guard). is_same_kind g.kind (Channel kind)) guards)
 
--- there is room for one more
+-- there is capacity for one more guard
 abbrev pub has_room : List Guard → Bool
 has_room guards = nat_lt (length guards) MAX_GUARDS
 
@@ -93,7 +93,7 @@ has_room guards = nat_lt (length guards) MAX_GUARDS
 abbrev pub enabled_guard : GuardKind → GuardName → Guard
 enabled_guard kind name = record { kind = kind; name = name; exit = None }
 
--- the guard of this number, where an alternation may have so many
+-- the guard of this number, if an alternation may have one of this number
 unfoldable pub guard_at : List Guard → ℕ → Result Guard Rule
 guard_at guards n =
     if nat_lt n MAX_GUARDS

@@ -1,4 +1,4 @@
--- Each operation of an alternation stands in a mode of its own.
+-- Each operation of an alternation is allowed in one mode only.
 use Rattle.std.specs.Prelude.{◌≡◌, ℕ}
 use Rattle.states.specs.declared.rule.Rule.{Rule}
 use Rattle.states.specs.declared.known.Mode.{Mode}
@@ -22,7 +22,7 @@ IsEnabling mode = mode ≡ Enabling
 abbrev pub IsDisabling : Mode → Type 0
 IsDisabling mode = (done : ℕ) × (mode ≡ Disabling done)
 
--- An alternation begins in the middle of nothing. What enables stands before `altwt`, and what disables behind it.
+-- An alternation begins in the middle of nothing. What enables comes before `altwt`, and what disables after it.
 pub record ModesAreAsked : Type 0 where
   pub alt : BreaksUnless IsPlain alt_rule
   pub enbc : BreaksUnless IsEnabling enbc_rule

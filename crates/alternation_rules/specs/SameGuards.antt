@@ -9,8 +9,8 @@ use Rattle.states.specs.declared.known.GuardKind.{GuardKind}
 use Rattle.states.specs.declared.known.GuardName.{GuardName}
 use Rattle.alternation_rules.specs.Guards.{is_same_kind, is_same_name, is_new, is_named_by}
 
--- The tests tell equals from all others. So a new channel is that of no guard in the list, and if no guard passes the
--- test of a word, none is named by it.
+-- The tests distinguish equals from all others. So a new channel is that of no guard in the list, and if no guard
+-- passes the test of a word, none is named by it.
 pub record TestsCompare : Type 0 where
   pub kinds : (kind other : GuardKind) → is_same_kind kind other ≡ true → kind ≡ other
   pub kind_itself : (kind : GuardKind) → is_same_kind kind kind ≡ true

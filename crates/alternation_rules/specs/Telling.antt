@@ -1,4 +1,4 @@
--- What the functions of the code tell of an alternation's end, and what they want of a state.
+-- What the functions of the code return for an alternation's end, and what they want of a state.
 use Rattle.std.specs.Prelude.{◌≡◌, ℕ, List, Result, Ok, Err}
 use Rattle.states.specs.declared.rule.Rule.{Rule}
 use Rattle.rulings.specs.Rulings.{Ruling, selects, breaks}

@@ -111,7 +111,7 @@ fn wait(place: &Place, state: &mut State) -> Result<Continuation, Rule>
 }
 
 /// The guard that is disabled next waits for this, and has the name that B has. If it is selected, the process goes on
-/// so many bytes after `altend`.
+/// `distance` bytes after `altend`.
 #[tactic(auto, unfolding(crate::specs::AlternationRules::disables))]
 fn disables(
     place: &Place,

@@ -4,8 +4,8 @@ ghost use Rattle.alternation_rules.specs.Choice.{ChoiceIsJudged};
 ghost use Rattle.alternation_rules.specs.ModesAsked.{ModesAreAsked};
 ghost use Rattle.alternation_rules.specs.SameGuards.{TestsCompare};
 
-/// Each operation breaks a rule but in the mode that it stands in: `alt` in the middle of nothing, `enbc`, `enbs` and
-/// `altwt` while guards are enabled, `disc`, `diss` and `altend` while they are disabled.
+/// Each operation breaks a rule unless it is in its mode: `alt` in the middle of nothing, `enbc`, `enbs` and `altwt`
+/// while guards are enabled, `disc`, `diss` and `altend` while they are disabled.
 #[tactic(auto, using(crate::proofs::AlternationOtherModes::modes_are_asked))]
 pub fn operations_ask_their_mode()
     ensures { ModesAreAsked }

@@ -1,4 +1,4 @@
-//! The modes in which the instructions of an alternation may stand, and the channels of its guards.
+//! The modes in which the instructions of an alternation are allowed, and the channels of its guards.
 
 ghost use Rattle.std.specs.Prelude.{◌≡◌};
 ghost use Rattle.states.specs.Views.{state_of, BelongsTo};
@@ -23,7 +23,7 @@ pub(crate) fn while_plain(mode: Mode) -> Result<(), Rule>
     }
 }
 
-/// An instruction that may stand between `alt` and `altwt` alone.
+/// An instruction that is allowed between `alt` and `altwt` only.
 #[tactic(auto, unfolding(crate::specs::AlternationRules::while_enabling))]
 pub(crate) fn while_enabling(mode: Mode) -> Result<(), Rule>
     ensures { Admits result (while_enabling mode) }
@@ -34,7 +34,7 @@ pub(crate) fn while_enabling(mode: Mode) -> Result<(), Rule>
     }
 }
 
-/// An instruction that may stand between `altwt` and `altend` alone: how many guards are disabled.
+/// An instruction that is allowed between `altwt` and `altend` only: how many guards are disabled.
 #[tactic(auto, unfolding(crate::specs::AlternationRules::while_disabling))]
 pub(crate) fn while_disabling(mode: Mode) -> Result<u32, Rule>
     ensures { Gives (λ done. done) result (while_disabling mode) }
