@@ -30,7 +30,7 @@ use Rattle.par_rules.specs.Comparisons.{branch_facts, branch_view}
 use Rattle.par_rules.specs.Costs.{is_readable, IsCostOf}
 use Rattle.par_rules.proofs.WordTests.{or-none}
 
--- ---- what reading tells of a word
+-- ---- what reading shows of a word
 
 -- what is handed out says what the fact says, of all but a return address
 handed-implies : (fact wanted : Fact) → (wanted ≡ ReturnAddress → ⊥) → implies fact wanted ≡ true
@@ -50,14 +50,14 @@ handed-constant (CodeAddress offset) number = refl
 handed-constant (Loop base count weight) number = refl
 handed-constant ReturnAddress number = refl
 
--- a word of no loop has a number, where what reading tells of it is that number
+-- a word of no loop has a number, if what reading shows of it is that number
 plain-constant : (said : WordFact) (number : ℤ) → is_alone said ≡ true
     → holds_constant (Alone (plain said)) number ≡ holds_constant said number
 plain-constant (Alone fact) number alone = handed-constant fact number
 plain-constant (Index loop) number alone = absurd (cc)
 plain-constant (Count loop) number alone = absurd (cc)
 
--- what a word says of a loop by itself, reading tells too
+-- what a word says of a loop by itself, reading shows too
 plain-index : (said : WordFact) (base : ℤ) (count weight : ℕ) → is_alone said ≡ true
     → says said (said_of (Loop base count weight) true) ≡ true
     → says (Alone (plain said)) (said_of (Loop base count weight) true) ≡ true
@@ -72,7 +72,7 @@ plain-count (Alone fact) base count weight alone h = handed-constant fact (pos c
 plain-count (Index loop) base count weight alone h = absurd (cc)
 plain-count (Count loop) base count weight alone h = absurd (cc)
 
--- reading tells of a word what an entry wants of it, where the word says so, and both are of no loop together
+-- reading shows of a word what an entry wants of it, if the word says so, and both are of no loop together
 plain-says : (said : WordFact) (wanted : Fact) (is_first : Bool) → (wanted ≡ ReturnAddress → ⊥)
     → is_alone said || is_alone (said_of wanted is_first) ≡ true → says said (said_of wanted is_first) ≡ true
     → says (Alone (plain said)) (said_of wanted is_first) ≡ true
@@ -189,7 +189,8 @@ module _ (m : Contents) (n : ℕ) (workspace : ℤ) (facts : Facts) where
       (view-seen (entry.word +ℤ pos 1) (seen-at entry.word entry.span 1 seen (omega (arith, span))))
       ∙ plain-constant (facts (entry.word +ℤ pos 1)) (pos count) second_alone in
       rw is
-      (ap (λ (b : Bool). if b && holds_constant (view (entry.word +ℤ pos 1)) (pos count) then weight * (count - 1) else 0)
+      (ap (λ (b : Bool). if b && holds_constant (view (entry.word +ℤ pos 1)) (pos count)
+        then weight * (count - 1) else 0)
       first
       ∙ ap (λ (b : Bool). if holds_constant (facts entry.word) base && b then weight * (count - 1) else 0) second)
 
@@ -208,8 +209,8 @@ module _ (m : Contents) (n : ℕ) (workspace : ℤ) (facts : Facts) where
       plain-agrees entry (λ e. let clash : Pointer region lo hi step ≡ ReturnAddress = sym is ∙ e in cc) (rw is at seen)
       apart h (rw is refl) (rw is refl)
   entry-agrees-by entry (CodeAddress offset) is seen readable apart h =
-      plain-agrees entry (λ e. let clash : CodeAddress offset ≡ ReturnAddress = sym is ∙ e in cc) (rw is at seen) apart h
-      (rw is refl) (rw is refl)
+      plain-agrees entry (λ e. let clash : CodeAddress offset ≡ ReturnAddress = sym is ∙ e in cc) (rw is at seen)
+      apart h (rw is refl) (rw is refl)
   entry-agrees-by entry (Loop base count weight) is seen readable apart h =
       let all : all_words (is_seen m n workspace) entry.word entry.span ≡ true = rw is at seen in
       let two : eqb entry.span 2 ≡ true = rw is at readable in
@@ -261,7 +262,7 @@ module _ (m : Contents) (n : ℕ) (workspace : ℤ) (facts : Facts) where
             ∙ (ap (λ (x : ℕ). price facts entry + x) rest.due ∙ sym (sum_by-cons (price facts) entry later)));
       }
 
--- one pass over the entries tells what the label of a branch costs
+-- one pass over the entries gives what the label of a branch costs
 pub branch-cost : (m : Contents) (n : ℕ) (b : Branch) (s : State) (t : Label) (paid total : ℕ) → AreApart t.entries
     → list_all (entry_is_seen m n b.workspace) t.entries ≡ true → list_all is_readable t.entries ≡ true
     → AreLoopsApart s.frame (entry_fact t.entries) → entries_hold s.frame t.entries ≡ true

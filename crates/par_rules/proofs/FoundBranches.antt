@@ -21,7 +21,7 @@ use Rattle.par_rules.specs.Finding.{place_from}
 
 -- ---- by rows
 
--- the branch with so many before it in its row is in that row
+-- the branch with this number before it in its row is in that row
 place-in-row : (r : ℕ) (pars : List Par) (k number : ℕ) (par : Par) → slice_get pars k ≡ Some par
     → number < length par.branches → (before : ℕ) → before ≡ branch_count (take k pars) + number
     → place_from r pars before ≡ Some (record { row = r + k; number = number })
@@ -69,7 +69,7 @@ small m found keeps row branch =
 
 -- ---- by contexts
 
--- What is found by the context of a branch, with so many branches before it.
+-- What is found by the context of a branch, with `before` branches before it.
 pub record IsFound (m : Contents) (target : ℕ) (f : Forked) (before : ℕ) : Type 0 where
   pub found : Found
   pub is : found_at m target ≡ Some found
@@ -134,7 +134,7 @@ nothing_is_found m target alike is = on (branch_at m target) (found_at m target)
     on x y neither x_is = refl
     on x y (both found row branch) x_is = absurd (cc)
 
--- what a search for the row of a branch answers
+-- what a search for the row of a branch returns
 pub record IsHere (m : Contents) (target context : ℕ) (par : Par) (branch : Branch) (place : InRow) : Type 0 where
   pub is : found_at m target
       ≡ Some (record { row = place.row; par = par; number = place.number; branch = branch })

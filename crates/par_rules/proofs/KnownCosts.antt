@@ -89,7 +89,7 @@ and-true : (b : Bool) → b && true ≡ b
 and-true true = refl
 and-true false = refl
 
--- where the words of a label are known, it agrees if it stands there
+-- where the words of a label are known, a view agrees with it if it is where the label is (stands there)
 pub agrees_standing : (v : View) (t : Label) (price : ℕ) → IsCostOf v t price → stands v t ≡ agrees v t
 agrees_standing v t price known =
     sym (ap (λ (b : Bool). stands v t && b && list_all (is_whole v.frame) t.entries) known.hold

@@ -16,7 +16,7 @@ use Rattle.states.specs.Below.{View, says, price, is_whole}
 
 -- ---- words of a label, by a test
 
--- so many words of an entry pass a test, each with what the entry says of it
+-- this number of words of an entry pass a test, each with what the entry says of it
 abbrev pub words_pass : (ℤ → WordFact → Bool) → Entry → ℕ → Bool
 words_pass test entry zero = true
 words_pass test entry (suc more) =
@@ -28,7 +28,7 @@ label_passes test t = list_all (λ entry. words_pass test entry entry.span) t.en
 
 -- ---- where a branch begins
 
--- what a branch, which is this context, knows of words: of those that it may read what reading tells, but nothing of
+-- what a branch, which is this context, knows of words: of those that it may read, what reading shows, but nothing of
 -- those that scheduling takes
 abbrev pub branch_facts : Contents → ℕ → ℤ → Facts → Facts
 branch_facts m context workspace facts = λ k.

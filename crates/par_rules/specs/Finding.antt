@@ -18,7 +18,7 @@ IsNumbered m f = numbered_branch m f.context ≡ Some (par_of f.par.now, branch_
 abbrev pub IsInRow : Contents → kept.Found → Type 0
 IsInRow m f = slice_get m.pars f.row ≡ Some (par_of f.par.now)
 
--- where the branch is that has so many before it, in rows of which the first has number r
+-- where the branch is that has `before` branches before it, in rows of which the first has number `r`
 abbrev pub place_from : ℕ → List Par → ℕ → Option InRow
 place_from r [] before = None
 place_from r (par ∷ pars) before =

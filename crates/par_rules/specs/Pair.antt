@@ -104,7 +104,7 @@ place_in m at = record { contents = m; at = at; length = 1 }
 abbrev pub followed_by : Ruling → (State → Ruling) → Ruling
 followed_by ruling k = elim (falling ruling) [ None ↦ ruling | Some s ↦ k s ]
 
--- this in A and B, after so many bytes
+-- this in A and B, after this number of bytes
 abbrev pub with_registers : Fact → Fact → ℕ → State → State
 with_registers a b bytes s = record s {
   stack = record { a = known a; b = known b; c = known Unknown };

@@ -145,7 +145,7 @@ starts_branch site s a found =
     wants (has_scheduling_words m (context_of m found) found.branch) rules.OwnWord
     (pays site s (pays_labels site found t))))))))))
 
--- startp: a branch begins so many bytes after the instruction as B says, with its workspace in A
+-- startp: a branch begins as many bytes after the instruction as B says, with its workspace in A
 unfoldable pub startp_rule : Site → State → Ruling
 startp_rule site s =
     uses s.stack.a (λ a. uses s.stack.b (λ b.

@@ -1,4 +1,4 @@
--- What the functions of the code tell of a start.
+-- What the functions of the code return for a start.
 use Rattle.std.specs.Prelude.{◌≡◌, ℕ, List, [], ◌∷◌, Result, Ok, Err, Option, Some, None}
 use Rattle.std.specs.Borrow.{Bor}
 use Rattle.module_format.specs.Rows.{LabelRow}

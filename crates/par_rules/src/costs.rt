@@ -1,4 +1,4 @@
-//! What the labels of a start cost, by one pass over their entries, where that tells it.
+//! What the labels of a start cost, by one pass over their entries, if that pass decides it.
 
 ghost use Rattle.std.specs.Prelude.{◌≡◌, ◌≤◌, ◌-◌, Some, IfSome, SomeIff};
 ghost use Rattle.std.specs.List.{list_all};
@@ -28,7 +28,7 @@ pub(crate) struct Costs {
     pub after: Option<u128>,
 }
 
-/// Whether reading tells what an entry says: it is no return address, and a loop has two words.
+/// Whether reading shows what an entry says: it is no return address, and a loop has two words.
 fn is_readable(entry: &Entry) -> bool
     ensures { result ≡ is_readable entry.now }
 {
@@ -39,7 +39,7 @@ fn is_readable(entry: &Entry) -> bool
     }
 }
 
-/// Whether reading tells what some entries say.
+/// Whether reading shows what some entries say.
 fn are_readable(entries: &[Entry]) -> bool
     ensures { result ≡ list_all is_readable entries.now }
 {

@@ -21,7 +21,7 @@ use rulings::pointers::is_near_pointer;
 use rulings::{Continuation, Place};
 use states::{Mode, Rule, State, label_rows_are_sound};
 
-/// The PAR whose branches a process has all started, where it has started so many of the row of this number.
+/// The PAR whose branches a process has all started, if it has started `started` branches of the row of this number.
 fn started_par<'s>(module: &'s Module, row: u32, started: u32) -> Option<&'s ParRow>
     ensures { let ended = ended_par «module».now 0 (Starting row started) in
         MatchOption result (ended ≡ None) (λ par. ended ≡ Some (par_of par.now)) }
@@ -49,7 +49,8 @@ fn ended_par<'s>(module: &'s Module, context: u32, mode: Mode) -> Option<&'s Par
     }
 }
 
-/// Whether a branch leaves what a label says of the words that it writes, where one pass over its entries tells it.
+/// Whether a branch leaves what a label says of the words that it writes, if one pass over its entries shows it. A pass
+/// that fails decides nothing.
 fn holds_quickly(module: &Module, state: &mut State, row: &LabelRow) -> bool
     requires { AreApart row.now.entries.items }
     ensures below { IsTrue result → ends_below «module».now (state_of state.old) (label_of row.now) ≡ true }

@@ -31,7 +31,7 @@ pub(crate) struct InRow {
     pub number: usize,
 }
 
-/// Where the branch is that has so many before it.
+/// Where the branch is that has `before` branches before it.
 fn place_of(pars: &[ParRow], before: usize) -> Option<InRow>
     ensures { result ≡ place_from 0 (map par_of pars.now) before }
 {

@@ -185,8 +185,8 @@ fn sight_of<'s, 'm, 't>(
     }
 }
 
-/// What is left of a number once the label of a branch is paid, which a state starts, and the loops that it enters, where
-/// it may be known what that costs.
+/// What is left of a number once the label of a branch that a state starts is paid, and the loops that it enters. It
+/// may be known what that costs.
 fn left_of_branch(
     place: &Place,
     state: &State,
@@ -416,7 +416,7 @@ fn report(found: &Found, after: Option<&LabelRow>) -> Started
     }
 }
 
-/// One more branch is started, and so much is left of the number.
+/// One more branch is started, and `left` is left of the number.
 fn go_on(state: &mut State, found: &Found, left: u64)
     requires small { (found.now.row < 2 ^ 32) × (found.now.number + 1 < 2 ^ 32) }
     ensures state { (price : ℕ) → left ≡ (state_of state.old).number - price
@@ -431,7 +431,7 @@ fn go_on(state: &mut State, found: &Found, left: u64)
     };
 }
 
-/// What the labels of a start cost, as far as one pass over the entries of each tells it.
+/// What the labels of a start cost, as far as one pass over the entries of each decides it.
 fn known_costs(
     place: &Place,
     state: &mut State,
