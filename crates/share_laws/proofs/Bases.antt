@@ -18,7 +18,7 @@ use Rattle.rulings.specs.Meaning.{HasFrame, words_in, word_of, place_in, frame_l
 use Rattle.rulings.proofs.Offsets.{address_of_word}
 use Rattle.share_laws.specs.Bases.{BasesAreFrames, FramesAreBases}
 
--- word 0 is a word of the frame, or the first behind it
+-- word 0 is a word of the frame, or the first after it
 record IsAround (lo hi : ℤ) : Type 0 where
   low : lo ≤ℤ pos 0
   high : pos 0 ≤ℤ hi
@@ -82,7 +82,7 @@ record LiesLow (origin : ℤ) : Type 0 where
   low : pos 0 ≤ℤ origin
   high : origin ≤ℤ pos 1048576
 
--- a frame that lies in memory has its word 0 there, or right behind it
+-- a frame that lies in memory has its word 0 there, or directly after it
 lies_low : (m : Contents) (n : ℕ) (h : Holding) (size : ℕ) (origin depth : ℤ) (workspace : ℕ) → Keeps m
     → HasFrame h size (words_in m n) origin depth workspace → LiesLow origin
 lies_low m n h size origin depth workspace k frame =

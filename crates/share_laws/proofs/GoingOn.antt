@@ -1,4 +1,4 @@
--- After a start what is known of the starter's words stands, and it holds what its scope has left.
+-- After a start, what is known of the starter's words still holds, and the starter holds what its scope has left.
 use Rattle.std.proofs.Common.{◌≡◌, ℕ, ◌+◌, ◌<◌, ◌&&◌, not, ℤ, true, List, length, Option, Some, None, refl, sym, ap}
 use Rattle.std.proofs.Common.{◌∙◌, subst}
 use Rattle.std.specs.Prelude.{slice_get}

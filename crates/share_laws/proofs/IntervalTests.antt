@@ -1,4 +1,4 @@
--- What tests of whole intervals tell of each word.
+-- What tests of whole intervals show of each word.
 use Rattle.std.proofs.Common.{◌≡◌, ℕ, ◌&&◌, ℤ, pos, ◌+ℤ◌, ◌-ℤ◌, ◌≤ℤ◌, ◌<ℤ◌, Bool, true, false, inl, inr, List}
 use Rattle.std.proofs.Common.{[], ◌∷◌, sym, ◌∙◌, subst, arith, nat_abs}
 use Rattle.std.proofs.lemmas.Int.{ints}

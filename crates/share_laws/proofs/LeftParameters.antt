@@ -352,7 +352,7 @@ module _ (m : Contents) (found : Found) (layout : Layout) (left : IsLeft m found
         (used_by (may_write_parameter m found.par.context j) (may_read_parameter m found.par.context j) raw.kind);
   }
 
-  -- the parameter stands in the scope of what is left
+  -- the parameter is in the scope of what is left
   left_there : (scope_left m found.par found.par.context found.number layout).parameters j ≡ Some left_parameter
   left_there = ap (λ (o : Option Parameter). option_map (λ (p : Parameter).
       record p { kind = kind_left found.par found.number j p.kind })

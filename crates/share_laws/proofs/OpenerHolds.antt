@@ -60,7 +60,7 @@ none_started par test = on par.branches
     on [] = refl
     on (b ∷ bs) = refl
 
--- what nobody was given is whole
+-- what no branch was given is whole
 left_whole : (w r : Bool) (kind : ParameterKind) → w ≡ false → r ≡ false → left_by w r kind ≡ kind
 left_whole true r kind p q = absurd (cc)
 left_whole false true kind p q = absurd (cc)

@@ -64,7 +64,7 @@ end_itself e = both_true _ _ (both_true _ _ (both_true _ _ (number_itself (kind_
     (le-yes (number_of e.kind) (number_of e.kind) (omega (arith, ints)))))
     (number_itself (element_of e.kind))) (number_itself (direction_number e.direction))
 
--- an end whose key is listed stands there
+-- an end whose key is listed is in the list
 pub listed_end : (es : List EndRow) (e : EndRow)
     → list_any (λ other. is_same_end (key_of other) (key_of e)) es ≡ true → IsAmong e es
 listed_end [] e h = absurd (cc)
@@ -98,7 +98,7 @@ direction_is Out Out same = refl
 direction_is In Out same = absurd (cc)
 direction_is Out In same = absurd (cc)
 
--- an end that is listed stands there
+-- an end that is listed is in the list
 pub listed_among : (xs : List End) (e : End) → is_listed xs e ≡ true → IsAmong e xs
 listed_among [] e listed = absurd (cc)
 listed_among (x ∷ xs) e listed =

@@ -31,13 +31,13 @@ use Rattle.rulings.specs.Reach.{is_listed}
 use Rattle.share_laws.specs.Shares.{IsBranch}
 use Rattle.share_laws.proofs.Stretches.{AreProper}
 
--- what stands in a list at a number
+-- what is in a list at a number
 pub among_at : {A : Type 0} (xs : List A) (i : ℕ) (x : A) → slice_get xs i ≡ Some x → IsAmong x xs
 among_at [] i x h = absurd (cc)
 among_at (y ∷ xs) zero x h = let same : y ≡ x = cc in inl same
 among_at (y ∷ xs) (suc i) x h = inr (among_at xs i x h)
 
--- what holds of each item holds of one that stands there
+-- what holds of each item holds of one that is in the list
 pub each_at : {A : Type 0} (P : A → Type 0) (xs : List A) (x : A) → AllByRecursion P xs → IsAmong x xs → P x
 each_at P [] x h among = absurd among
 each_at P (y ∷ xs) x h (inl same) = subst P same h.0
@@ -48,7 +48,7 @@ proper_from : (low : ℤ) (is : List Interval) → InOrder IntervalKeeps behind_
 proper_from low [] h = tt
 proper_from low (i ∷ is) h = (let some = h.0.some in omega (arith, ints, some), proper_from i.hi is h.1)
 
--- each of ends that rise keeps the format
+-- each of ends that rise is valid
 ends_keep : (before : EndKey) (es : List EndRow) (e : EndRow) → InOrder EndKeeps behind_end before es → IsAmong e es
     → EndKindKeeps e.kind
 ends_keep before [] e h among = absurd among
@@ -81,7 +81,7 @@ module _ (m : Contents) (found : Found) (keeps : Keeps m) (is : IsBranch m found
   pub has_context : IsContextOf m found
   has_context = branches_are_contexts m found keeps is.row is.branch
 
-  -- what the branch is given keeps the format
+  -- what the branch is given is valid
   pub gifts : GiftsKeep found.branch
   gifts = (found_kept m (context_of m found) (found.par, found.branch) keeps has_context.numbered).0
 
@@ -112,7 +112,7 @@ module _ (m : Contents) (found : Found) (keeps : Keeps m) (is : IsBranch m found
       (among_at m.pars found.row found.par is.row))
       (among_at found.par.branches found.number found.branch is.branch)
 
-  -- each of its ends keeps the format
+  -- each of its ends is valid
   pub end_keeps : (e : EndRow) → IsAmong e found.branch.ends → EndKindKeeps e.kind
   end_keeps e among = ends_keep _ found.branch.ends e gifts.ends among
 

@@ -79,7 +79,7 @@ among_flat f (x ∷ xs) y among = elim (among_more y (f x) (flat_map f xs) among
   | inr there ↦ let r = among_flat f xs y there in (r.0, inr r.1, r.2)
 ]
 
--- a number that stands there is listed
+-- a number that is in the list is listed
 listed_number : (js : List ℕ) (j : ℕ) → IsAmong j js → reach.is_listed js j ≡ true
 listed_number js j among = any_among (λ k. k == j) js j among (number_itself j)
 
@@ -138,7 +138,7 @@ stretches_within n test stretches some each inside = all_from (is_within n test)
 
 -- ---- ends
 
--- an item that stands there has a number
+-- an item that is in the list has a number
 among_get : (es : List EndRow) (e d : EndRow) → IsAmong e es → (j : ℕ) × (j < length es) × (get_or es j d ≡ e)
 among_get [] e d among = absurd among
 among_get (x ∷ es) e d (inl here) = (0, omega arith, here)
@@ -149,7 +149,7 @@ among_get (x ∷ es) e d (inr there) =
 not_below_itself : (x : EndKey) → is_below x x ≡ true → ⊥
 not_below_itself x h = let no' : is_below x x ≡ false = grind (arith, nat_tests, ints) in cc
 
--- an end stands once among ends that rise
+-- an end occurs once among ends that rise
 stands_once : (low : EndKey) (e : EndRow) (es : List EndRow) → InOrder EndKeeps behind_end low (e ∷ es)
     → IsAmong e es → ⊥
 stands_once low e [] order among = among
@@ -178,7 +178,7 @@ same_as_itself : (d : Direction) → same_direction d d ≡ true
 same_as_itself In = refl
 same_as_itself Out = refl
 
--- an end that stands there is listed
+-- an end that is in the list is listed
 among_listed : (xs : List End) (e : End) → IsAmong e xs → is_listed xs e ≡ true
 among_listed xs e among = any_among (is_same_end e) xs e among
     (both_true _ _ (number_itself e.address) (same_as_itself e.direction))

@@ -47,7 +47,7 @@ any_second test (x ∷ xs) ys h = or_right (test x) _ (any_second test xs ys h)
 
 -- ---- words of the frame
 
--- the place lies among so many bytes from a place on
+-- the place is one of `size` bytes from a place on
 over_tells : (start : ℤ) (size place : ℕ) → stretches_over (record { start = start; size = size }) place ≡ true
     → (start ≤ℤ pos place) × (pos place <ℤ (start +ℤ pos size))
 over_tells start size place h =

@@ -126,7 +126,7 @@ module _ (m : Contents) (found : Found) (layout : Layout) (base : ℕ) (addresse
           (IsScheduling found)) here (scheduled 2 (omega arith) (omega (arith, ints)))
       each a (inr (inr (inr never))) = absurd never
 
-  -- what is known of the starter stands
+  -- what is known of the starter still holds
   pub takes_its_words : StartTakes m found layout base addresses h memory (after_start found base memory) depth
       workspace
   takes_its_words =
@@ -216,7 +216,7 @@ module _ (m : Contents) (row : ℕ) (par : Par) (layout : Layout) (base : ℕ) (
   opening_takes = takes_words m h whole_scope (λ k t. written_readable m par.context k t) (λ k. is_hidden par k ≡ true)
       (block_addresses base par ++ channel_addresses base par) memory hidden_address
 
-  -- what is known of the starter stands
+  -- what is known of the starter still holds
   pub opening_takes_its_words : OpeningTakes m row par layout base h memory (after_opening par base memory) depth
       workspace
   opening_takes_its_words =
@@ -318,7 +318,7 @@ module _ (m : Contents) (found : Found) (layout : Layout) (base : ℕ) (h : Hold
           (scheduling_taken 2 (omega arith) (omega (arith, ints)))
       each a (inr (inr (inr never))) = absurd never
 
--- so what the opener's scope has stands
+-- so what the opener's scope has still holds
 pub starts_keep_openers : StartsKeepOpeners
 starts_keep_openers m found layout base h memory depth workspace keeps is left origin frame =
     let taken = opener_takes m found layout base h memory depth workspace keeps is left origin frame in

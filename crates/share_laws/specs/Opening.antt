@@ -38,7 +38,7 @@ held_by_opener par base n h =
 abbrev pub HasNoEndsInside : Holding → Type 0
 HasNoEndsInside h = (e : End) → has_end h e ≡ true → may_write h (place_of e.address) ≡ true → ⊥
 
--- so whatever a module that keeps the format does
+-- so whatever a valid module does
 abbrev pub EndsLieOutside : Type 0
 EndsLieOutside = (m : Contents) (es : List Event) (p : ℕ) → formats.Keeps m
     → HasNoEndsInside (own_in (world_after m es).roles p)

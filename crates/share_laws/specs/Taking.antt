@@ -1,5 +1,5 @@
 -- A start takes the words that scheduling wants below the new workspace, and a first start those of the block and the
--- channels: they are undefined from then on. What else is known of the starter's words stands.
+-- channels: they are undefined from then on. What else is known of the starter's words still holds.
 use Rattle.std.specs.Prelude.{◌≡◌, ℕ, ◌+◌, ◌<◌, ℤ, pos, negsuc, ◌+ℤ◌, true, List, ◌++◌, length, Option}
 use Rattle.module_format.specs.Contents.{Contents, Par}
 use Rattle.module_format.specs.Keeping as formats

@@ -1,4 +1,4 @@
-//! Laws of every start of a module that keeps the format.
+//! Laws of every start of a valid module.
 
 ghost use Rattle.share_laws.specs.Bases.{BasesAreFrames, FramesAreBases};
 ghost use Rattle.share_laws.specs.Climbing.{BranchesAreLent, ChangesAreByABranch, ChangesClimb, OtherWordsStay};
@@ -45,8 +45,8 @@ pub fn openers_hold_the_rest()
     ensures { OpenersHoldTheRest }
 {}
 
-/// Whatever a module that keeps the format does, no end that a process has for good is one of a channel in a word that
-/// it may write: whoever has opened the channel keeps its word.
+/// Whatever a valid module does, no end that a process has for good is one of a channel in a word that it may write:
+/// whoever has opened the channel keeps its word.
 pub fn ends_lie_outside()
     ensures { EndsLieOutside }
 {}
