@@ -55,7 +55,7 @@ unknown_is (CodeAddress offset) h = absurd (cc)
 unknown_is (Loop base count weight) h = absurd (cc)
 unknown_is ReturnAddress h = absurd (cc)
 
--- What the test of a label after a PAR tells.
+-- What the test of a label after a PAR shows.
 pub record IsAfter (par : Par) (t : Label) : Type 0 where
   pub context : t.context ≡ par.context
   pub depth : t.depth ≡ par.block

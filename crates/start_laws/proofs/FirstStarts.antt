@@ -1,5 +1,5 @@
--- The first start of a PAR: what the rule has tested is what it wants, and the label after the PAR stands where the
--- opener goes on.
+-- The first start of a PAR: what the rule has tested is what it wants, and the label after the PAR is where the opener
+-- goes on.
 use Rattle.std.proofs.Common.{◌≡◌, ℕ, ◌+◌, ◌-◌, ◌≤◌, ◌==◌, not, Bool, true, false, ℤ, [], ◌∷◌}
 use Rattle.std.proofs.Common.{length, Option, Some, None, Ok, refl, sym, ap, ◌∙◌, subst, arith}
 use Rattle.std.specs.Prelude.{sum_by}

@@ -79,7 +79,7 @@ number_passes test (k ∷ numbers) j all listed = elim (or_true (k == j) _ liste
 
 -- ---- branches before one
 
--- what stands before the n-th is among the first n
+-- what is before the n-th is among the first n
 pub among_first : (xs : List Branch) (n i : ℕ) (b : Branch) → i < n → slice_get xs i ≡ Some b → IsAmong b (take n xs)
 among_first [] n i b low there = absurd (cc)
 among_first (x ∷ xs) zero i b low there = absurd (omega (arith, low))
