@@ -205,7 +205,7 @@ constant_known m wf act memory has first start end lo hi place i at even low hig
 
 -- ---- multiples of four
 
--- a place so many words further
+-- a place `k` words further
 pub stepped_further : (z k : ℤ) → is_stepped z ≡ true → is_stepped (place_in z k) ≡ true
 stepped_further z k h = is_whole (place_in z k) (word_of_byte z +ℤ k)
     (let e = offset_of_word z h in omega (arith, ints, e))

@@ -11,7 +11,7 @@ use Rattle.states.proofs.RowFacts.{and-parts, and-both}
 use Rattle.call_rules.specs.CallRules.{all_below, holds_ends}
 use Rattle.rulings.specs.Channels.{further, has_direction}
 
--- each of so many numbers passes the test that all pass
+-- each number below `count` passes the test that all pass
 pub all_below_at : (count i : ℕ) (test : ℕ → Bool) → all_below count test ≡ true → i < count → test i ≡ true
 unfolding all_below
 all_below_at zero i test all low = absurd (omega arith)
@@ -36,7 +36,7 @@ told : (b c : Bool) → b ≡ true → (not b || c) ≡ true → c ≡ true
 told true c e h = h
 told false c e h = absurd (cc)
 
--- a context that has the ends of so many channels has each of them
+-- a context that has the ends of `count` channels has each of them
 pub end_held : (m : Contents) (context : ℕ) (first : EndKind) (count ends i : ℕ) (direction : Direction)
     → holds_ends m context first count ends ≡ true → has_direction ends direction ≡ true → i < count
     → has_end m context (record { kind = further first i; direction = direction }) ≡ true

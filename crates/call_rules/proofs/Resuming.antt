@@ -1,4 +1,4 @@
--- What a caller knows of its words behind a call holds, whatever the callee does to what it was lent.
+-- What a caller knows of its words after a call holds, whatever the callee does to what it was lent.
 use Rattle.std.proofs.Common.{◌≡◌, ℕ, zero, suc, ◌+◌, ◌-◌, ◌*◌, ◌/◌, ◌≤◌, ◌<◌, ℤ, pos, negsuc, ◌+ℤ◌, ◌-ℤ◌, ◌≤ℤ◌, ◌<ℤ◌}
 use Rattle.std.proofs.Common.{Bool, true, false, cond, ◌&&◌, ◌⊎◌, inl, inr, List, [], ◌∷◌, length, Option, Some, None}
 use Rattle.std.proofs.Common.{refl, sym, ap, ◌∙◌, subst, arith}
@@ -334,7 +334,7 @@ module _ (m : Contents) (h : Holding) (act : Activation) (s : State) (p : Proced
             | inr touched ↦ absurd (untouched w.place touched.at w.is touched.low touched.high touched.change)
           ]
 
-    -- all that the caller knows of its words behind the call holds in every memory that the callee may leave
+    -- all that the caller knows of its words after the call holds in every memory that the callee may leave
     pub resumes_words : (k : ℤ) → caller.words.reads k ≡ true
         → MeansWord m act k (with_all_lent c p.parameters (changed (callee_span c) s.frame) k)
         (frame_word later act.layout.origin k)

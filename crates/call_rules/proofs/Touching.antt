@@ -129,7 +129,7 @@ owned_room m s context first count belongs owns =
 
 -- ---- the procedure's row
 
--- a row keeps the format
+-- a row is valid
 pub row_keeps : (m : Contents) → Keeps m → (i : ℕ) (p : Procedure) → slice_get m.procedures i ≡ Some p
     → (low : ℕ) × ProcedureKeeps m.version (length m.code) low p
 row_keeps m keeps i p is = at-row m.version (length m.code) 0 m.procedures i p keeps.rows.procedures is

@@ -1,4 +1,4 @@
--- The rules of calls and returns: what a call wants of what is passed, and what is known behind it.
+-- The rules of calls and returns: what a call wants of what is passed, and what is known after it.
 use Rattle.std.specs.Prelude.{ℕ, zero, suc, ◌+◌, ◌-◌, ◌/◌, nat_lt, ◌==◌, ◌&&◌, ◌||◌, not, Bool, true, false}
 use Rattle.std.specs.Prelude.{if◌then◌else◌, ℤ, pos, negsuc, ◌+ℤ◌, ◌-ℤ◌, int_le, int_lt, nat_abs, bit_and, List, []}
 use Rattle.std.specs.Prelude.{◌∷◌, length, slice_get, Option, Some, None}
@@ -134,7 +134,7 @@ abbrev pub is_near_fact : WordFact → Bool
 is_near_fact (Alone (Pointer region lo hi step)) = are_near lo hi
 is_near_fact _ = true
 
--- so many words from this one on are none of the callee's frame
+-- the `count` words from this one on are none of the callee's frame
 abbrev pub is_off_callee : Calling → ℤ → ℕ → Bool
 is_off_callee c first count =
     int_le (first +ℤ pos count) (callee_word c.state c.callee.lo) || int_le (callee_word c.state c.callee.hi) first
@@ -186,12 +186,12 @@ regions_are_apart c = each_two (λ p q. are_apart (lent c p) (lent c q)) c.calle
 
 -- ---- channels
 
--- each of so many numbers passes a test
+-- each number below a count passes a test
 unfoldable pub all_below : ℕ → (ℕ → Bool) → Bool
 all_below zero test = true
 all_below (suc n) test = test n && all_below n test
 
--- the context has the ends of so many channels from this one on
+-- the context has the ends of `count` channels from this one on
 abbrev pub holds_ends : Contents → ℕ → EndKind → ℕ → ℕ → Bool
 holds_ends m context first count ends =
     let holds = λ (direction : Direction). not (has_direction ends direction)
@@ -256,7 +256,7 @@ unfoldable pub frame_is_own : Calling → Bool
 frame_is_own c =
     all_words (may_write_word c.contents c.state.context) (callee_word c.state c.callee.lo) (frame_size c.callee)
 
--- ---- what is known behind a call
+-- ---- what is known after a call
 
 -- a region of the frame that was lent to be written is numbers in its range
 abbrev pub with_lent : Option Lent → Facts → Facts
@@ -273,7 +273,7 @@ with_all_lent c (p ∷ ps) facts = with_all_lent c ps (with_lent (lent c p) fact
 abbrev pub callee_span : Calling → Change
 callee_span c = on_span (callee_word c.state c.callee.lo) (frame_size c.callee) (Become Unknown)
 
--- the state behind the call, when the procedure has returned
+-- the state after the call, when the procedure has returned
 unfoldable pub behind_call : Calling → State
 behind_call c = record c.state {
   stack = of_empty unknown;
@@ -282,7 +282,7 @@ behind_call c = record c.state {
 
 -- ---- the instructions
 
--- so much is paid
+-- this price is paid
 unfoldable pub spends : ℕ → State → (State → Ruling) → Ruling
 spends price s k = if nat_lt s.number price then breaks rules.Budget else k (record s { number = s.number - price })
 

@@ -57,7 +57,7 @@ abbrev pub fit_together : Pairwise → Calling → Parameter → Parameter → B
 fit_together pairwise.Apart = are_apart_from
 fit_together pairwise.OtherEnds = give_other_ends
 
--- so many in turn pass a test
+-- the first `count` numbers pass a test
 pub record HasAll (count : ℕ) (test : ℕ → Bool) : Type 0 where
   pub each : (i : ℕ) → i < count → test i ≡ true
 
@@ -72,7 +72,7 @@ pub record HasAllBefore (m : Contents) (context : ℕ) (first : EndKind) : Type 
   pub each : (more n : ℕ) (direction : Direction) → n ≤ more → has_end_further m context first direction more ≡ true
       → has_end_further m context first direction n ≡ true
 
--- what is known of the frame behind a call to which this was lent, parameter by parameter
+-- what is known of the frame after a call to which this was lent, parameter by parameter
 abbrev pub with_each : List (Option Lent) → Facts → Facts
 with_each [] facts = facts
 with_each (lent ∷ more) facts = with_each more (with_lent lent facts)

@@ -1,4 +1,4 @@
-//! The rules of calls and returns: what a call wants of what is passed, and what is known behind it.
+//! The rules of calls and returns: what a call wants of what is passed, and what is known after it.
 
 ghost use Rattle.std.specs.Prelude.{◌≡◌, ◌+◌, ◌<◌, ℕ, slice_get, IfOk, Some};
 ghost use Rattle.std.specs.List.{AllByRecursion};
@@ -92,7 +92,7 @@ fn leaves_each(place: &Place, state: &mut State, all: &[Option<Lent>])
     }
 }
 
-/// So much is paid.
+/// The instruction's bytes and this number are paid.
 #[tactic(auto, unfolding(crate::specs::CallRules::spends))]
 fn spends(place: &Place, state: &mut State, number: u64) -> Result<(), Rule>
     ensures test { Leaves result (state_of state.new) (spends (place.now.len + number) (state_of state.old)) }
@@ -200,8 +200,8 @@ fn touched(
     calling.touched(context)
 }
 
-/// `call`: the procedure at the offset that is so far from the next instruction, with A, B and C and what lies
-/// behind them in its frame as parameters. Where the rule is broken, the state is left part of the way.
+/// `call`: the procedure at the offset `distance` bytes from the next instruction, with A, B and C and what comes after
+/// them in its frame as parameters. If the rule is broken, the state is left part of the way.
 #[tactic(auto, unfolding(crate::specs::CallRules::call_rule))]
 pub fn call(place: &Place, state: &mut State, distance: i32) -> Result<Continuation, Rule>
     requires { BelongsTo place.now.module.now state.old }

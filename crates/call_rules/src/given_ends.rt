@@ -12,8 +12,8 @@ impl Calling<'_, '_, '_, '_> {
     ghost use Rattle.call_rules.specs.CallRules.{all_below, holds_ends, ends_are_held, lengths_fit, give_other_ends};
     ghost use Rattle.call_rules.specs.Callings.{calling_of, HasAllBefore, HasRun, HasAll};
 
-    /// Whether the caller has the ends of a channel if it has those of one behind it: of the channels of its own
-    /// parameters.
+    /// Whether the caller has the ends of a channel if it has those of one after it: so it is for the channels of its
+    /// own parameters.
     fn has_all_before(&self, first: EndKind) -> bool
         ensures { result ≡ true → HasAllBefore self.now.place.module.now self.now.state.now.context first }
     {
@@ -36,7 +36,7 @@ impl Calling<'_, '_, '_, '_> {
             .channels_from(self.state.context, word, direction)
     }
 
-    /// Whether a run of a branch has the ends of so many channels from the first one on.
+    /// Whether a run of a branch has the ends of `count` channels from the first one on.
     fn run_has_ends(&self, first: EndKind, count: u32, direction: Direction) -> bool
         ensures { let has = has_end_further self.now.place.module.now self.now.state.now.context first direction in
             result ≡ true → HasAll count has }
@@ -47,7 +47,7 @@ impl Calling<'_, '_, '_, '_> {
         }
     }
 
-    /// Whether a run of a branch has so many channels from the first one on, with messages of this length.
+    /// Whether a run of a branch has `count` channels from the first one on, with messages of this length.
     fn run_has_length(&self, first: EndKind, count: u32, direction: Direction, length: u32) -> bool
         ensures { let has = has_length_further self.now.place.module.now self.now.state.now.context first length in
             result ≡ true → HasAll count has }
@@ -58,7 +58,7 @@ impl Calling<'_, '_, '_, '_> {
         }
     }
 
-    /// Whether the caller has the ends, in a direction, of so many channels from the first one on. If they are one run
+    /// Whether the caller has the ends, in a direction, of `count` channels from the first one on. If they are one run
     /// of a branch, it takes time logarithmic in the ends; the channels of a call that fits are.
     fn has_ends(&self, first: EndKind, count: u32, direction: Direction) -> bool
         requires { Keeps self.now.place.module.now }
@@ -91,7 +91,7 @@ impl Calling<'_, '_, '_, '_> {
         true
     }
 
-    /// Whether the caller has the ends of so many channels from the first one on.
+    /// Whether the caller has the ends of `count` channels from the first one on.
     fn holds_ends(&self, first: EndKind, count: u32, ends: Ends) -> bool
         requires { Keeps self.now.place.module.now }
         ensures { let context = self.now.state.now.context in
@@ -140,7 +140,7 @@ impl Calling<'_, '_, '_, '_> {
         }
     }
 
-    /// Whether the channel so many further has messages of this length.
+    /// Whether the channel `n` channels further has messages of this length.
     fn has_length(&self, first: EndKind, n: u32, length: u32) -> bool
         requires { Keeps self.now.place.module.now }
         ensures { let has = has_length_further self.now.place.module.now self.now.state.now.context first length in
@@ -152,7 +152,7 @@ impl Calling<'_, '_, '_, '_> {
         }
     }
 
-    /// Whether so many channels from the first one on have messages of this length. If they are one run of a branch, it
+    /// Whether `count` channels from the first one on have messages of this length. If they are one run of a branch, it
     /// takes time logarithmic in the ends.
     fn have_length(&self, first: EndKind, count: u32, length: u32) -> bool
         requires { Keeps self.now.place.module.now }

@@ -53,7 +53,7 @@ impl Lent {
         last.abs_diff(i64::from(self.first_word())) as u32 + 1
     }
 
-    /// Whether the bytes lie in so many.
+    /// Whether the bytes lie in a region of this size, if there is one.
     pub fn lies_in(self, size: Option<u32>) -> bool
         ensures { result ≡ lie_in size self.first (end_of self) }
     {

@@ -1,4 +1,4 @@
-//! The rules of calls and returns: what a call wants of what is passed, and what is known behind it.
+//! The rules of calls and returns: what a call wants of what is passed, and what is known after it.
 #![tactic(auto)]
 
 mod calling;
