@@ -41,7 +41,8 @@ module _ (site : Site) (s : State) (starting : is_starting s.mode ≡ true) wher
   paid_pushes : (k : Known) (b : Bool) → nat_lt s.number site.length ≡ b → Pushes site s (cond b (breaks rules.Budget)
       (falls (record s { stack = pushed k s.stack; number = s.number - site.length })))
   paid_pushes k true e = it_breaks_one (rules.Budget, refl)
-  paid_pushes k false e = it_pushes k (let paid = enough s.number site.length 0 s.number e (omega arith) in omega (arith, paid)) refl
+  paid_pushes k false e = it_pushes k
+      (let paid = enough s.number site.length 0 s.number e (omega arith) in omega (arith, paid)) refl
 
   push_pushes : (k : Known) → Pushes site s (goes_on site (push k s))
   unfolding goes_on pays

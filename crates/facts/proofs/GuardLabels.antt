@@ -23,7 +23,8 @@ pub record SoFar (site : Site) (guards rest : List Guard) (labels : List Success
 leads_nowhere : (site : Site) (g : Guard) (rest : List Guard) (e : Option ℤ) → g.exit ≡ e → exit_at site g ≡ None
     → exits site (g ∷ rest) ≡ exits site rest
 leads_nowhere site g rest None is none = rw is refl
-leads_nowhere site g rest (Some d) is none = let some : Some (target (site.at + site.length) d) ≡ None = rw is at none in
+leads_nowhere site g rest (Some d) is none =
+    let some : Some (target (site.at + site.length) d) ≡ None = rw is at none in
     absurd (cc)
 
 -- one that leads to an offset adds it in front

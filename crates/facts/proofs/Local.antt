@@ -1,5 +1,5 @@
--- The rule of an instruction and its step fit each other, by the law of its family: where the rule is not broken, the
--- step is no fault, and what the rule says of the state behind holds.
+-- The rule of an instruction and its step fit each other, by the law of its family: if the rule is not broken, the step
+-- is no fault, and what the rule says of the state after it holds.
 use Rattle.std.proofs.Common.{◌≡◌, ◌≤◌, ℤ, false, refl, FitsSigned, length, Option, Some, None}
 use Rattle.std.specs.Int.{w32}
 use Rattle.prefix_decoder.specs.declared.function.Fun.{Fun}
@@ -30,7 +30,7 @@ use Rattle.message_rules.specs.MessageRules.{message_rule}
 use Rattle.message_rules.proofs.MessageFits.{input_fits_step, output_fits_step}
 use Rattle.alternation_rules.proofs.AlternationFits.{alternation_fits_step, alternation_end_fits_step}
 
--- they fit, if what falls through has code behind it
+-- they fit, if what falls through has code after it
 abbrev FitsStepIf : Here → State → Local → Option Instruction → Ruling → Outcome → Type 0
 FitsStepIf x s l i r o = HasNext x r → FitsStep x s l i r o
 

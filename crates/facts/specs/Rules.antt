@@ -52,7 +52,7 @@ rule_of site (Some instruction) e s = instruction_rule site instruction e s
 unfoldable pub rule : Site → Fun → ℤ → State → Ruling
 rule site f e s = rule_of site (instruction_of f e) e s
 
--- the rule for the instruction that stands at an offset
+-- the rule for the instruction at an offset
 abbrev pub rule_at : Contents → ℕ → Instr → State → Ruling
 rule_at m at i s = rule (record { contents = m; at = at; length = i.len }) i.fun i.operand s
 
@@ -76,7 +76,7 @@ site_at m at i = record { contents = m; at = at; length = i.len }
 
 -- ---- ways
 
--- how a process goes on behind an instruction
+-- how a process goes on after an instruction
 abbrev pub way_of_operation : Op → Way
 way_of_operation AlternationEnd = EndsAlternation
 way_of_operation StartProcess = StartsBranch

@@ -18,8 +18,8 @@ use Rattle.rulings.specs.Rulings.{Ruling}
 use Rattle.start_laws.specs.Starting.{StartFits}
 use Rattle.start_laws.specs.Ending.{EndFits}
 
--- The ruling and the outcome of an instruction fit each other, in this state and this memory: of a start, of the end of a
--- process, and of all else.
+-- The ruling and the outcome of an instruction fit each other, in this state and this memory: of a start, of the end of
+-- a process, and of all else.
 pub data FitsStep (x : Here) (s : State) (l : Local) (i : Option Instruction) (r : Ruling) (o : Outcome) : Type 0
   where
     it_starts : StartFits x s l r o → FitsStep x s l i r o

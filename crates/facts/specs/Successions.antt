@@ -21,7 +21,7 @@ abbrev pub obeys : Ruling → Bool
 obeys (breaks broken) = false
 obeys ruling = true
 
--- the offset behind an instruction; offsets of code have 32 bits
+-- the offset after an instruction; offsets of code have 32 bits
 abbrev pub offset_behind : ℕ → ℕ → ℕ
 offset_behind at length = (at + length) % 2 ^ 32
 

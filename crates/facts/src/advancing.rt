@@ -25,8 +25,8 @@ use rulings::{Continuation, Place};
 use states::{MAX_GUARDS, Rule, State};
 use std::alloc::AllocError;
 
-/// Whether this is an instruction of the machine for a module. What is none breaks `Rule::Spelling` wherever it stands:
-/// a spelling of no operation, and one of the long operations, unless the module says that it has them.
+/// Whether this is an instruction of the machine for a module. What is none breaks `Rule::Spelling` wherever it is: a
+/// spelling of no operation, and one of the long operations, unless the module says that it has them.
 #[tactic(auto, unfolding(crate::specs::Rules::is_instruction))]
 pub fn is_instruction(module: &Module, instr: Instr) -> bool
     ensures { result ≡ is_instruction «module».now instr }
@@ -50,8 +50,8 @@ fn place_of<'s, 'm>(module: &'s Module<'m>, at: usize, instr: Instr) -> Place<'s
     }
 }
 
-/// Sees that a state has room for as many guards as an alternation may have. Each state is made with that room, so that
-/// nothing is allocated, and what is known stays. The only error is that memory ran out.
+/// Makes sure that a state has capacity for as many guards as an alternation may have. Each state is made with that
+/// capacity, so that nothing is allocated, and what is known does not change. The only error is that memory ran out.
 pub fn reserve_guards(state: &mut State) -> Result<(), AllocError>
     ensures same { state_of state.new ≡ state_of state.old }
     ensures room { OnOk result (HasRoomForGuards state.new) }
@@ -120,9 +120,8 @@ pub fn leave(state: &mut State, module: &Module, at: usize, instr: Instr) -> Res
     end_alternation(&place_of(module, at, instr), state)
 }
 
-/// Takes a state over the start of a branch at a code offset, by its rule: the process goes on behind it in the state
-/// that is left, and others at the labels that are reported. Where the rule is broken, the state is left part of the
-/// way.
+/// Takes a state over the start of a branch at a code offset, by its rule: the process goes on after it in the state
+/// that is left, and others at the labels that are reported. If the rule is broken, the state is left part of the way.
 #[tactic(auto, unfolding(crate::specs::Rules::rule, crate::specs::Rules::rule_of, crate::specs::Rules::instruction_rule, crate::specs::Rules::operation_rule, crate::specs::Rules::way_of))]
 pub fn start(state: &mut State, module: &Module, at: usize, instr: Instr) -> Result<Started, Rule>
     requires belongs { BelongsTo «module».now state.old }

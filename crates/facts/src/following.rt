@@ -31,13 +31,13 @@ pub struct Successor<'a> {
 /// The states that follow an instruction. None follows where the process stops, or returns to its caller.
 #[derive(Drop)]
 pub struct Successors<'a> {
-    /// The state that falls through, behind the instruction; of a call, once the procedure has returned.
+    /// The state that falls through, after the instruction; of a call, once the procedure has returned.
     pub behind: Option<Successor<'a>>,
     /// The states of the labels at which it may go on, in their order.
     pub labels: Vec<Successor<'a>>,
 }
 
-/// The offset behind an instruction. Code offsets have 32 bits.
+/// The offset after an instruction. Code offsets have 32 bits.
 fn offset_behind(at: usize, len: usize) -> u32
     ensures { result ≡ offset_behind at len }
 {
@@ -134,7 +134,7 @@ fn leave_alternation<'a>(
     })
 }
 
-/// The states of the labels at which others go on behind a start, each made of a copy of another state.
+/// The states of the labels at which others go on after a start, each made of a copy of another state.
 fn labels_of_start<'a>(
     alloc: Global,
     state: &State<'a>,
@@ -219,8 +219,8 @@ fn go_on<'a>(
 
 /// The states that follow the instruction at a code offset, by the rule of that instruction, each with its
 /// offset. Running out of memory is reported as `states::MEMORY`.
-// A body that always answers want of memory meets these clauses too, since no clause can say that memory
-// is left: tests show the states that follow.
+// A body that always reports an allocation failure meets these clauses too, since no clause can say that memory is
+// left: tests show the states that follow.
 pub fn transfer<'a>(
     alloc: Global,
     module: &'a Module<'a>,

@@ -1,4 +1,4 @@
-//! How a process goes on behind an instruction.
+//! How a process goes on after an instruction.
 
 ghost use Rattle.std.specs.Prelude.{◌≡◌};
 ghost use Rattle.facts.specs.Rules.{way_of};
@@ -6,7 +6,7 @@ ghost use Rattle.facts.specs.Rules.{way_of};
 use machine_state::{Instruction, Op};
 use prefix_decoder::Instr;
 
-/// How a process goes on behind an instruction, as far as who judges it has to know before.
+/// How a process goes on after an instruction, as far as a caller has to know before the instruction is judged.
 #[derive(Clone, Copy, PartialEq, Eq)]
 pub enum Way {
     /// At one or two places, or nowhere (`advance`).
