@@ -112,7 +112,7 @@ module _ {m : Contents} {own : Holding} {o : ℕ} {began : Began} {all : List Be
     words = λ k reads hides free. means_same (pending.words k reads hides free) refl (sym (same k reads free));
   }
 
-  -- What nobody changes who may not leaves it.
+  -- A change by a holding that may write nothing that the opener may read leaves it pending.
   pub pending_elsewhere : (g : Holding) (new : Memory) → ChangesOwn g old new
       → ((place : ℕ) → may_write g place ≡ true → may_read own place ≡ true → ⊥)
       → Pending m own o began all new j due after

@@ -85,8 +85,8 @@ module _ (m : Contents) (d : Decodes m) (wf : IsWellFormed m) (c : IsCertified m
   abbrev after : World
   after = closed_world w o role j par t
 
-  -- All branches are started, and nobody is a member. Holders are in order before and after: the roles before may be
-  -- others than those of this world.
+  -- All branches are started, and no process is a member. Holders are in order before and after: the roles before may
+  -- be others than those of this world.
   module _ (started : j.started ≡ length par.branches) (none : j.members ≡ []) (roles : List Role)
       (before : HoldersIn m roles w.channels) (now : HoldersIn m after.roles after.channels)
       (stay : OthersMeet m w h o after) where

@@ -67,8 +67,8 @@ module _ (m : Contents) (w : World) (h : Holds m w) (p : ℕ) (t : Task) (here :
   abbrev row : Process m w h.began h.dues p t
   row = h.table.each p t here
 
-  -- What stands in the list of roles: the opener's join has lost the process, which has nothing for good if it is a
-  -- branch; all others are the same.
+  -- What is in the list of roles: the opener's join has lost the process, which has nothing for good if it is a branch;
+  -- all others are the same.
   pub data RoleNow (q : ℕ) (now : Role) : Type 0 where
     of_opener : o ≡ q → now ≡ with_join (join_without p j) opener_role → RoleNow q now
     of_branch : p ≡ q → o ≢ q → now ≡ without_own row.role → RoleNow q now
@@ -81,7 +81,7 @@ module _ (m : Contents) (w : World) (h : Holds m w) (p : ℕ) (t : Task) (here :
     pub others : (q : ℕ) (role : Role) → o ≢ q → p ≢ q → slice_get w.roles q ≡ Some role
         → slice_get roles q ≡ Some role
 
-  -- A process ends, of which the opener of a join is told. It has started all branches if it is the opener itself, and
+  -- A process ends, and the opener of its join is notified. It has started all branches if it is the opener itself, and
   -- has no join open if it is not. The opener goes on with the same.
   pub record EndShows (u : Task) (roles : List Role) (queue : Queue) : Type 0 where
     pub ended : u.condition ≡ Ended

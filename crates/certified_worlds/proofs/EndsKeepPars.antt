@@ -116,7 +116,7 @@ after_without p after = record {
   paid = after.paid;
 }
 
--- a word that one of so many branches writes is given to write
+-- a word that one of the branches writes is given to write
 given_at : (branches : List Branch) (n : ℕ) (b : Branch) (k : ℤ) → slice_get branches n ≡ Some b
     → is_among b.writes k ≡ true
     → list_any (λ (b : Branch). is_among b.writes k) (take (length branches) branches) ≡ true

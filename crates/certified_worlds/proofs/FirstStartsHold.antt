@@ -291,7 +291,7 @@ module _ (m : Contents) (d : Decodes m) (wf : IsWellFormed m) (keeps : formats.K
       back = ap (λ (a : Activation). a.layout.back) starter_lives_on.act_is;
     }
 
-    -- nobody is a member before the PAR is opened
+    -- no process is a member before the PAR is opened
     no_member : (q : ℕ) (branch : Role) → slice_get w.roles q ≡ Some branch → branch.opener ≡ Some p
         → (IsGone w.tasks branch q → ⊥) → ⊥
     no_member q branch has by alive = elim (order.branches.counted q branch p has by) [

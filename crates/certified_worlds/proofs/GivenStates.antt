@@ -1,4 +1,4 @@
--- The states that the tables give, and the starts that they tell.
+-- The states that the tables give, and the starts that they name.
 use Rattle.std.proofs.Common.{◌≡◌, ℕ, Bool, true, false, ◌||◌, is_some, Option, Some, None, refl, ap, ◌∙◌}
 use Rattle.module_format.specs.Contents.{Contents, Label, label_at}
 use Rattle.certificate.specs.Starts.{Entered, procedure_at, is_start}

@@ -10,7 +10,7 @@ use Rattle.machine_state.proofs.Lines.{got_set, got_other, got_before, got_last,
 pub got_end : {A : Type 0} (xs : List A) (z : A) (n : ℕ) → length xs ≡ n → slice_get (xs ++ z ∷ []) n ≡ Some z
 got_end xs z n many = subst (λ (k : ℕ). slice_get (xs ++ z ∷ []) k ≡ Some z) many (got_last xs z)
 
--- what stood there before stands there
+-- what was in the list before is at the same place
 pub got_within_grown : {A : Type 0} (xs : List A) (z : A) (q : ℕ) (x : A) → q < length xs
     → slice_get (xs ++ z ∷ []) q ≡ Some x → slice_get xs q ≡ Some x
 got_within_grown xs z q x low is = elim (got_either xs z q x is) [
@@ -37,7 +37,7 @@ module _ {A : Type 0} (xs : List A) (p : ℕ) (y z : A) where
   got_unchanged q x differ here =
       got_before (slice_set xs p y) (z ∷ []) q x (got_other xs p q y differ ∙ here)
 
-  -- whatever stands there is one of these
+  -- whatever is in the list is one of these
   pub data StandsAs (q : ℕ) (x : A) : Type 0 where
     as_set : p ≡ q → x ≡ y → StandsAs q x
     as_added : q ≡ length xs → x ≡ z → StandsAs q x

@@ -197,7 +197,7 @@ module _ {m : Contents} {own : Holding} {found : Found} {act : Activation} {base
       is_out = inr first_member;
     }
 
-    -- a word that is out of nobody's hands has its value
+    -- a word that is not out with a branch has its value
     word_stays : (k : ℤ) → may_read_word m par.context k ≡ true → is_hidden par k ≡ false
         → (IsOut m o every par j k → ⊥)
         → frame_word new_memory act.layout.origin k ≡ frame_word memory act.layout.origin k

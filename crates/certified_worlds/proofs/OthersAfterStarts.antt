@@ -18,7 +18,7 @@ use Rattle.certified_worlds.proofs.OrderlyWorlds.{IsOrderly, OthersMeet, KeepsCh
 use Rattle.certified_worlds.proofs.OthersStay.{others_meet}
 use Rattle.certified_worlds.proofs.StartedWorlds.{Beginning, begotten}
 
--- Channels that are there stay, those that are new are enabled by nobody, and the process changes its own bytes.
+-- Channels that are there stay, no process has enabled one that is new, and the process changes its own bytes.
 module _ (m : Contents) (w : World) (h : Holds m w) (order : IsOrderly m w) (p : ℕ) (t : Task)
     (here : slice_get w.tasks p ≡ Some t) (ready : t.condition ≡ Ready) (s : Beginning)
     (keeps : KeepsChannels w.channels s.channels)

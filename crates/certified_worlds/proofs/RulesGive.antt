@@ -12,7 +12,7 @@ use Rattle.start_laws.specs.BranchLabels.{LabelAfter}
 use Rattle.start_laws.specs.Ending.{StartedAll, LeavesAgreed}
 use Rattle.certified_worlds.specs.ParLabels.{LabelStands, LeavesSaid, EndsAPar, has_started, is_branch}
 
--- The label after a PAR stands in the activation that goes on there, with the turns that its loops have.
+-- The label after a PAR holds (stands) in the activation that goes on there, with the turns that its loops have.
 abbrev pub label_stands : {m : Contents} {par : Par} {act : Activation} {memory : Memory}
     (after : LabelAfter m par act memory) → LabelStands m par (with_turns after.turns act) memory
 label_stands after = record {

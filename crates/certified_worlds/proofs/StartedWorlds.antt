@@ -134,7 +134,7 @@ pub agrees_still : {m : Contents} {old new : List (Option Channel)} {start : Beg
 agrees_still keeps (at_link k few is len) = at_link k few is len
 agrees_still {e = e} keeps (at_channel c here len) = at_channel c (keeps (cell_of e.address) c here) len
 
--- nobody alternates in the mode of a start, or in plain mode
+-- no process alternates in the mode of a start, or in plain mode
 pub starts_beside : {mode : Mode} {c : Condition} → mode ≡ Starting → Alternates mode c → ⊥
 starts_beside is (inl enables) = let no' : Starting ≡ Enabling enables.0.0 = sym is ∙ enables.0.1 in cc
 starts_beside is (inr disables) = let no' : Starting ≡ Disabling disables.0.0 = sym is ∙ disables.0.1 in cc

@@ -53,7 +53,7 @@ not_plain q row started is plain = let no' : Starting row started ≡ Plain = sy
 module _ (m : Contents) (d : Decodes m) (wf : IsWellFormed m) (c : IsCertified m) where
   -- ---- the starter
 
-  -- It goes on in the state that falls behind the instruction: no label stands among starts.
+  -- It goes on in the state after the instruction: no label is among starts.
   pub starter_lives : (h : Holding) (began : Began) (act : Activation) (at : ℕ) (s : State) (l : Local)
       (callers : List Caller) (row started : ℕ) → s.mode ≡ Starting row started → Reaches m at (Some s)
       → at < length m.code → After m h machine_modes.Starting act s l
@@ -105,7 +105,8 @@ module _ (m : Contents) (d : Decodes m) (wf : IsWellFormed m) (c : IsCertified m
 
   -- ---- the branch
 
-  -- It is where the row says, in the activation of its starter but for the turns of its loops, and nobody waits for it.
+  -- It is where the row says, in the activation of its starter but for the turns of its loops, and no activation waits
+  -- for its return.
   pub branch_lives : (found : Found) (label : BranchLabel m found) (h : Holding) (act : Activation) (l : Local)
       → numbered_branch m (context_of m found) ≡ Some (found.par, found.branch)
       → After m h machine_modes.Plain (with_turns label.turns act) (label_state label.label) l

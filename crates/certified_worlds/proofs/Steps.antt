@@ -130,7 +130,7 @@ plain_state both_starting e = absurd (cc)
 
 -- ---- reading the code
 
--- what stands at a place of a list, and what is behind it
+-- what is at a place of a list, and what is after it
 front : {A : Type 0} (xs : List A) (i : ℕ) (y : A) (ys : List A) → drop i xs ≡ y ∷ ys
     → (slice_get xs i ≡ Some y) × (drop (suc i) xs ≡ ys) × (i < length xs)
 front [] zero y ys h = absurd (cc)
@@ -248,15 +248,15 @@ module _ (m : Contents) where
     has_long_operations = m.has_long_operations;
   }
 
-  -- a message over a channel of which the process has the end, as long as who began with that knows; the code goes on
-  -- behind
+  -- a message over a channel of which the process has the end, of the length that the layout it began with has for that
+  -- channel; the code goes on after it
   pub record Talks (h : Holding) (began : Began) (t : Task) (direction : Direction) (e : Exchange) : Type 0 where
     pub end : has_end h (record { address = e.channel; direction = direction }) ≡ true
     pub len : e.length ≡ began.layout.lengths e.channel
     pub some : 1 ≤ e.length
     pub low : t.registers.at + 1 < length m.code
 
-  -- the task behind an instruction, in a mode and a condition
+  -- the task after an instruction, in a mode and a condition
   abbrev pub behind_in : Task → machine.Mode → Condition → Local → Task
   behind_in t mode condition l =
       record { registers = between (t.registers.at + 1) l.registers; mode = mode; condition = condition }
@@ -272,7 +272,7 @@ module _ (m : Contents) where
     pub lives : LivesAs x.m x.h began l.memory u later state act
     pub stays : (t.mode ≡ machine_modes.Plain → ⊥) → Stays x state l × (state.context ≡ x.context) × (act ≡ x.act)
 
-  -- an instruction of an alternation: the state behind it is that in which the process goes on
+  -- an instruction of an alternation: the state after it is that in which the process goes on
   pub record AltersTo (x : Here) (t : Task) (due later : ℕ) (l : Local) : Type 0 where
     pub own : ChangesOwn x.h x.memory l.memory
     pub less : later + 1 ≤ due
@@ -286,7 +286,7 @@ module _ (m : Contents) where
 
   -- what the last byte of an instruction comes to
   pub data Comes (x : Here) (began : Began) (t : Task) (due : ℕ) : Outcome → Type 0 where
-    -- it goes on behind it
+    -- it goes on after it
     comes_on : {l : Local} (later : ℕ) → ChangesOwn x.h x.memory l.memory
         → GoesOnAs x began t (task_at t t.mode (t.registers.at + 1) l) l later → later + 1 ≤ due
         → Comes x began t due (goes l)
@@ -299,7 +299,7 @@ module _ (m : Contents) where
     -- or it stops
     comes_down : {l : Local} → t.mode ≡ machine_modes.Plain → ChangesOwn x.h x.memory l.memory → 1 ≤ due
         → Comes x began t due (stops l)
-    -- or it wants a message, and goes on behind it once that has come, or gone
+    -- or it wants a message, and goes on after it once that has come, or gone
     comes_in : {e : Exchange} {l : Local} (later : ℕ) → t.mode ≡ machine_modes.Plain → Talks x.h began t In e
         → ChangesOwn x.h x.memory l.memory
         → Lives x.m x.h began l.memory (behind_in t t.mode (Receiving e) l) later → later + 1 ≤ due
@@ -346,7 +346,7 @@ module _ (m : Contents) where
 
 -- no rule that the certificate holds at is broken
 module _ (m : Contents) (d : Decodes m) (wf : IsWellFormed m) (c : IsCertified m) where
-  -- what falls through has code behind it
+  -- what falls through has code after it
   has_next : (at : ℕ) (before : Option State) (s : State) (i : Instr) → Reaches m at before
       → state_at m at before ≡ Some s → fetched m.code at ≡ Ok i
       → (s' : State) → falling (rule_at m at i s) ≡ Some s' → at + i.len < length m.code
@@ -413,7 +413,7 @@ module _ (m : Contents) (d : Decodes m) (wf : IsWellFormed m) (c : IsCertified m
       let holds = c.holds.each at (Some s) low r in
       enter_on h mode act at s holds.cost (label_at m at) (procedure_at m at) refl refl holds.enters
 
-  -- those that wait behind wait on
+  -- the callers that wait still wait
   pub entered_behind : {h : Holding} {began : Began} {mode : machine.Mode} {at : ℕ} {s : State} {act : Activation}
       {memory : Memory} {callers : List Caller} (en : Entered h mode at s act)
       → Behind m h began s.context act.layout memory callers
@@ -602,7 +602,7 @@ module _ (m : Contents) (d : Decodes m) (wf : IsWellFormed m) (c : IsCertified m
         holds.unbroken v (ap (λ j. rule_at m t.registers.began j holds.state) (sym i_is) ∙ ap
         (λ u. rule_at m t.registers.began p.instr u) (sym s_is) ∙ e)
 
-    -- what falls behind the instruction is reached
+    -- what falls through after the instruction is reached
     pub reaches_behind : (s : State) → falling (rule_at m t.registers.began p.instr p.state) ≡ Some s
         → Reaches m (t.registers.began + p.instr.len) (Some s)
     reaches_behind s is = follows p.reached p.stands p.reading.spelled refl (sym is)
@@ -719,7 +719,7 @@ module _ (m : Contents) (d : Decodes m) (wf : IsWellFormed m) (c : IsCertified m
         MeansStack said stack context act memory =
             AreRelated (MeansKnown m (words_in m context).reads act.layout memory) said stack
 
-    -- those that wait behind still wait after an instruction of this activation
+    -- the callers that wait still wait after an instruction of this activation
     still_behind : (n : ℕ) (new : Memory) → n ≡ p.state.context
         → Keeps m h (scope_of m p.state.context p.act.layout) memory new
         → Behind m h began n p.act.layout new p.callers
@@ -858,7 +858,7 @@ module _ (m : Contents) (d : Decodes m) (wf : IsWellFormed m) (c : IsCertified m
         low = let low = alters.low in omega (arith, low, p.reading.at_is, last);
       }
 
-      -- in the state that falls, since no label stands in an alternation
+      -- in the state that falls, since no label is in an alternation
       alters_lives : (mode : machine.Mode) (condition : Condition) → (condition ≡ Ready) ⊎ (condition ≡ Alternating)
           → (k : Local) → Changes x k.memory → is_starting s'.mode ≡ false → (s'.mode ≡ states_modes.Plain → ⊥)
           → After m h mode p.act s' k

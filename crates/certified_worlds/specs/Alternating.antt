@@ -30,7 +30,8 @@ pub record IsTrueGuard (memory : Memory) (act : Activation) (s : State) (g : Gua
 
 -- a process has enabled the channel or link at an address
 pub data EnablesAt (w : World) (p address : ℕ) : Type 0 where
-  a_channel : IsWord address → (c : Channel) → slice_get w.channels (cell_of address) ≡ Some (Some c) → c.enabled ≡ Some p
+  a_channel : IsWord address → (c : Channel) → slice_get w.channels (cell_of address) ≡ Some (Some c)
+      → c.enabled ≡ Some p
       → EnablesAt w p address
   a_link : (k : ℕ) (link : InputLink) → address ≡ input_word k → slice_get w.links.inputs k ≡ Some link
       → link.enabled ≡ Some p → EnablesAt w p address
@@ -56,8 +57,8 @@ pub record IsExit (s : State) (distance : ℤ) : Type 0 where
   pub here : slice_get s.guards number ≡ Some guard
   pub exit : guard.exit ≡ Some distance
 
--- What a process has enabled are the channels of its true guards that are not disabled. Once it is ready, one of them is
--- ready and true; and what it has selected is the exit of a guard that is disabled.
+-- What a process has enabled are the channels of its true guards that are not disabled. Once it is ready, one of them
+-- is ready and true; and what it has selected is the exit of a guard that is disabled.
 pub record AlternatesHere (m : Contents) (w : World) (p : ℕ) (t : Task) (s : State) (act : Activation) : Type 0 where
   pub fit : GuardsFit m s
   pub values : (n : ℕ) (g : Guard) → slice_get s.guards n ≡ Some g

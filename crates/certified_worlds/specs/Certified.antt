@@ -44,8 +44,8 @@ pub data Reaches (m : Contents) : ℕ → Option State → Type 0 where
       → state_at m at before ≡ Some s
       → fetched m.code at ≡ Ok i → to ≡ at + i.len → after ≡ falling (rule_at m at i s) → Reaches m to after
 
--- An instruction stands at the offset, the state there is the one that the assignment gives, what falls into it
--- may go on, and the instruction breaks no rule.
+-- An instruction is at the offset, the state there is the one that the assignment gives, what falls into it may go on,
+-- and the instruction breaks no rule.
 pub record HoldsAt (m : Contents) (states : ℕ → Option State) (at : ℕ) (before : Option State) : Type 0 where
   pub state : State
   pub stands : state_at m at before ≡ Some state
@@ -56,7 +56,7 @@ pub record HoldsAt (m : Contents) (states : ℕ → Option State) (at : ℕ) (be
   pub spelled : fetched m.code at ≡ Ok instr
   pub unbroken : (broken : Rule) → rule_at m at instr state ≢ breaks broken
 
--- All holds at each instruction start below an offset, and each start that the tables tell below it is one.
+-- All holds at each instruction start below an offset, and each start that the tables name below it is one.
 pub record HoldsBelow (m : Contents) (states : ℕ → Option State) (end : ℕ) : Type 0 where
   pub starts : (at : ℕ) → at < end → is_start m at ≡ true → (before : Option State) × Reaches m at before
   pub each : (at : ℕ) (before : Option State) → at < end → Reaches m at before → HoldsAt m states at before
@@ -69,13 +69,13 @@ pub record IsCertified (m : Contents) : Type 0 where
 
 -- The rule is broken at the offset.
 pub data IsBroken (m : Contents) : Rule → ℕ → Type 0 where
-  -- no spelling of an instruction stands there
+  -- no spelling of an instruction is there
   misspelled : {rule : Rule} {at : ℕ} {before : Option State} {e : DecodeFault} → rule ≡ rules.Spelling
       → Reaches m at before → at < length m.code → fetched m.code at ≡ Err e → IsBroken m rule at
   -- it is no instruction of the machine, whether anything leads there or not
   unruled : {rule : Rule} {at : ℕ} {before : Option State} {i : Instr} → rule ≡ rules.Spelling → Reaches m at before
       → at < length m.code → fetched m.code at ≡ Ok i → is_instruction m i ≡ false → IsBroken m rule at
-  -- a start that the tables tell lies within an instruction
+  -- a start that the tables name lies within an instruction
   hidden : {rule : Rule} {at : ℕ} → rule ≡ rules.InstructionStart → at < length m.code → is_start m at ≡ true
       → ((before : Option State) → Reaches m at before → ⊥) → IsBroken m rule at
   -- it is one, and nothing leads there

@@ -33,9 +33,9 @@ pub record Began : Type 0 where
   pub context : ℕ
   pub layout : Layout
 
--- Those that wait for an activation of a context to return, the one that called it first. Each has lent what the one
--- that it called has, and whatever that still changes, it goes on in its state, which falls into the offset of the
--- return. Only procedures have callers; the activation that nobody waits for is the one that the process began with.
+-- The callers that wait for an activation of a context to return, the direct caller first. Each has lent what the one
+-- that it called has. Whatever that one still changes, the caller goes on in its state, which falls into the offset of
+-- the return. Only procedures have callers; the activation for which none waits is the one that the process began with.
 pub data Behind (m : Contents) (h : Holding) (began : Began) : ℕ → Layout → Memory → List Caller → Type 0 where
   nobody_waits : {context : ℕ} {layout : Layout} {memory : Memory} → context ≡ began.context → layout ≡ began.layout
       → (1 ≤ context → length m.procedures < context) → Behind m h began context layout memory []
@@ -85,7 +85,7 @@ pub record MeetsPoint (m : Contents) (t : Task) (h : Holding) (began : Began) (p
   pub behind : BehindIn m h began point.state.mode point.state.context point.act.layout memory point.callers
 
 -- What the decoder says of the code: an instruction has at least one byte, lies in the code, has an operand of a word,
--- and is what the device reads.
+-- and is what the T414 reads.
 pub record Decodes (m : Contents) : Type 0 where
   pub some : (at : ℕ) (i : Instr) → fetched m.code at ≡ Ok i → 1 ≤ i.len
   pub inside : (at : ℕ) (i : Instr) → fetched m.code at ≡ Ok i → at + i.len ≤ length m.code
