@@ -131,7 +131,7 @@ is_by_it (Some q) p e = elim (eqb_tells q p) [
   | inr it ↦ let no' : true ≡ false = sym e ∙ it.0 in absurd (cc)
 ]
 
--- what nobody has enabled this one has not
+-- what no process has enabled this one has not
 is_by_nobody : (o : Option ℕ) (p : ℕ) → is_some o ≡ false → o ≡ Some p → ⊥
 is_by_nobody None p none e = cc
 is_by_nobody (Some q) p none e = cc
@@ -379,7 +379,7 @@ module _ (m : Contents) (wf : IsWellFormed m) (w : World) (lawful : IsLawful m w
 
   -- ---- who has enabled a channel or a link
 
-  -- the channel is enabled by this process, or by nobody, and nobody else has enabled it
+  -- the channel is enabled by this process, or by none, and no other process has enabled it
   sets_cell : (address : ℕ) (c : Channel) (by : Option ℕ) (after : World) → channel_at w address ≡ Some c
       → after.channels ≡ slice_set w.channels (cell_of address) (Some (record c { enabled = by }))
       → after.links.inputs ≡ w.links.inputs → ((q : ℕ) → p ≢ q → c.enabled ≡ Some q → ⊥)
@@ -932,7 +932,7 @@ module _ (m : Contents) (wf : IsWellFormed m) (w : World) (lawful : IsLawful m w
     | inr is ↦ let high = is.1 in omega (arith, low, high)
   ]
 
-  -- a channel that a guard is enabled at is enabled by nobody
+  -- a channel at which a guard is to be enabled is enabled by no process
   pub never_enabling : {kind : EndKind} {address : ℕ} {holds : Bool} {l : Local} {next : State} {fault : FaultKind}
       → HoldsChannel m x kind address → Enables x (AtChannel kind) holds next l
       → ((i : ℕ) (g : Guard) → slice_get state.guards i ≡ Some g → g.kind ≡ AtChannel kind → ⊥)

@@ -95,7 +95,7 @@ module _ (x : Here) (starting : x.mode ≡ machine_modes.Starting) (same : SameM
 
 -- ---- what is paid
 
--- What falls behind an instruction that is none of PARs has paid each byte from the number.
+-- What falls through after an instruction that is none of PARs has paid each byte from the number.
 pub pays_among_starts : (site : Site) (s : State) → is_starting s.mode ≡ true → (f : Fun) (e : ℤ)
     → has_pars (instruction_of f e) ≡ false → (after : State) → falling (rule site f e s) ≡ Some after
     → after.number + site.length ≤ s.number

@@ -189,7 +189,7 @@ module _ (m : Contents) (w : World) (lawful : IsLawful m w) (h : Holds m w) (k b
   changes = byte_changes r.lives goal_place byte small (λ place. is_filled v.exchange (v.done + 1) after_it place)
       awaited
 
-  -- the process lives on, where a test tells the places that are still awaited
+  -- the process lives on, with a test for the places that are still awaited
   filled_lives : (c : Condition) (still : ℕ → Bool) → ((e : Exchange) → IsExchanging c e → ⊥)
       → ((place : ℕ) → awaits c place ≡ still place)
       → ((place : ℕ) → awaits v.task.condition place ≡ (eqb place goal_place || still place))

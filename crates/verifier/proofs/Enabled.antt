@@ -38,7 +38,7 @@ pub ready_is_enabled : (w : World) (p : ℕ) → HasReady w.tasks w.channels w.l
 ready_is_enabled w p (a_sender k c q sender e at is waiting there sends) = has_channel k c at is
 ready_is_enabled w p (a_byte k link byte at is kept) = has_link k link at is
 
--- What is enabled at an address, and what is elsewhere, once this process has enabled that, or nobody has.
+-- What is enabled at an address, and what is elsewhere, once this process has enabled that, or no process has.
 pub record Sets (w after : World) (address p : ℕ) (is_ready : Bool) (enabled : Option ℕ) (by : Option ℕ) : Type 0 where
   pub here : EnablesAt after p address → by ≡ Some p
   pub there : by ≡ Some p → EnablesAt after p address

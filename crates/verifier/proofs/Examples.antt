@@ -35,7 +35,7 @@ unfolding judge judged_at below written context_at outside_alternation outside_s
     local_operation_rule local_rule rule instruction_of op_of
 first_is_dear = refl
 
--- stopp, and behind it, where nothing leads, ldc 5, which has a rule; or an operation that has none
+-- stopp, and after it, where nothing leads, ldc 5, which has a rule; or an operation that has none
 nothing_leads_to_it : verdict (record (first 7) { code = 0x21 ∷ 0xf5 ∷ 0x45 ∷ [] }) ≡ refused rules.Flow 2
 unfolding judge judged_at below written context_at outside_alternation outside_starts uses becomes fact_of_two
     result_range forward writes_word reads_word schedules pays leads_to goes_on operation_rule instruction_rule rule_of

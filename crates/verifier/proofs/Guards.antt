@@ -68,7 +68,7 @@ module _ (m : Contents) (x : Here) (kind : GuardKind) (holds : Bool) (next : Sta
   abbrev new : Guard
   new = record { kind = kind; name = more.name; exit = None }
 
-  -- where a guard stands, it stood before, or is the new one
+  -- a guard in the list was in the list before, or is the new one
   grown_either : (n : ℕ) (g : Guard) → slice_get next.guards n ≡ Some g
       → (slice_get x.before.guards n ≡ Some g) ⊎ ((n ≡ length x.before.guards) × (g ≡ new))
   grown_either n g here = got_either x.before.guards new n g

@@ -198,7 +198,7 @@ no_first_start m at (suc more) h o low high =
           absurd (cc)
     ]
 
--- an offset that is a start, behind offsets that are none
+-- an offset that is a start, after offsets that are none
 pub record FirstStart (m : Contents) (at more o : ℕ) : Type 0 where
   pub low : at ≤ o
   pub high : o < at + more
@@ -230,7 +230,7 @@ first_start_is m at (suc more) o h =
           }
     ]
 
--- ---- the starts of instructions, one behind another
+-- ---- the starts of instructions, one after another
 
 abbrev Place : Type 0
 Place = ℕ × Option State
@@ -278,7 +278,7 @@ trailed {m} (follows {at} {to} {before} {after} {s} {i} r st sp to_is after_is) 
     let n : next m (at, before) ≡ Some (to, after) = rw (to_is, after_is) (next_is m at before s i st sp) in
     (suc t.0, trail_more t.0 m (0, Some (root_state m)) (at, before) (to, after) t.1 n)
 
--- q is a start, and r lies behind the instruction at q
+-- q is a start, and r is after the instruction at q
 pub record Behind (m : Contents) (q r : Place) : Type 0 where
   pub later : q.0 < r.0
   pub far : (i : Instr) → fetched m.code q.0 ≡ Ok i → q.0 + i.len ≤ r.0
@@ -320,7 +320,7 @@ module _ (m : Contents) (spans : Spans m) where
         omega (arith, l.to)
   ]
 
-  -- the first step leads behind the first instruction
+  -- the first step leads past the first instruction
   first_behind : (k : ℕ) (p q : Place) → trail (suc k) m p ≡ Some q → Behind m p q
   unfolding trail
   first_behind k p q t = elim (option_cases (next m p)) [
@@ -337,7 +337,7 @@ module _ (m : Contents) (spans : Spans m) where
         }
   ]
 
-  -- of two places on one trail, they are the same or one lies behind the other
+  -- two places on one trail are the same, or one is after the other
   compared : (j k : ℕ) (p q r : Place) → trail j m p ≡ Some q → trail k m p ≡ Some r
       → (q ≡ r) ⊎ Behind m q r ⊎ Behind m r q
   unfolding trail
@@ -571,7 +571,7 @@ module _ (m : Contents) (spans : Spans m) where
               (goes_further (Ok tt) at before n enough states p)
         ] w.enough w.verdict w.states
 
-    -- a start that the tables tell is one
+    -- a start that the tables name is one
     start_reached : (n at : ℕ) (before : Option State) (o : ℕ) → Reaches m at before → length m.code ≤ at + n
         → judge n m at before ≡ Ok tt
         → at ≤ o → o < length m.code → is_start m o ≡ true → (b : Option State) × Reaches m o b
@@ -633,7 +633,7 @@ module _ (m : Contents) (spans : Spans m) where
     pub states : (target : ℕ) → at ≤ target → states_of m target ≡ walk n m at before target
     pub below : HoldsBelow m (states_of m) at
 
-  -- it holds below an offset within or just behind an instruction at which the pass went on
+  -- it holds below an offset within or directly after an instruction at which the pass went on
   further_below : (at : ℕ) (before after : Option State) (i : Instr) (n o : ℕ) → Arrived at before (suc n)
       → fetched m.code at ≡ Ok i → judged_at m at before i ≡ Ok after
       → o ≤ at + i.len → ((q : ℕ) → at < q → q < o → is_start m q ≡ false) → HoldsBelow m (states_of m) o

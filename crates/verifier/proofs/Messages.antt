@@ -85,7 +85,7 @@ module _ (m : Contents) (wf : IsWellFormed m) (w : World) (lawful : IsLawful m w
   abbrev here : Here
   here = at_here m p t pick
 
-  -- the process behind its instruction
+  -- the process after its instruction
   abbrev behind : Condition → Local → Task
   behind c l = record t { registers = between (t.registers.at + 1) l.registers; condition = c }
 
@@ -157,7 +157,7 @@ module _ (m : Contents) (wf : IsWellFormed m) (w : World) (lawful : IsLawful m w
 
   module _ (e : Exchange) (l : Local) (later : ℕ) (less : later + 1 ≤ (row_of r).due)
       (changes : Allows r.lives w.memory l.memory) where
-    -- it comes first to a channel
+    -- it is the first to come to a channel
     comes_first : {after : World} (c : Channel) → channel_at w e.channel ≡ Some c → c.waiting ≡ None
         → after.channels ≡ slice_set w.channels (cell_of e.channel) (Some (record c { waiting = Some p }))
         → after.links.inputs ≡ w.links.inputs → LeavesEnabled w after p t
@@ -190,7 +190,7 @@ module _ (m : Contents) (wf : IsWellFormed m) (w : World) (lawful : IsLawful m w
       held_in = subst (λ (g : Holding). has_end g (record { address = e.channel; direction = In }) ≡ true)
           (sym (holding_is m wf w lawful h p (row_of r).role (row_of r).has_role)) talks.end
 
-      -- nobody has enabled the channel over which it receives
+      -- no process has enabled the channel over which it receives
       unenabled : (c : Channel) → channel_at w e.channel ≡ Some c → (q : ℕ) → c.enabled ≡ Some q → ⊥
       unenabled c at q enabled =
           let there = channel_there w e.channel c at in
@@ -229,7 +229,7 @@ module _ (m : Contents) (wf : IsWellFormed m) (w : World) (lawful : IsLawful m w
             silent = stepped_silent (Receiving e) l;
           }) own counters refl lives_on
 
-      -- nobody else has enabled the link
+      -- no other process has enabled the link
       never_theirs : (k : ℕ) (link new : InputLink) → slice_get w.links.inputs k ≡ Some link → e.channel ≡ input_word k
           → (q : ℕ) → p ≢ q → link.enabled ≡ Some q → new.kept ≡ link.kept
       never_theirs k link new is_there on q other is =
@@ -279,7 +279,7 @@ module _ (m : Contents) (wf : IsWellFormed m) (w : World) (lawful : IsLawful m w
           copy : Memory
           copy = copied l.memory (place_of sent.address) (place_of e.address) sent.length l.memory
 
-          -- it goes on with what was sent, and then nobody waits there
+          -- it goes on with what was sent, and then no process waits there
           gone_on : World
           gone_on = continued here (t.registers.at + 1) (record l { memory = copy }) w
 
@@ -298,7 +298,7 @@ module _ (m : Contents) (wf : IsWellFormed m) (w : World) (lawful : IsLawful m w
           cell : slice_get w.channels (cell_of sent.channel) ≡ Some (Some c)
           cell = subst (λ n. slice_get w.channels n ≡ Some (Some c)) (sym cell_is) (channel_there w e.channel c at)
 
-          -- nobody has enabled what the sender waits at
+          -- no process has enabled what the sender waits at
           silent : IsSilent (counted gone_on) q u.0
           silent k d s x beside there enabled waits_there out =
               let v = lawful.cells k d q there waits_there in
@@ -503,7 +503,7 @@ module _ (m : Contents) (wf : IsWellFormed m) (w : World) (lawful : IsLawful m w
           cell : slice_get w.channels (cell_of e.channel) ≡ Some (Some c)
           cell = channel_there w e.channel c at
 
-          -- nobody has enabled a channel where a process waits to receive
+          -- no process has enabled a channel where a process waits to receive
           no_sender : (s : ℕ) → c.enabled ≡ Some s → ⊥
           no_sender s enabled =
               let v = lawful.senders.at_channels (cell_of e.channel) c s q cell enabled waiting in

@@ -35,7 +35,7 @@ pub record LeavesLinks (p : ℕ) (old new : List InputLink) : Type 0 where
       → (n : InputLink) × (slice_get new k ≡ Some n) × (n.enabled ≡ Some q)
       × ((byte : ℕ) → l.kept ≡ Some byte → n.kept ≡ Some byte)
 
--- what p waits to send nobody else has enabled
+-- what p waits to send no other process has enabled
 abbrev pub IsSilent : World → ℕ → Task → Type 0
 IsSilent w p t = (k : ℕ) (c : Channel) (q : ℕ) (e : Exchange) → p ≢ q → slice_get w.channels k ≡ Some (Some c)
     → c.enabled ≡ Some q → c.waiting ≡ Some p → t.condition ≡ Sending e → ⊥

@@ -1,4 +1,4 @@
--- The pass, one instruction behind another, against the verdict.
+-- The pass, one instruction after another, against the verdict.
 use Rattle.std.proofs.Common.{◌≡◌, ℕ, zero, suc, ◌+◌, ◌-◌, ◌≤◌, ◌<◌, Bool, true, false, cond, leb, length, Option, Some}
 use Rattle.std.proofs.Common.{None, Result, Ok, Err, refl, sym, ap, ◌∙◌, subst, arith, inl, inr}
 use Rattle.std.proofs.lemmas.Bool.{cases_eq}
@@ -53,7 +53,7 @@ further : (m : Contents) (at : ℕ) (before : Option State) → at < length m.co
     → Further m at before
 further m at before low w = further-by m at w.fuel before low w.enough w.same
 
--- where no spelling stands
+-- where there is no spelling
 pub misspelled-is : (m : Contents) (at : ℕ) (before : Option State) (e : DecodeFault) → at < length m.code
     → OnTheWay m at before → fetched m.code at ≡ Err e → verdict m ≡ refused rules.Spelling at
 misspelled-is m at before e low w sp =
@@ -96,7 +96,7 @@ goes-on m at before after i spans low w sp j l =
           (past_starts (λ to after. judge f.fuel m to after) (at + i.len) after) l);
     }
 
--- behind the code
+-- after the code
 pub ended-is : (m : Contents) (at : ℕ) (before : Option State) → length m.code ≤ at → OnTheWay m at before
     → verdict m ≡ at_the_end at before
 ended-is m at before high w = sym w.same ∙ judge_end w.fuel m at before high
@@ -133,7 +133,7 @@ pub some-within : (m : Contents) (from end o : ℕ) → from ≤ o → o < end �
     → first_start m from (end - from) ≡ Some o
 some-within m from end o low high h here = start-some m from (end - from) o low (omega arith) here h
 
--- ---- what the pass tells
+-- ---- what the pass reports
 
 -- a stop that is the verdict's
 pub told : (m : Contents) (stop : Stop) (v : Rule) (o : ℕ) → stop ≡ stops.Broken (record { rule = v; offset = o })

@@ -157,13 +157,15 @@ module _ (m : Contents) (eight : length m.lengths ≡ 8) (layout : Layout) where
       e.is ∙ ap kinds.Link link ∙ sym f.is
 
   -- messages have the length of the link
-  pub root_lengths : ((link : ℕ) → link < 8 → layout.lengths ((link_words + 4 * link) % 4294967296) ≡ link_length m link)
+  pub root_lengths : ((link : ℕ) → link < 8 → layout.lengths ((link_words + 4 * link) % 4294967296)
+      ≡ link_length m link)
       → (kind : EndKind) (direction : Direction)
       → rights.has_end m 0 (record { kind = kind; direction = direction }) ≡ true
       → message_length m 0 kind ≡ Some (layout.lengths (channel_address layout kind))
   root_lengths lengths kind direction t =
       let e = root_end kind direction t in
-      subst (λ (kind : EndKind). message_length m 0 kind ≡ Some (layout.lengths (channel_address layout kind))) (sym e.is)
+      subst (λ (kind : EndKind). message_length m 0 kind ≡ Some (layout.lengths (channel_address layout kind)))
+      (sym e.is)
       (ap Some (sym (lengths e.link (few e.link e.used))))
 
 one_way : (a b : Direction) → same_direction a b ≡ true → a ≡ b

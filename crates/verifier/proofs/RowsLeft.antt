@@ -29,7 +29,7 @@ rise-lower : {A : Type 0} (offset_of : A → ℕ) (low at : ℕ) (rows : List A)
 rise-lower offset_of low at [] h r = tt
 rise-lower offset_of low at (row ∷ rows) h r = (omega (arith, r.0), r.1)
 
--- the first row stands behind an offset at which it does not stand
+-- the first row is after an offset at which it is not
 rise-on : {A : Type 0} (offset_of : A → ℕ) (at : ℕ) (rows : List A) → RiseFrom offset_of at rows
     → ((row : A) (later : List A) → rows ≡ row ∷ later → offset_of row ≢ at) → RiseFrom offset_of (at + 1) rows
 rise-on offset_of at [] r h = tt
@@ -45,7 +45,7 @@ label-here : (row : LabelRow) (rows : List LabelRow) (o : ℕ) → row.offset �
     → label_in (row ∷ rows) o ≡ Some (label_of row)
 label-here row rows o e = let same : eqb row.offset o ≡ true = grind (arith, nat_tests) in rw same refl
 
--- none stands below the first
+-- none is below the first
 label-below : (at o : ℕ) (rows : List LabelRow) → RiseFrom (λ row. row.offset) at rows → o < at → label_in rows o ≡ None
 label-below at o [] r h = refl
 label-below at o (row ∷ rows) r h = label-other row rows o (λ e. absurd (omega (arith, r.0))) ∙ label-below
@@ -68,7 +68,7 @@ labels-first m rows keeps is = record {
   same = λ o l. ap (λ ls. find (λ row. row.offset == o) ls) is;
 }
 
--- no row stands at the offset
+-- no row is at the offset
 pub labels-none : (m : Contents) (at : ℕ) (rows : List LabelRow) → LabelsLeft m at rows
     → ((row : LabelRow) (later : List LabelRow) → rows ≡ row ∷ later → row.offset ≢ at) → label_at m at ≡ None
 labels-none m at rows a h =
@@ -119,7 +119,7 @@ procedures-none m at context rows a h =
     a.same at (omega arith) ∙ procedure-below (at + 1) at context rows (rise-on (λ row. row.entry) at rows a.rise h)
     (omega arith)
 
--- what is behind a place, and at it
+-- what is after a place, and at it
 behind-place : {A : Type 0} (n : ℕ) (xs : List A) (y : A) (ys : List A) → drop n xs ≡ y ∷ ys
     → (drop (suc n) xs ≡ ys) × (slice_get xs n ≡ Some y)
 behind-place zero [] y ys h = absurd (cc)
@@ -153,7 +153,7 @@ procedures-here m at context rows later row a is e =
       is = (behind-place (context - 1) m.procedures (procedure_of row) (map procedure_of later) b.rest).1;
     }
 
--- ---- behind offsets at which no instruction starts
+-- ---- after offsets at which no instruction starts
 
 label-before : (m : Contents) (at more : ℕ) (rows : List LabelRow) → LabelsLeft m at rows
     → ((o : ℕ) → at ≤ o → o < at + more → label_at m o ≡ None) → RiseFrom (λ row. row.offset) (at + more) rows
@@ -194,7 +194,7 @@ left-first m rows keeps labels procedures first = record {
       (procedures-first m rows.procedures.now keeps procedures);
 }
 
--- behind offsets at which the tables tell no start
+-- after offsets at which the tables name no start
 pub left-further : (m : Contents) (at more : ℕ) (rows : Rows) → AreLeft m at rows → first_start m at more ≡ None
     → AreLeft m (at + more) rows
 left-further m at more rows a none =

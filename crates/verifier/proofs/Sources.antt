@@ -56,7 +56,7 @@ same_address a b x y same = omega (arith, same, x.0, x.1, y.0, y.1)
 
 -- ---- what is there
 
--- at an end, where messages have so many bytes
+-- at an end, where messages have `len` bytes
 pub data AtEnd (m : Contents) (w : World) (e : End) (len : ℕ) : Type 0 where
   an_input : (k : ℕ) → k < 4 → e.address ≡ input_word k → e.direction ≡ In → link_length m (4 + k) ≡ len
       → AtEnd m w e len

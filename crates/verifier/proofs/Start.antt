@@ -205,7 +205,7 @@ module _ (m : Contents) (d : Decodes m) (wf : IsWellFormed m) (c : IsCertified m
   abbrev root_began : Began
   root_began = record { context = 0; layout = root_activation.layout }
 
-  -- nobody waits for its return
+  -- no caller waits for its return
   nobody_behind : Behind m (root_holding m) root_began 0 root_activation.layout (loaded_memory m) []
   nobody_behind = nobody_waits refl refl (λ some. absurd (omega arith))
 

@@ -172,7 +172,7 @@ module _ (m : Contents) (d : Decodes m) (wf : IsWellFormed m) (kept : IsKept m) 
       behind : t.registers.began + point.instr.len ≡ t.registers.at + 1
       behind = omega (arith, point.reading.at_is, last)
 
-      -- where it goes on, which no label stands in
+      -- where it goes on, at which there is no label
       goes_lives : LivesAs m (held (row_of r).role) (row_of r).start new.memory
           (task_at m t t.mode (t.registers.at + 1) new) next.number next point.act
       goes_lives =

@@ -312,7 +312,7 @@ module _ (m : Contents) (w : World) (h : Holds m w) (out : IsSharedOut m w) (p :
   allowed_now : Allows r.lives w.memory after.memory
   allowed_now = subst (λ (memory : Memory). Allows r.lives w.memory memory) (sym puts.memory) allowed
 
-  -- what stands in the list of tasks afterwards: it, or another one
+  -- what is in the list of tasks afterwards: it, or another one
   abbrev StandsAfter : ℕ → Task → Type 0
   StandsAfter q v = ((p ≡ q) × (v ≡ u)) ⊎ ((p ≢ q) × (slice_get w.tasks q ≡ Some v))
 

@@ -83,7 +83,7 @@ module _ (m : Contents) (wf : IsWellFormed m) (w : World) (lawful : IsLawful m w
   waits_still In c e is ready = let no' : Receiving e ≡ Ready = sym is ∙ ready in cc
   waits_still Out c e is ready = let no' : Sending e ≡ Ready = sym is ∙ ready in cc
 
-  -- nobody else waits for the same on the channel of a message
+  -- no other process waits for the same on the channel of a message
   alone_there : {direction : Direction} {e : Exchange} (q : ℕ) (u : Task) (x : Exchange) (c : Channel)
       → Talks m (held (row_of r).role) (row_of r).start t direction e
       → slice_get w.channels (cell_of e.channel) ≡ Some (Some c) → cell_of x.channel ≡ cell_of e.channel

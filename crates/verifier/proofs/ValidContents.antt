@@ -80,7 +80,7 @@ found_keeps code_len procedures low at (row ∷ rows) t all h = elim (eqb_tells 
 
 -- ---- the procedures
 
--- no procedure begins where a label row stands
+-- no procedure begins where a label row is
 no_entry : (ps : List Procedure) (n at : ℕ) (e : Entered) → AllByRecursion (λ p. p.entry ≢ at) ps
     → procedure_from n ps at ≡ Some e → ⊥
 no_entry [] n at e all h = cc

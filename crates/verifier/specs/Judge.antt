@@ -35,7 +35,7 @@ judged_in m at before i (Some s) = both (entering m at before) (rule_at m at i s
 unfoldable pub judged_at : Contents → ℕ → Option State → Instr → Result (Option State) Rule
 judged_at m at before i = judged_in m at before i (state_at m at before)
 
--- the first of so many offsets from `at` on that the tables say is a start
+-- the first of a number of offsets from `at` on that the tables say is a start
 abbrev pub first_start : Contents → ℕ → ℕ → Option ℕ
 first_start m at zero = None
 first_start m at (suc more) = if is_start m at then Some at else first_start m (at + 1) more
@@ -64,7 +64,7 @@ abbrev pub past_spelling : Contents → (ℕ → Option State → Verdict) → �
 past_spelling m go at before (Err e) = refused rules.Spelling at
 past_spelling m go at before (Ok i) = past_rule m go at i.len (judged_at m at before i)
 
--- from an offset on, with at most so many instructions
+-- from an offset on, with at most this number of instructions
 unfoldable pub judge : ℕ → Contents → ℕ → Option State → Verdict
 judge zero m at before = at_the_end at before
 judge (suc more) m at before =

@@ -1,4 +1,4 @@
--- What the functions of the code tell, in terms of the verdict.
+-- What the functions of the code return, in terms of the verdict.
 use Rattle.std.specs.Prelude.{◌≡◌, ℕ, ◌+◌, ◌-◌, ◌≤◌, Bool, List, [], ◌∷◌, map, drop, find, ◌==◌, slice_get, Option}
 use Rattle.std.specs.Prelude.{Some, None, Result, Ok, Err, ⊤, if◌then◌else◌}
 use Rattle.std.specs.List.{AllByRecursion}
@@ -40,7 +40,7 @@ refusal_of stops.Memory = out_of_memory
 
 -- ---- the rows that are left
 
--- the rows stand at this offset or behind it, one behind another
+-- the rows are at this offset or after it, one after another
 abbrev pub RiseFrom : {A : Type 0} → (A → ℕ) → ℕ → List A → Type 0
 RiseFrom offset_of at [] = ⊤
 RiseFrom offset_of at (row ∷ rows) = (at ≤ offset_of row) × RiseFrom offset_of (offset_of row + 1) rows

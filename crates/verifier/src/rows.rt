@@ -15,7 +15,7 @@ pub(crate) enum Given<'a> {
     Procedure { context: u32, row: &'a ProcedureRow },
 }
 
-/// The rows that stand from an offset on.
+/// The rows from an offset on.
 #[derive(Drop)]
 pub(crate) struct Rows<'a> {
     pub labels: &'a [LabelRow],
@@ -78,7 +78,7 @@ impl<'a> Rows<'a> {
         Some((context, row))
     }
 
-    /// What the tables give at an offset. The rows behind it are left.
+    /// What the tables give at an offset. The rows after it are left.
     pub fn take(&mut self, at: usize) -> Given<'a>
         ensures left { (m : Contents) → AreLeft m at self.old → AreLeft m (at + 1) self.new }
         ensures given { (m : Contents) → AreLeft m at self.old → IsGiven m at result }
