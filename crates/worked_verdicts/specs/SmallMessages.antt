@@ -19,7 +19,8 @@ pub record EchoIsJudged : Type 0 where
   pub no_output : verdict (record (echo 15) { lengths = 0 ∷ 0 ∷ 0 ∷ 0 ∷ 1 ∷ 0 ∷ 0 ∷ 0 ∷ [] }) ≡ refused rules.Channel 12
   pub no_number :
       verdict
-      (record (small.of_code (0x11 ∷ 0x24 ∷ 0xf2 ∷ 0x54 ∷ 0x41 ∷ 0xf7 ∷ 0x11 ∷ 0x24 ∷ 0xf2 ∷ 0x41 ∷ 0xfb ∷ 0x21 ∷ 0xf5 ∷ [])
+      (record (small.of_code
+        (0x11 ∷ 0x24 ∷ 0xf2 ∷ 0x54 ∷ 0x41 ∷ 0xf7 ∷ 0x11 ∷ 0x24 ∷ 0xf2 ∷ 0x41 ∷ 0xfb ∷ 0x21 ∷ 0xf5 ∷ [])
       13) {
         lengths = 1 ∷ 0 ∷ 0 ∷ 0 ∷ 1 ∷ 0 ∷ 0 ∷ 0 ∷ [];
       })

@@ -40,8 +40,8 @@ pub record PairIsJudged : Type 0 where
       ≡ refused rules.Par 10
   pub branch_leaves_another : verdict (pair (telling (pos 0) (pos 2))) ≡ refused rules.Label 20
 
--- A branch that sends a word to the other one over a channel of the PAR: accepted, also where the label after the PAR
--- says that a number was received, but not that it is 10. An end is given to one branch, and the channel's word to none.
+-- A branch that sends a word to the other one over a channel of the PAR: accepted, also if the label after the PAR says
+-- that a number was received, but not that it is 10. An end is given to one branch, and the channel's word to none.
 pub record SendingIsJudged : Type 0 where
   pub accepted : verdict (sending channel.well) ≡ Ok tt
   pub number : verdict (sending (channel.telling (Number least_word greatest_word))) ≡ Ok tt
