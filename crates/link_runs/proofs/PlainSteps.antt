@@ -29,7 +29,7 @@ use Rattle.link_runs.specs.Wanting.{is_running}
 
 -- ---- one Step
 
--- A Step finds nobody who runs, executes a byte, or is at fault.
+-- A Step finds no running process, executes a byte, or is at fault.
 pub data Steps (w : World) : Turn → Type 0 where
   idles : (Line w.tasks w.queue → w.counters.executed < most_executed → w.queue.running ≡ None)
       → Steps w (answered idle w)
@@ -120,7 +120,7 @@ steps : (m : Contents) (w : World) → Steps w (turn m w plain_step)
 unfolding turn
 steps m w = steps_unless m w w.fault
 
--- ---- what an answer tells
+-- ---- what an answer shows
 
 idle_world : (w : World) (t : Turn) → Steps w t → t.answer ≡ Ok idle → t.world ≡ w
 idle_world w t (idles nobody) e = refl
@@ -147,7 +147,7 @@ somebody w t (runs is after) d e not = is
 somebody w t (emits is link bytes after) d e not = is
 somebody w t (faults after f) d e not = absurd (cc)
 
--- what a Step can answer
+-- the effects that a Step can have
 abbrev pub IsOfStep : Effect → Type 0
 IsOfStep idle = Unit {0}
 IsOfStep ran = Unit {0}

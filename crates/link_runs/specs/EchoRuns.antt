@@ -15,7 +15,7 @@ first_writer = with_link Zero true (for_all false)
 abbrev pub no_writer : ByLink Bool
 no_writer = for_all false
 
--- the run is over: so much was executed, the module is finished or not, and this is left and written
+-- the run is over: `executed` bytes were executed, the module is finished or not, and this is left and written
 pub record Ended (writers : ByLink Bool) (s : RunMoment) (executed : ℕ) (is_finished : Bool) (rest : Supply)
     (bytes : List ℕ) : Type 0 where
   pub over : IsOver echo writers s
@@ -25,7 +25,7 @@ pub record Ended (writers : ByLink Bool) (s : RunMoment) (executed : ℕ) (is_fi
   pub left : s.left.first ≡ rest
   pub written : s.written.first ≡ bytes
 
--- so does it end, after so many turns
+-- the run ends so at this moment, if there is one
 abbrev pub EndsAfter : Option RunMoment → ByLink Bool → ℕ → Bool → Supply → List ℕ → Type 0
 EndsAfter None writers executed finished left written = ⊥
 EndsAfter (Some s) writers executed finished left written = Ended writers s executed finished left written

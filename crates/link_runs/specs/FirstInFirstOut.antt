@@ -44,7 +44,7 @@ delivered m writers link bytes s =
     }
     else s
 
--- what the answer to a Step emits is delivered
+-- what a Step emits is delivered
 abbrev pub followed_up : Contents → ByLink Bool → Result Effect Fault → RunMoment → RunMoment
 followed_up m writers (Ok (emitted link bytes)) s = delivered m writers link bytes s
 followed_up m writers (Ok _) s = s
@@ -86,7 +86,7 @@ abbrev pub next_of : Contents → ByLink Bool → Option RunMoment → Option Ru
 next_of m writers None = None
 next_of m writers (Some s) = next m writers s
 
--- the moment after so many turns, if the run is not over before
+-- the moment after a number of turns, if the run is not over before
 abbrev pub moment_after : Contents → ByLink Supply → ByLink Bool → ℕ → Option RunMoment
 moment_after m inputs writers zero = Some (beginning m inputs)
 moment_after m inputs writers (suc n) = next_of m writers (moment_after m inputs writers n)

@@ -54,7 +54,7 @@ OneMomentIsLast = (m : Contents) (inputs : ByLink Supply) (writers : ByLink Bool
 
 -- ---- bytes that are not asked for
 
--- so many more bytes to give
+-- these bytes more to give
 abbrev pub more_of : Supply → List ℕ → Supply
 more_of None bytes = None
 more_of (Some before) bytes = Some (before ++ bytes)
