@@ -1,4 +1,4 @@
--- What stands at the number of a link, after one was set.
+-- What is at the number of a link, after one was set.
 use Rattle.std.proofs.Common.{◌≡◌, Bool, true, false, nat_eq, List, Option, Some, refl, sym, ap, subst}
 use Rattle.std.proofs.Common.{◌∙◌, slice_get, slice_set}
 use Rattle.std.proofs.Common.{eq-eqb}

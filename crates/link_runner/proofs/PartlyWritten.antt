@@ -11,13 +11,13 @@ use Rattle.module_format.proofs.FieldLaws.{eqb-differ}
 use Rattle.link_runner.specs.Devices.{took_none}
 use Rattle.link_runner.specs.Writers.{IsPart}
 
--- The first bytes of the message were written, and these are so many.
+-- The first `done` bytes of the message were written.
 pub record IsBegun (before after : Option (List ℕ)) (flag : Bool) (message : List ℕ) (done : ℕ) : Type 0 where
   pub beginning : Appends before after (take done message)
   pub within : done ≤ length message
   pub none_failed : flag ≡ false
 
--- so many more bytes
+-- `count` bytes more
 pub more_begun : (a b c : Option (List ℕ)) (was is : Bool) (message : List ℕ) (n count : ℕ) → IsBegun a b was message n
     → count ≤ length (take (length message - n) (drop n message))
     → Appends b c (take count (take (length message - n) (drop n message))) → is ≡ false

@@ -26,7 +26,7 @@ with_flag One ended = record ended { second = true }
 with_flag Two ended = record ended { third = true }
 with_flag Three ended = record ended { fourth = true }
 
--- so many more on this link
+-- `n` more on this link
 abbrev pub with_count : Link → ℕ → Counts → Counts
 with_count Zero n counts = record counts { first = saturated (counts.first + n) }
 with_count One n counts = record counts { second = saturated (counts.second + n) }

@@ -13,8 +13,8 @@ Gives before flag (Err e) after now = Keeps before after × (now ≡ true)
 abbrev pub took_none : ℕ → List ℕ → Bool
 took_none n bytes = (n == 0) && nat_lt 0 (length bytes)
 
--- so many bytes of the front were written, and it failed if that were none of some; or the write failed, and none was
--- written
+-- a number of bytes from the front were written, and the write failed if there were some and it took none; or the write
+-- failed, and none was written
 abbrev pub Accepts : {E : Type 0} → Option (List ℕ) → Bool → List ℕ → Result ℕ E → Option (List ℕ) → Bool → Type 0
 Accepts before flag bytes (Ok n) after now =
     (n ≤ length bytes) × Appends before after (take n bytes) × (now ≡ (flag || took_none n bytes))

@@ -25,7 +25,7 @@ abbrev pub found : {A : Type 0} → Option (Option A) → Option A
 found None = None
 found (Some there) = there
 
--- what stands at a link's number
+-- what is at a link's number
 abbrev pub at_link : {A : Type 0} → List (Option A) → Link → Option A
 at_link all link = found (slice_get all (link_index link))
 

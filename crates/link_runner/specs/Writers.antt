@@ -60,7 +60,7 @@ module _ {W : Type 0} (written : W → Option (List ℕ)) where
       pub puts : PutsOn link part before after
       pub one_failed : OneFailed failed after link
 
-    -- the writer of a link was told a message, if there is one
+    -- the writer of a link was given a message, if there is one
     abbrev pub IsTold : {E : Type 0} → Option W → List ℕ → Option (Result ⊤ E) → Option W → Type 0
     IsTold None message None None = ⊤
     IsTold None message result after = ⊥

@@ -111,7 +111,7 @@ impl Counts {
         }
     }
 
-    /// So many more went over the link.
+    /// `count` more went over the link.
     pub(crate) fn add(&mut self, link: Link, count: u64)
         ensures { self.new ≡ with_count link count self.old }
     {
