@@ -1,5 +1,5 @@
--- What the machine answers to an event, and what becomes of it once the answer is not used any more. That
--- an event which wants memory does not happen is our own choice.
+-- What the machine returns for an event, and what becomes of it once the result is not used any more. That an event
+-- that runs out of memory does not happen is our own choice.
 use Rattle.std.specs.Prelude.{◌≡◌, ⊤, [], Result, Ok, Err}
 use Rattle.std.specs.Borrow.{MutBor, Fml}
 use Rattle.std.specs.Io.BufRead.{Rests}
