@@ -61,7 +61,7 @@ fn ask_verified(
     }
 }
 
-/// What is asked of a module. One that is refused answers the rule and the offset.
+/// What is asked of a module. The answer of one that is refused is the rule and the offset.
 fn ask_module(
     alloc: Global,
     module: &Module,

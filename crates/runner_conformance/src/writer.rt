@@ -9,7 +9,7 @@ use conformance::Answer;
 use link_runner::{Failed, LinkWriter};
 use std::alloc::Global;
 
-/// A writer that takes so many bytes a call at most, and keeps them in hexadecimal.
+/// A writer that takes at most `most` bytes a call, and keeps them in hexadecimal.
 #[derive(Drop)]
 pub(crate) struct CaseWriter<'c> {
     name: &'c str,
@@ -53,7 +53,7 @@ impl<'c> CaseWriter<'c> {
     }
 }
 
-/// How many of so many bytes a call takes, if it does not fail with an error.
+/// How many of `length` bytes a call takes, if it does not fail with an error.
 fn accepted(failure: Option<Failure>, length: usize, most: usize) -> Option<usize>
     ensures { IfSome result (λ count. count ≤ length) }
 {
