@@ -1,4 +1,4 @@
-//! A file altered in many ways, and what the machine answers to events where the altered files are read.
+//! A file altered in many ways, and what the machine returns for events where the altered files are read.
 
 use crate::alterations::{Tally, Ways, judge_altered};
 use crate::events::event;

@@ -94,8 +94,8 @@ impl Tally for Verdicts<'_> {
     }
 }
 
-/// What comes of the events on both machines of an accepted module: neither has a fault, both do the same, and they keep
-/// to the budget.
+/// What comes of the events on both machines of an accepted module: neither has a fault, both do the same, and they
+/// keep to the budget.
 fn run(alloc: Global, module: &Module, verified: &Verified, events: &[Event]) -> Outcome {
     match (Checked::load(alloc, module), Run::load(alloc, verified)) {
         (Ok(mut checked), Ok(mut run)) => {

@@ -1,4 +1,4 @@
-//! What is answered of a draft.
+//! The answers about a draft.
 
 ghost use Rattle.module_builder.specs.Drafts.{IsComplete};
 

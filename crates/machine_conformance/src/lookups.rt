@@ -1,4 +1,4 @@
-//! What a module answers to look-ups.
+//! The answers of a module to look-ups.
 
 use crate::words::{Words, question};
 use certificate::Module;

@@ -1,4 +1,4 @@
-//! Asks the layers of module files and machines what cases in text say that they answer, and prints each case that
+//! Asks the layers of module files and machines what cases in text say that they return, and prints each case that
 //! differs.
 //!
 //! The arguments name files of cases; without any, the cases are read from standard input. The last line has the

@@ -1,4 +1,4 @@
-//! What reading a file and the verdict answer.
+//! The answers of reading a file and of the verdict.
 
 use crate::words::Words;
 use certificate::Module;

@@ -1,4 +1,4 @@
-//! What machines answer.
+//! The answers of machines.
 
 use crate::events::{LINKS, event, letter, names_effect};
 use crate::pairing::pair;
@@ -70,7 +70,7 @@ pub(crate) fn put_fault(fault: Option<Fault>, out: &mut Answer) {
     }
 }
 
-/// What the four questions answer.
+/// The answers to the four questions.
 fn put_questions(machine: &Checked, out: &mut Answer) {
     out.great(machine.executed());
     out.put(" ");
@@ -83,7 +83,7 @@ fn put_questions(machine: &Checked, out: &mut Answer) {
     }
 }
 
-/// What comes of a run that ended: its fault, and what the four questions answer.
+/// What comes of a run that ended: its fault, and the answers to the four questions.
 fn judge_end(machine: &Checked, expected: &str, out: &mut Answer) -> Outcome {
     out.clear();
     put_questions(machine, out);
@@ -115,7 +115,7 @@ fn judge_run(
     }
 }
 
-/// The events of a run, with what each does, and what the four questions answer afterwards. Where the module is
+/// The events of a run, with what each does, and the answers to the four questions afterwards. If the module is
 /// accepted, both machines do the same.
 pub(crate) fn run(
     alloc: Global,
@@ -165,7 +165,7 @@ fn put_replay(replay: &Replay, out: &mut Answer) {
     }
 }
 
-/// What `replay` answers to events.
+/// What `replay` returns for events.
 fn put_answer(alloc: Global, verified: &Verified, events: &[Event], out: &mut Answer) {
     match replay(alloc, verified, events) {
         Ok(replay) => put_replay(&replay, out),
@@ -173,7 +173,7 @@ fn put_answer(alloc: Global, verified: &Verified, events: &[Event], out: &mut An
     }
 }
 
-/// What `replay` answers to the events of a run, where the module is accepted.
+/// What `replay` returns for the events of a run, if the module is accepted.
 pub(crate) fn replayed(
     alloc: Global,
     module: &Module,

@@ -1,4 +1,4 @@
-//! Whether what a machine answers to events is what a machine may answer to them, as far as that is seen from outside.
+//! Whether what a machine returns for events is what a machine may return, as far as that is seen from outside.
 
 use certificate::Module;
 use conformance::Outcome;
@@ -70,7 +70,7 @@ impl Change {
     }
 }
 
-/// What an arrival changed, unless it cannot answer so.
+/// What an arrival changed, unless it cannot have this effect.
 fn arrival(before: Sight, effect: Effect) -> Option<Change> {
     match effect {
         Effect::Taken if before.is_wanted => Some(Change::Taken),
@@ -121,7 +121,7 @@ impl<'m> Run<'m> {
         Some(Change::Byte)
     }
 
-    /// What a Step changed, unless it cannot answer so.
+    /// What a Step changed, unless it cannot have this effect.
     fn step(&mut self, before: Sight, effect: Effect) -> Option<Change> {
         match effect {
             Effect::Ran if before.is_running => Some(Change::Byte),
@@ -131,7 +131,7 @@ impl<'m> Run<'m> {
         }
     }
 
-    /// What an acknowledgement changed, unless it cannot answer so.
+    /// What an acknowledgement changed, unless it cannot have this effect.
     fn acknowledgement(&mut self, link: Link, effect: Effect) -> Option<Change> {
         match effect {
             Effect::Acknowledged if self.has_sent(link) => {
@@ -143,7 +143,7 @@ impl<'m> Run<'m> {
         }
     }
 
-    /// What an event without a fault changed, unless it cannot answer so.
+    /// What an event without a fault changed, unless it cannot have this effect.
     fn effect(&mut self, event: Event, before: Sight, effect: Effect) -> Option<Change> {
         if self.fault.is_some() {
             return None;
@@ -161,7 +161,7 @@ impl<'m> Run<'m> {
             && (fault.offset as usize) < self.module.tables().code.len()
     }
 
-    /// Whether an event may answer this fault: the one that there is, or the first one where a byte is executed.
+    /// Whether an event may report this fault: the one that there is, or the first one where a byte is executed.
     fn may_fail(&self, event: Event, before: Sight, fault: Fault) -> bool {
         match (self.fault, event) {
             (Some(first), _) => fault == first,
@@ -170,7 +170,7 @@ impl<'m> Run<'m> {
         }
     }
 
-    /// What a fault changed, unless this event cannot answer it.
+    /// What a fault changed, unless this event cannot report it.
     fn fail(&mut self, event: Event, before: Sight, fault: Fault) -> Option<Change> {
         if !self.may_fail(event, before, fault) {
             return None;
@@ -179,7 +179,7 @@ impl<'m> Run<'m> {
         Some(Change::Nothing)
     }
 
-    /// Lets an event happen: held where the machine answers what it may.
+    /// Lets an event happen: held if the machine returns what it may.
     fn apply(&mut self, machine: &mut Checked, event: Event) -> Outcome {
         let before = Sight::of(machine, event);
         let change = match machine.apply(event) {
@@ -199,7 +199,7 @@ fn is_loaded(machine: &Checked) -> bool {
     machine.executed() == 0 && !machine.finished() && machine.running()
 }
 
-/// Lets the events happen to a machine that was loaded, up to the first that it does not answer as it may.
+/// Lets the events happen to a machine that was loaded, up to the first for which it does not return what it may.
 fn all_events(machine: &mut Checked, module: &Module, events: &[Event]) -> Outcome {
     if !is_loaded(machine) {
         return Outcome::Differs;
@@ -214,7 +214,7 @@ fn all_events(machine: &mut Checked, module: &Module, events: &[Event]) -> Outco
     Outcome::Held
 }
 
-/// What comes of the events of a run of a module: held where the machine answers what a machine may.
+/// What comes of the events of a run of a module: held if the machine returns what a machine may.
 pub(crate) fn watch(alloc: Global, module: &Module, events: &[Event]) -> Outcome {
     match Checked::load(alloc, module) {
         Ok(mut machine) => all_events(&mut machine, module, events),
