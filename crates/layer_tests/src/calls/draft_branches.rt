@@ -9,7 +9,7 @@ use std::alloc::{AllocError, Global};
 /// The channel is in word 2.
 const CHANNEL: ChannelRow = ChannelRow { word: 2, length: 4 };
 
-/// The words that the first branch writes, in more intervals than its row has room for.
+/// The words that the first branch writes, in more intervals than its row holds inline.
 const FIRST_WRITES: [Interval; 3] = [
     Interval { lo: -9, hi: -7 },
     Interval { lo: -7, hi: -6 },

@@ -61,8 +61,8 @@ PROC main(CHAN OF INT in0, CHAN OF INT out0)
 :
 ";
 
-/// A byte from one of two links goes over a channel to another process, which sends it on. The module has a header of 84
-/// bytes, 126 bytes of code, six label rows of one entry each, 40 bytes, and a row of a PAR of 144 bytes.
+/// A byte from one of two links goes over a channel to another process, which sends it on. The module has a header of
+/// 84 bytes, 126 bytes of code, six label rows of one entry each, 40 bytes, and a row of a PAR of 144 bytes.
 pub(crate) const RELAY: &[u8] = b"\
 PROC main(CHAN OF BYTE in0, CHAN OF BYTE in1, CHAN OF BYTE out0)
   CHAN OF BYTE c:

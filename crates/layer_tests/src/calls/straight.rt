@@ -23,7 +23,7 @@ fn header(code: u64) -> [u8; HEADER] {
     header
 }
 
-/// The file of a module with `ldc 0` so many times, and `stopp`. It is one allocation, whatever the number.
+/// The file of a module with `ldc 0` as often as `loads` says, and `stopp`. It is one allocation, whatever the number.
 fn straight(alloc: Global, loads: u16) -> Result<Vec<u8>, AllocError> {
     let before_stop = HEADER + usize::from(loads);
     let mut file = Vec::with_capacity(alloc, before_stop + STOPP.len())?;
