@@ -1,4 +1,4 @@
--- Reading a token gives the longest that begins there, and what it stands for; and the other way round.
+-- Reading a token gives the longest that begins there, and what it denotes; and the other way round.
 use Rattle.std.proofs.Common.{◌≡◌, ℕ, suc, ◌+◌, ◌-◌, ◌^◌, ◌<◌, ◌≤◌, Bool, true, false, cond, eqb, List, [], ◌∷◌, ◌++◌}
 use Rattle.std.proofs.Common.{length, take, drop, Option, Some, None, Result, Ok, Err, refl, sym, ap, subst, ◌∙◌, arith}
 use Rattle.std.proofs.Common.{inl, inr}
@@ -245,7 +245,7 @@ found-hexadecimal c rest h =
     (λ good. subst P same (found_run is_ascii_hexdigit c rest kind (lexeme-hexadecimal c h)
     (meaning-hexadecimal c (take m rest) h ∙ bits good)))
 
--- ---- what stands between quotes
+-- ---- what is between quotes
 
 one_less : (o : Option ℕ) (n : ℕ) → option_map (λ k. k + 1) o ≡ Some n → (k : ℕ) × (o ≡ Some k) × (k + 1 ≡ n)
 one_less None n e = absurd (cc e)
@@ -436,7 +436,7 @@ as_character body = one_byte body.0 >>= λ byte. Ok (Character byte, body.1 + 2)
 abbrev as_string : List ℕ × ℕ → Result (Kind × ℕ) Fault
 as_string body = Ok (Text body.0, body.1 + 2)
 
--- by what stands before the second quote, if there is one
+-- by what is before the second quote, if there is one
 quoted_agrees : (quote c : ℕ) (rest : List ℕ) (read : List ℕ × ℕ → Result (Kind × ℕ) Fault) (o : Option ℕ)
     → IsQuoted quote c → body_len quote false rest ≡ o
     → ((len : ℕ) → body_len quote false rest ≡ Some len

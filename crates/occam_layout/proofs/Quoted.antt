@@ -1,4 +1,4 @@
--- Reading what stands between quotes, a byte or a character at a time.
+-- Reading what is between quotes, a byte or a character at a time.
 use Rattle.std.proofs.Common.{◌≡◌, ℕ, zero, suc, ◌+◌, ◌-◌, ◌<◌, ◌≤◌, Bool, true, false, eqb, List, [], ◌∷◌, length}
 use Rattle.std.proofs.Common.{get_or, drop, Option, Some, None, refl, sym, ap, ◌∙◌, arith}
 use Rattle.std.specs.Prelude.{option_map, option_and_then, is_some, IsSome, unwrap_or}
@@ -94,7 +94,7 @@ is_some-map : {A B : Type 0} (f : A → B) (o : Option A) → is_some (option_ma
 is_some-map f None = refl
 is_some-map f (Some x) = refl
 
--- what is left behind a character is well formed exactly where all is
+-- what is left after a character is well formed exactly where all is
 pub is_some-rest : (bytes rest : List ℕ) (byte taken : ℕ) → Reads bytes byte taken → rest ≡ drop taken bytes
     → is_some (decoded 0 rest) ≡ is_some (decoded 0 bytes)
 is_some-rest bytes rest byte taken reads is_rest =

@@ -1,4 +1,4 @@
--- Characters between quotes stand for bytes, if they are spelled in bytes.
+-- Characters between quotes denote bytes, if they are spelled in bytes.
 use Rattle.std.proofs.Common.{◌≡◌, ℕ, zero, suc, ◌+◌, ◌*◌, ◌<◌, Bool, true, false, cond, eqb, List, [], ◌∷◌}
 use Rattle.std.proofs.Common.{get_or, take, drop, Option, Some, None, refl, arith}
 use Rattle.std.specs.Prelude.{option_map, option_and_then, IfSome, ◌&&◌, ◌||◌}

@@ -123,7 +123,7 @@ tokens_at-spaces offset [] = refl
 tokens_at-spaces offset (c ∷ rest) = past (eqb c 32) offset c rest (prefix_len is_space rest) refl
     (tokens_at-spaces (offset + 1) rest)
 
--- ---- what stands behind spaces
+-- ---- what is after spaces
 
 abbrev pub BeginsWithNoSpace : List ℕ → Type 0
 BeginsWithNoSpace [] = Unit {0}
@@ -150,7 +150,7 @@ tokens_at-blank offset (c ∷ rest) no_space blank =
     let comment : begins_comment (c ∷ rest) ≡ true = sym (is_blank-cons c rest) ∙ blank in
     rw (no_space, comment) refl
 
--- the first token, and the others behind it
+-- the first token, and the others after it
 abbrev pub and_others : ℕ → List ℕ → (Kind × ℕ) → Result (List Lexeme) Fault
 and_others offset body first = tokens_at 0 (offset + first.1) (drop first.1 body) >>= λ others. Ok
     (record { kind = first.0; start = offset; end = offset + first.1 } ∷ others)
@@ -174,7 +174,7 @@ tokens_at-token offset (c ∷ rest) no_space counts =
     let comment : begins_comment (c ∷ rest) ≡ false = sym (is_blank-cons c rest) ∙ counts in
     rw (no_space, comment) (same_others offset c rest (token_at (c ∷ rest)) (token-len (c ∷ rest)))
 
--- ---- a step of the loop: spaces, and what stands behind them
+-- ---- a step of the loop: spaces, and what is after them
 
 pub is_over : (offset gap : ℕ) (line body : List ℕ) → gap ≡ prefix_len is_space line → body ≡ drop gap line
     → is_blank body ≡ true → tokens_at 0 offset line ≡ Ok []

@@ -128,7 +128,7 @@ feeds_behind source offset line lines feeds =
     subst (Feeds lines) (drop-drop offset (length line + 1) source ∙ ap (λ (n : ℕ). drop n source) sum)
     (others_then line lines (drop offset source) feeds)
 
--- what stands behind the indentation of a line
+-- what is after the indentation of a line
 behind_spaces : (source : List ℕ) (offset level : ℕ) (line tail : List ℕ) → indent_of line ≡ 2 * level
     → GoesOn source offset line tail → GoesOn source (offset + 2 * level) (behind_indent line) tail
 behind_spaces source offset level line tail twice on =

@@ -96,7 +96,7 @@ line_and_feed offset line after tokens others there all p =
     let fed = feed_first (offset + length line) after others p in
     line_first (offset + length line) offset line (10 ∷ after) tokens others refl there all fed.0 fed.1
 
--- a line with nothing behind it
+-- a line with nothing after it
 line_alone : (offset : ℕ) (line : List ℕ) (tokens : List Lexeme) → Tokens offset line tokens
     → list_all is_character line ≡ true → ArePieces offset line tokens
 line_alone offset line tokens there all =

@@ -4,7 +4,7 @@ use Rattle.std.specs.Prelude.{ℕ, zero, suc, ◌+◌, ◌*◌, Bool, true, fals
 use Rattle.std.specs.Prelude.{option_map, option_and_then, ◌==◌, if◌then◌else◌}
 use Rattle.std.specs.Char.{is_ascii_hexdigit, digit_value}
 
--- what a sign stands for behind an asterisk: c return, n line feed, t tab, s space, and quotes and the asterisk
+-- what a sign denotes after an asterisk: c return, n line feed, t tab, s space, and quotes and the asterisk
 -- themselves
 abbrev pub escape : ℕ → Option ℕ
 escape c =
@@ -14,7 +14,7 @@ escape c =
     else (if c == 115 then Some 32
     else (if (c == 39 || c == 34) || c == 42 then Some c else None))))
 
--- two hexadecimal digits behind *#
+-- two hexadecimal digits after *#
 abbrev pub coded : List ℕ → Option (ℕ × ℕ)
 coded [] = None
 coded (high ∷ []) = None
@@ -26,20 +26,20 @@ abbrev pub escaped : List ℕ → Option (ℕ × ℕ)
 escaped [] = None
 escaped (c ∷ rest) = if c == 35 then coded rest else option_map (λ byte. (byte, 1)) (escape c)
 
--- the character that begins here: its byte, and how many bytes it takes behind its first; * is 42
+-- the character that begins here: its byte, and how many bytes it takes after its first; * is 42
 unfoldable pub character_at : List ℕ → Option (ℕ × ℕ)
 character_at [] = None
 character_at (c ∷ rest) = if c == 42 then escaped rest else Some (c, 0)
 
--- The bytes that the characters stand for, one behind another. The number says how many bytes at the front
--- belong to a character that was read already.
+-- The bytes that the characters denote, one after another. The number is that of the bytes at the front
+-- that belong to a character that was read already.
 unfoldable pub decoded : ℕ → List ℕ → Option (List ℕ)
 decoded passed [] = Some []
 decoded (suc passed) (c ∷ rest) = decoded passed rest
 decoded zero (c ∷ rest) =
     option_and_then (λ x. option_map (λ bytes. x.0 ∷ bytes) (decoded x.1 rest)) (character_at (c ∷ rest))
 
--- How many bytes stand before the quote that ends a literal. The byte behind an asterisk ends nothing.
+-- The number of bytes before the quote that ends a literal. The byte after an asterisk ends nothing.
 unfoldable pub body_len : ℕ → Bool → List ℕ → Option ℕ
 body_len quote starred [] = None
 body_len quote true (c ∷ rest) = option_map (λ n. n + 1) (body_len quote false rest)

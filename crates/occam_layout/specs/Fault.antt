@@ -1,4 +1,4 @@
--- Which number a fault has, and how it is told.
+-- The number of each fault, and how it is reported.
 use Rattle.std.specs.Prelude.{ℕ}
 use Rattle.occam_layout.specs.declared.fault.TheConstants.{ODD_INDENTATION, TOO_DEEP, CHARACTER, LITERAL, TOO_LARGE}
 use Rattle.occam_layout.specs.declared.fault.TheConstants.{MEMORY}
@@ -15,11 +15,11 @@ number_of Character = CHARACTER
 number_of Literal = LITERAL
 number_of TooLarge = TOO_LARGE
 
--- a fault, told at a line
+-- a fault, at a line
 abbrev pub refused : Fault → ℕ → LayoutFault
 refused fault line = record { number = number_of fault; line = line }
 
--- want of memory, which no line is to blame for
+-- memory ran out, which is no line's fault
 abbrev pub out_of_memory : LayoutFault
 out_of_memory = record { number = MEMORY; line = 0 }
 

@@ -1,4 +1,4 @@
--- What a token is, apart from where it stands in memory.
+-- What a token is, apart from where it is in memory.
 use Rattle.std.specs.Prelude.{ℕ, ℤ, Bool, List, [], ◌∷◌, length, map, filter, ◌==◌, codes, bytes_eq, unwrap_or, Option}
 use Rattle.std.specs.Prelude.{Some}
 use Rattle.std.specs.Prelude.{None, if◌then◌else◌}
@@ -10,7 +10,7 @@ use Rattle.occam_layout.specs.declared.text.Text as text
 use Rattle.occam_layout.specs.declared.token.TokenKind.{TokenKind}
 use Rattle.occam_layout.specs.declared.token.TokenKind.TheVariants as token
 
--- a name or a literal by what it stands for, a keyword or a sign by its spelling
+-- a name or a literal by what it denotes, a keyword or a sign by its spelling
 pub data Kind : Type 0 where
   Mark : (spelling : List ℕ) → Kind
   Name : (spelling : List ℕ) → Kind
@@ -92,14 +92,14 @@ signs = map spelling (
 abbrev pub is_sign : List ℕ → Bool
 is_sign text = list_any (bytes_eq text) signs
 
--- the bytes that a string stands for
+-- the bytes that a string denotes
 abbrev pub bytes_of : text.Text → List ℕ
 bytes_of t = unwrap_or (decoded 0 t.spelling.now) []
 
 abbrev pub marked : mark_type.Mark → Kind
 marked m = Mark (spelling m)
 
--- what a token of the program is, where each case is told by what it stands for
+-- what a token of the program is, each case by what it denotes
 abbrev pub told_by : {A : Type 0} → (name : List ℕ → A) → (integer : ℤ → A) → (character : ℕ → A) → (text : List ℕ → A)
     → (mark : mark_type.Mark → A) → TokenKind → A
 told_by name integer character text mark (token.Name spelling) = name spelling.now

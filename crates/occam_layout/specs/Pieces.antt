@@ -38,7 +38,7 @@ FollowLine (Comment text ∷ pieces) = ⊥
 FollowLine (Spelled kind text ∷ pieces) = ⊥
 
 -- Each piece is what it is called: a comment begins with two dashes and goes on to the end of its line, a token is
--- what its bytes stand for. Neither holds a line feed.
+-- what its bytes denote. Neither holds a line feed.
 abbrev pub AreSound : List Piece → Type 0
 AreSound [] = Unit {0}
 AreSound (Space ∷ pieces) = AreSound pieces

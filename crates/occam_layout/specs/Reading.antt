@@ -60,14 +60,14 @@ decimal_at bytes =
     let number = value 10 (take len bytes) in
     if nat_lt number (2 ^ 31) then Ok (Integer (pos number), len) else Err faults.Literal
 
--- behind a #, hexadecimal digits, as many as there are: 1 to 8 of them, the bits of a word
+-- after a #, hexadecimal digits, as many as there are: 1 to 8 of them, the bits of a word
 unfoldable pub hexadecimal_at : List ℕ → Result (Kind × ℕ) Fault
 hexadecimal_at bytes =
     let len = prefix_len is_ascii_hexdigit bytes in
     if len == 0 || nat_lt 8 len then Err faults.Literal
     else Ok (Integer (cast_signed w32 (value 16 (take len bytes))), len + 1)
 
--- behind a quote, what stands before the next: its bytes, and how many bytes its spelling has
+-- after a quote, what is before the next: its bytes, and how many bytes its spelling has
 unfoldable pub quoted_at : ℕ → List ℕ → Result (List ℕ × ℕ) Fault
 quoted_at quote bytes = do
   len ← ok_or (body_len quote false bytes) faults.Literal
@@ -80,14 +80,14 @@ one_byte [] = Err faults.Literal
 one_byte (byte ∷ []) = Ok byte
 one_byte (byte ∷ other ∷ others) = Err faults.Literal
 
--- behind a ', which is 39
+-- after a ', which is 39
 unfoldable pub character_at : List ℕ → Result (Kind × ℕ) Fault
 character_at bytes = do
   body ← quoted_at 39 bytes
   byte ← one_byte body.0
   Ok (Character byte, body.1 + 2)
 
--- behind a ", which is 34
+-- after a ", which is 34
 unfoldable pub string_at : List ℕ → Result (Kind × ℕ) Fault
 string_at bytes = do
   body ← quoted_at 34 bytes
@@ -155,11 +155,11 @@ is_character c = not (nat_lt c 32) && nat_lt c 127
 abbrev pub is_space : ℕ → Bool
 is_space c = c == 32
 
--- a line that doesn't count: nothing but spaces, or a comment behind them
+-- a line that doesn't count: nothing but spaces, or a comment after them
 abbrev pub is_blank : List ℕ → Bool
 is_blank body = length body == 0 || begins_comment body
 
--- A line behind its indentation: its number, the offset where it begins, the level that it may have at most,
+-- A line after its indentation: its number, the offset where it begins, the level that it may have at most,
 -- and how many spaces it begins with.
 unfoldable pub row_behind : ℕ → ℕ → ℕ → ℕ → List ℕ → Result (Option Row) Fault
 row_behind number offset deepest indent body =
@@ -191,7 +191,7 @@ unfoldable pub lines_of : List ℕ → List (List ℕ)
 lines_of [] = []
 lines_of (c ∷ rest) = if c == 10 then [] ∷ lines_of rest else joined c (lines_of rest)
 
--- a fault of a line, told at its number
+-- a fault of a line, at its number
 abbrev pub told_at : {A : Type 0} → ℕ → Result A Fault → Result A LayoutFault
 told_at number (Ok x) = Ok x
 told_at number (Err fault) = Err (refused fault number)
@@ -215,7 +215,7 @@ unfoldable pub read : List ℕ → Result (List Row) LayoutFault
 read source =
     if nat_lt MAX_BYTES (length source) then Err (refused faults.TooLarge 0) else rows_at 1 0 0 (lines_of source)
 
--- ---- what the program answers
+-- ---- what the program returns
 
 abbrev pub lexeme_of : Token → Lexeme
 lexeme_of t = record { kind = kind_of t.kind; start = t.start; end = t.end }

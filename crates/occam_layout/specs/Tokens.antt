@@ -19,7 +19,7 @@ abbrev pub is_last : ℕ → Option ℕ → Bool
 is_last len None = false
 is_last len (Some at) = len == at + 1
 
--- What a token may look like, by its first byte: a word, decimal digits, # (35) with digits behind it, a literal
+-- What a token may look like, by its first byte: a word, decimal digits, # (35) with digits after it, a literal
 -- between quotes (39 and 34), a sign. Whether a literal is in range isn't asked.
 unfoldable pub is_lexeme : List ℕ → Bool
 is_lexeme [] = false
@@ -52,7 +52,7 @@ character_of (byte ∷ other ∷ others) = None
 abbrev pub body_of : List ℕ → List ℕ
 body_of rest = take (length rest - 1) rest
 
--- what a token stands for, if it is in range
+-- what a token denotes, if it is in range
 unfoldable pub meaning : List ℕ → Option Kind
 meaning [] = None
 meaning (c ∷ rest) =
@@ -65,7 +65,7 @@ meaning (c ∷ rest) =
 
 -- ---- the tokens of a line
 
--- The bytes of a line from an offset on are these tokens: only spaces (32) stand between them, and behind them
+-- The bytes of a line from an offset on are these tokens: only spaces (32) are between them, and after them
 -- spaces and a comment.
 pub data Tokens : ℕ → List ℕ → List Lexeme → Type 0 where
   Ends : (offset : ℕ) → Tokens offset [] []
@@ -79,7 +79,7 @@ pub data Tokens : ℕ → List ℕ → List Lexeme → Type 0 where
 
 -- ---- the lines of a source
 
--- how many spaces a line begins with, and what stands behind them
+-- how many spaces a line begins with, and what is after them
 abbrev pub indent_of : List ℕ → ℕ
 indent_of line = prefix_len is_space line
 
@@ -116,24 +116,24 @@ pub record AreLines (text : List ℕ) (lines : List (List ℕ)) : Type 0 where
   pub whole : (with_feeds lines ≡ text) ⊎ (with_feeds lines ≡ text ++ 10 ∷ [])
   pub apart : AllByRecursion (λ line. list_all is_in_line line ≡ true) lines
 
--- ---- where tokens stand
+-- ---- where tokens are
 
 -- the bytes of a source from an offset up to another
 abbrev pub bytes_between : List ℕ → ℕ → ℕ → List ℕ
 bytes_between source start end = take (end - start) (drop start source)
 
--- a token's span has bytes, lies in the source, and what stands there is the token
+-- a token's span has bytes, lies in the source, and what is there is the token
 pub record IsSpelled (source : List ℕ) (token : Lexeme) : Type 0 where
   pub rises : token.start < token.end
   pub within : token.end ≤ length source
   pub means : meaning (bytes_between source token.start token.end) ≡ Some token.kind
 
--- tokens one behind another from an offset on: no two spans meet
+-- tokens one after another from an offset on: no two spans meet
 abbrev pub AreInOrder : ℕ → List Lexeme → Type 0
 AreInOrder offset [] = Unit {0}
 AreInOrder offset (token ∷ tokens) = (offset ≤ token.start) × AreInOrder token.end tokens
 
--- each line's tokens stand in the source where they say, in order
+-- each line's tokens are in the source at their spans, in order
 abbrev pub ArePlaced : List ℕ → List Row → Type 0
 ArePlaced source rows = AllByRecursion (λ row. AllByRecursion (IsSpelled source) row.tokens × AreInOrder 0
     row.tokens) rows

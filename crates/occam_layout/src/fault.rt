@@ -24,7 +24,7 @@ pub const MEMORY: u8 = 20;
 pub struct LayoutFault {
     /// One of the named numbers of this crate.
     pub number: u8,
-    /// The line at fault, counted from 1. 0 where no line is: want of memory, or too many bytes.
+    /// The line at fault, counted from 1. 0 if memory ran out or there are too many bytes.
     pub line: u32,
 }
 
@@ -51,7 +51,7 @@ impl Fault {
         }
     }
 
-    /// This fault, told at a line.
+    /// This fault, at a line.
     pub(crate) fn at(self, line: u32) -> LayoutFault
         ensures { result ≡ refused self line }
     {
@@ -72,7 +72,7 @@ impl<T: Drop> From<AllocFailed<T>> for LayoutFault {
     }
 }
 
-/// Want of memory, which no line is to blame for.
+/// Memory ran out, which is no line's fault.
 const OUT_OF_MEMORY: LayoutFault = LayoutFault {
     number: MEMORY,
     line: 0,
@@ -86,7 +86,7 @@ pub(crate) enum ScanError {
 }
 
 impl ScanError {
-    /// This error, told at a line.
+    /// This error, as a fault at a line.
     pub(crate) fn at(self, line: u32) -> LayoutFault
         ensures { result ≡ scan_refused self line }
     {

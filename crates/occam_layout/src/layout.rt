@@ -110,7 +110,7 @@ fn row_of(
     }))
 }
 
-/// How many bytes stand before the first line feed, or before the end.
+/// The number of bytes before the first line feed, or before the end.
 fn line_len(text: &[u8]) -> usize
     ensures len { result ≡ prefix_len is_in_line text.now }
     ensures within { result ≤ length text.now }
@@ -118,7 +118,7 @@ fn line_len(text: &[u8]) -> usize
     text.iter().take_while(|b| **b != b'\n').count()
 }
 
-/// The first line of a text that isn't empty, and what follows the line feed behind it.
+/// The first line of a text that isn't empty, and what follows the line feed that ends it.
 fn first_line(text: &[u8]) -> (&[u8], &[u8])
     requires { 0 < length text.now }
     ensures parts { lines_of text.now ≡ result.0.now ∷ lines_of result.1.now }
@@ -173,7 +173,8 @@ fn read_lines(alloc: Global, source: &[u8]) -> Result<Vec<Line<'_>>, LayoutFault
 /// [`TOO_LARGE`](crate::TOO_LARGE) for a line too many, [`CHARACTER`](crate::CHARACTER) for a byte that is no
 /// character of a source, [`ODD_INDENTATION`](crate::ODD_INDENTATION), [`TOO_DEEP`](crate::TOO_DEEP), and then
 /// `CHARACTER` or [`LITERAL`](crate::LITERAL) for the first bad token from the left. A source of too many bytes is
-/// `TOO_LARGE` at line 0, asked before all others; want of memory is [`MEMORY`](crate::MEMORY) at line 0.
+/// `TOO_LARGE` at line 0, checked before all others. If memory runs out, the fault is [`MEMORY`](crate::MEMORY) at
+/// line 0.
 pub fn lines(alloc: Global, source: &[u8]) -> Result<Vec<Line<'_>>, LayoutFault>
     // What is answered are the source's lines of tokens.
     ensures found { IfOk result (λ v. IsSource source.now (map row_of v.items)) }
@@ -181,7 +182,7 @@ pub fn lines(alloc: Global, source: &[u8]) -> Result<Vec<Line<'_>>, LayoutFault>
     ensures only { (rows : List Row) → IsSource source.now rows → Answers result (Ok rows) }
     // No source has two readings.
     ensures unique { (rows others : List Row) → IsSource source.now rows → IsSource source.now others → rows ≡ others }
-    // Each token stands in the source where it says, and behind the one before it.
+    // Each token is in the source at its span, and after the one before it.
     ensures placed { IfOk result (λ v. ArePlaced source.now (map row_of v.items)) }
     // Nothing is dropped between the lines: put together they are the source.
     ensures whole { AreLines source.now (lines_of source.now) }

@@ -16,7 +16,7 @@ use crate::words::{keyword, pair_sign, single_sign};
 /// A token, and how many bytes it takes.
 type Found<'a> = Result<(TokenKind<'a>, usize), Fault>;
 
-/// How many bytes at the front can stand in a name.
+/// The number of bytes at the front that can be in a name.
 fn name_len(bytes: &[u8]) -> usize
     ensures len { result ≡ prefix_len is_name_byte bytes.now }
     ensures within { result ≤ length bytes.now }
@@ -101,7 +101,7 @@ fn hexadecimal_at(bytes: &[u8]) -> Found<'static>
     }
 }
 
-/// What stands between quotes, and how many bytes its spelling has.
+/// What is between quotes, and how many bytes its spelling has.
 #[tactic(auto, unfolding(crate::specs::Reading::quoted_at))]
 fn quoted_at(quote: u8, bytes: &[u8]) -> Result<(Text<'_>, usize), Fault>
     ensures found { seen_text result ≡ quoted_at quote bytes.now }

@@ -6,7 +6,7 @@ ghost use Rattle.std.specs.Prelude.{unwrap_or, drop};
 ghost use Rattle.std.specs.Char.{is_ascii_hexdigit, digit_value};
 ghost use Rattle.occam_layout.specs.Characters.{escape, character_at, decoded, body_len};
 
-/// The bytes of a string: lent from the source as they are spelled, and seen as what they stand for.
+/// The bytes of a string: lent from the source as they are spelled, and seen as what they denote.
 #[derive(Clone, Copy, Debug)]
 pub struct Text<'a> {
     spelling: &'a [u8],
@@ -51,7 +51,7 @@ fn coded(high: u8, low: u8) -> Option<u8>
     }
 }
 
-/// What a byte between quotes, the first of a character, stands for, and how many bytes the character takes.
+/// What a byte between quotes, the first of a character, denotes, and how many bytes the character takes.
 #[tactic(auto, unfolding(crate::specs::Characters::character_at))]
 fn character_at(bytes: &[u8]) -> Option<(u8, usize)>
     ensures found { option_map (λ x. (x.0, x.1 - 1)) result ≡ character_at bytes.now }
@@ -66,7 +66,7 @@ fn character_at(bytes: &[u8]) -> Option<(u8, usize)>
     }
 }
 
-/// How many bytes stand before the quote that ends a literal.
+/// The number of bytes before the quote that ends a literal.
 pub(crate) fn body_len(quote: u8, bytes: &[u8]) -> Option<usize>
     ensures len { result ≡ body_len quote false bytes.now }
     ensures within { IfSome result (λ n. n < length bytes.now) }

@@ -18,13 +18,13 @@ pub struct Line<'a> {
     pub tokens: Vec<Token<'a>>,
 }
 
-/// A token, and where it stands.
+/// A token, and its span in the source.
 #[derive(Clone, Copy, Debug)]
 pub struct Token<'a> {
     pub kind: TokenKind<'a>,
     /// The offset of the token's first byte in the source.
     pub start: u32,
-    /// The offset behind the token's last byte.
+    /// The offset after the token's last byte.
     pub end: u32,
     /// An integer literal is a word, a character is a byte, and so is each byte of a string.
     pub ghost words: { is_in_words (kind_of kind) ≡ true },
@@ -35,7 +35,7 @@ pub struct Token<'a> {
 pub enum TokenKind<'a> {
     /// A letter, then letters, digits and dots, and no keyword: the bytes of the source.
     Name(&'a [u8]),
-    /// An integer literal: the value of the word that it stands for.
+    /// An integer literal: the value of the word that it denotes.
     Integer(i32),
     /// A character literal: its byte.
     Character(u8),
