@@ -1,4 +1,4 @@
--- How the program answers.
+-- What the program returns.
 use Rattle.std.proofs.Common.{◌≡◌, ℕ, List, [], ◌∷◌, Option, Some, None, Result, Ok, Err, refl, ap, subst, ◌∙◌}
 use Rattle.std.proofs.Common.{inl, inr, sym}
 use Rattle.occam_parser.specs.declared.fault.LineError.{LineError}
@@ -20,7 +20,7 @@ pub lacks_none : {A : Type 0} (t : Refusal) (read : Option A) → read ≡ None 
 lacks_none refusals.Memory read e = tt
 lacks_none (refusals.Fault fault left) read e = e
 
--- what a line gave, told as a whole
+-- what a line gave, reported as a whole
 pub told_found : {X Y : Type 0} (view : X → Y) (gave : Result X LineError) (left : ℕ) (x : X) (read : Option Y)
     → IsToldOf gave left (Ok x) → Gives view gave read → read ≡ Some (view x)
 told_found view (Ok y) left x read i g = let same : y ≡ x = cc in g ∙ ap (λ z. Some (view z)) same

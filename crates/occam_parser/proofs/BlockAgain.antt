@@ -135,7 +135,7 @@ left : (n level : ℕ) → n + level ≡ 65 → level ≤ 64 → (m : ℕ) × (n
 left zero level e low = absurd (omega arith)
 left (suc m) level e low = (m, refl, omega arith)
 
--- what stands below a head is read, one level deeper
+-- what is below a head is read, one level deeper
 abbrev pub ReadsBelow : Process → ℕ → ℕ → List Row → Type 0
 ReadsBelow p m level rest =
     (n : ℕ) × (m ≡ suc n) × (process_at n (level + 1) (lines_of p (level + 1) ++ rest) ≡ Some (p, rest))

@@ -204,7 +204,7 @@ joined : (ds : List Declaration) (p : Process) (level : ℕ) (rest : List Row)
 joined ds p level rest = sym (append_assoc (declared_rows level ds) (lines_of p level) rest) ∙ ap (λ us. us ++ rest)
     (sym (with_written ds p level))
 
--- what was read behind the head of a block
+-- what was read after the head of a block
 abbrev pub IsConstruct : BlockKind → Option Replicator → ℕ → ℕ → List Row → Construct × List Row → Type 0
 IsConstruct kind r line level after x =
     (block_row line level kind r ∷ after ≡ lines_of_construct x.0 line level ++ x.1)

@@ -54,7 +54,7 @@ unfolding read_as
 action_reads level rows after ds line a low b =
     process_is level rows after (record { declarations = ds; line = line; start = Acts a }) low b
 
--- a process, from the construct that was read behind its head
+-- a process, from the construct that was read after its head
 pub block_reads : (level : ℕ) (rows after : List Row) (ds : List Declaration) (line : ℕ) (kind : BlockKind)
     (r : Option Replicator) (read : Option (Construct × List Row)) → level ≤ 64
     → beginning_from level [] rows ≡ Some (record { declarations = ds; line = line; start = Opens kind r }, after)

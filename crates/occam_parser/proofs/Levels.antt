@@ -1,4 +1,4 @@
--- What stands one level down.
+-- What is one level down.
 use Rattle.std.proofs.Common.{◌≡◌, ℕ, zero, suc, pred, ◌-◌, ◌<◌, List, Option, Some, None, refl, ap, arith, ◌∙◌}
 use Rattle.occam_parser.specs.declared.fault.LineError.{LineError}
 use Rattle.occam_parser.specs.declared.fault.LineError.TheVariants as errors

@@ -392,7 +392,7 @@ action_sound name ts a e = instance_sound name ts (behind mark.OpenParenthesis t
 abbrev pub IsReplicator : List Terminal → Option Replicator → Type 0
 IsReplicator ts r = (ts ≡ written_replicator r) × FitsReplicator r
 
--- how a replicator is written behind its name
+-- how a replicator is written after its name
 abbrev pub IsCounted : List Terminal → Replicator → Type 0
 IsCounted ts r = (ts ≡ written r.base ++ Mark mark.For ∷ written r.count) × FitsReplicator (Some r)
 

@@ -12,7 +12,7 @@ use Rattle.occam_parser.proofs.Options.{bind_some, at_some}
 use Rattle.occam_parser.proofs.Marks.{behind_is, behind_again}
 use Rattle.occam_parser.proofs.ListsAreRead.{behind_item, from_item, turn, no_turn}
 
--- items behind those that were found
+-- items after those that were found
 abbrev pub IsMore : {A : Type 0} → (A → List Terminal) → (A → Type 0) → List A → List Terminal
     → List A × List Terminal → Type 0
 IsMore {A} write fits found ts y = (more : List A) × (y.0 ≡ found ++ more) × (ts ≡ after_commas write more ++ y.1) ×

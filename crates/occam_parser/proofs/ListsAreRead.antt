@@ -11,11 +11,11 @@ use Rattle.occam_parser.specs.Reading.{Reads, ◌>>=◌, behind, list_step, list
 use Rattle.occam_parser.specs.Reading.{chain_from, chain}
 use Rattle.occam_parser.proofs.Marks.{behind_is}
 
--- what was read behind a first item, beside it
+-- what was read after a first item, beside it
 abbrev pub behind_item : {A : Type 0} → A → Option (List A × List Terminal) → Option (OneOrMore A × List Terminal)
 behind_item first read = read >>= λ y. Some (record { first = first; others = y.0 }, y.1)
 
--- what is left of a list's reading, when these items were found behind the first one
+-- what is left of a list's reading, when these items were found after the first one
 pub record Continues {A : Type 0} (item : Reads A) (start : List Terminal) (first : A) (found : List A)
     (ts : List Terminal) : Type 0 where
   pub turns : ℕ

@@ -44,7 +44,7 @@ made_tells seen view make (Ok c) (Ok x) got whole made told is =
     ∙ ap (λ p. Some (p, rows_of c.1.now)) (sym made.0)
     ∙ ap (λ (b : Bor (List Line)). Some (view x.0, rows_of b.now)) (sym made.1)
 
--- what holds of each number of lines that is less than so many, holds of the lines that it leaves
+-- what holds of each number of lines below n, holds of the number of lines left
 pub made_within : {A B X Y : Type 0} (seen : A → X) (view : B → Y) (make : X → Y) (n : ℕ) (Left : ℕ → Type 0)
     (read : Result (A × Bor (List Line)) Refusal) (answer : Result (B × Bor (List Line)) Refusal)
     → Makes seen view make read answer → IfOk read (λ x. length x.1.now < n) → ((k : ℕ) → k < n → Left k)

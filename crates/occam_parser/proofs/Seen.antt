@@ -57,7 +57,7 @@ pub view-Converted : (to : ValueType) (operand : Box Operand Global)
     → term_of (Converted to operand) ≡ Conversion to (term_of operand.value)
 view-Converted to operand = search (rules, the_lemmas)
 
--- what is left to look through, behind a first token
+-- what is left to look through, after a first token
 abbrev pub has_left : Option (TokenKind × Bor (List Token)) → Bool
 has_left None = false
 has_left (Some x) = has_condition (terminal_of x.0 ∷ terminals_of x.1.now)

@@ -37,7 +37,7 @@ up_to_is {A} close read x rest e =
     (w.0, Mark close ∷ w.1)) (y.0.0, z.0) (x, rest) z.2 refl in
     y.1 ∙ ap (λ us. Some (y.0.0, us)) is ∙ ap Some same
 
--- what a reading gives, behind a terminal that was read
+-- what a reading gives, after a terminal that was read
 abbrev pub IsTerm : ℕ → List Terminal → Term × List Terminal → Type 0
 IsTerm n ts x = (ts ≡ written_term x.0 ++ x.1) × FitsTerm x.0 n
 
@@ -228,7 +228,7 @@ expression_with_sound p n s ts x rest e = one_found p n s ts (prefix_at ts) (x, 
 nothing_sound : {A : Type 0} (write : A → List Terminal) (fits : A → Type 0) → Sound write fits nothing
 nothing_sound write fits ts x rest e = absurd (cc)
 
--- the two that stand one level down
+-- the two that are one level down
 levels_sound : (n : ℕ) → Sound written (λ e. (0 < n) × Fits e (pred n)) (inner_at n) × Sound written_term
     (λ t. (0 < n) × FitsTerm t (pred n)) (operand_within n)
 unfolding inner_at operand_within

@@ -59,13 +59,14 @@ and_assoc : (a b c : Bool) → (a && (b && c)) ≡ ((a && b) && c)
 and_assoc false b c = refl
 and_assoc true b c = refl
 
--- one list behind another, where both are known
+-- one list after another, where both are known
 both : (front back : List Terminal) (p q : Bool) → are_in_words front ≡ p → are_in_words back ≡ q
     → are_in_words (front ++ back) ≡ (p && q)
 both front back p q h k = list_all-append is_in_words front back ∙ joined h k
 
 -- what a mark ends
-ended : (ts : List Terminal) (m : mark_type.Mark) (p : Bool) → are_in_words ts ≡ p → are_in_words (ts ++ Mark m ∷ []) ≡ p
+ended : (ts : List Terminal) (m : mark_type.Mark) (p : Bool) → are_in_words ts ≡ p
+    → are_in_words (ts ++ Mark m ∷ []) ≡ p
 ended ts m p h = both ts (Mark m ∷ []) p true h refl ∙ and_true p
 
 sign_words : (op : PrefixOperator) (ts : List Terminal)
@@ -141,7 +142,7 @@ all_true (x ∷ xs) = all_true xs
 abbrev named_value : List ℕ → Value → List Terminal
 named_value name v = Name name ∷ Mark mark.Is ∷ (written_value v ++ Mark mark.Colon ∷ [])
 
--- what stands behind the size of a constant
+-- what is after the size of a constant
 abbrev behind_size : ValueType → List ℕ → Value → List Terminal
 behind_size type name v = type_word type ∷ named_value name v
 

@@ -12,7 +12,7 @@ use Rattle.occam_parser.specs.Blocks.{Processes, Choices, Branches, part_of, Com
 use Rattle.occam_parser.specs.Blocks.{Component, Plain, Chosen, Guarded, Procedure, ProgramItem, GlobalConstant}
 use Rattle.occam_parser.specs.Blocks.{GlobalProcedure}
 
--- what is read from the first lines, and the lines behind, if it is there
+-- what is read from the first lines, and the lines after them, if it is there
 abbrev pub ReadsLines : Type 0 → Type 0
 ReadsLines A = List Row → Option (A × List Row)
 
@@ -31,7 +31,7 @@ begins_at level (r ∷ rows) = r.level == level
 
 -- ---- declarations
 
--- declarations, the number of the line behind them, and what that line begins
+-- declarations, the number of the line after them, and what that line begins
 pub record Beginning : Type 0 where
   pub declarations : List Declaration
   pub line : ℕ
@@ -55,7 +55,7 @@ abbrev pub with_declarations : List Declaration → Process → Process
 with_declarations [] p = p
 with_declarations (d ∷ ds) p = Declared d (with_declarations ds p)
 
--- the process that a construct is, behind declarations
+-- the process that a construct is, after declarations
 abbrev pub behind_declarations : List Declaration → ℕ → Construct → Process
 behind_declarations declarations line c = with_declarations declarations (Does line c)
 
@@ -114,7 +114,7 @@ process_behind component level b rows (Opens kind replicator) = do
   Some (with_declarations b.declarations (Does b.line x.0), x.1)
 process_behind component level b rows (Declares d) = None
 
--- a process at a level, from the components that stand one level deeper
+-- a process at a level, from the components that are one level deeper
 unfoldable pub process_with : ((part : Part) → ReadsLines (Component part)) → ℕ → ReadsLines Process
 process_with component level rows = do
   b ← beginning_from level [] rows
@@ -189,7 +189,7 @@ item_at r rows = if nat_lt 0 r.level then None else item_with r.number rows r.te
 
 -- ---- all items
 
--- the items of a program, behind those that were found; the number bounds the turns
+-- the items of a program, after those that were found; the number bounds the turns
 unfoldable pub items_from : ℕ → List ProgramItem → List Row → Option (List ProgramItem)
 items_from n found [] = Some found
 items_from zero found (r ∷ rows) = None

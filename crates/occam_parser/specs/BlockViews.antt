@@ -37,7 +37,7 @@ use Rattle.occam_parser.specs.BlockReading.{Beginning, with_declarations, read_a
 abbrev pub all_of : {part : Part} → List (Component part) → Components part
 all_of cs = fold Further NoComponent cs
 
--- one level, with the trees of what stands inside
+-- one level, with the trees of what is inside
 abbrev pub process_step : Process-F Body Construct (Component Branches) (Component Choices) Process → Process
 process_step p = with_declarations (map declaration_of p.declarations.items) (Does p.line p.construct.value)
 
@@ -104,14 +104,14 @@ components_in block.Alt found = all_branches found.branches.items
 abbrev pub HasOneMore : Body → (old new : components_type.Components) → Type 0
 HasOneMore (One kind c) old new = components_in kind new ≡ Further (components_in kind old) c
 
--- The component that was read, added: its refusal, or a lack of memory, or one more of its kind and the lines behind.
+-- The component that was read, added: its refusal, out of memory, or one more of its kind and the lines after it.
 abbrev pub Adds : Result (CodeBody × Bor (List Line)) Refusal → (old new : components_type.Components)
     → Result (Bor (List Line)) Refusal → Type 0
 Adds (Err e) old new answer = answer ≡ Err e
 Adds (Ok x) old new (Err e) = e ≡ refusals.Memory
 Adds (Ok x) old new (Ok rest) = HasOneMore (body_of x.0) old new × (rest.now ≡ x.1.now)
 
--- the component that a process is, below what stands above it
+-- the component that a process is, below what is above it
 abbrev pub led : head_type.ComponentHead → Process → Body
 led head.Seq process = One block.Seq (Plain process)
 led head.Par process = One block.Par (Plain process)

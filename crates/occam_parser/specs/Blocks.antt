@@ -1,5 +1,5 @@
 -- Processes and programs, and the lines that they are written on. The layout is that of the occam 2 reference manual:
--- a body stands one level deeper than its head.
+-- a body is one level deeper than its head.
 use Rattle.std.specs.Prelude.{◌≡◌, ℕ, ◌+◌, ◌≤◌, List, [], ◌∷◌, ◌++◌, map, Option, Some, None}
 use Rattle.occam_layout.specs.declared.token.Line as line_type
 use Rattle.occam_layout.specs.declared.mark.Mark.TheVariants as mark
@@ -12,7 +12,7 @@ use Rattle.occam_parser.specs.Lines.{ProcHead, written_constant, written_declara
 use Rattle.occam_parser.specs.Lines.{written_replicator, block_word, written_guard, written_proc_head, IsWhole}
 use Rattle.occam_parser.specs.Lines.{FitsConstant, FitsDeclaration, FitsAction, FitsReplicator, FitsGuard, FitsProcHead}
 
--- a line, apart from where its tokens stand
+-- a line, apart from where its tokens are
 pub record Row : Type 0 where
   pub number : ℕ
   pub level : ℕ
@@ -26,7 +26,7 @@ rows_of lines = map row_of lines
 
 -- ---- trees
 
--- what stands side by side below the head of a block
+-- what is side by side below the head of a block
 pub data Part : Type 0 where
   Processes : Part
   Choices : Part

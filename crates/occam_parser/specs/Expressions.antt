@@ -110,7 +110,7 @@ abbrev mutual
   written_term (Bracketed e) = Mark mark.OpenParenthesis ∷ written e ++ Mark mark.CloseParenthesis ∷ []
   written_term (Converted to t) = type_word to ∷ written_term t
 
--- no more than so many brackets, subscripts and conversions stand one in another
+-- at most n brackets, subscripts and conversions are nested
 abbrev mutual
   pub Fits : Expression → ℕ → Type 0
   Fits (Alone t) n = FitsTerm t n

@@ -1,4 +1,4 @@
--- How a fault of one line is told.
+-- How a fault of one line is reported.
 use Rattle.std.specs.Prelude.{◌≡◌, ◌⊎◌, ℕ, Bool, true, false, List, [], ◌∷◌, ◌++◌, length, ◌<◌, ◌≤◌, Option, Some, None}
 use Rattle.std.specs.Prelude.{Result, Ok, Err}
 use Rattle.std.specs.Borrow.{Bor}
@@ -42,7 +42,7 @@ pub record IsAtLine (rows : List Row) (fault : ParseFault) : Type 0 where
 abbrev pub IsRefusal : List Row → ParseFault → Type 0
 IsRefusal rows fault = (fault ≡ out_of_memory) ⊎ IsAtLine rows fault
 
--- a refusal of these lines, as it is told
+-- a refusal of these lines, as it is reported
 abbrev pub IsTold : List Row → Refusal → ParseFault → Type 0
 IsTold rows refusals.Memory told = told ≡ out_of_memory
 IsTold [] (refusals.Fault fault left) told = Unit {0}
@@ -68,14 +68,14 @@ abbrev pub Answers : {X Y : Type 0} → (X → Y) → Result X ParseFault → Y 
 Answers view (Ok x) y = view x ≡ y
 Answers view (Err e) y = e ≡ out_of_memory
 
--- a type, or CHAN OF a type, and a name behind it
+-- a type, or CHAN OF a type, and a name after it
 unfoldable pub shaped_name_at : Reads ((Bool × ValueType) × List ℕ)
 shaped_name_at ts = do
   shape ← shape_at ts
   name ← name_at shape.1
   Some ((shape.0, name.0), name.1)
 
--- a type, or CHAN OF a type, and names behind it up to the end of the line
+-- a type, or CHAN OF a type, and names after it up to the end of the line
 unfoldable pub shaped_names_at : List Terminal → Option ((Bool × ValueType) × OneOrMore (List ℕ))
 shaped_names_at ts = do
   shape ← shape_at ts
@@ -83,7 +83,7 @@ shaped_names_at ts = do
   rest ← behind mark.Colon names.1
   only (shape.0, names.0) rest
 
--- What was read, up to a mark: its fault, or that of a mark that is missing, or the same and the tokens behind the
+-- What was read, up to a mark: its fault, or that of a mark that is missing, or the same and the tokens after the
 -- mark.
 abbrev pub GoesUpTo : {A : Type 0} → Mark → (read answer : Result (A × Bor (List Token)) LineError) → Type 0
 GoesUpTo mark (Err e) answer = answer ≡ Err e
@@ -91,7 +91,7 @@ GoesUpTo mark (Ok x) (Err e) = Fails e (behind mark (terminals_of x.1.now))
 GoesUpTo mark (Ok x) (Ok y) = (y.0 ≡ x.0) × (behind mark (terminals_of x.1.now) ≡ Some (terminals_of y.1.now)) ×
     (length y.1.now < length x.1.now)
 
--- the expression that an operation is, beside the tokens behind it, unless memory ran out
+-- the expression that an operation is, beside the tokens after it, unless memory ran out
 abbrev pub IsMadeOf : Operation → Bor (List Token) → Result (Expr × Bor (List Token)) LineError → Type 0
 IsMadeOf operation rest (Ok x) = (expression_of x.0 ≡ operation_of operation) × (x.1 ≡ rest)
 IsMadeOf operation rest (Err e) = e ≡ errors.Memory
@@ -106,7 +106,7 @@ abbrev pub IsAll : {A : Type 0} → Result (A × Bor (List Token)) LineError →
 IsAll (Err e) answer = answer ≡ Err e
 IsAll (Ok x) answer = Gives (λ y. y) answer (only x.0 (terminals_of x.1.now))
 
--- What was read, pushed: its refusal, or a lack of memory, or one item more and the lines behind.
+-- What was read, pushed: its refusal, out of memory, or one item more and the lines after it.
 abbrev pub Pushes : {A : Type 0} → Result (A × Bor (List Line)) Refusal → (old new : List A)
     → Result (Bor (List Line)) Refusal → Type 0
 Pushes (Err e) old new answer = answer ≡ Err e
@@ -114,7 +114,7 @@ Pushes (Ok x) old new (Err e) = e ≡ refusals.Memory
 Pushes (Ok x) old new (Ok rest) = (new ≡ old ++ x.0 ∷ []) × (rest.now ≡ x.1.now)
 
 -- What was read and is seen so, made into what is seen as another tree: its refusal, or a lack of memory, or that tree,
--- and the same lines behind.
+-- and the same lines after it.
 abbrev pub Makes : {A B X Y : Type 0} → (A → X) → (B → Y) → (X → Y) → Result (A × Bor (List Line)) Refusal
     → Result (B × Bor (List Line)) Refusal → Type 0
 Makes seen view make (Err e) answer = answer ≡ Err e

@@ -88,7 +88,7 @@ items_behind item ts None = do
   rest ← behind mark.CloseParenthesis x.1
   only (as_list x.0) rest
 
--- items with commas between them, if any, behind the parenthesis that opens
+-- items with commas between them, if any, after the parenthesis that opens
 unfoldable pub in_parentheses : {A : Type 0} → Reads A → List Terminal → Option (List A)
 in_parentheses item ts = items_behind item ts (behind mark.CloseParenthesis ts)
 
@@ -111,14 +111,14 @@ value_at None ts = do
   Some (Scalar x.0, x.1)
 value_at (Some size) ts = table_at size ts
 
--- a type, and a name behind it
+-- a type, and a name after it
 unfoldable pub typed_name_at : Reads (ValueType × List ℕ)
 typed_name_at ts = do
   type ← type_at ts
   name ← name_at type.1
   Some ((type.0, name.0), name.1)
 
--- behind the word VAL
+-- after the word VAL
 unfoldable pub constant_at : ℕ → List Terminal → Option Constant
 constant_at line ts = do
   size ← bracketed_at ts
@@ -165,7 +165,7 @@ formal_behind ts None = do
 unfoldable pub formal_at : Reads Formal
 formal_at ts = formal_behind ts (behind mark.Val ts)
 
--- behind the word PROC
+-- after the word PROC
 unfoldable pub proc_head_at : List Terminal → Option ProcHead
 proc_head_at ts = do
   name ← name_at ts
@@ -175,7 +175,7 @@ proc_head_at ts = do
 
 -- ---- actions
 
--- behind the place that it begins with
+-- after the place that it begins with
 abbrev pub placed_action : Place → List Terminal → Option Action
 placed_action place (Mark mark.Assign ∷ ts) = do
   value ← whole_at ts
@@ -196,7 +196,7 @@ instance_or_other name ts None = do
   place ← place_at name ts
   placed_action place.0 place.1
 
--- behind its first name
+-- after its first name
 unfoldable pub action_at : List ℕ → List Terminal → Option Action
 action_at name ts = instance_or_other name ts (behind mark.OpenParenthesis ts)
 

@@ -1,4 +1,4 @@
--- The trees that values of the program are, for what stands on one line.
+-- The trees that values of the program are, for what is on one line.
 use Rattle.std.specs.Prelude.{ℕ, List, Option, map, option_map}
 use Rattle.std.specs.Borrow.{Bor}
 use Rattle.occam_layout.specs.Kind.{bytes_of}

@@ -104,7 +104,7 @@ written_value (Table size items) =
     Mark mark.OpenBracket ∷ separated written (as_list items) ++ Mark mark.CloseBracket ∷ []
 written_value (Bytes size bytes) = Text bytes ∷ []
 
--- behind the word VAL
+-- after the word VAL
 abbrev pub written_constant : Constant → List Terminal
 written_constant c =
     in_brackets (size_of c.value) ++ (type_word c.value_type ∷ Name c.name ∷ Mark mark.Is ∷
@@ -173,7 +173,7 @@ abbrev pub written_formal : Formal → List Terminal
 written_formal f = value_word f.kind ++ (in_brackets
     f.size ++ (formal_words f.kind ++ type_word f.value_type ∷ Name f.name ∷ []))
 
--- behind the word PROC
+-- after the word PROC
 abbrev pub written_proc_head : ProcHead → List Terminal
 written_proc_head h = Name h.name ∷ Mark mark.OpenParenthesis ∷ separated written_formal h.formals ++ Mark
     mark.CloseParenthesis ∷ []

@@ -61,7 +61,7 @@ behind wanted [] = None
 behind wanted (Mark found ∷ ts) = if is_mark found wanted then Some ts else None
 behind wanted (t ∷ ts) = None
 
--- an operator that may stand before an operand
+-- an operator that may be before an operand
 unfoldable pub prefix_at : Reads PrefixOperator
 prefix_at [] = None
 prefix_at (Mark mark.BitNot ∷ ts) = Some (prefix.BitNot, ts)
@@ -145,7 +145,7 @@ marked inner operand mark.OpenParenthesis ts = do
   Some (Bracketed x.0, x.1)
 marked inner operand m ts = None
 
--- an operand, from expressions and operands that stand within it
+-- an operand, from expressions and operands that are within it
 unfoldable pub term_with : Reads Expression → Reads Term → Reads Term
 term_with inner operand [] = None
 term_with inner operand (Integer value ∷ ts) = Some (Number value, ts)
@@ -162,20 +162,20 @@ chain_step operand more terms ts (Some after) = do
   x ← operand after
   more (Then terms x.0) x.1
 
--- Further operands, each behind the mark of the operator. The number bounds the turns: the count of the terminals is
+-- Further operands, each after the mark of the operator. The number bounds the turns: the count of the terminals is
 -- enough.
 unfoldable pub chain_from : Reads Term → mark_type.Mark → ℕ → Terms → Reads Terms
 chain_from operand m zero terms ts = Some (terms, ts)
 chain_from operand m (suc n) terms ts = chain_step operand (chain_from operand m n) terms ts (behind m ts)
 
--- a chain behind its first operand and the operator, which has this mark
+-- a chain after its first operand and the operator, which has this mark
 unfoldable pub chain : Reads Term → ChainOperator → mark_type.Mark → Term → Reads Expression
 chain operand operator m first ts = do
   x ← operand ts
   y ← chain_from operand m (length ts) (Two first x.0) x.1
   Some (Chained operator y.0, y.1)
 
--- a pair behind its first operand and the operator
+-- a pair after its first operand and the operator
 abbrev pub paired : Reads Term → PairOperator → Term → Reads Expression
 paired operand operator first ts = do
   x ← operand ts
@@ -218,7 +218,7 @@ expression_with operand ts = alone (one_operator operand ts)
 abbrev pub nothing : {A : Type 0} → Reads A
 nothing ts = None
 
--- What stands one level down, where so many levels are left.
+-- What is one level down, where this number of levels is left.
 unfoldable mutual
   pub inner_at : ℕ → Reads Expression
   inner_at zero = nothing
@@ -228,7 +228,7 @@ unfoldable mutual
   operand_within zero = nothing
   operand_within (suc levels) = term_with (inner_at levels) (operand_within levels)
 
--- an operand with no more than so many levels in it
+-- an operand with at most this number of levels in it
 unfoldable pub term_at : ℕ → Reads Term
 term_at levels = term_with (inner_at levels) (operand_within levels)
 
@@ -245,7 +245,7 @@ list_step item more found ts (Some after) = do
   x ← item after
   more (found ++ x.0 ∷ []) x.1
 
--- Further items, each behind a comma. The number bounds the turns: the count of the terminals is enough.
+-- Further items, each after a comma. The number bounds the turns: the count of the terminals is enough.
 unfoldable pub list_from : {A : Type 0} → Reads A → ℕ → List A → Reads (List A)
 list_from item zero found ts = Some (found, ts)
 list_from item (suc n) found ts = list_step item (list_from item n) found ts (behind mark.Comma ts)

@@ -1,4 +1,4 @@
--- What the grammar is written in: a token apart from where it stands.
+-- What the grammar is written in: a token apart from its place in the source.
 use Rattle.std.specs.Prelude.{ℕ, ℤ, List, map}
 use Rattle.occam_layout.specs.Kind.{told_by}
 use Rattle.occam_layout.specs.declared.token.Token.{Token}

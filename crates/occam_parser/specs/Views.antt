@@ -8,11 +8,11 @@ use Rattle.occam_parser.specs.declared.tree.Operand.TheFolds.{fold-Expr, fold-Op
 use Rattle.occam_parser.specs.Expressions.{Expression, Alone, Prefixed, Paired, Chained, Terms, Two, Then, Term}
 use Rattle.occam_parser.specs.Expressions.{Number, Byte, Truth, MostPos, MostNeg, Named, Element, Bracketed, Converted}
 
--- further operands, behind those that were read
+-- further operands, after those that were read
 abbrev pub with_others : Terms → List Term → Terms
 with_others terms others = fold Then terms others
 
--- one level, with the trees of what stands inside
+-- one level, with the trees of what is inside
 abbrev pub term_step : Operand-F Term Expression Expression → Term
 term_step (Operand-F.Integer value) = Number value
 term_step (Operand-F.Character byte) = Byte byte

@@ -20,7 +20,7 @@ use std::alloc::Global;
 /// The deepest level of a line.
 pub const MAX_LEVEL: u32 = 64;
 
-/// The first line, which has to be at this level, and the lines behind it. It belongs to a head, from which on `owner`
+/// The first line, which has to be at this level, and the lines after it. It belongs to a head, from which on `owner`
 /// lines are left.
 fn first_at<'l, 'a>(
     owner: usize,
@@ -46,7 +46,7 @@ fn first_at<'l, 'a>(
     Ok((line, rest))
 }
 
-/// What the first line says, which has to be at this level: the number of the line, what it says, and the lines behind
+/// What the first line says, which has to be at this level: the number of the line, what it says, and the lines after
 /// it. It belongs to a head, from which on `owner` lines are left.
 #[tactic(auto, unfolding(crate::specs::BlockReading::head_row))]
 fn headed<'l, 'a, H: FromLine<'a>>(
@@ -65,7 +65,7 @@ fn headed<'l, 'a, H: FromLine<'a>>(
     Ok(((first.number, head), rest))
 }
 
-/// Pushes what was read, and tells the lines behind it.
+/// Pushes what was read, and returns the lines after it.
 pub(crate) fn push<'l, 'a, T: Drop>(
     found: &mut Vec<T>,
     read: Result<(T, &'l [Line<'a>]), Refusal>,
@@ -77,7 +77,7 @@ pub(crate) fn push<'l, 'a, T: Drop>(
     Ok(rest)
 }
 
-/// Declarations, and the line behind them with what it begins.
+/// Declarations, and the line after them with what it begins.
 #[derive(Drop)]
 struct Opening<'a> {
     declarations: Vec<Declaration<'a>>,
@@ -86,7 +86,7 @@ struct Opening<'a> {
 }
 
 impl<'a> Opening<'a> {
-    /// The lines of a process up to the one that its construct begins with, and the lines behind.
+    /// The lines of a process up to the one that its construct begins with, and the lines after it.
     fn read<'l>(
         alloc: Global,
         owner: usize,
@@ -121,7 +121,7 @@ impl<'a> Opening<'a> {
     }
 }
 
-/// A process with these declarations and the construct that was read, and the lines behind it.
+/// A process with these declarations and the construct that was read, and the lines after it.
 fn made_of<'l, 'a>(
     alloc: Global,
     declarations: Vec<Declaration<'a>>,
@@ -143,7 +143,7 @@ fn made_of<'l, 'a>(
     ))
 }
 
-/// What stands above the process of a component: nothing in a `SEQ` or a `PAR`, and a line in the others.
+/// What is above the process of a component: nothing in a `SEQ` or a `PAR`, and a line in the others.
 #[derive(Drop)]
 enum ComponentHead<'a> {
     Seq,
@@ -223,7 +223,7 @@ impl<'a> Lead<'a> {
     }
 }
 
-/// The component that a process is below its head, and the lines behind it.
+/// The component that a process is below its head, and the lines after it.
 fn led_by<'l, 'a>(
     head: ComponentHead<'a>,
     read: Result<(Process<'a>, &'l [Line<'a>]), Refusal>,
@@ -234,7 +234,7 @@ fn led_by<'l, 'a>(
     Ok((head.above(process), rest))
 }
 
-/// A block under a replicator with the component that was read, and the lines behind it.
+/// A block under a replicator with the component that was read, and the lines after it.
 fn replicated_of<'l, 'a>(
     replicator: Replicator<'a>,
     read: Result<(Body<'a>, &'l [Line<'a>]), Refusal>,
@@ -266,7 +266,7 @@ impl<'a> Components<'a> {
         }
     }
 
-    /// Adds the component that was read, and tells the lines behind it.
+    /// Adds the component that was read, and returns the lines after it.
     fn add<'l>(
         &mut self,
         read: Result<(Body<'a>, &'l [Line<'a>]), Refusal>,
@@ -296,7 +296,7 @@ impl<'a> Components<'a> {
     }
 }
 
-/// The process at the front of some lines, at a level, and the lines behind it. It belongs to a head, from which on
+/// The process at the front of some lines, at a level, and the lines after it. It belongs to a head, from which on
 /// `owner` lines are left.
 #[cycle(process)]
 pub(crate) fn process<'l, 'a>(
@@ -357,7 +357,7 @@ fn only_one<'l, 'a, T: Drop>(
     Ok((found, rest))
 }
 
-/// A block without a replicator, whose components are at `level`, behind its head.
+/// A block without a replicator, whose components are at `level`, after its head.
 #[cycle(process)]
 fn block<'l, 'a>(
     alloc: Global,
@@ -379,7 +379,7 @@ fn block<'l, 'a>(
     Ok((found.into_block(kind), rest))
 }
 
-/// The construct of a block's kind, whose components are at `level`, behind its head. Under a replicator there is one.
+/// The construct of a block's kind, whose components are at `level`, after its head. Under a replicator there is one.
 #[cycle(process)]
 fn construct<'l, 'a>(
     alloc: Global,
@@ -401,7 +401,7 @@ fn construct<'l, 'a>(
     }
 }
 
-/// The component at the front of some lines, at a level, and the lines behind it. It belongs to a head, from which on
+/// The component at the front of some lines, at a level, and the lines after it. It belongs to a head, from which on
 /// `owner` lines are left.
 #[cycle(process)]
 fn body<'l, 'a>(

@@ -30,7 +30,7 @@ pub(crate) struct ProcHead<'a> {
     pub(crate) formals: Vec<Formal<'a>>,
 }
 
-/// The type at the front of some tokens, and the tokens behind it.
+/// The type at the front of some tokens, and the tokens after it.
 #[tactic(auto, unfolding(crate::specs::LineReading::type_at))]
 fn value_type<'t, 'a>(tokens: &'t [Token<'a>]) -> Result<(ValueType, &'t [Token<'a>]), Fault>
     ensures found { Finds (λ x. (x.0, terminals_of x.1.now)) result (type_at (terminals_of tokens.now)) }
@@ -43,7 +43,7 @@ fn value_type<'t, 'a>(tokens: &'t [Token<'a>]) -> Result<(ValueType, &'t [Token<
     Ok((ValueType::Byte, rest))
 }
 
-/// `type name`, and the tokens behind it.
+/// `type name`, and the tokens after it.
 #[tactic(auto, unfolding(crate::specs::LineReading::typed_name_at))]
 fn typed_name<'t, 'a>(tokens: &'t [Token<'a>]) -> Read<'t, 'a, (ValueType, &'a [u8])>
     ensures found { Gives (λ x. ((x.0.0, x.0.1.now), terminals_of x.1.now)) result
@@ -55,7 +55,7 @@ fn typed_name<'t, 'a>(tokens: &'t [Token<'a>]) -> Read<'t, 'a, (ValueType, &'a [
     Ok(((value_type, name), rest))
 }
 
-/// `type`, or `CHAN OF type`: whether it is a channel's, the type, and the tokens behind it.
+/// `type`, or `CHAN OF type`: whether it is a channel's, the type, and the tokens after it.
 #[tactic(auto, unfolding(crate::specs::LineReading::shape_at))]
 fn shape<'t, 'a>(tokens: &'t [Token<'a>]) -> Result<((bool, ValueType), &'t [Token<'a>]), Fault>
     ensures found { Finds (λ x. (x.0, terminals_of x.1.now)) result (shape_at (terminals_of tokens.now)) }
@@ -69,7 +69,7 @@ fn shape<'t, 'a>(tokens: &'t [Token<'a>]) -> Result<((bool, ValueType), &'t [Tok
     Ok(((false, value_type), rest))
 }
 
-/// `type name` or `CHAN OF type name`, and the tokens behind it.
+/// `type name` or `CHAN OF type name`, and the tokens after it.
 #[tactic(auto, unfolding(crate::specs::LineFaults::shaped_name_at))]
 fn shaped_name<'t, 'a>(tokens: &'t [Token<'a>]) -> Read<'t, 'a, ((bool, ValueType), &'a [u8])>
     ensures found { Gives (λ x. ((x.0.0, x.0.1.now), terminals_of x.1.now)) result
@@ -81,7 +81,7 @@ fn shaped_name<'t, 'a>(tokens: &'t [Token<'a>]) -> Read<'t, 'a, ((bool, ValueTyp
     Ok(((shape, name), rest))
 }
 
-/// A constant, behind its `VAL`.
+/// A constant, after its `VAL`.
 #[tactic(auto, unfolding(crate::specs::LineReading::constant_at, crate::specs::LineReading::typed_name_at, crate::specs::Reading::up_to))]
 pub(crate) fn constant<'a>(
     alloc: Global,
@@ -101,7 +101,7 @@ pub(crate) fn constant<'a>(
     })
 }
 
-/// What a constant stands for: a value or, where it has a size, a table of items or a string.
+/// What a constant denotes: a value or, where it has a size, a table of items or a string.
 #[tactic(auto, unfolding(crate::specs::LineReading::value_at, crate::specs::LineReading::table_at, crate::specs::Reading::up_to))]
 fn constant_value<'t, 'a>(
     alloc: Global,
@@ -146,7 +146,7 @@ pub(crate) fn typed_names<'a>(alloc: Global, line: &Line<'a>) -> Result<Declarat
     })
 }
 
-/// A type, or `CHAN OF` and a type, and the names behind it up to the colon that ends the line.
+/// A type, or `CHAN OF` and a type, and the names after it up to the colon that ends the line.
 #[tactic(auto, unfolding(crate::specs::LineFaults::shaped_names_at))]
 fn shaped_names<'a>(
     alloc: Global,
@@ -159,7 +159,7 @@ fn shaped_names<'a>(
     Ok((shape, names))
 }
 
-/// A name, and the tokens behind it.
+/// A name, and the tokens after it.
 impl<'a> FromTokens<'a> for &'a [u8] {
     ghost Tree = { List ℕ };
 
@@ -172,7 +172,7 @@ impl<'a> FromTokens<'a> for &'a [u8] {
     }
 }
 
-/// The head of a procedure, behind its `PROC`.
+/// The head of a procedure, after its `PROC`.
 #[tactic(auto, unfolding(crate::specs::LineReading::proc_head_at))]
 pub(crate) fn proc_head<'a>(alloc: Global, tokens: &[Token<'a>]) -> Result<ProcHead<'a>, LineError>
     ensures { Gives proc_head_of result (proc_head_at (terminals_of tokens.now)) }
@@ -185,7 +185,7 @@ pub(crate) fn proc_head<'a>(alloc: Global, tokens: &[Token<'a>]) -> Result<ProcH
     })
 }
 
-/// A formal parameter, and the tokens behind it.
+/// A formal parameter, and the tokens after it.
 impl<'a> FromTokens<'a> for Formal<'a> {
     ghost Tree = { FormalTree };
 
@@ -217,7 +217,7 @@ impl<'a> FromTokens<'a> for Formal<'a> {
     }
 }
 
-/// A formal parameter that is a value, behind its `VAL`.
+/// A formal parameter that is a value, after its `VAL`.
 #[tactic(auto, unfolding(crate::specs::LineReading::formal_named, crate::specs::LineReading::typed_name_at))]
 fn value_formal<'t, 'a>(alloc: Global, tokens: &'t [Token<'a>]) -> Read<'t, 'a, Formal<'a>>
     ensures found { Gives (λ x. (formal_of x.0, terminals_of x.1.now)) result

@@ -18,10 +18,10 @@ use crate::tree::{ChainOperator, Expr, Operand, Operation, PrefixOperator, Value
 use occam_layout::{Mark, Token, TokenKind};
 use std::alloc::Global;
 
-/// How many brackets, subscripts and conversions may stand one in another within an expression.
+/// The greatest number of brackets, subscripts and conversions that may be nested within an expression.
 pub const MAX_NESTING: u32 = 64;
 
-/// The tokens behind a mark that has to stand here.
+/// The tokens after a mark that has to be here.
 pub(crate) fn expect<'t, 'a>(mark: Mark, tokens: &'t [Token<'a>]) -> Result<&'t [Token<'a>], Fault>
     ensures found { Finds (λ rest. terminals_of rest.now) result (behind mark (terminals_of tokens.now)) }
     ensures within { IfOk result (λ rest. length rest.now < length tokens.now) }
@@ -29,7 +29,7 @@ pub(crate) fn expect<'t, 'a>(mark: Mark, tokens: &'t [Token<'a>]) -> Result<&'t 
     behind(mark, tokens).ok_or(Fault::UnexpectedToken)
 }
 
-/// What was read, where this mark has to follow it, and the tokens behind the mark.
+/// What was read, where this mark has to follow it, and the tokens after the mark.
 pub(crate) fn up_to<'t, 'a, T: Drop>(mark: Mark, read: Read<'t, 'a, T>) -> Read<'t, 'a, T>
     ensures { GoesUpTo mark read.entry result }
 {
@@ -38,7 +38,7 @@ pub(crate) fn up_to<'t, 'a, T: Drop>(mark: Mark, read: Read<'t, 'a, T>) -> Read<
     Ok((found, rest))
 }
 
-/// The operator that begins some tokens, if it may stand before an operand, and the tokens behind it.
+/// The operator that begins some tokens, if it may be before an operand, and the tokens after it.
 #[tactic(auto, unfolding(crate::specs::Reading::prefix_at))]
 fn prefix<'t, 'a>(tokens: &'t [Token<'a>]) -> Option<(PrefixOperator, &'t [Token<'a>])>
     ensures found { option_map (λ x. (x.0, terminals_of x.1.now)) result ≡ prefix_at (terminals_of tokens.now) }
@@ -52,7 +52,7 @@ fn prefix<'t, 'a>(tokens: &'t [Token<'a>]) -> Option<(PrefixOperator, &'t [Token
     }
 }
 
-/// The operator between operands that comes first, its mark, and the tokens behind it.
+/// The operator between operands that comes first, its mark, and the tokens after it.
 #[tactic(auto, unfolding(crate::specs::Reading::operator_at))]
 fn operator_at<'t, 'a>(tokens: &'t [Token<'a>]) -> Option<((Operator, Mark), &'t [Token<'a>])>
     ensures found { option_map (λ x. (x.0, terminals_of x.1.now)) result ≡ operator_at (terminals_of tokens.now) }
@@ -64,7 +64,7 @@ fn operator_at<'t, 'a>(tokens: &'t [Token<'a>]) -> Option<((Operator, Mark), &'t
     }
 }
 
-/// An expression, and the tokens behind it.
+/// An expression, and the tokens after it.
 impl<'a> FromTokens<'a> for Expr<'a> {
     ghost Tree = { Expression };
 
@@ -77,7 +77,7 @@ impl<'a> FromTokens<'a> for Expr<'a> {
     }
 }
 
-/// An expression in which so many levels may still be nested.
+/// An expression in which this number of levels may still be nested.
 #[cycle(expression)]
 #[tactic(auto, unfolding(crate::specs::Reading::expression_at, crate::specs::Reading::expression_with))]
 fn nested<'t, 'a>(alloc: Global, levels: u32, tokens: &'t [Token<'a>]) -> Read<'t, 'a, Expr<'a>>
@@ -92,7 +92,7 @@ fn nested<'t, 'a>(alloc: Global, levels: u32, tokens: &'t [Token<'a>]) -> Read<'
     Ok((found, rest))
 }
 
-/// The expression that has this operator and these operands, beside the tokens behind it.
+/// The expression that has this operator and these operands, beside the tokens after it.
 fn made_of<'t, 'a>(
     alloc: Global,
     operation: Operation<'a>,
@@ -141,7 +141,7 @@ fn one_operator<'t, 'a>(
     }
 }
 
-/// A chain, of which the first operand and the operator behind it were read, whose mark this is.
+/// A chain, of which the first operand and the operator after it were read, whose mark this is.
 #[cycle(expression)]
 #[tactic(auto, unfolding(crate::specs::Reading::chain))]
 fn chain<'t, 'a>(
@@ -172,7 +172,7 @@ fn chain<'t, 'a>(
     made_of(alloc, operation, rest)
 }
 
-/// What operators stand between.
+/// An operand of an operator.
 #[cycle(expression)]
 #[tactic(auto, unfolding(crate::specs::Reading::term_at, crate::specs::Reading::term_with))]
 fn operand<'t, 'a>(alloc: Global, levels: u32, tokens: &'t [Token<'a>]) -> Read<'t, 'a, Operand<'a>>
@@ -237,7 +237,7 @@ fn named<'t, 'a>(
     Ok((Operand::Element { name, subscript }, rest))
 }
 
-/// An operand behind a type that was read.
+/// An operand after a type that was read.
 #[cycle(expression)]
 #[tactic(auto, unfolding(crate::specs::Reading::converted, crate::specs::Reading::operand_within))]
 fn converted<'t, 'a>(
@@ -277,7 +277,7 @@ fn deeper<'t, 'a>(
     up_to(close, nested(alloc, levels - 1, tokens))
 }
 
-/// The expression in brackets that some tokens begin with, if they do, and the tokens behind it.
+/// The expression in brackets that some tokens begin with, if they do, and the tokens after it.
 #[tactic(auto, unfolding(crate::specs::LineReading::bracketed_at, crate::specs::Reading::up_to))]
 pub(crate) fn in_brackets<'t, 'a>(
     alloc: Global,

@@ -9,13 +9,13 @@ ghost use Rattle.occam_parser.specs.declared.fault.Refusal.TheVariants.{Memory a
 use occam_layout::Line;
 use std::alloc::AllocFailed;
 
-/// A token, or a line, stands where the grammar has another or none.
+/// The grammar has another token or line there, or none.
 pub const UNEXPECTED_TOKEN: u8 = 5;
 /// A head has no body.
 pub const MISSING_BODY: u8 = 6;
 /// Lines, or an expression's brackets, subscripts and conversions, are nested too deep.
 pub const NESTING: u8 = 7;
-/// Operators stand side by side without brackets.
+/// Operators are side by side without brackets.
 pub const MIXTURE: u8 = 8;
 /// Memory ran out.
 pub const MEMORY: u8 = 20;
@@ -63,12 +63,12 @@ impl Fault {
 #[derive(Drop)]
 pub(crate) enum Refusal {
     Memory,
-    /// What is wrong, and how many lines are left from the line at fault on: 0 where a line is missing behind the last.
+    /// What is wrong, and the number of lines left from the line at fault on: 0 if a line is missing at the end.
     Fault(Fault, usize),
 }
 
 impl Refusal {
-    /// This refusal, told at a line. Where a line is missing behind the last, that is told at the last one.
+    /// This refusal, at a line. If a line is missing after the last one, the refusal is at the last one.
     pub(crate) fn told(self, lines: &[Line<'_>]) -> ParseFault
         ensures { IsTold (rows_of lines.now) self result }
     {
@@ -85,7 +85,7 @@ impl Refusal {
     }
 }
 
-/// The number of the line from which on so many lines are left; that of the last one where none is left.
+/// The number of the line from which on `left` lines are left, or of the last one if none is left.
 fn number_of(lines: &[Line<'_>], left: usize) -> u32
     ensures { 0 < length lines.now → IsNumbered (rows_of lines.now) result }
 {

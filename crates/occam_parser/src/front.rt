@@ -9,17 +9,17 @@ use crate::tree::{ArithmeticChain, ArithmeticPair, ChainOperator, Logic, PairOpe
 use occam_layout::{Mark, Token, TokenKind};
 use word_arithmetic::Comparison;
 
-/// What was read from the front of some tokens, and the tokens behind it.
+/// What was read from the front of some tokens, and the tokens after it.
 pub(crate) type Read<'t, 'a, T> = Result<(T, &'t [Token<'a>]), LineError>;
 
-/// An operator that stands between operands.
+/// An operator that is between operands.
 #[derive(Clone, Copy)]
 pub(crate) enum Operator {
     Pair(PairOperator),
     Chain(ChainOperator),
 }
 
-/// The operator that a mark is between operands, if it is one. A minus sign is one, whatever it stands before.
+/// The operator that a mark is between operands, if it is one. A minus sign is one, whatever follows it.
 pub(crate) fn operator_of(mark: Mark) -> Option<Operator>
     ensures { result ≡ operator_of mark }
 {
@@ -52,7 +52,7 @@ pub(crate) fn operator_of(mark: Mark) -> Option<Operator>
     Some(operator)
 }
 
-/// The first of some tokens, and the tokens behind it.
+/// The first of some tokens, and the tokens after it.
 pub(crate) fn first<'t, 'a>(tokens: &'t [Token<'a>]) -> Option<(TokenKind<'a>, &'t [Token<'a>])>
     ensures first { MatchOption result (terminals_of tokens.now ≡ [])
         (λ x. terminals_of tokens.now ≡ terminal_of x.0 ∷ terminals_of x.1.now) }
@@ -62,7 +62,7 @@ pub(crate) fn first<'t, 'a>(tokens: &'t [Token<'a>]) -> Option<(TokenKind<'a>, &
     Some((token.kind, rest))
 }
 
-/// The tokens behind this mark, where they begin with it.
+/// The tokens after this mark, where they begin with it.
 #[tactic(auto, unfolding(crate::specs::Reading::behind))]
 pub(crate) fn behind<'t, 'a>(mark: Mark, tokens: &'t [Token<'a>]) -> Option<&'t [Token<'a>]>
     ensures behind { option_map (λ rest. terminals_of rest.now) result ≡ behind mark (terminals_of tokens.now) }

@@ -57,7 +57,7 @@ pub(crate) trait FromLine<'a>: Sized + Drop {
         ensures { Gives tree result (reads (terminals_of tokens.now)) };
 }
 
-/// Nothing more may stand on the line.
+/// Nothing more may be on the line.
 pub(crate) fn expect_end(tokens: &[Token<'_>]) -> Result<(), Fault>
     ensures ok { OnOk result (ended (terminals_of tokens.now) ≡ true) }
     ensures err { OnErr result (ended (terminals_of tokens.now) ≡ false) }
@@ -69,7 +69,7 @@ pub(crate) fn expect_end(tokens: &[Token<'_>]) -> Result<(), Fault>
     }
 }
 
-/// What was read, where nothing more may stand on the line.
+/// What was read, where nothing more may be on the line.
 pub(crate) fn at_end<T: Drop>(read: Result<(T, &[Token<'_>]), LineError>) -> Result<T, LineError>
     ensures { IsAll read.entry result }
 {
@@ -88,7 +88,7 @@ pub(crate) fn beside<H: Drop, T, E>(before: H, read: Result<T, E>) -> Result<(H,
     }
 }
 
-/// The name at the front of some tokens, and the tokens behind it.
+/// The name at the front of some tokens, and the tokens after it.
 #[tactic(auto, unfolding(crate::specs::LineReading::name_at))]
 pub(crate) fn name<'t, 'a>(tokens: &'t [Token<'a>]) -> Result<(&'a [u8], &'t [Token<'a>]), Fault>
     ensures found { Finds (λ x. (x.0.now, terminals_of x.1.now)) result (name_at (terminals_of tokens.now)) }
@@ -158,7 +158,7 @@ fn block<'a>(alloc: Global, kind: BlockKind, tokens: &[Token<'a>]) -> Result<Hea
     Ok(Head::Start(Start::Block(kind, replicator(alloc, tokens)?)))
 }
 
-/// The replicator up to the end of the line, if anything stands there.
+/// The replicator up to the end of the line, if anything is there.
 #[tactic(auto, unfolding(crate::specs::LineReading::replicator_at))]
 fn replicator<'a>(alloc: Global, tokens: &[Token<'a>]) -> Result<Option<Replicator<'a>>, LineError>
     ensures { Gives (option_map replicator_of) result (replicator_at (terminals_of tokens.now)) }
@@ -171,7 +171,7 @@ fn replicator<'a>(alloc: Global, tokens: &[Token<'a>]) -> Result<Option<Replicat
     Ok(Some(counted(alloc, name, rest)?))
 }
 
-/// A replicator, behind its name and the sign after it.
+/// A replicator, after its name and the sign that follows.
 #[tactic(auto, unfolding(crate::specs::LineReading::counted_at, crate::specs::LineReading::whole_at))]
 fn counted<'a>(
     alloc: Global,
@@ -196,7 +196,7 @@ fn place<'t, 'a>(alloc: Global, name: &'a [u8], tokens: &'t [Token<'a>]) -> Read
     Ok((Place { name, subscript }, rest))
 }
 
-/// An assignment, a communication or an instance, behind its first name.
+/// An assignment, a communication or an instance, after its first name.
 #[tactic(auto, unfolding(crate::specs::LineReading::action_at))]
 fn named_action<'a>(
     alloc: Global,
@@ -215,7 +215,7 @@ fn named_action<'a>(
     placed_action(alloc, place, rest)
 }
 
-/// An assignment or a communication, behind the place that it begins with.
+/// An assignment or a communication, after the place that it begins with.
 #[tactic(auto, unfolding(crate::specs::Reading::behind))]
 fn placed_action<'a>(
     alloc: Global,
@@ -318,7 +318,7 @@ fn conditioned<'a>(alloc: Global, tokens: &[Token<'a>]) -> Result<Guard<'a>, Lin
     }
 }
 
-/// A guard that waits for an input, behind its condition.
+/// A guard that waits for an input, after its condition.
 fn input_guard<'a>(
     alloc: Global,
     condition: Option<Expr<'a>>,

@@ -46,7 +46,7 @@ pub(crate) fn list<'t, 'a, T: FromTokens<'a>>(
     Ok((OneOrMore { first, others }, rest))
 }
 
-/// Items with commas between them, if any, behind the parenthesis that opens and up to the one that ends the line.
+/// Items with commas between them, if any, after the parenthesis that opens and up to the one that ends the line.
 #[tactic(auto, unfolding(crate::specs::LineReading::in_parentheses))]
 pub(crate) fn in_parentheses<'a, T: FromTokens<'a>>(
     alloc: Global,

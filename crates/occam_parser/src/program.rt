@@ -17,7 +17,7 @@ use crate::tree::{Item, Proc};
 use occam_layout::{Line, Mark, Token, TokenKind};
 use std::alloc::Global;
 
-/// The lines behind the colon that ends a procedure.
+/// The lines after the colon that ends a procedure.
 #[tactic(auto, unfolding(crate::specs::BlockReading::behind_colon))]
 fn behind_colon<'l, 'a>(lines: &'l [Line<'a>]) -> Result<&'l [Line<'a>], Refusal>
     ensures found { Tells (λ rest. rows_of rest.now) result (behind_colon (rows_of lines.now)) }
@@ -39,7 +39,7 @@ fn behind_colon<'l, 'a>(lines: &'l [Line<'a>]) -> Result<&'l [Line<'a>], Refusal
     }
 }
 
-/// The item that is the procedure whose head is a line, behind its `PROC`, and the lines behind its colon.
+/// The item that is the procedure whose head is a line, after its `PROC`, and the lines after its colon.
 #[tactic(auto, unfolding(crate::specs::BlockReading::procedure_at))]
 fn proc<'l, 'a>(
     alloc: Global,
@@ -66,7 +66,7 @@ fn proc<'l, 'a>(
     ))
 }
 
-/// The item that begins with a line, and the lines behind it.
+/// The item that begins with a line, and the lines after it.
 #[tactic(auto, unfolding(crate::specs::BlockReading::item_at, crate::specs::BlockReading::item_with))]
 fn item<'l, 'a>(
     alloc: Global,
@@ -110,11 +110,11 @@ fn items<'a>(alloc: Global, lines: &[Line<'a>]) -> Result<Vec<Item<'a>>, Refusal
 /// The program that some lines are.
 ///
 /// Lines that are no program are refused with a number and a line: the first one at which no program goes on so.
-/// [`UNEXPECTED_TOKEN`](crate::UNEXPECTED_TOKEN) is told for a token or a line that stands where the grammar has
+/// [`UNEXPECTED_TOKEN`](crate::UNEXPECTED_TOKEN) is reported for a token or a line where the grammar has
 /// another or none; [`MISSING_BODY`](crate::MISSING_BODY) at a head that has no body; [`NESTING`](crate::NESTING) at a
 /// line that is more than [`MAX_LEVEL`](crate::MAX_LEVEL) levels deep, or that has an expression with more than
 /// [`MAX_NESTING`](crate::MAX_NESTING) brackets, subscripts and conversions one in another; and
-/// [`MIXTURE`](crate::MIXTURE) where operators stand side by side without brackets. Where memory runs out,
+/// [`MIXTURE`](crate::MIXTURE) where operators are side by side without brackets. Where memory runs out,
 /// it is [`MEMORY`](crate::MEMORY) at line 0.
 pub fn parse<'a>(alloc: Global, lines: &[Line<'a>]) -> Result<Program<'a>, ParseFault>
     // What is answered is the program that the lines are.

@@ -3,7 +3,7 @@
 use occam_layout::Text;
 use word_arithmetic::Comparison;
 
-/// What stands at the outermost level of a program.
+/// What is at the outermost level of a program.
 #[derive(Drop)]
 pub enum Item<'a> {
     Constant(Constant<'a>),
@@ -53,7 +53,7 @@ pub struct Constant<'a> {
     pub value: ConstantValue<'a>,
 }
 
-/// What a constant stands for.
+/// What a constant denotes.
 #[derive(Drop)]
 pub enum ConstantValue<'a> {
     Scalar(Expr<'a>),
@@ -89,7 +89,7 @@ pub struct Formal<'a> {
     pub name: &'a [u8],
 }
 
-/// What a parameter stands for.
+/// What a parameter denotes.
 #[derive(Clone, Copy, PartialEq, Eq)]
 pub enum FormalKind {
     /// `VAL`: a value.
@@ -156,7 +156,7 @@ pub enum Body<'a> {
     Alt(Branch<'a>),
 }
 
-/// What stands on one line and has no body.
+/// What is on one line and has no body.
 #[derive(Drop)]
 pub enum Action<'a> {
     Skip,
@@ -263,7 +263,7 @@ pub enum Operation<'a> {
     },
 }
 
-/// What operators stand between.
+/// An operand of an operator.
 #[cycle(expression)]
 #[derive(Drop)]
 pub enum Operand<'a> {
@@ -326,7 +326,7 @@ pub enum ArithmeticPair {
     ShiftRight,
 }
 
-/// An associative operator, which may stand between more than two operands.
+/// An associative operator, which may be between more than two operands.
 #[derive(Clone, Copy)]
 pub enum ChainOperator {
     Arithmetic(ArithmeticChain),
