@@ -62,7 +62,7 @@ means_something name n (e ∷ es) is none =
 pub number_found : (name : List ℕ) (n : ℕ) (es : List Entry) → number_in name es ≡ Some n → None ≡ meaning_at n es → ⊥
 number_found name n es is none = means_something name n es is (meaning_found name n es is ∙ sym none)
 
--- the same of a name that stands for nothing
+-- the same of a name that denotes nothing
 by_none : {A : Type 0} (t : Bool) (name : List ℕ) (es : List Entry) (x y z : A)
     → cond t (Some (length es)) (number_in name es) ≡ None → (number_in name es ≡ None → y ≡ z) → cond t x y ≡ z
 by_none true name es x y z is further = absurd (cc)

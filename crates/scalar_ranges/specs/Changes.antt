@@ -385,7 +385,7 @@ fresh e = record {
 abbrev pub declared : Entry → Tracked → Tracked
 declared e t = record { slots = t.slots ++ fresh e ∷ []; blocks = t.blocks }
 
--- Only so many entries are left.
+-- Only the first entries are left, this number of them.
 abbrev pub cut : ℕ → Tracked → Tracked
 cut count t = record { slots = take count t.slots; blocks = t.blocks }
 

@@ -6,7 +6,7 @@ use Rattle.word_arithmetic.specs.Range.{Ends, full, bytes}
 use Rattle.scalar_ranges.specs.declared.scope.ScalarKind.{ScalarKind}
 use Rattle.scalar_ranges.specs.declared.scope.ArrayKind.{ArrayKind}
 
--- What a name stands for. A constant has no value, and an array no size, where its declaration breaks a rule. The
+-- What a name denotes. A constant has no value, and an array no size, where its declaration breaks a rule. The
 -- elements of a table have the hull of all its items as their range, those of another array the range of their type.
 pub data Meaning : Type 0 where
   Constant : (type : ValueType) → (value : Option ℤ) → Meaning

@@ -1,4 +1,4 @@
--- The numbers that names have while a program runs, and when a scope tells the truth about them.
+-- The numbers that names have while a program runs, and when what a scope says of them is true.
 use Rattle.std.specs.Prelude.{◌≡◌, ℕ, zero, suc, ℤ, pos, negsuc, List, [], ◌∷◌, length, bytes_eq, if◌then◌else◌}
 use Rattle.std.specs.Prelude.{Option, Some, None}
 use Rattle.std.specs.List.{AllByRecursion}

@@ -15,7 +15,7 @@ abbrev pub count_of : Terms → ℕ
 count_of (Two a b) = 2
 count_of (Then ts t) = count_of ts + 1
 
--- so many operands, if they have a value, and else the front of fewer
+-- this number of operands, if they have a value, and otherwise the front of fewer
 abbrev pub longer : Option ℤ → ℕ → Option Front → Option Front
 longer None count shorter = shorter
 longer (Some value) count shorter = Some (record { value = value; operands = count })

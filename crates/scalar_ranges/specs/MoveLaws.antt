@@ -73,7 +73,7 @@ pub record BranchesHold : Type 0 where
   pub earlier_ones : (ds es : List Entry) (env : Environment) → Meets env ds → Meets env (ends_with (Some ds) es)
 
 -- Where a choice begins whose condition does not hold, the environment around the block meets what is known where the
--- further choices begin. Of the entries there, a condition tells what it tells where it does not hold.
+-- further choices begin. From the entries themselves, excluding a condition is narrowing where it does not hold.
 pub record ExcludingHolds : Type 0 where
   pub further : (es ds : List Entry) (env : Environment) (e : Expression) (t : ExprType) → Meets env es
       → Meets (outermost (length ds) env) ds → type_of es e ≡ Ok t → truth_of env e ≡ Some false

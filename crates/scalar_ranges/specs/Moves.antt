@@ -38,7 +38,7 @@ at_number f n (x ∷ xs) = if nat_eq (length xs) n then f x ∷ xs else x ∷ at
 abbrev pub with_meaning : (Meaning → Meaning) → Entry → Entry
 with_meaning f e = record { name = e.name; meaning = f e.meaning }
 
--- The range of a variable changes, to one that its type may tell. That of a parameter is always the range of its type.
+-- The range of a variable changes, to one that may depend on its type. A parameter always has the range of its type.
 abbrev pub ranged : (ValueType → Ends) → Meaning → Meaning
 ranged range (Scalar kinds.Variable type old) = Scalar kinds.Variable type (range type)
 ranged range m = m
@@ -111,7 +111,7 @@ abbrev pub begun_with : List Block → ℕ
 begun_with [] = 0
 begun_with (b ∷ bs) = length b.start
 
--- Scopes are left until there are so many entries, but none that is around the innermost block.
+-- Scopes are left until there are this number of entries, but none that is around the innermost block.
 abbrev pub leave : ℕ → List Block → List Entry → List Entry
 leave count bs es = outermost (max count (begun_with bs)) es
 

@@ -1,4 +1,4 @@
--- What a condition tells of a scalar that it compares with a constant.
+-- What a condition says of a scalar that it compares with a constant.
 use Rattle.std.specs.Prelude.{ℤ, Bool, true, false, List, [], ◌∷◌, bytes_eq, if◌then◌else◌, Option, Some, None}
 use Rattle.std.specs.Prelude.{ℕ, option_map, unwrap_or, Result, Ok}
 use Rattle.word_arithmetic.specs.declared.compare.Comparison.{Comparison}

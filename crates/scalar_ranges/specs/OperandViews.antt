@@ -1,4 +1,4 @@
--- What is made of one operand with what stands before it, and of two with what stands between them.
+-- What is made of one operand with what is before it, and of two with what is between them.
 use Rattle.std.specs.Prelude.{ℕ, Result}
 use Rattle.occam_parser.specs.declared.tree.ValueType.{ValueType}
 use Rattle.occam_parser.specs.declared.tree.PrefixOperator.{PrefixOperator}

@@ -14,8 +14,8 @@ use std::alloc::AllocError;
 
 impl Scope<'_> {
     /// An `IF` or an `ALT` begins, with its first branch. A choice of an `IF` begins with
-    /// [`exclude`](Scope::exclude). The end of each branch is told by [`next`](Scope::next), and after the last one the
-    /// block's by [`end`](Scope::end). If memory runs out, all is as it was.
+    /// [`exclude`](Scope::exclude). Each branch ends with [`next`](Scope::next), and after the last one the block ends
+    /// with [`end`](Scope::end). If memory runs out, all is as it was.
     pub fn begin(&mut self) -> Result<(), AllocError>
         ensures ok { OnOk result (known_of self.new ≡ begin (known_of self.old)) }
         ensures err { OnErr result (known_of self.new ≡ known_of self.old) }
@@ -23,9 +23,9 @@ impl Scope<'_> {
         self.enter(false)
     }
 
-    /// A `PAR` begins, with its first component. The end of each component is told by
-    /// [`next_component`](Scope::next_component), and after the last one the block's by [`end`](Scope::end). If memory
-    /// runs out, all is as it was.
+    /// A `PAR` begins, with its first component. Each component ends with
+    /// [`next_component`](Scope::next_component), and after the last one the block ends with [`end`](Scope::end). If
+    /// memory runs out, all is as it was.
     pub fn begin_par(&mut self) -> Result<(), AllocError>
         ensures ok { OnOk result (known_of self.new ≡ begin_par (known_of self.old)) }
         ensures err { OnErr result (known_of self.new ≡ known_of self.old) }
@@ -41,7 +41,7 @@ impl Scope<'_> {
         self.known.begin(self.alloc, ended)
     }
 
-    /// The body of a replicated `SEQ` begins, which changes the variables with these numbers. Its end is told by
+    /// The body of a replicated `SEQ` begins, which changes the variables with these numbers. It ends with
     /// [`end`](Scope::end). If memory runs out, only these variables have lost their ranges.
     pub fn begin_loop(&mut self, numbers: &[usize]) -> Result<(), AllocError>
         ensures ok { OnOk result (known_of self.new ≡ begin_loop numbers.now (known_of self.old)) }
@@ -60,8 +60,8 @@ impl Scope<'_> {
         self.names.truncate(self.known.len());
     }
 
-    /// A choice of an `IF` begins: the further ones begin where its condition does not hold. In this one
-    /// [`narrow_by`](crate::narrow_by) tells that it holds, once this was called. It takes no memory.
+    /// A choice of an `IF` begins: the further ones begin where its condition does not hold. After this call,
+    /// [`narrow_by`](crate::narrow_by) says that it holds in this one. It takes no memory.
     pub fn exclude(&mut self, condition: &Expr)
         ensures { known_of self.new ≡ exclude (expression_of condition.now) (known_of self.old) }
     {

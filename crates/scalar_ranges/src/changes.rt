@@ -97,7 +97,7 @@ impl<'a> Tracked<'a> {
         Ok(())
     }
 
-    /// Only so many entries are left.
+    /// Only the first `count` entries are left.
     pub(crate) fn cut(&mut self, count: usize)
         requires { begun_with (known_by self.old).blocks ≤ count }
         ensures { tracked_of self.new ≡ cut count (tracked_of self.old) }

@@ -1,4 +1,4 @@
-//! What names stand for that are declared within a procedure.
+//! What the names denote that are declared within a procedure.
 
 ghost use Rattle.std.specs.Prelude.{◌≡◌};
 ghost use Rattle.word_arithmetic.specs.Range.{ends_of};

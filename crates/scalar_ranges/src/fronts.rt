@@ -22,7 +22,7 @@ pub struct Front {
     pub operands: usize,
 }
 
-/// So many operands, if they have a value, and otherwise the front of fewer.
+/// This number of operands, if they have a value, and otherwise the front of fewer.
 fn longer(read: Reading, operands: usize, shorter: Option<Front>) -> Option<Front>
     ensures { option_map seen_front result
         ≡ longer (exact_value (all_known read.bound)) operands (option_map seen_front shorter) }

@@ -14,7 +14,7 @@ impl Scope<'_> {
         self.known.len()
     }
 
-    /// Leaves the scopes that were entered since there were so many entries. What the branches of the innermost block
+    /// Leaves the scopes that were entered since there were `count` entries. What the branches of the innermost block
     /// begin with is not left: a lower number leaves just what this branch declared.
     pub fn leave(&mut self, count: usize)
         ensures entries { entries_of self.new ≡ leave count (blocks_of self.old) (entries_of self.old) }

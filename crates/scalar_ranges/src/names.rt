@@ -168,7 +168,7 @@ impl<'a> Names<'a> {
         }
     }
 
-    /// The declarations that were made since there were so many are left.
+    /// Leaves the declarations that were made since there were `count`.
     pub(crate) fn truncate(&mut self, count: usize)
         ensures { names_from self.new.rows.items ≡ outermost count (names_from self.old.rows.items) }
     {

@@ -1,4 +1,4 @@
-//! What a condition tells of a scalar that it compares with a constant.
+//! What a condition says of a scalar that it compares with a constant.
 
 ghost use Rattle.std.specs.Prelude.{◌≡◌, option_map};
 ghost use Rattle.word_arithmetic.specs.Range.{ends_of};
@@ -26,8 +26,8 @@ pub struct Test<'e> {
     pub constant: i32,
 }
 
-/// The scope where a condition has this truth. Only a condition that is exactly a scalar, a comparison and a constant of
-/// the scalar's type, in either order, tells more than was known. It takes no memory.
+/// The scope where a condition has this truth. Only a condition that is exactly a scalar, a comparison and a constant
+/// of the scalar's type, in either order, says more than was known. It takes no memory.
 pub fn narrow_by(scope: &mut Scope, condition: &Expr, holds: bool)
     ensures entries { entries_of scope.new ≡ narrow (entries_of scope.old) (expression_of condition.now) holds }
     ensures blocks { blocks_of scope.new ≡ blocks_of scope.old }
@@ -49,8 +49,8 @@ fn narrowed_by(scope: &Scope, condition: &Expr, holds: bool) -> Option<(usize, M
     Some((number, narrowed(meaning, comparison, test.constant)))
 }
 
-/// What a condition says, if it is exactly a scalar and a constant of its type with a comparison between them, in either
-/// order. [`narrow_by`] narrows the scalar's range by such a condition, and nothing by another one.
+/// What a condition says, if it is exactly a scalar and a constant of its type with a comparison between them, in
+/// either order. [`narrow_by`] narrows the scalar's range by such a condition, and nothing by another one.
 pub fn test_of<'e>(scope: &Scope, condition: &'e Expr) -> Option<Test<'e>>
     ensures { option_map tested_of result ≡ test_of (entries_of scope.now) (expression_of condition.now) }
 {

@@ -1,8 +1,8 @@
-//! What stands before one operand, and between two.
+//! What is before one operand, and between two.
 
 use occam_parser::{ChainOperator, PairOperator, PrefixOperator, ValueType};
 
-/// What stands before one operand.
+/// What is before one operand.
 #[derive(Clone, Copy)]
 pub(crate) enum Before {
     Operator(PrefixOperator),
@@ -10,7 +10,7 @@ pub(crate) enum Before {
     Conversion(ValueType),
 }
 
-/// What stands between two operands.
+/// What is between two operands.
 #[derive(Clone, Copy)]
 pub(crate) enum Between {
     Pair(PairOperator),

@@ -21,7 +21,7 @@ use word_arithmetic::Range;
 /// What is read of an expression or of a part of it.
 #[derive(Clone, Copy)]
 pub struct Reading {
-    /// The type, or the number of a fault if there is none, as [`type_of`](crate::type_of) tells it.
+    /// The type, or the number of a fault if there is none, as [`type_of`](crate::type_of) returns it.
     pub expr_type: Result<ExprType, u8>,
     /// What is known of the number, or the number of a fault.
     pub(crate) bound: Result<Bound, u8>,
@@ -144,7 +144,7 @@ impl Reading {
         }
     }
 
-    /// An operand after what stands before it.
+    /// An operand after what is before it.
     fn prefixed(self, before: Before) -> Reading
         ensures types { result.expr_type ≡ and_then self.expr_type (before_type before) }
         ensures bounds { all_known result.bound ≡ and_then (all_known self.bound) (before_bound before) }
@@ -155,7 +155,7 @@ impl Reading {
         }
     }
 
-    /// Two operands with what stands between them.
+    /// Two operands with what is between them.
     pub(crate) fn combined(self, between: Between, right: Reading) -> Reading
         ensures types { result.expr_type ≡ both self.expr_type right.expr_type (between_type between) }
         ensures bounds { all_known result.bound

@@ -16,7 +16,7 @@ use crate::steps::paired;
 use occam_parser::{ArithmeticChain, ArithmeticPair, ChainOperator, PairOperator, PrefixOperator};
 use word_arithmetic::{Binary, Range, not, shift_left, shift_right};
 
-/// What is known of one operand with what stands before it.
+/// What is known of one operand with what is before it.
 pub(crate) fn before_bound(before: Before, operand: Result<Bound, u8>) -> Result<Bound, u8>
     ensures { all_known result ≡ and_then (all_known operand) (before_bound before) }
 {
@@ -37,7 +37,7 @@ fn prefix_bound(operator: PrefixOperator, operand: Bound) -> Result<Bound, u8>
     }
 }
 
-/// What is known of two operands with what stands between them.
+/// What is known of two operands with what is between them.
 pub(crate) fn between_bound(
     between: Between,
     left: Result<Bound, u8>,

@@ -37,7 +37,7 @@ pub enum ArrayKind {
     Value,
 }
 
-/// What a name stands for. A constant has no value, and an array no size, if its declaration breaks a rule.
+/// What a name denotes. A constant has no value, and an array no size, if its declaration breaks a rule.
 #[derive(Clone, Copy)]
 pub enum Meaning {
     /// A constant, or the replicator of a `PAR`, an `IF` or an `ALT`.
@@ -69,7 +69,7 @@ pub enum Meaning {
     Proc(u32),
 }
 
-/// A name, and what it stands for.
+/// A name, and what it denotes.
 #[derive(Clone, Copy)]
 pub struct Entry<'a> {
     pub name: &'a [u8],
@@ -155,8 +155,8 @@ impl<'a> Scope<'a> {
         }
     }
 
-    /// The entry with this number, counted from the outermost one on, whether or not its name is hidden; `None` if there
-    /// are no more than so many entries. [`len`](Scope::len) tells how many there are.
+    /// The entry with this number, counted from the outermost one on, whether or not its name is hidden; `None` if
+    /// there are at most `number` entries. [`len`](Scope::len) returns how many there are.
     pub fn entry(&self, number: usize) -> Option<Entry<'a>>
         ensures { option_map entry_of result ≡ entry_at number (entries_of self.now) }
     {

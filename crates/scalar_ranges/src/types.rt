@@ -85,7 +85,7 @@ pub(crate) fn subscripted_type(
     }
 }
 
-/// The type of one operand with what stands before it.
+/// The type of one operand with what is before it.
 pub(crate) fn before_type(before: Before, operand: Result<ExprType, u8>) -> Result<ExprType, u8>
     ensures { result ≡ and_then operand (before_type before) }
 {
@@ -115,7 +115,7 @@ fn converted_type(to: ValueType, operand: ExprType) -> Result<ExprType, u8>
     }
 }
 
-/// The type of two operands with what stands between them.
+/// The type of two operands with what is between them.
 pub(crate) fn between_type(
     between: Between,
     left: Result<ExprType, u8>,
