@@ -85,7 +85,8 @@ zeros_found (Some v) n size same is =
     ap (option_and_then zeros) (same v refl) ∙ zeros_by (int_le (pos 1) v) (unsigned_abs v) size is
 
 array_held : (type : ValueType) (size : Option ℕ) (o : Option Held)
-    → ((k : ℕ) → size ≡ Some k → o ≡ Some (Many (replicate k (pos 0)))) → IsKnown (Array array.Variable type size (type_range type))
+    → ((k : ℕ) → size ≡ Some k → o ≡ Some (Many (replicate k (pos 0))))
+    → IsKnown (Array array.Variable type size (type_range type))
     → IsSomeAnd o (IsHeld (Array array.Variable type size (type_range type)))
 array_held type None o found known = absurd known
 array_held type (Some k) o found known =
@@ -125,8 +126,8 @@ item_added env e items r v is within a = record {
   all = (within, a.all);
 }
 
-grown_by : (env : Environment) (o : Option Ends) (value : Option ℤ) (e : Expression) (items : List Expression) (r : Ends)
-    → ((v : ℤ) → value ≡ Some v → number_of env e ≡ Some v) → Grown env (with_value o value) items r
+grown_by : (env : Environment) (o : Option Ends) (value : Option ℤ) (e : Expression) (items : List Expression)
+    (r : Ends) → ((v : ℤ) → value ≡ Some v → number_of env e ≡ Some v) → Grown env (with_value o value) items r
     → Grown env o (e ∷ items) r
 grown_by env None value e items r same g = let is = g.begun_is in absurd (cc is)
 grown_by env (Some q) None e items r same g = let is = g.begun_is in absurd (cc is)
@@ -179,7 +180,8 @@ items_found type es env items r meets is =
 
 -- a table holds these numbers, if they are as many as it says and lie in its range
 table_by : (type : ValueType) (size : Option ℕ) (count : ℕ) (range : Option Ends) (o : Option (List ℤ))
-    → ((r : Ends) → range ≡ Some r → (vs : List ℤ) × (o ≡ Some vs) × (length vs ≡ count) × AllByRecursion (InRange r) vs)
+    → ((r : Ends) → range ≡ Some r
+    → (vs : List ℤ) × (o ≡ Some vs) × (length vs ≡ count) × AllByRecursion (InRange r) vs)
     → IsKnown (table_of type size count range)
     → IsSomeAnd (option_map Many o) (IsHeld (table_of type size count range))
 table_by type None count range o found known = absurd known

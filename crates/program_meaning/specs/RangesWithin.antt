@@ -50,7 +50,7 @@ pub record MovesStayWithin : Type 0 where
       → EntriesWithin ns (hulls ds es) fs
   pub leaving : (ns : List ℕ) (count : ℕ) (ds es : List Entry) → EntriesWithin ns ds es
       → EntriesWithin ns (outermost count ds) (outermost count es)
-  -- a name stands for the same variable, if it stands for one
+  -- a name denotes the same variable, if it denotes one
   pub variables : (ns : List ℕ) (ds es : List Entry) (name : List ℕ) → EntriesWithin ns ds es
       → variable_in name ds ≡ variable_in name es
   -- names and meanings are the same but for ranges

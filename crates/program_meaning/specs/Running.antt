@@ -70,7 +70,7 @@ input (Some p) target env l =
     (λ after. Goes after (after_reading p.link count l))
     else Waits (after_reading p.link (length unread) l)
 
--- A message is written if somebody listens. On a channel that is no link nobody does.
+-- A message is written if something listens. On a channel that is no link nothing does.
 abbrev pub output : Surroundings → Option Port → ℤ → Environment → Links → Outcome
 output s None v env l = Waits l
 output s (Some p) v env l =
@@ -121,7 +121,8 @@ abbrev mutual
 
   pub run_construct : Surroundings → Construct → Environment → Links → Outcome
   run_construct s (Act action) env l = act s action env l
-  run_construct s (Block kind cs) env l = by_word (block_word kind) (run_components s cs env l) (first_true s cs env l) l
+  run_construct s (Block kind cs) env l =
+      by_word (block_word kind) (run_components s cs env l) (first_true s cs env l) l
   run_construct s (Replicated r b) env l =
       or_stuck (number_of env r.base) (λ base. or_stuck (number_of env r.count) (λ count.
       run_body s b r.name base (turns count) env l))

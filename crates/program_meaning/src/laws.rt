@@ -11,7 +11,7 @@ ghost use Rattle.program_meaning.specs.DeclaredTypes.{DeclarationsTyped};
 ghost use Rattle.program_meaning.specs.GoingWell.{OutcomesGoWell};
 
 /// Small programs read, write and end as they should: sums over a link, echoes, quotients, counts of 0 and 1, links
-/// that end early, links to which nobody listens, and numbers and subscripts that have no value.
+/// that end early, links to which nothing listens, and numbers and subscripts that have no value.
 #[tactic(auto, using(crate::proofs::Worked::worked_programs))]
 pub fn small_programs_mean()
     ensures sums { SumsMean }
@@ -20,7 +20,7 @@ pub fn small_programs_mean()
     ensures words { WordsMatter }
 {}
 
-/// Where an environment meets a scope, a number is stored in the scalar that a name stands for there, and one in the
+/// Where an environment meets a scope, a number is stored in the scalar that a name denotes there, and one in the
 /// range of an array's elements in an element whose subscript lies inside. The environment after it meets the scope.
 #[tactic(auto, using(crate::proofs::NumbersStored::storing_holds))]
 pub fn numbers_are_stored()
@@ -36,8 +36,8 @@ pub fn values_are_typed()
     ensures { ValuesAreTyped }
 {}
 
-/// What is received is a number of the type, whatever came in. What is sent has the length of a message, and is received
-/// as the number that was sent.
+/// What is received is a number of the type, whatever came in. What is sent has the length of a message, and is
+/// received as the number that was sent.
 #[tactic(auto, using(crate::proofs::MessagesReadBack::messages))]
 pub fn messages_hold_numbers()
     ensures received { ReceivedIsOfType }
@@ -65,15 +65,16 @@ pub fn loops_go_on()
     ensures { LoopsGoOn }
 {}
 
-/// Outcomes that are not stuck and leave what is known true are so together: one after the other, where scopes are left,
-/// and turn by turn in a loop.
+/// Outcomes that are not stuck and leave what is known true are so together: one after the other, where scopes are
+/// left, and turn by turn in a loop.
 #[tactic(auto, using(crate::proofs::OutcomesGoWell::outcomes_go_well))]
 pub fn outcomes_go_well()
     ensures { OutcomesGoWell }
 {}
 
-/// Where constants have their values and arrays their sizes, what is declared is bound, and holds what its meaning says.
-/// The items of a table lie in its range. If the numbers of its expressions are words, it holds numbers of its type.
+/// Where constants have their values and arrays their sizes, what is declared is bound, and holds what its meaning
+/// says. The items of a table lie in its range. If the numbers of its expressions are words, it holds numbers of its
+/// type.
 #[tactic(auto, using(crate::proofs::DeclarationsTyped::declarations))]
 pub fn declarations_hold()
     ensures held { DeclarationsHold }
