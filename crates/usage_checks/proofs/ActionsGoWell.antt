@@ -167,7 +167,7 @@ own_in (e ∷ es) name m own is =
     own_by (bytes_eq e.name name) e.meaning m (meaning_in name es) is (flat_own e.meaning own.0)
     (own_in es name m own.1)
 
--- ---- what a target stands for
+-- ---- what a target denotes
 
 -- a scalar that a line declares, or an array of a known size whose elements can change
 pub data Targets (es : List Entry) (name : List ℕ) (t : ExprType) : Option Expression → Type 0 where
@@ -301,7 +301,7 @@ assigned_to es env name (Some e) t value range (element_target f type size r n m
     (λ v is. element_true es env name f type size r n v means number sub inside holds
     (number_typed type t v same is.1))
 
--- types of expressions tell types of variables apart
+-- types of expressions distinguish types of variables
 one_type : (type carries : ValueType) (v : ℤ) → type_of_values type ≡ type_of_values carries → IsOfType carries v
     → IsOfType type v
 one_type value_type.Int value_type.Int v same is = is
@@ -357,7 +357,7 @@ meaning_flat n m (e ∷ es) is =
     ap (λ k. cond (nat_eq k n) (Some (with_range (λ r. full) e.meaning)) (meaning_at n (shape es))) (shape_long es)
     ∙ flat_by (nat_eq (length es) n) n m e es (meaning_flat n m es) is
 
--- the type of a channel by what its name stands for
+-- the type of a channel by what its name denotes
 channel_is : (m : Option Meaning) (t : ExprType) → channel_type m false ≡ Ok t
     → (type : ValueType) × (m ≡ Some (Channel type)) × (type_of_values type ≡ t)
 channel_is (Some (Channel type)) t is = (type, refl, ok_same (type_of_values type) t is)

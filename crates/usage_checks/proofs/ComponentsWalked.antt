@@ -129,7 +129,7 @@ walks_block site word cs k begins components ends =
     walks_then (ended word)
     (walks_after (after_components a word cs) (BreakComponents a site.position word cs) begins components) ends
 
--- the components of a PAR, which stand elsewhere than it
+-- the components of a PAR, which are elsewhere than it
 pub walks_par : {part : Part} (site inner : Site) (count : ℕ) (cs : Components part) (k : Known) {s t w : Findings}
     {l m n : Known} → inner.around ≡ site.around
     → inner.position ≡ position_in (Mark mark.Par) count site.position → count ≡ length k.entries

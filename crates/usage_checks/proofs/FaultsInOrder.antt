@@ -55,7 +55,8 @@ pub walks_as : {K : Type 0} {s t : Findings} {k l : K} {P Q : UsageFault → Typ
 walks_as there back a = record { complete = a.complete; known = a.known; first = λ c. first_as there back (a.first c) }
 
 -- Where memory was not enough nothing is said.
-pub walks_failed : {K : Type 0} (s t : Findings) (k l : K) (P : UsageFault → Type 0) → t.complete ≡ false → Walks s t k l P
+pub walks_failed : {K : Type 0} (s t : Findings) (k l : K) (P : UsageFault → Type 0) → t.complete ≡ false
+    → Walks s t k l P
 walks_failed s t k l P lacks =
     let never : t.complete ≡ true → ⊥ = λ e. (let x = sym lacks ∙ e in absurd cc) in
     record {

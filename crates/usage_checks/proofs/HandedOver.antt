@@ -118,7 +118,7 @@ again_last before (k ∷ hs) h n (inr x) =
 
 -- ---- the loop
 
--- the set has what these actuals hand over, and of what is passed twice the number was told
+-- the set has what these actuals pass, and the number of the rule was reported if something is passed twice
 abbrev pub Hands : (s t : Uses) → List Handed → Option ℕ → Type 0
 Hands s t hs found = Adds s t (all_remembered hs) × (t.complete ≡ true → IsLowest (AreAgain [] hs) found)
 

@@ -89,8 +89,9 @@ capped_again : (a n : ℕ) → capped (a + n) ≡ capped (capped a + n)
 capped_again a n = omega arith
 
 -- what is known after an item was weighed, by its weight
-pub weighed_is : (item : ProgramItem) (k l : Known) (signatures : List (List Parameter)) {v w : Weight} {ms : List Measured}
-    → v.over ≡ None → ms ≡ measures_of_item signatures k.entries item → w.complete ≡ true → WeighsIn v w k l ms
+pub weighed_is : (item : ProgramItem) (k l : Known) (signatures : List (List Parameter)) {v w : Weight}
+    {ms : List Measured} → v.over ≡ None → ms ≡ measures_of_item signatures k.entries item → w.complete ≡ true
+    → WeighsIn v w k l ms
     → (let o : Weight → Known → Outside = λ w k.
     record { known = k; signatures = signatures; size = capped w.sum; uncounted = w.over } in
     o w l ≡ weighed item (o v k))

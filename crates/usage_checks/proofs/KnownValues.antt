@@ -66,7 +66,7 @@ found_by : (count : ℕ) (t : Bool) (k m : Meaning) (rest : Option Meaning) → 
 found_by count true k m rest e w others = let same : k ≡ m = cc in subst (λ n. is_whole count n ≡ true) same w
 found_by count false k m rest e w others = others e
 
--- a name that is found stands for something whole
+-- a name that is found denotes something whole
 pub found_whole : (count : ℕ) (name : List ℕ) (es : List Entry) (m : Meaning) → AreWhole count es
     → meaning_in name es ≡ Some m → is_whole count m ≡ true
 found_whole count name [] m w e = absurd (cc e)

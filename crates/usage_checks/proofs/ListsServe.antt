@@ -110,9 +110,9 @@ within t signatures es (Chosen line e p) x = x
 within t signatures es (Guarded line g p) x = x
 
 -- the process of a component
-pub has_entered : {part : Part} {s t : Findings} {l : Known} {P : UsageFault → Type 0} (site : Site) (c : Component part)
-    (k : Known) → AreNested k.entries k.blocks → HasComponent s site c k → Walks s t l (entered c k) P
-    → HasProcess t site (process_of c) l
+pub has_entered : {part : Part} {s t : Findings} {l : Known} {P : UsageFault → Type 0} (site : Site)
+    (c : Component part) (k : Known) → AreNested k.entries k.blocks → HasComponent s site c k
+    → Walks s t l (entered c k) P → HasProcess t site (process_of c) l
 has_entered {l = l} site c k nested has walked = λ e.
     let signatures = (around_of site.around).signatures in
     let same = ap (λ (l : Known). outline l.entries) (walked.known e) ∙ (outlines_stay.entering c k nested).entries in

@@ -14,7 +14,7 @@ use Rattle.usage_checks.specs.Unshared.{IsAmong, turns_in, IsPart, from_body, be
 use Rattle.usage_checks.specs.Unshared.{SharesPiece, NothingShared}
 use Rattle.usage_checks.proofs.PlacesHold.{items_hold, last_or_before}
 
--- what is shared in one of so many turns
+-- what is shared in one of n turns
 in_some_turn : (Breaks : ℕ → UsageFault → Type 0) (count n : ℕ) (f : UsageFault) → n < count → Breaks n f
     → InSomeTurn Breaks count f
 in_some_turn Breaks zero n f less x = absurd (omega (arith, less))

@@ -1,4 +1,4 @@
--- The walk keeps the outlines of scopes: names and what they stand for, but for ranges, values and sizes.
+-- The walk keeps the outlines of scopes: names and what they denote, but for ranges, values and sizes.
 use Rattle.std.proofs.Common.{◌≡◌, ℕ, zero, suc, ℤ, ◌<◌, ◌≤◌, Bool, true, false, cond, List, [], ◌∷◌, ◌++◌, length}
 use Rattle.std.proofs.Common.{Option, Some, None, Result, Ok, Err, refl, sym, ap, subst, ◌∙◌, arith, max, nat_lt}
 use Rattle.std.proofs.Common.{append_assoc}

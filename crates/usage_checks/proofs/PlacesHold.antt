@@ -153,7 +153,7 @@ indexed_whole count name m k h w = entries_whole count (add name m) k w (h, w.en
 pub last_or_before : (m n : ℕ) → m < suc n → (m ≡ n) ⊎ (m < n)
 last_or_before m n h = eq-or-lt_of_le (le_of_suc-le-suc h)
 
--- what each of so many turns keeps holds after them
+-- what each turn keeps holds after n of them
 turns_keep : {K : Type 0} (P : K → Type 0) (step : ℕ → K → K) (Breaks : ℕ → K → UsageFault → Type 0) (count n : ℕ)
     (k : K) → ((m : ℕ) (l : K) → m < count → Unbroken (Breaks m l) → P l → P (step m l)) → n ≤ count
     → Unbroken (BreaksInTurns step Breaks n k) → P k → P (turn_by_turn step n k)

@@ -25,8 +25,9 @@ WalksHead s t line fs k l =
     Walks s t l (with_entries (add_formals k.entries fs) k)
     (λ f. At line (BreakSizes k.entries fs) f ⊎ BreakFormals (length k.entries) line k.entries fs k.entries f)
 
-pub walks_procedure : (a : Around) (position : Position) (p : Procedure) (k : Known) (fs : List Formal) (formals declared : ℕ)
-    {s t u w : Findings} {l j m n : Known} → fs ≡ p.head.formals → formals ≡ length k.entries
+pub walks_procedure : (a : Around) (position : Position) (p : Procedure) (k : Known) (fs : List Formal)
+    (formals declared : ℕ) {s t u w : Findings} {l j m n : Known} → fs ≡ p.head.formals
+    → formals ≡ length k.entries
     → declared ≡ length j.entries
     → position ≡ body_position (is_main_name p.head.name) formals declared → WalksHead s t p.line fs k l
     → Walks t u j l (Shares a l.entries p.body)

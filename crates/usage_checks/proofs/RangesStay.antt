@@ -87,7 +87,7 @@ within_all all ns ds es c w = within_more ns all ds es c.has w
 within_outline : (all : List ℕ) (ds es : List Entry) → EntriesWithin all ds es → outline ds ≡ outline es
 within_outline all ds es w = shaped ds es (within_shape all ds es w)
 
--- ---- what stands on one line
+-- ---- what is on one line
 
 receive_within : (o : Option ℕ) (es : List Entry) → EntriesWithin (listed o) (receive_if o es) es
 receive_within None es = within_same [] es

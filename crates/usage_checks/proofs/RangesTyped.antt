@@ -386,7 +386,7 @@ module _ (items : List ProgramItem) where
 
   -- ---- replicators
 
-  -- so many turns of a body under a block that has branches
+  -- n turns of a body under a block that has branches
   turns_typed : {part : Part} (word : Terminal) (c : Component part) (t : Standing) (all : List ℕ) (name : List ℕ)
       (repeats : Repeats) (ns : List ℕ) (es : List Entry) (j : Known) (count n : ℕ) → IsMadeOf word part
       → IsApart word → repeats.sequential ≡ false → outline j.entries ≡ outline es

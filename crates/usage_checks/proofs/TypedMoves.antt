@@ -198,7 +198,7 @@ pub typed_widen : (ns : List ℕ) (es : List Entry) → AreInTypes es → AreInT
 typed_widen ns [] typed = tt
 typed_widen ns (e ∷ es) typed = (free_typed (is_one_of ns (length es)) e typed.0, typed_widen ns es typed.1)
 
--- ---- what stands on one line
+-- ---- what is on one line
 
 range_is : (r : Result Bound ℕ) (range : Ends) → range_found r ≡ Ok range
     → (b : Bound) × (r ≡ Ok b) × (ends b ≡ range)

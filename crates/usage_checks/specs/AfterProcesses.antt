@@ -14,7 +14,7 @@ use Rattle.program_uses.specs.Indices.{is_seq, repeats_of, index_in, turn_by_tur
 use Rattle.usage_checks.specs.Following.{after_action, after_guard, where_holds}
 use Rattle.usage_checks.specs.NameRules.{with_entries}
 
--- what was declared since there were so many names is left
+-- what was declared since there was this number of names is left
 abbrev pub left_to : ℕ → Known → Known
 left_to count k = with_entries (leave count k.blocks) k
 

@@ -30,7 +30,7 @@ use Rattle.usage_checks.specs.EachBroken.{BreaksEach}
 use Rattle.usage_checks.specs.PlaceRules.{target_type, channel_type, elements_in, BreaksSubscript}
 use Rattle.usage_checks.specs.ChannelRules.{is_inside, is_right_way}
 
--- ---- what a formal takes: by what a name stands for, and by whether a subscript follows it
+-- ---- what a formal takes: by what a name denotes, and by whether a subscript follows it
 
 -- the type of a single value, or of an element of an array
 abbrev pub held_type : Meaning → Bool → Result ExprType ℕ

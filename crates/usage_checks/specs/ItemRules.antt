@@ -29,7 +29,7 @@ use Rattle.program_uses.specs.Telling.{At}
 abbrev pub in_body : Procedure → Known → Known
 in_body p k = with_entries (add_formals k.entries p.head.formals) k
 
--- where a body stands, by the first formal and the first name of the body
+-- the position of a body, by the first formal and the first name of the body
 abbrev pub body_position : Bool → ℕ → ℕ → Position
 body_position is_main formals declared =
     record { formals = formals; declared = declared; parallel = 0; is_main = is_main }
@@ -57,7 +57,7 @@ BreaksNamed a p k f = BreaksProcedure a p k f ⊎ BreaksName 0 p.line p.head.nam
 
 -- ---- what those know of it that call it
 
--- parameters, by their numbers from this one on: what they stand for, and the ends of those that are channels
+-- parameters, by their numbers from this one on: what they denote, and the ends of those that are channels
 abbrev pub parameters_from : List Entry → ℕ → List ChannelEnd → List Formal → List Parameter
 parameters_from es number ds [] = []
 parameters_from es number ds (f ∷ fs) =

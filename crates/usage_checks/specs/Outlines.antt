@@ -1,5 +1,5 @@
 -- The walk keeps the outline of what is in scope, as it comes to the parts of a process and after each of them: the
--- names are the same, and stand for the same but for ranges, values and sizes.
+-- names are the same, and denote the same but for ranges, values and sizes.
 use Rattle.std.specs.Prelude.{◌≡◌, ℕ, ◌<◌, List, length, map, None}
 use Rattle.occam_layout.specs.declared.mark.Mark.TheVariants as mark
 use Rattle.occam_parser.specs.Terminals.{Terminal, Mark}
@@ -25,7 +25,7 @@ pub record HaveOneOutline (k l : Known) : Type 0 where
   pub entries : outline k.entries ≡ outline l.entries
   pub blocks : outlines_of k.blocks ≡ outlines_of l.blocks
 
--- what stands side by side in a block
+-- what is side by side in a block
 abbrev pub AreProcesses : Part → Type 0
 AreProcesses Processes = Unit {0}
 AreProcesses part = ⊥
@@ -50,7 +50,7 @@ IsMadeOf word part = ⊥
 
 -- In nested blocks the outline is the same after a process, without what it declares, and after a construct. So it is
 -- after each component of a block, where the next one begins, and where the process of a component begins; and a body
--- under a replicator begins each turn with the outline of where the replicator stands, and its index.
+-- under a replicator begins each turn with the outline at the replicator, and its index.
 pub record OutlinesStay : Type 0 where
   pub processes : (a : Around) (p : Process) (k : Known) → AreNested k.entries k.blocks
       → HaveOneOutline (left_to (length k.entries) (inside a p k)) k

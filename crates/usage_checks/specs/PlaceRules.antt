@@ -17,7 +17,7 @@ use Rattle.usage_checks.specs.declared.wanting.Wanted.{Wanted}
 use Rattle.usage_checks.specs.declared.wanting.Wanted.TheVariants as wanted
 use Rattle.usage_checks.specs.Wanting.{BreaksWanted}
 
--- ---- what a name stands for, by whether a subscript follows it
+-- ---- what a name denotes, by whether a subscript follows it
 
 -- O9 and O11: the type of a variable, or of an element of one
 abbrev pub target_type : Option Meaning → Bool → Result ExprType ℕ

@@ -21,19 +21,19 @@ use Rattle.usage_checks.specs.LineRules.{BreaksCondition, BreaksReplicator}
 use Rattle.usage_checks.specs.NameRules.{BreaksDeclared, with_entries}
 use Rattle.program_uses.specs.Telling.{At}
 
--- Something is broken in one of so many turns, where those before it are done with.
+-- Something is broken in one of this number of turns, after those before it.
 abbrev pub BreaksInTurns : {A : Type 0} → (ℕ → A → A) → (ℕ → A → UsageFault → Type 0) → ℕ → A → UsageFault → Type 0
 BreaksInTurns step Breaks zero x f = ⊥
 BreaksInTurns step Breaks (suc n) x f = BreaksInTurns step Breaks n x f ⊎ Breaks n (turn_by_turn step n x) f
 
--- where the components of a block stand that begins with so many names
+-- the position of the components of a block that begins with this number of names
 abbrev pub position_in : Terminal → ℕ → Position → Position
 position_in (Mark mark.Par) count p =
     record { formals = p.formals; declared = p.declared; parallel = count; is_main = p.is_main }
 position_in word count p = p
 
 abbrev mutual
-  -- a process, before which there were so many names
+  -- a process, before which there was this number of names
   pub BreaksIn : Around → Position → ℕ → Process → Known → UsageFault → Type 0
   BreaksIn a p first (Declared d q) k f =
       BreaksDeclared first d k.entries f ⊎ BreaksIn a p first q (with_entries (add_declaration d) k) f

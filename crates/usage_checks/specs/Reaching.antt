@@ -29,7 +29,7 @@ use Rattle.usage_checks.specs.Whole.{IsWhole}
 
 -- ---- places
 
--- what is known of the program at a place, and where it stands
+-- what is known of the program at a place, and its position
 pub record Standing : Type 0 where
   pub around : Around
   pub position : Position
@@ -103,7 +103,7 @@ entered (Plain p) k = k
 entered (Chosen line e p) k = chosen e k
 entered (Guarded line g p) k = with_entries (after_guard g) k
 
--- The walk comes to this place, where this is known: to the body of each procedure, to what is behind a declaration, to
+-- The walk comes to this place, where this is known: to the body of each procedure, to what is after a declaration, to
 -- each component of a block and under a replicator, and to the process of a component.
 pub data Reaches (items : List ProgramItem) : Standing → Piece → Known → Type 0 where
   to_body : (o : Outside) (p : Procedure) → Comes o (GlobalProcedure p) items outermost

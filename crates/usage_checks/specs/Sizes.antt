@@ -1,4 +1,4 @@
--- How large a program is, by what the check goes over. The measure is our own choice: what it stands for is work.
+-- How large a program is, by what the check goes over. The measure is our own choice: it estimates work.
 use Rattle.std.specs.Prelude.{ℕ, suc, ◌+◌, ◌^◌, nat_lt, Bool, true, false, ◌&&◌, List, [], ◌∷◌, ◌++◌, length, sum_by}
 use Rattle.std.specs.Prelude.{if◌then◌else◌, min, Option, Some, None, option_and_then}
 use Rattle.occam_parser.specs.Expressions.{Expression, Alone, Prefixed, Paired, Chained, Terms, Two, Then, Term}

@@ -30,8 +30,8 @@ IsPart a line (Block kind cs) es piece fs = IsAmong cs piece × (fs ≡ es)
 IsPart a line (Replicated r b) es piece fs = (n : ℕ) × IsUnder b piece × (n < (turns_in a line r b es).count)
     × (fs ≡ in_turn r (is_sequence b) (turns_in a line r b es).first n es)
 
--- from the body of each procedure on, to what is behind a declaration, to each part of a construct, and to the process of
--- a component
+-- from the body of each procedure on, to what is after a declaration, to each part of a construct, and to the process
+-- of a component
 pub data Gathers (items : List ProgramItem) : Around → Piece → List Entry → Type 0 where
   from_body : (o : Outside) (p : Procedure) → Comes o (GlobalProcedure p) items outermost
       → Gathers items (around_in o) (AProcess (length (in_body p o.known).entries) p.body) (in_body p o.known).entries

@@ -44,7 +44,7 @@ WalksBlock s t site word cs before after =
     Walks s t after (ended word (after_components a word cs (begun word before)))
     (BreakComponents a inner word cs (begun word before))
 
--- the word of the block under whose replicator a body stands
+-- the word of the block under whose replicator a body is
 abbrev pub word_of : Body → Terminal
 word_of (One kind c) = block_word kind
 

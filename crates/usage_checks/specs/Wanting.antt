@@ -39,7 +39,7 @@ abbrev mutual
 
 -- ---- rules
 
--- What has no type breaks the rule that its type tells; what has one, but no bound, the rule that its bound tells.
+-- What has no type breaks the rule whose number its type gives; what has one, but no bound, that of its bound.
 abbrev pub HasFault : Result ExprType ℕ → Result Bound ℕ → ℕ → Type 0
 HasFault type bound n = (type ≡ Err n) ⊎ (IsOk type × (bound ≡ Err n))
 

@@ -3,7 +3,7 @@ use Rattle.std.specs.Prelude.{◌≡◌, ℕ, nat_lt, Bool, true, List, [], ◌�
 use Rattle.scalar_ranges.specs.Entries.{Meaning, Constant, Scalar, Array, Channel, Channels, Procedure, Entry}
 use Rattle.scalar_ranges.specs.Moves.{Block, Known}
 
--- where there are so many procedures
+-- where there is this number of procedures
 abbrev pub is_whole : ℕ → Meaning → Bool
 is_whole count (Constant type value) = is_some value
 is_whole count (Scalar kind type range) = true

@@ -34,7 +34,7 @@ use program_uses::{
 use scalar_ranges::Scope;
 use std::alloc::Global;
 
-/// Where a process stands, and what is known of the program there.
+/// Where a process is, and what is known of the program there.
 #[derive(Clone, Copy)]
 pub(crate) struct Site<'s> {
     pub(crate) alloc: Global,
@@ -45,7 +45,7 @@ pub(crate) struct Site<'s> {
 }
 
 impl<'s> Site<'s> {
-    /// Where the components of a `PAR` stand that begins here, with so many names.
+    /// Where the components of a `PAR` are that begins here, with `count` names.
     fn in_par(self, count: usize) -> Site<'s>
         ensures around { result.around ≡ self.entry.around }
         ensures lists { result.lists ≡ self.entry.lists }
@@ -60,7 +60,7 @@ impl<'s> Site<'s> {
         }
     }
 
-    /// Where the component under a replicator stands that begins here, with so many names.
+    /// Where the component under a replicator is that begins here, with `count` names.
     fn in_body(self, body: &Body, count: usize) -> Site<'s>
         ensures around { result.around ≡ self.entry.around }
         ensures lists { result.lists ≡ self.entry.lists }
@@ -104,7 +104,7 @@ impl Findings {
         }
     }
 
-    /// A replicator that stands on this line.
+    /// A replicator on this line.
     fn walk_replicator(&mut self, scope: &Scope, line: u32, replicator: &Replicator)
         ensures { Walks self.old self.new (known_of scope.now) (known_of scope.now)
             (At line (BreaksReplicator (entries_of scope.now) (replicator_of replicator.now))) }
@@ -211,7 +211,7 @@ impl Findings {
         }
     }
 
-    /// An action that stands on this line, with what it passes twice.
+    /// An action on this line, with what it passes twice.
     fn walk_act(&mut self, site: Site, scope: &mut Scope, line: u32, action: &Action)
         ensures { WalksConstruct self.old self.new site.entry line (Act (action_of action.now)) (known_of scope.old)
             (known_of scope.new) }

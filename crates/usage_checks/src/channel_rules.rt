@@ -12,7 +12,7 @@ use occam_parser::Place;
 use program_uses::{CHANNEL_USE, Direction, link_way, lower, place_ref, told_unless};
 use scalar_ranges::{ExprType, Scope};
 
-/// Where a process stands, by the numbers of declarations.
+/// Where a process is, by the numbers of declarations.
 #[derive(Clone, Copy)]
 pub struct Position {
     /// The first formal of its procedure.

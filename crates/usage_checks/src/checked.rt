@@ -36,7 +36,7 @@ impl<'a> CheckedProgram<'a> {
     }
 
     /// What is known of each procedure by those that call it, in the order of the program: of each formal what it
-    /// stands for, and in rising order the ends that the procedure uses of it.
+    /// denotes, and in rising order the ends that the procedure uses of it.
     pub fn signatures(&self) -> &[Signature]
         ensures signatures { result.now ≡ self.now.signatures.items }
         ensures signed { signatures_of result.now
@@ -47,7 +47,7 @@ impl<'a> CheckedProgram<'a> {
 }
 
 impl Findings {
-    /// The fault that is told of a whole program, if there is one: at line 0 where memory ran out.
+    /// The fault that is reported of a whole program, if there is one: at line 0 if memory ran out.
     fn verdict(self) -> Option<UsageFault>
         ensures { result ≡ verdict self }
     {

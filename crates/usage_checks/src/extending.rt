@@ -14,7 +14,7 @@ use program_uses::{Parameter, add_name};
 use scalar_ranges::Scope;
 use std::alloc::{AllocError, Global};
 
-/// The names of formals, with what they stand for.
+/// The names of formals, with what they denote.
 fn add_parameters<'a>(
     scope: &mut Scope<'a>,
     formals: &[Formal<'a>],
@@ -32,7 +32,7 @@ fn add_parameters<'a>(
     Ok(())
 }
 
-/// The names of formals, with what they stand for in the body of their procedure. What one stands for does not see those
+/// The names of formals, with what they denote in the body of their procedure. What one denotes does not see those
 /// before it. If memory runs out, the scope has some entries more and nothing else.
 pub fn add_formals<'a>(
     alloc: Global,

@@ -89,8 +89,8 @@ fn after_actuals(
 }
 
 /// What is known after an action: a variable that is assigned to has the range of what is assigned, and one that is
-/// received into or passed as a variable has the range of its type. `signatures` are those of the procedures before this
-/// place.
+/// received into or passed as a variable has the range of its type. `signatures` are those of the procedures before
+/// this place.
 pub fn after_action(scope: &mut Scope, signatures: &[Signature], action: &Action)
     ensures entries { entries_of scope.new
         ≡ after_action (signatures_of signatures.now) (action_of action.now) (entries_of scope.old) }

@@ -158,7 +158,7 @@ fn fault_of_passing(
     }
 }
 
-/// What the name of a parameter stands for, if there is one.
+/// What the name of a parameter denotes, if there is one.
 fn formal_of(parameter: Option<&Parameter>) -> Option<Meaning>
     ensures { option_map meaning_of result
         ≡ option_map (λ q. q.meaning) (option_map (λ p. parameter_of p.now) parameter.entry) }
@@ -186,7 +186,7 @@ fn fault_of_one(
     )
 }
 
-/// The number of what has this meaning and is not called with so many actuals.
+/// The number of the rule that is broken, if what has this meaning is not called with `count` actuals.
 fn not_called(signatures: &[Signature], found: Option<Meaning>, count: usize) -> Option<u8>
     ensures { IsLowest (IsNotCalled (signatures_of signatures.now) (option_map meaning_of found) count) result }
 {

@@ -6,7 +6,7 @@ ghost use Rattle.usage_checks.specs.RangesStay.{RangesStay};
 ghost use Rattle.usage_checks.specs.TypedRanges.{RangesAreTyped};
 ghost use Rattle.usage_checks.specs.NeverStuck.{ProgramsGoOn};
 
-/// At each place that the walk over such a program comes to, no rule is broken in what stands there. Constants in scope
+/// At each place that the walk over such a program comes to, no rule is broken in what is there. Constants in scope
 /// have their values, arrays their sizes, and procedures their parameters. The names of its first line are found, their
 /// types fit, expressions have a range, and what has to be constant has a value.
 ///
@@ -36,10 +36,10 @@ pub fn nothing_shared()
     ensures { NothingShared }
 {}
 
-/// Where the walk goes on behind a process or a component of a block, the same names are in scope as before, and stand
-/// for the same but for ranges, values and sizes. So it is where a component begins, and where a turn of a replicator
-/// does, which has its index besides. So what hangs on the outline of a scope alone, as what a process changes, can be
-/// found before the walk.
+/// Where the walk goes on after a process or a component of a block, the same names are in scope as before, and denote
+/// the same but for ranges, values and sizes. The same holds where a component begins, and where a turn of a replicator
+/// does, which has its index besides. So what depends on the outline of a scope alone, as what a process changes does,
+/// can be found before the walk.
 #[tactic(auto, using(crate::proofs::OutlinesStay::outlines_stay))]
 pub fn outlines_stay()
     ensures { OutlinesStay }

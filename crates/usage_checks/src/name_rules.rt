@@ -50,7 +50,7 @@ fn line_of(declaration: &Declaration) -> u32
     }
 }
 
-/// What the names of a declaration stand for.
+/// What the names of a declaration denote.
 fn declared_meaning(scope: &Scope, declaration: &Declaration) -> Meaning
     ensures { meaning_of result ≡ declared_meaning (entries_of scope.now) (declaration_of declaration.now) }
 {

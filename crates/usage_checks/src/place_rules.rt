@@ -19,7 +19,7 @@ use program_uses::{PlaceRef, is_variable, lower, told_unless, type_of_values};
 use scalar_ranges::{ExprType, Meaning, OUTSIDE, Scope, UNKNOWN_NAME, WRONG_TYPE, read};
 use word_arithmetic::Range;
 
-/// The type of a variable, or of an element of one, by what its name stands for and by whether a subscript follows.
+/// The type of a variable, or of an element of one, by what its name denotes and by whether a subscript follows.
 pub(crate) fn target_type(meaning: Option<Meaning>, subscripted: bool) -> Result<ExprType, u8>
     ensures { result ≡ target_type (option_map meaning_of meaning) subscripted }
 {
@@ -35,7 +35,7 @@ pub(crate) fn target_type(meaning: Option<Meaning>, subscripted: bool) -> Result
     }
 }
 
-/// The type of what a channel carries, by what its name stands for and by whether a subscript follows.
+/// The type of what a channel carries, by what its name denotes and by whether a subscript follows.
 pub(crate) fn channel_type(meaning: Option<Meaning>, subscripted: bool) -> Result<ExprType, u8>
     ensures { result ≡ channel_type (option_map meaning_of meaning) subscripted }
 {
@@ -47,7 +47,7 @@ pub(crate) fn channel_type(meaning: Option<Meaning>, subscripted: bool) -> Resul
     }
 }
 
-/// How many elements there are of what a name stands for, if that is known.
+/// The number of elements of what a name denotes, if it is known.
 pub(crate) fn elements_in(meaning: Option<Meaning>) -> Option<u32>
     ensures { result ≡ elements_in (option_map meaning_of meaning) }
 {

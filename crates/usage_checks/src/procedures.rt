@@ -28,7 +28,7 @@ use scalar_ranges::Scope;
 use std::alloc::Global;
 
 impl Findings {
-    /// The formals of a procedure whose head stands on this line.
+    /// The formals of a procedure whose head is on this line.
     fn walk_head<'a>(
         &mut self,
         alloc: Global,
@@ -70,7 +70,7 @@ impl Findings {
         used
     }
 
-    /// The body of a procedure, which begins where this stands.
+    /// The body of a procedure, which begins with this scope.
     fn walk_within<'a>(
         &mut self,
         alloc: Global,

@@ -1,4 +1,4 @@
-//! The sizes of lines, as far as just above the greatest size that a program may have. `docs/LANGUAGE.md` says how sizes
+//! The sizes of lines, up to just above the greatest size that a program may have. `docs/LANGUAGE.md` says how sizes
 //! are counted.
 
 ghost use Rattle.std.specs.Prelude.{◌≡◌, ◌+◌, length, map, sum_by};
@@ -149,7 +149,7 @@ fn size_of_items(items: &OneOrMore<Expr>) -> u32
     plus(size_of_expression(&items.first), size_of_all(&items.others))
 }
 
-/// The size of what a constant stands for.
+/// The size of what a constant denotes.
 fn size_of_value(value: &ConstantValue) -> u32
     ensures { result ≡ capped (size_of_value (value_of value.now)) }
 {

@@ -1,4 +1,4 @@
-//! Which fault of a program is told.
+//! Which fault of a program is reported.
 
 ghost use Rattle.std.specs.Prelude.{◌≡◌, false, None};
 ghost use Rattle.program_uses.specs.Telling.{earlier, fault_at};

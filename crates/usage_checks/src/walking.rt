@@ -22,7 +22,7 @@ use program_uses::Signature;
 use scalar_ranges::{Scope, narrow_by};
 
 impl Findings {
-    /// An action that stands on this line.
+    /// An action on this line.
     pub(crate) fn walk_action(
         &mut self,
         position: Position,
@@ -39,7 +39,7 @@ impl Findings {
         self.tell(line, fault_of_action(position, signatures, scope, action));
         after_action(scope, signatures, action);
     }
-    /// A condition that stands on this line, and then where it holds.
+    /// A condition on this line, and then where it holds.
     pub(crate) fn walk_condition(&mut self, scope: &mut Scope, line: u32, condition: &Expr)
         ensures { Walks self.old self.new (known_of scope.new)
             (with_entries (where_holds (Some (expression_of condition.now))) (known_of scope.old))
@@ -49,7 +49,7 @@ impl Findings {
         narrow_by(scope, condition, true);
     }
 
-    /// A condition that stands on this line, if there is one, and then where it holds.
+    /// A condition on this line, if there is one, and then where it holds.
     fn walk_any(&mut self, scope: &mut Scope, line: u32, condition: &Option<Expr>)
         ensures { Walks self.old self.new (known_of scope.new)
             (with_entries (where_holds (any_of condition.now)) (known_of scope.old))
@@ -60,7 +60,7 @@ impl Findings {
         }
     }
 
-    /// A guard that stands on this line, and then where it holds.
+    /// A guard on this line, and then where it holds.
     pub(crate) fn walk_guard(
         &mut self,
         position: Position,

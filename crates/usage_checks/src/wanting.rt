@@ -12,7 +12,7 @@ use occam_parser::{Expr, Operand, Operation};
 use program_uses::{CONSTANT_WANTED, lower, told_unless};
 use scalar_ranges::{ExprType, Meaning, Scope, WRONG_TYPE, read};
 
-/// What a place wants of the expression that stands there.
+/// What a place requires of the expression there.
 #[derive(Clone, Copy)]
 pub enum Wanted {
     /// An expression of any type.

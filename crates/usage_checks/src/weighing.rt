@@ -87,7 +87,7 @@ impl Weight {
         self.complete = false;
     }
 
-    /// An action that stands on this line.
+    /// An action on this line.
     fn weigh_action(&mut self, signatures: &[Signature], scope: &Scope, line: u32, action: &Action)
         ensures { Weighs self.old self.new (measure_of_action (signatures_of signatures.now) (entries_of scope.now)
             line (action_of action.now) ∷ []) }
@@ -262,7 +262,7 @@ impl Weight {
         self.weigh(signatures, scope, &branch.process);
     }
 
-    /// A construct under a replicator that stands on this line.
+    /// A construct under a replicator on this line.
     #[cycle(weigh)]
     fn weigh_replicated<'a>(
         &mut self,
@@ -312,7 +312,7 @@ impl Weight {
         }
     }
 
-    /// A body where its index stands for this.
+    /// A body where its index denotes this.
     #[cycle(weigh)]
     fn weigh_turn<'a>(
         &mut self,

@@ -4,4 +4,5 @@ use Rattle.usage_checks.specs.Sizes.{capped, size_of_declaration}
 use Rattle.usage_checks.proofs.sizes.size_of_declarations.Given as goal
 
 abbrev pub invariant-loop-declaration : goal.invariant-loop-declaration
-invariant-loop-declaration l = l.size ≡ capped (sum_by size_of_declaration (map declaration_of (take l.declaration-index l.declarations)))
+invariant-loop-declaration l =
+    l.size ≡ capped (sum_by size_of_declaration (map declaration_of (take l.declaration-index l.declarations)))

@@ -100,7 +100,8 @@ pub walk_component-returns-in-None : goal.walk_component-returns-in-None
 walk_component-returns-in-None t c =
     let component = plain_component c.args.process.now in
     walks_after (after_component (around_of c.args.site.around) (Mark mark.Par) component)
-    (BreaksComponent (around_of c.args.site.around) c.args.site.position component) c.changes-numbers.ensures.walks c.walk_changing-in-None.ensures
+    (BreaksComponent (around_of c.args.site.around) c.args.site.position component) c.changes-numbers.ensures.walks
+    c.walk_changing-in-None.ensures
 
 pub walk_if-loop-choice-preserved : goal.walk_if-loop-choice-preserved
 walk_if-loop-choice-preserved t c =
@@ -124,7 +125,8 @@ walk_alt-loop-branch-preserved t c =
 pub walk_alt-returns : goal.walk_alt-returns
 walk_alt-returns t c =
     let done : length c.args.branches.now ≤ c.loop-branch.branch-index = omega arith in
-    walks_block c.args.site (Mark mark.Alt) (all_branches c.args.branches.now) (known_of c.args.scope.now) c.begin.ensures
+    walks_block c.args.site (Mark mark.Alt) (all_branches c.args.branches.now) (known_of c.args.scope.now)
+    c.begin.ensures
     (components_all c.args.site (Mark mark.Alt) branch_of c.args.branches.now c.loop-branch.branch-index
     (known_of c.begin.new.scope) done c.loop-branch.invariant) c.end.ensures
 
@@ -227,7 +229,8 @@ walk_par-walk_component-requires t c =
       first_of (search (rules, the_lemmas), grind (arith, common_steps)),
       has_next inner.result (Mark mark.Par) plain_component c.args.processes.now c.loop-process.process-index
           c.process-item.result k tt c.args.scope.now.nested (omega arith) c.process-item.is
-          (has_elsewhere c.args.self.now c.args.site inner.result cs k inner.ensures.around inner.ensures.lists c.requires)
+          (has_elsewhere c.args.self.now c.args.site inner.result cs k inner.ensures.around inner.ensures.lists
+          c.requires)
           c.begin_par.ensures c.loop-process.invariant,
     )
 

@@ -23,7 +23,8 @@ returns-clause-walks c =
     (map formal_of c.deref.result.now) c.len-count.result c.len.result
     (ap (map formal_of) c.deref.ensures.value) c.len-count.ensures c.len.ensures
     (ap (λ m. body_position m c.len-count.result c.len.result) c.is_main_name.ensures)
-    c.walk_head.ensures c.uses-used.ensures.walks c.walk_within.ensures (λ i. record { entries = c.leave.ensures.entries i; blocks = c.leave.ensures.blocks i })
+    c.walk_head.ensures c.uses-used.ensures.walks c.walk_within.ensures
+    (λ i. record { entries = c.leave.ensures.entries i; blocks = c.leave.ensures.blocks i })
 
 pub returns-clause-uses : goal.returns-clause-uses
 returns-clause-uses c complete u =
