@@ -11,7 +11,7 @@ pub at_first : {X Y : Type 0} (F : List X → Y) (xs : List X) (i : ℕ) (x : X)
     → F (drop i xs) ≡ F (x ∷ drop (i + 1) xs)
 at_first F xs i x h is = at_drop_more F xs i x h ∙ ap (λ y. F (y ∷ drop (i + 1) xs)) (sym is)
 
--- what is needed from a piece on, by what is needed behind it
+-- what is needed from a piece on, by what is needed after it
 pub needed_first : (ps : List code_piece.Piece) (sizes : List ℕ) (i : ℕ) (p : code_piece.Piece) (n : ℕ)
     → i < length ps → i < length sizes → p ≡ get_or ps i p → n ≡ get_or sizes i n
     → needs_of (drop i (pieces_of ps)) (drop i sizes)

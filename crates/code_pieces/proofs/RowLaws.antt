@@ -9,7 +9,7 @@ use Rattle.code_pieces.specs.Laying.{joins, with_said}
 pub last_first : (xs : List Said) (x : Said) → reverse (xs ++ x ∷ []) ≡ x ∷ reverse xs
 last_first xs x = reverse-append xs (x ∷ [])
 
--- nothing is said behind it
+-- nothing is said after it
 pub said_before_none : (s : Said) (old new : List Said) → old ≡ [] → new ≡ s ∷ []
     → reverse new ≡ with_said s (reverse old)
 said_before_none s old new e f =

@@ -20,7 +20,7 @@ use Rattle.code_pieces.specs.DraftedPars.{AreRows}
 abbrev pub needs_in : List Piece → List ℕ → Needs
 needs_in ps lengths = needs_of ps (sizes_of ps lengths)
 
--- A draft with the code and the tables of these pieces, whose labels are so many and whose links take these messages.
+-- A draft with the code and the tables of these pieces, with this number of labels and links that take these messages.
 pub record IsDraftOf (ps : List Piece) (labels : ℕ) (links : List ℕ) (d : Draft) : Type 0 where
   pub code : d.code ≡ draft_code ps labels
   pub version : d.version ≡ Two

@@ -57,7 +57,7 @@ first_branch offsets (b ∷ bs) = label_offset offsets (label b.entry)
 
 -- ---- the module
 
--- how long the items are, and in which order the label rows, the PAR rows and the table rows stand
+-- how long the items are, and in which order the label rows, the PAR rows and the table rows are
 pub record Arrangement : Type 0 where
   pub lengths : List ℕ
   pub rows : List (ℕ × ℕ)
@@ -88,8 +88,8 @@ laid_module ps labels links a =
       table_rows = rows_in a.table_rows (table_rows_from 0 tables);
     }
 
--- The layout is the least, label rows stand by their offsets, PAR rows by where their first branches begin, and table
--- rows by where tables begin.
+-- The layout is the least. Label rows are ordered by their offsets, PAR rows by where their first branches begin, and
+-- table rows by where tables begin.
 pub record IsArrangement (ps : List Piece) (labels : ℕ) (a : Arrangement) : Type 0 where
   pub least : IsLeast (draft_code ps labels) a.lengths
   pub rows : IsOrder

@@ -24,7 +24,7 @@ use Rattle.code_pieces.specs.Pieces.{Piece, Direct, Jump, JumpUnless, LoopBack, 
 use Rattle.code_pieces.specs.Pieces.{TableAddress, Row, Place, Within, Par, constant}
 use Rattle.code_pieces.specs.Numbers.{Numbered, number_at, with_number, Needs}
 
--- ---- rows stand apart
+-- ---- rows kept apart
 
 abbrev pub is_row : Piece → Bool
 is_row (Row l entries) = true
@@ -34,7 +34,7 @@ is_row p = false
 abbrev pub apart_piece : Bool → Piece → List Piece
 apart_piece at_row p = if at_row && is_row p then constant (pos 0) ∷ p ∷ [] else p ∷ []
 
--- a row may be right before what is behind a piece
+-- a row may be right before what is after a piece
 abbrev pub at_row_behind : Piece → Bool → Bool
 at_row_behind (Row l entries) at_row = true
 at_row_behind (Place l) at_row = at_row
@@ -52,7 +52,7 @@ apart ps = apart_from true ps
 
 -- ---- workspaces
 
--- where the workspace is behind a piece
+-- where the workspace is after a piece
 abbrev pub workspace_behind : Piece → Workspace → Workspace
 workspace_behind (Within workspace) before = workspace
 workspace_behind p before = before
@@ -154,7 +154,7 @@ abbrev pub without_one : List ℕ → List ℕ
 without_one [] = []
 without_one (a ∷ ns) = ns
 
--- the bytes of a piece, whose items have the first of these lengths, and the lengths of the items behind it
+-- the bytes of a piece, whose items have the first of these lengths, and the lengths of the items after it
 abbrev pub size_of : Piece → List ℕ → ℕ
 size_of (LoopBack head behind) lengths = first_two lengths
 size_of (Row l entries) lengths = 0

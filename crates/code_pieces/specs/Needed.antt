@@ -9,13 +9,13 @@ use Rattle.code_pieces.specs.Numbers.{Numbered, number_at, Needs, needs_of}
 pub record Tells (numbers : List ℕ) (ns : List Numbered) : Type 0 where
   pub each : (label : ℕ) → label < length numbers → slice_index numbers label ≡ number_at label ns
 
--- what is known behind a piece
+-- what is known after a piece
 pub record IsKnown (v : vectors.Needs) (n : Needs) : Type 0 where
   pub need : v.need ≡ n.need
   pub labels : Tells v.labels.items n.labels
   pub ends : Tells v.ends.items n.ends
   pub weights : Tells v.weights.items n.weights
 
--- from no piece on, of so many bytes each, are more bytes executed than a budget may be
+-- from no piece on, where pieces have these sizes, are more bytes executed than a budget may be
 pub record NeedsAreWithin (ps : List Piece) (sizes : List ℕ) : Type 0 where
   pub each : (number : ℕ) → (needs_of (drop number ps) (drop number sizes)).need ≤ MAX_BUDGET

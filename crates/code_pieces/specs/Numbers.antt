@@ -24,8 +24,8 @@ number_at label (n ∷ ns) = if nat_eq n.label label then n.number else number_a
 abbrev pub with_number : ℕ → ℕ → List Numbered → List Numbered
 with_number label number ns = record { label = label; number = number } ∷ ns
 
--- What is known behind a piece: how many bytes are executed from there on at most; of each label further on the same;
--- of each loop that ends further on, by its head, what is executed behind it; and of each loop whose head is further
+-- What is known after a piece: how many bytes are executed from there on at most; of each label further on the same;
+-- of each loop that ends further on, by its head, what is executed after it; and of each loop whose head is further
 -- on, what a turn costs.
 pub record Needs : Type 0 where
   pub need : ℕ
@@ -43,7 +43,7 @@ needs n after = record after { need = n }
 abbrev pub stops : ℤ → Bool
 stops operation = int_eq operation STOP_PROCESS || int_eq operation END_PROCESS
 
--- nothing is behind an instruction
+-- nothing is executed after an instruction
 abbrev pub is_stop : Fun → ℤ → Bool
 is_stop fun.Operate operand = stops operand
 is_stop f operand = false
@@ -57,7 +57,7 @@ abbrev pub turns_at : ℕ → List RowEntry → Option ℕ
 turns_at label [] = None
 turns_at label (e ∷ es) = turns_of label e.fact (turns_at label es)
 
--- At the head of a loop a turn costs what is executed from here on, less what is behind the loop; the first turn is
+-- At the head of a loop a turn costs what is executed from here on, less what is after the loop; the first turn is
 -- paid with what is needed here, and the others with their weight.
 abbrev pub at_head : ℕ → Option ℕ → Needs → Needs
 at_head label None after = after
@@ -73,17 +73,17 @@ abbrev pub largest_at : List ℕ → List Numbered → ℕ
 largest_at [] ns = 0
 largest_at (label ∷ labels) ns = max (number_at label ns) (largest_at labels ns)
 
--- what the opener of a PAR executes behind it, which is paid at the first start
+-- what the opener of a PAR executes after it, which is paid at the first start
 abbrev pub successor_need : Option ℕ → List Numbered → ℕ
 successor_need None ns = 0
 successor_need (Some label) ns = number_at label ns
 
--- what is executed behind a start, by the branch too
+-- what is executed after a start, by the branch too
 abbrev pub start_need : ℕ → Option ℕ → Needs → ℕ
 start_need entry successor after =
     after.need + number_at entry after.labels + successor_need successor after.labels
 
--- before a piece of so many bytes
+-- before a piece of this number of bytes
 abbrev pub needed_before : Piece → ℕ → Needs → Needs
 needed_before (Direct f operand) bytes after =
     if is_stop f operand then needs bytes after else needs (bytes + after.need) after
@@ -100,7 +100,7 @@ needed_before (Row label entries) bytes after =
     (record after { labels = with_number label after.need after.labels })
 needed_before p bytes after = needs (bytes + after.need) after
 
--- how many bytes are executed at most from the first of these pieces on, each of so many bytes
+-- how many bytes are executed at most from the first of these pieces on, which have these sizes
 abbrev pub needs_of : List Piece → List ℕ → Needs
 needs_of [] sizes = nothing_needed
 needs_of (p ∷ ps) [] = nothing_needed

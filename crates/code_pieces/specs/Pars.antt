@@ -19,7 +19,7 @@ pub record ParBranch : Type 0 where
   pub reads : List Interval
   pub ends : List EndRow
 
--- The opener's workspace, where the PAR's block is; the label behind the PAR; its channels, and its branches.
+-- The opener's workspace, where the PAR's block is; the label after the PAR; its channels, and its branches.
 pub record Par : Type 0 where
   pub opener : Workspace
   pub successor : ℕ

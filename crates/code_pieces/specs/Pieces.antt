@@ -15,11 +15,11 @@ pub data Piece : Type 0 where
   -- `j` and `cj` to a label
   Jump : (to : ℕ) → Piece
   JumpUnless : (to : ℕ) → Piece
-  -- `ldc` with the distance between both labels, and `lend`: back to the head, or on behind it
+  -- `ldc` with the distance between both labels, and `lend`: back to the head, or on after it
   LoopBack : (head behind : ℕ) → Piece
   -- `ldc` with the distance from one label to another
   Distance : (from to : ℕ) → Piece
-  -- `startp` of the branch with this entry; the first of a PAR has the label behind the PAR too
+  -- `startp` of the branch with this entry; the first of a PAR has the label after the PAR too
   StartBranch : (entry : ℕ) → (successor : Option ℕ) → Piece
   -- `altend`, which goes on at one of these labels
   Select : (targets : List ℕ) → Piece
@@ -55,7 +55,7 @@ constant v = if int_eq v least_word then operates MINIMUM_INTEGER else Direct fu
 
 -- ---- several
 
--- so many words go from one place to another
+-- copies this number of words from one place to another
 abbrev pub moves : ℕ → ℕ → ℕ → List Piece
 moves count from to = points from ∷ points to ∷ constant (pos (4 * count)) ∷ operates MOVE ∷ []
 
@@ -86,6 +86,6 @@ abbrev pub then_code : Option Code → (ℕ → Option Code) → Option Code
 then_code None next = None
 then_code (Some c) next = before c.pieces (next c.labels)
 
--- pieces behind
+-- pieces after the code
 abbrev pub closed_by : List Piece → Option Code → Option Code
 closed_by pieces code = option_map (λ c. record { pieces = c.pieces ++ pieces; labels = c.labels }) code

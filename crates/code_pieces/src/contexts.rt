@@ -48,7 +48,7 @@ fn set_names(names: &mut [ContextName], par: usize, branches: &[ParBranch]) -> R
 }
 
 impl ContextNames {
-    /// The names of the branches of these pieces, which have so many labels.
+    /// The names of the branches of these pieces, which have `labels` labels.
     ///
     /// # Errors
     ///

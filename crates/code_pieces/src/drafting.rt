@@ -230,7 +230,7 @@ fn push_pieces(
     Ok(())
 }
 
-/// Whether so many labels, from the first on, are all placed.
+/// Whether the first `count` labels are all placed.
 fn are_placed(code: &Instructions, count: usize) -> bool
     ensures { IsTrue result → (k : ℕ) → k < count → IsSome (slice_index_or code.now.labels k None) }
 {
@@ -258,8 +258,8 @@ fn place_end(code: &mut Instructions, labels: usize) -> Result<(), GenFault>
     Ok(())
 }
 
-/// The items of pieces and their labels, of which there are so many, with one more label at the end of the code. The
-/// tables are those that the pieces read.
+/// The items of pieces and their `labels` labels, with one more label at the end of the code. The tables are those
+/// that the pieces read.
 ///
 /// # Errors
 ///

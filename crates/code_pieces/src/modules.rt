@@ -80,7 +80,7 @@ fn needs_in(
     Ok(needs)
 }
 
-/// The draft of pieces, which stand apart.
+/// The draft of pieces, whose rows are kept apart.
 fn draft_of(
     alloc: Global,
     pieces: &[Piece],
@@ -102,7 +102,7 @@ fn draft_of(
     Ok(draft)
 }
 
-/// The module of pieces, whose labels are so many, for links that take messages of these lengths: output links 0 to 3
+/// The module of pieces with `labels` labels, for links that take messages of these lengths: output links 0 to 3
 /// and input links 0 to 3. Its version is 2, its code the pieces apart, and it is finished at the end of the code. Its
 /// budget is what the code executes at most.
 ///

@@ -16,8 +16,8 @@ use module_format::MAX_BUDGET;
 use prefix_decoder::Fun;
 use std::alloc::Global;
 
-/// What is known behind a piece: how many bytes are executed from there on at most; by label further on the same; by
-/// the head of each loop that ends further on, what is executed behind it; and by the head of each loop that begins
+/// What is known after a piece: how many bytes are executed from there on at most; by label further on the same; by
+/// the head of each loop that ends further on, what is executed after it; and by the head of each loop that begins
 /// further on, what a turn costs.
 #[derive(Drop)]
 pub struct Needs {
@@ -38,7 +38,7 @@ fn sum(a: u64, b: u64) -> Result<u64, GenFault>
     }
 }
 
-/// What is executed from the head of a loop on, where so many turns follow the first one.
+/// What is executed from the head of a loop on, if `turns` turns follow the first one.
 fn with_turns(need: u64, weight: u64, turns: u64) -> Result<u64, GenFault>
     ensures ok { IfOk result (λ n. n ≡ need + weight * turns) }
     ensures err { IfErr result (λ e. (e ≡ GenFault.Limit) × (MAX_BUDGET < need + weight * turns)) }
@@ -85,7 +85,7 @@ fn largest_at(numbers: &[u64], labels: &[usize]) -> Result<u64, GenFault>
     Ok(largest)
 }
 
-/// What is executed behind a PAR, if the start is its first.
+/// What is executed after a PAR, if the start is its first.
 fn successor_need(numbers: &[u64], successor: Option<usize>) -> Result<u64, GenFault>
     ensures ok { IfOk result (λ n. (ns : List Numbered) → Tells numbers.now ns → n ≡ successor_need successor ns) }
     ensures err { IfErr result (λ e. e ≡ GenFault.Invalid) }
@@ -96,7 +96,7 @@ fn successor_need(numbers: &[u64], successor: Option<usize>) -> Result<u64, GenF
     }
 }
 
-/// Whether nothing is behind an instruction.
+/// Whether nothing is executed after an instruction.
 fn is_stop(fun: Fun, operand: i32) -> bool
     ensures { result ≡ is_stop fun operand }
 {
@@ -121,7 +121,7 @@ fn turns_at(label: usize, entries: &[RowEntry]) -> Option<u32>
 }
 
 impl Needs {
-    /// What is known behind the last piece of code with so many labels.
+    /// What is known after the last piece of code with `labels` labels.
     fn nothing(alloc: Global, labels: usize) -> Result<Needs, GenFault>
         ensures ok { IfOk result (λ v. IsKnown v nothing_needed) }
         ensures err { IfErr result (λ e. e ≡ GenFault.Memory) }
@@ -134,7 +134,7 @@ impl Needs {
         })
     }
 
-    /// Goes from behind the head of a loop of so many turns to before it, if there is one.
+    /// Goes from after the head of a loop with this number of turns to before it, if there is one.
     fn enter_head(&mut self, label: usize, turns: Option<u32>) -> Result<(), GenFault>
         ensures ok { IfOk result (λ _. (n : numbers.Needs) → IsKnown self.old n
             → IsKnown self.new (at_head label turns n)) }
@@ -159,7 +159,7 @@ impl Needs {
         set_number(&mut self.labels, label, self.need)
     }
 
-    /// Goes from behind a row to before it.
+    /// Goes from after a row to before it.
     fn enter_row(&mut self, label: usize, entries: &[RowEntry]) -> Result<(), GenFault>
         ensures ok { IfOk result (λ _. (n : numbers.Needs) → IsKnown self.old n
             → IsKnown self.new (needed_before (Row label entries.now) 0 n)) }
@@ -172,7 +172,7 @@ impl Needs {
         Ok(())
     }
 
-    /// What is executed behind a start, by the branch too.
+    /// What is executed after a start, by the branch too.
     fn start_need(&self, entry: usize, successor: Option<usize>) -> Result<u64, GenFault>
         ensures ok { IfOk result (λ number. (n : numbers.Needs) → IsKnown self.now n
             → number ≡ start_need entry successor n) }
@@ -185,7 +185,7 @@ impl Needs {
         sum(sum(self.need, branch)?, behind)
     }
 
-    /// Goes from behind a piece of so many bytes to before it.
+    /// Goes from after a piece of `size` bytes to before it.
     fn enter(&mut self, piece: &Piece, size: u32) -> Result<(), GenFault>
         ensures ok { IfOk result (λ _. (n : numbers.Needs) → IsKnown self.old n
             → IsKnown self.new (needed_before (piece_of piece.now) size n)) }
@@ -217,7 +217,7 @@ impl Needs {
         Ok(())
     }
 
-    /// What is known before the first of these pieces, each of so many bytes, of code with so many labels.
+    /// What is known before the first of these pieces, which have these sizes, in code with `labels` labels.
     ///
     /// # Errors
     ///

@@ -58,15 +58,15 @@ pub struct ParBranch {
 pub struct Par {
     /// The workspace of the process that starts it. The PAR's block is there.
     pub opener: Workspace,
-    /// The label behind it, at which the opener goes on.
+    /// The label after it, at which the opener goes on.
     pub successor: usize,
     /// The channels whose ends its branches have and its opener does not, by rising words.
     pub channels: Vec<ChannelRow>,
     pub branches: Vec<ParBranch>,
 }
 
-/// A piece of code. Labels go by their numbers, from 0 on, and words by those of the frame. Code begins in the root, with
-/// its workspace at word 0.
+/// A piece of code. Labels go by their numbers, from 0 on, and words by those of the frame. Code begins in the root,
+/// with its workspace at word 0.
 #[derive(Drop)]
 pub enum Piece {
     /// An instruction.
@@ -82,7 +82,7 @@ pub enum Piece {
     JumpUnless {
         to: usize,
     },
-    /// `ldc` with the distance between two labels, and `lend`: back to the head of a loop, or on behind it.
+    /// `ldc` with the distance between two labels, and `lend`: back to the head of a loop, or on after it.
     LoopBack {
         head: usize,
         behind: usize,
@@ -92,7 +92,7 @@ pub enum Piece {
         from: usize,
         to: usize,
     },
-    /// `startp` of the branch with this entry. The first one of a PAR has the label behind the PAR too.
+    /// `startp` of the branch with this entry. The first one of a PAR has the label after the PAR too.
     StartBranch {
         entry: usize,
         successor: Option<usize>,

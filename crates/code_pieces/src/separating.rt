@@ -1,4 +1,4 @@
-//! Rows that stand apart.
+//! Rows kept apart: no two are at one place.
 
 ghost use Rattle.std.specs.Prelude.{◌≡◌, ◌++◌, IfOk, IfErr};
 ghost use Rattle.code_pieces.specs.PieceViews.{piece_of, pieces_of};
@@ -16,7 +16,7 @@ fn is_row(piece: &Piece) -> bool
     matches!(*piece, Piece::Row { .. })
 }
 
-/// Whether a row may be right before what is behind a piece.
+/// Whether a row may be right before what is after a piece.
 fn at_row_behind(piece: &Piece, at_row: bool) -> bool
     ensures { result ≡ at_row_behind (piece_of piece.now) at_row }
 {
@@ -27,7 +27,7 @@ fn at_row_behind(piece: &Piece, at_row: bool) -> bool
     }
 }
 
-/// Appends a piece, and `ldc 0` before a row that would stand at another one.
+/// Appends a piece, and `ldc 0` before a row that would be at another one.
 fn push_apart(pieces: &mut Vec<Piece>, at_row: bool, piece: Piece) -> Result<(), GenFault>
     ensures ok { IfOk result (λ _. pieces_of pieces.new.items
         ≡ pieces_of pieces.old.items ++ apart_piece at_row (piece_of piece)) }
@@ -44,7 +44,7 @@ fn push_apart(pieces: &mut Vec<Piece>, at_row: bool, piece: Piece) -> Result<(),
     Ok(())
 }
 
-/// The pieces, with `ldc 0` before each row that would stand at the code's start or at another row.
+/// The pieces, with `ldc 0` before each row that would be at the code's start or at another row.
 ///
 /// # Errors
 ///

@@ -21,7 +21,7 @@ fn first_one(lengths: &[u8]) -> (u32, &[u8])
     }
 }
 
-/// The bytes of a piece, whose items are the first of these lengths, and the lengths of the items behind it.
+/// The bytes of a piece, whose items are the first of these lengths, and the lengths of the items after it.
 fn size_of<'a>(piece: &Piece, lengths: &'a [u8]) -> (u32, &'a [u8])
     ensures size { result.0 ≡ size_of (piece_of piece.now) lengths.now }
     ensures rest { result.1.now ≡ lengths_behind (piece_of piece.now) lengths.now }

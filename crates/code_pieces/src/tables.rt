@@ -194,7 +194,7 @@ impl<'a> ConstantTables<'a> {
         Ok(tables)
     }
 
-    /// Where the table with these values begins; behind all tables if there is none.
+    /// Where the table with these values begins, or after all tables if there is none.
     pub fn offset(&self, values: &[i32]) -> u16
         ensures { result ≡ offset_in self.now values.now }
     {

@@ -17,7 +17,7 @@ pub(crate) fn in_root() -> Workspace
     }
 }
 
-/// Where the workspace is behind a piece.
+/// Where the workspace is after a piece.
 pub(crate) fn workspace_behind(piece: &Piece, before: Workspace) -> Workspace
     ensures { result ≡ workspace_behind (piece_of piece.now) before }
 {
