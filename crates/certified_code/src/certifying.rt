@@ -59,7 +59,7 @@ fn certify(alloc: Global, bytes: &[u8]) -> Result<(), GenFault>
     Ok(())
 }
 
-/// The module of pieces, whose labels are so many, for links that take messages of these lengths: output links 0 to 3
+/// The module of pieces with `labels` labels, for links that take messages of these lengths: output links 0 to 3
 /// and input links 0 to 3. It is certified, so no run of it has a fault.
 ///
 /// # Errors
