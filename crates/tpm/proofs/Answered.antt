@@ -1,4 +1,4 @@
--- What is told of a file that was read, as the answer of the program.
+-- What is reported about a file that was read, as the answer of the program.
 use Rattle.std.proofs.Common.{ℕ, Bool, List, Option, Result, Ok, Err, MatchResult, inr}
 use Rattle.clap.specs.Walk.{Text}
 use Rattle.tpm.specs.declared.files.FileFault.{FileFault}

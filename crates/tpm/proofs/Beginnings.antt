@@ -6,12 +6,12 @@ use Rattle.std.proofs.KnownBytes.{Appends-trans, Appends-kept}
 use Rattle.std.proofs.Math.Seq.{take-add}
 use Rattle.std.proofs.lemmas.List.{length-drop, take_rest}
 
--- The first bytes of the text were written, and these are so many.
+-- The first bytes of the text were written, this number of them.
 pub record IsWritten (before after : Option (List ℕ)) (text : List ℕ) (written : ℕ) : Type 0 where
   pub beginning : Appends before after (take written text)
   pub within : written ≤ length text
 
--- so many more bytes
+-- this number of bytes more
 pub more_written : (a b c : Option (List ℕ)) (text : List ℕ) (n count : ℕ) → IsWritten a b text n
     → count ≤ length (take (length text - n) (drop n text))
     → Appends b c (take count (take (length text - n) (drop n text))) → IsWritten a c text (n + count)

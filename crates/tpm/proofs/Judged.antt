@@ -1,4 +1,4 @@
--- What is told of a source that was compiled, and of a module file whose run was asked for, or why nothing is.
+-- What is reported about a compiled source, and about a module file whose run was asked for, or why nothing is.
 use Rattle.std.proofs.Common.{ℕ, Bool, List, Option, Result, Ok, Err, MatchResult, ◌⊎◌, inl, inr, refl}
 use Rattle.clap.specs.Walk.{Text}
 use Rattle.module_format.specs.Contents.{Contents}

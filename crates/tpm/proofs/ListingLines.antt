@@ -25,7 +25,7 @@ line_first m more at within =
     ap (λ b. cond b (listed_line m at ++ lines_from m more (at + listed_size m at)) [])
     (lt-ltb at (length m.code) within)
 
--- and one behind it has none
+-- and one after the code has none
 line_last : (m : Contents) (more at : ℕ) → length m.code ≤ at → lines_from m more at ≡ []
 line_last m zero at end = refl
 line_last m (suc more) at end =
@@ -46,7 +46,7 @@ line_listed m before after at size within some is line lists = go lists.more lis
           ∙ ap (λ (n : ℕ). after ++ lines_from m more (at + n)) (sym is);
     }
 
--- behind the code all are written
+-- after the code all are written
 pub all_listed : (m : Contents) (written : Text) (at : ℕ) → length m.code ≤ at → Lists m written at
     → written ≡ listing m
 all_listed m written at end lists =

@@ -1,4 +1,4 @@
--- From what the parser's getters tell to what the words ask for.
+-- From what the parser's getters return to what the words ask for.
 use Rattle.std.proofs.Common.{◌≡◌, List, [], ◌∷◌, true, Option, Some, None, option_map, option_and_then, IsSome, inl}
 use Rattle.std.proofs.Common.{inr, refl, ap, ap₂, sym, ◌∙◌}
 use Rattle.std.specs.Prelude.{Box}
@@ -24,7 +24,7 @@ use Rattle.tpm.proofs.SubcommandsHavePaths.{given}
 same_inside : {A : Type 0} (x y : A) → Some x ≡ Some y → x ≡ y
 same_inside x y e = cc
 
--- a subcommand's name and rows, told apart, are told together
+-- a subcommand's name and rows, each known separately, are known together
 entered_is : {Z : Type 0} (s : Option (Box SubCommand Z)) (name : Text) (rows : List Row)
     → Some name ≡ option_map (λ b. (out-SubCommand (box_value b)).name.now) s
     → Some rows ≡ option_map (λ p. p.1) (subcommand_rows s)

@@ -1,4 +1,4 @@
--- What the program answers, and when: our own choice.
+-- What the program reports, and when: our own choice.
 use Rattle.std.specs.Prelude.{◌≡◌, ◌≢◌, ◌⊎◌, ⊤, ℕ, Bool, true, List, take, Option, Some, None, Result, Ok, Err}
 use Rattle.std.specs.Io.KnownBytes.{Appends}
 use Rattle.clap.specs.Walk.{Text}
@@ -28,12 +28,12 @@ use Rattle.tpm.specs.Listing.{listing}
 
 -- ---- the bytes of a module file
 
--- The module is certified, and this tells it.
+-- The module is certified, and this text says so.
 pub record IsAccepted (m : Contents) (text : Text) : Type 0 where
   pub certified : IsCertified m
   pub told : text ≡ report_line (Accepted m.budget)
 
--- why nothing is told of the verdict on a module
+-- why no verdict on a module is reported
 abbrev pub WithholdsVerdict : Contents → Failure → Type 0
 WithholdsVerdict m (failures.Malformed fault) = ⊥
 WithholdsVerdict m (failures.Uncertified refusal) = Reports m refusal
@@ -99,7 +99,7 @@ module _ {F R W : Type 0} (opens : F → Text → Result R FileFault → F → T
   RunOf m inputs outputs before after result =
       RunsTo opens creates closes left read_failed written write_failed m inputs outputs before after result
 
-  -- The module is certified, its run came to an end, and this tells it.
+  -- The module is certified, its run came to an end, and this text reports it.
   pub record HasRun (m : Contents) (inputs outputs : ByLink (Option Text)) (before after : F) (text : Text) :
       Type 0 where
     pub certified : IsCertified m
@@ -107,7 +107,7 @@ module _ {F R W : Type 0} (opens : F → Text → Result R FileFault → F → T
     pub runs : RunOf m inputs outputs before after (Ok report)
     pub told : text ≡ run_text inputs outputs report
 
-  -- what is told of a module, and what was done with the files
+  -- what is reported about a module, and what was done with the files
   abbrev pub TellsOf : Contents → Asked → F → F → Text → Type 0
   TellsOf m (compiles source out) before after text = ⊥
   TellsOf m (verifies path) before after text = IsAccepted m text × (after ≡ before)
@@ -121,7 +121,7 @@ module _ {F R W : Type 0} (opens : F → Text → Result R FileFault → F → T
   StopsIn m (runs path inputs outputs) before after failure = RunOf m inputs outputs before after (Err failure)
   StopsIn m (lists path) before after failure = ⊥
 
-  -- what is asked for was done, but is not told
+  -- what is asked for was done, but is not reported
   abbrev pub IsDone : Contents → Asked → F → F → Type 0
   IsDone m (compiles source out) before after = ⊥
   IsDone m (verifies path) before after = after ≡ before
@@ -129,7 +129,7 @@ module _ {F R W : Type 0} (opens : F → Text → Result R FileFault → F → T
       (report : RunReport) × RunOf m inputs outputs before after (Ok report)
   IsDone m (lists path) before after = after ≡ before
 
-  -- why nothing is told of a run
+  -- why no run is reported
   abbrev pub WithholdsRun : Contents → Asked → F → F → Failure → Type 0
   WithholdsRun m asked before after (failures.Malformed fault) = ⊥
   WithholdsRun m asked before after (failures.Uncertified refusal) = Reports m refusal × (after ≡ before)
@@ -139,13 +139,13 @@ module _ {F R W : Type 0} (opens : F → Text → Result R FileFault → F → T
       IsCertified m × (StopsIn m asked before after failures.Memory ⊎ IsDone m asked before after)
   WithholdsRun m asked before after failure = IsCertified m × StopsIn m asked before after failure
 
-  -- The bytes are the file of a module of which this is told.
+  -- The bytes are the file of a module about which this is reported.
   pub record IsToldOfModule (bytes : List ℕ) (asked : Asked) (before after : F) (text : Text) : Type 0 where
     pub contents : Contents
     pub format : Format bytes contents
     pub told : TellsOf contents asked before after text
 
-  -- what is told of a source or of a module
+  -- what is reported about a source or a module
   abbrev pub IsTold : List ℕ → Asked → F → F → Text → Type 0
   IsTold bytes (compiles source out) before after text = HasCompiled creates closes written bytes out before after text
   IsTold bytes asked before after text = IsToldOfModule bytes asked before after text
@@ -157,13 +157,13 @@ module _ {F R W : Type 0} (opens : F → Text → Result R FileFault → F → T
       CompilesAndWrites creates closes written bytes out before after (Err failure)
   IsStopped bytes asked before after failure = IsJudged bytes asked (λ m. StopsIn m asked before after failure)
 
-  -- what is asked for was done with the bytes, but is not told
+  -- what is asked for was done with the bytes, but is not reported
   abbrev pub IsUntold : List ℕ → Asked → F → F → Type 0
   IsUntold bytes (compiles source out) before after =
       (u : ⊤) × CompilesAndWrites creates closes written bytes out before after (Ok u)
   IsUntold bytes asked before after = IsJudged bytes asked (λ m. IsDone m asked before after)
 
-  -- why nothing is told of the source or the module in the bytes
+  -- why nothing is reported about the source or the module in the bytes
   abbrev pub IsHindered : List ℕ → Asked → F → F → Failure → Type 0
   IsHindered bytes asked before after (failures.Malformed fault) = IsMalformed bytes fault × (after ≡ before)
   IsHindered bytes asked before after (failures.Uncertified refusal) =
@@ -183,11 +183,11 @@ module _ {F R W : Type 0} (opens : F → Text → Result R FileFault → F → T
       pub read : reads before (path_of asked) (Ok bytes) next
       pub holds : holds_of bytes next
 
-    -- why nothing is told, where the file that is asked for was read
+    -- why nothing is reported, where the file that is asked for was read
     abbrev pub Hinders : Asked → F → F → Failure → Type 0
     Hinders asked before after failure = Reads asked before (λ bytes next. IsHindered bytes asked next after failure)
 
-    -- what is told of the file that is asked for, or why nothing is
+    -- what is reported about the file that is asked for, or why nothing is
     abbrev pub Answers : Asked → F → F → Result Text Failure → Type 0
     Answers asked before after (Ok text) = Reads asked before (λ bytes next. IsTold bytes asked next after text)
     Answers asked before after (Err (failures.Unread path)) =
@@ -198,8 +198,8 @@ module _ {F R W : Type 0} (opens : F → Text → Result R FileFault → F → T
         reads before (path_of asked) (Err file_faults.Memory) after ⊎ Hinders asked before after failures.Memory
     Answers asked before after (Err failure) = Hinders asked before after failure
 
-    -- What the program did by what was asked: it told what is told, or it wrote nothing and answered why, or standard
-    -- output failed.
+    -- What the program did as asked: it wrote the report, or it wrote nothing and returned why, or standard output
+    -- failed.
     abbrev pub Performs : Asked → F → F → Option (List ℕ) → Option (List ℕ) → Result ⊤ Failure → Type 0
     Performs asked before after out_before out_after (Ok _) =
         (text : Text) × Answers asked before after (Ok text) × Appends out_before out_after text
@@ -211,7 +211,7 @@ module _ {F R W : Type 0} (opens : F → Text → Result R FileFault → F → T
     -- What the program did by the words: with the files, with what is known of standard output, and its exit status.
     pub data Acts (words : List Text) (before after : F) (out_before out_after : Option (List ℕ))
         (status : ℕ) : Type 0 where
-      -- what is asked for is told, and nothing else
+      -- what is asked for is reported, and nothing else
       told : (asked : Asked) (text : Text) → line_of words ≡ Some asked
           → Reads asked before (λ bytes next. IsTold bytes asked next after text)
           → Appends out_before out_after text → status ≡ DONE → Acts words before after out_before out_after status
@@ -230,7 +230,7 @@ module _ {F R W : Type 0} (opens : F → Text → Result R FileFault → F → T
       stopped : (asked : Asked) (failure : Failure) → line_of words ≡ Some asked
           → Reads asked before (λ bytes next. IsStopped bytes asked next after failure)
           → out_after ≡ out_before → status ≡ status_of failure → Acts words before after out_before out_after status
-      -- standard output failed, and holds a beginning of what is told
+      -- standard output failed, and holds a beginning of what is reported
       unwritten : (asked : Asked) (text : Text) → line_of words ≡ Some asked
           → Reads asked before (λ bytes next. IsTold bytes asked next after text)
           → HoldsBeginning out_before out_after text → status ≡ FAILED
@@ -242,7 +242,7 @@ module _ {F R W : Type 0} (opens : F → Text → Result R FileFault → F → T
       starved_by_file : (asked : Asked) → line_of words ≡ Some asked
           → reads before (path_of asked) (Err file_faults.Memory) after
           → out_after ≡ out_before → status ≡ STARVED → Acts words before after out_before out_after status
-      -- what was asked for was done, and then memory ran out for the text that is told
+      -- what was asked for was done, and then memory ran out for the text of the report
       starved_by_text : (asked : Asked) → line_of words ≡ Some asked
           → Reads asked before (λ bytes next. IsUntold bytes asked next after)
           → out_after ≡ out_before → status ≡ STARVED → Acts words before after out_before out_after status

@@ -1,4 +1,4 @@
--- What a command line asks for: our own choice, told as the command of the argument parser `clap`.
+-- What a command line asks for: our own choice, defined as the command of the argument parser `clap`.
 use Rattle.std.specs.Prelude.{Bool, List, [], ◌∷◌, ◌++◌, codes, true, false, Option, Some, None, if◌then◌else◌}
 use Rattle.std.specs.Prelude.{option_and_then, option_map}
 use Rattle.std.specs.Str.{bytes_eq}

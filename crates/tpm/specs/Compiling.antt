@@ -46,14 +46,14 @@ module _ {F W : Type 0} (creates : F → Text → Result W FileFault → F → T
     pub compiled : IsCompiled source bytes
     pub writes : Writes path bytes before after result
 
-  -- The source was compiled, its module was written, and this tells how long it is.
+  -- The source was compiled, its module was written, and this text reports how long it is.
   pub record HasCompiled (source : List ℕ) (path : Text) (before after : F) (text : Text) : Type 0 where
     pub bytes : List ℕ
     pub compiled : IsCompiled source bytes
     pub writes : IsWritten path bytes before after
     pub told : text ≡ report_line (Compiled (length bytes))
 
-  -- why nothing is told of a source
+  -- why nothing is reported about a source
   abbrev pub WithholdsModule : List ℕ → Text → F → F → Failure → Type 0
   WithholdsModule source path before after (failures.Uncompiled fault) =
       IsRefusedFor source fault × (after ≡ before)

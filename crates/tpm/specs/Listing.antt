@@ -68,7 +68,7 @@ line_of at bytes entry =
 abbrev pub listed_line : Contents → ℕ → Text
 listed_line m at = line_of at (take (listed_size m at) (drop at m.code)) (listed_entry m at)
 
--- the lines from an offset on, at most so many
+-- the lines from an offset on, at most this number of them
 abbrev pub lines_from : Contents → ℕ → ℕ → Text
 lines_from m zero at = []
 lines_from m (suc more) at =

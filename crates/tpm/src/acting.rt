@@ -25,7 +25,7 @@ use std::alloc::Global;
 use std::io::Write;
 use verifier::verify;
 
-/// What is told of the verdict on a module.
+/// The report of the verdict on a module.
 fn verdict<'a>(alloc: Global, module: &Module<'_>) -> Result<String, Failure<'a>>
     ensures { MatchResult result (λ text. IsAccepted «module».now (string_bytes text)) (WithholdsVerdict «module».now) }
 {
@@ -36,7 +36,7 @@ fn verdict<'a>(alloc: Global, module: &Module<'_>) -> Result<String, Failure<'a>
     Ok(format!(in alloc; "{report}\n")?)
 }
 
-/// What is told of the run of a module with files on its links.
+/// The report of the run of a module with files on its links.
 fn outcome<'a, F: Files>(
     alloc: Global,
     module: &Module<'_>,
@@ -58,7 +58,7 @@ fn outcome<'a, F: Files>(
     Ok(run_report(alloc, &report, inputs, outputs)?)
 }
 
-/// What is told of the source or the module in these bytes, as text.
+/// The report on the source or the module in these bytes, as text.
 fn judge<'a, F: Files>(
     alloc: Global,
     bytes: &[u8],
@@ -105,7 +105,7 @@ fn read_path<'a>(line: Line<'a>) -> &'a str
     }
 }
 
-/// What is told of the source or the module in the file.
+/// The report on the source or the module in the file.
 fn answer<'a, F: Files>(alloc: Global, line: Line<'a>, files: &mut F) -> Result<String, Failure<'a>>
     ensures { let answers = Answers F.opens F.creates F.closes (inside F.Reader.left) (inside F.Reader.failed)
         (inside F.Writer.written) (inside F.Writer.failed) F.reads (asked_of line.entry) files.old files.new in
@@ -119,7 +119,7 @@ fn answer<'a, F: Files>(alloc: Global, line: Line<'a>, files: &mut F) -> Result<
     }
 }
 
-/// Does what is asked for, and tells it on `out`.
+/// Does what is asked for, and reports it on `out`.
 fn perform<'a, F: Files, O: Write>(
     alloc: Global,
     line: Line<'a>,
@@ -134,7 +134,7 @@ fn perform<'a, F: Files, O: Write>(
     tell(text.as_bytes(), out)
 }
 
-/// Tells on `err` why nothing was done, and gives the exit status. What fails there is not told.
+/// Reports on `err` why nothing was done, and returns the exit status. A failure of `err` is not reported.
 fn fail<E: Write>(failure: Failure, err: &mut E) -> u8
     ensures { result ≡ status_of failure.entry }
 {
@@ -153,7 +153,7 @@ fn misuse<E: Write>(fault: LineFault, err: &mut E) -> u8
     }
 }
 
-/// The program: does what these words ask for, of which the first is its name, and answers the exit
+/// The program: does what these words ask for, of which the first is its name, and returns the exit
 /// status. A report goes to `out`, faults and asked-for help go to `err`.
 pub fn act<'a, F: Files, O: Write, E: Write>(
     alloc: Global,

@@ -1,4 +1,4 @@
-//! The reading of a command line. It stands apart from what acts, since its check takes long.
+//! The reading of a command line. It is a module of its own, since its check takes long.
 
 ghost use Rattle.std.specs.Prelude.{◌≡◌, IfOk, IfErr, Some, false, option_map, option_and_then};
 ghost use Rattle.clap.specs.Matches.{found_of};

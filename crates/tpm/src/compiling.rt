@@ -27,7 +27,7 @@ fn write_file<'a, F: Files>(path: &'a str, bytes: &[u8], files: &mut F) -> Resul
     }
 }
 
-/// Compiles a source, writes its module to the file of this path, and tells how long it is. The file is not created
+/// Compiles a source, writes its module to the file of this path, and reports how long it is. The file is not created
 /// unless there is a module.
 pub fn compile_to_file<'a, F: Files>(
     alloc: Global,

@@ -82,7 +82,7 @@ fn line_of(alloc: Global, at: usize, bytes: &[u8], entry: Entry) -> Result<Strin
     format!(in alloc; "{at:06} {bytes} {entry}\n")
 }
 
-/// Appends the line of an offset, and tells how many bytes are listed there.
+/// Appends the line of an offset, and returns how many bytes are listed there.
 fn push_line(
     alloc: Global,
     text: &mut String,

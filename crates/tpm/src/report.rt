@@ -1,4 +1,4 @@
-//! What is told of a module or a source, and why there is nothing to tell.
+//! What is reported about a module or a source, and why there is nothing to report.
 
 ghost use Rattle.std.specs.Prelude.{◌≡◌, Some};
 ghost use Rattle.tpm.specs.Texts.{report_text, status_of};
@@ -22,16 +22,16 @@ pub const FAILED: u8 = 3;
 /// Memory ran out, other than in the reading or the verdict of a module, or in compiling a source.
 pub const STARVED: u8 = 4;
 
-/// What is told of a module that was made, or that is certified.
+/// What is reported about a module that was made, or that is certified.
 #[derive(Clone, Copy)]
 pub enum Report {
     /// How many bytes the file of the module has.
     Compiled { bytes: usize },
     /// The most bytes that a run executes.
     Accepted { budget: u64 },
-    /// The module's end was reached, after so many bytes.
+    /// The module's end was reached, after this number of bytes.
     Ended { executed: u64 },
-    /// Nobody runs, after so many bytes.
+    /// No process is running, after this number of bytes.
     Idle { executed: u64 },
 }
 
@@ -48,7 +48,7 @@ impl fmt::Display for Report {
     }
 }
 
-/// Why nothing is told of a module or a source.
+/// Why nothing is reported about a module or a source.
 #[derive(Debug, Drop, Error)]
 pub enum Failure<'a> {
     /// The file is no module file.

@@ -1,4 +1,4 @@
-//! What is told of a run.
+//! The report of a run.
 
 ghost use Rattle.std.specs.Prelude.{◌≡◌, ◌++◌, Some, option_map, IfOk, string_bytes};
 ghost use Rattle.tpm.specs.Links.{paths_of};
@@ -12,7 +12,7 @@ use module_format::Direction;
 use std::alloc::{AllocError, Global};
 use std::fmt;
 
-/// How many bytes went over a link. It is not told if the link has no file.
+/// How many bytes went over a link. It is not reported if the link has no file.
 #[derive(Clone, Copy)]
 struct LinkCount {
     name: &'static str,

@@ -185,8 +185,8 @@ fn create_and_run<'a, F: Files>(
     }
 }
 
-/// Creates the output files, runs the module, and closes the output files, in this order. What fails first is told, and
-/// output files that were created are closed in any case.
+/// Creates the output files, runs the module, and closes the output files, in this order. The first failure is
+/// reported, and output files that were created are closed in any case.
 fn run_opened<'a, F: Files>(
     alloc: Global,
     verified: &Verified<'_>,
