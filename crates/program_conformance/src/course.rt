@@ -13,7 +13,7 @@ pub(crate) struct Course {
     read: [usize; 4],
     /// What was sent on each output link.
     sent: [Vec<u8>; 4],
-    /// Whether a message went out on a link where nobody listens.
+    /// Whether a message went out on a link where nothing listens.
     is_unheard: [bool; 4],
     is_out_of_memory: bool,
 }
@@ -53,7 +53,7 @@ impl Course {
         }
     }
 
-    /// Nobody listens to the message of a link.
+    /// Nothing listens to the message of a link.
     pub(crate) fn leave_unheard(&mut self, link: Link) {
         self.is_unheard[link.index()] = true;
     }
