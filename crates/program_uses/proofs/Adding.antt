@@ -158,7 +158,7 @@ pub gathers_none : {A : Type 0} (f : ℕ → A → List Use) (s : Uses) → Adds
 unfolding gathered
 gathers_none f s = adds_none s
 
--- x is the item with the number i, whatever is told where there is none
+-- x is the item with the number i, whatever the default is where there is none
 pub gathers_next : {A : Type 0} (f : ℕ → A → List Use) (xs : List A) (i : ℕ) (x d : A) {s t w : Uses} → i < length xs
     → x ≡ get_or xs i d → Adds s t (gathered f 0 (take i xs)) → Adds t w (f i x)
     → Adds s w (gathered f 0 (take (i + 1) xs))

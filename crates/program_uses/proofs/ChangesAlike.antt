@@ -84,7 +84,7 @@ parameters_alike signatures es fs same name =
     ∙ ap (λ gs. parameters_in signatures (meaning_in name gs)) same
     ∙ ap (parameters_in signatures) (meaning_flat name fs) ∙ parameters_flat signatures (meaning_in name fs)
 
--- ---- what stands on one line
+-- ---- what is on one line
 
 variable_at_alike : (es fs : List Entry) → outline es ≡ outline fs → (p : Place) → variable_at es p ≡ variable_at fs p
 variable_at_alike es fs same p = λ i. option_and_then (λ name. variable_alike es fs same name i) (whole_name p)

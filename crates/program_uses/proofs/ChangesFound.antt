@@ -124,7 +124,7 @@ pub listed_in_turn : (t : ChangeLists) (signatures : List (List Parameter)) (es 
 listed_in_turn t signatures es r (One kind c) m means x =
     subst (λ m. ListsComponent t signatures (add r.name m es) c) means x
 
--- The numbers since there were so many are those of a construct.
+-- The numbers noted since there were `first` are those of a construct.
 pub noted_since : {s t u : Changes} {ns : List ℕ} (first : ℕ) → first ≡ length s.numbers.items → Notes s t []
     → Notes t u ns → u.complete ≡ true → drop first u.numbers.items ≡ ns
 noted_since {s = s} {ns = ns} first long entered found complete =

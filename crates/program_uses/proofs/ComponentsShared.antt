@@ -39,7 +39,7 @@ collects_apart {old = old} nothing a joins = record {
   scope = a.scope;
 }
 
--- The same, and what it shares with them is told.
+-- The same, and what it shares with them is reported.
 pub collects_beside : {line count : ℕ} {s t old new : Uses} {o m n : Option UsageFault} {k l : Known} {us : List Use}
     {P : UsageFault → Type 0} → ((u : Use) → has s u ≡ false) → Collects s t o m k l us P → Joins old new t
     → count ≡ length l.entries → IsFirst (Among m (At line (BreaksSharing count (has old) (has t)))) n
@@ -146,7 +146,7 @@ components_all a line f xs i k done x =
     collects_at (λ ys. uses_of_components a k.entries (all_of (map f ys)))
     (λ ys. ComponentsApart a k.entries line (all_of (map f ys))) (take_all i xs done) x
 
--- so many turns of one
+-- n turns of one
 abbrev pub TurnsApart : Around → List Entry → ℕ → Replicator → Body → Option ℤ → ℕ → UsageFault → Type 0
 TurnsApart a es line r b first n =
     Apart line (InSomeTurn (λ n. SharesInOne a (add r.name (index_meaning false (index_at first n)) es) b) n)

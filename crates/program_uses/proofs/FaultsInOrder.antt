@@ -67,7 +67,7 @@ first_none (Some g) = record {
   ];
 }
 
--- what is told on one line
+-- what is reported on one line
 pub line_first : {Breaks : ℕ → Type 0} (line : ℕ) (told : Option ℕ) → IsLowest Breaks told
     → IsFirst (At line Breaks) (fault_at line told)
 line_first line None x = record { broken = tt; first = λ f h. x.least f.number h.1 }

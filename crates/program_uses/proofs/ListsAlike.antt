@@ -53,7 +53,7 @@ mutual
   part_alike t signatures (Chosen line e p) es fs same x = lists_alike t signatures p es fs same x
   part_alike t signatures (Guarded line g p) es fs same x = lists_alike t signatures p es fs same x
 
--- ---- a construct behind declarations
+-- ---- a construct after declarations
 
 -- What is listed of a process serves where its construct begins, whatever is known of what is declared before it.
 pub lists_behind : (t : ChangeLists) (signatures : List (List Parameter)) (ds : List Declaration) (line : ℕ)

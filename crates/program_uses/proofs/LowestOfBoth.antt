@@ -42,7 +42,7 @@ lowest_as {told = Some m} there back x = record { broken = there m x.broken; lea
 pub told_as : {P : ℕ → Type 0} {a b : Option ℕ} → a ≡ b → IsLowest P a → IsLowest P b
 told_as {P = P} e x = subst (IsLowest P) e x
 
--- what is told of two rules that are asked one after the other
+-- what is reported of two rules that are checked one after the other
 pub lowest_of : {P Q : ℕ → Type 0} {a b told : Option ℕ} → told ≡ lower a b → IsLowest P a → IsLowest Q b
     → IsLowest (λ n. P n ⊎ Q n) told
 lowest_of {a = a} {b = b} e x y = told_as (sym e) (lowest_both a b x y)

@@ -53,7 +53,7 @@ lower_again (Some l) None c = refl
 lower_again (Some l) (Some m) None = refl
 lower_again (Some l) (Some m) (Some n) = ap Some (omega arith)
 
--- what was told of the items before, whatever is told of those that are left
+-- what was reported about the items before, whatever is reported about those that are left
 abbrev pub ToldOfRest : ℕ → (Use → Bool) → (whole rest : List Use) → Option ℕ → Type 0
 ToldOfRest count before whole rest found =
     (told : Option ℕ) → IsLowest (BreaksSharing count before (is_among rest)) told

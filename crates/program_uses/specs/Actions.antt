@@ -1,4 +1,4 @@
--- What stands on one line uses: an action, a guard or a declaration.
+-- What one line uses: an action, a guard or a declaration.
 use Rattle.std.specs.Prelude.{ℕ, nat_lt, Bool, true, List, [], ◌∷◌, ◌++◌, Option, Some, None}
 use Rattle.occam_parser.specs.Expressions.{Expression}
 use Rattle.occam_parser.specs.OneOrMore.{as_list}

@@ -19,7 +19,7 @@ abbrev pub listed : Option ℕ → List ℕ
 listed None = []
 listed (Some n) = n ∷ []
 
--- ---- what stands on one line
+-- ---- what is on one line
 
 abbrev pub changed_as : Passing → Option ℕ → List ℕ
 changed_as passing.Variable n = listed n

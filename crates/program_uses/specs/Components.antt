@@ -20,7 +20,7 @@ BreakSharing a es (Further cs c) n =
     BreakSharing a es cs n
     ⊎ BreaksSharing (length es) (is_among (uses_of_components a es cs)) (is_among (uses_of_component a es c)) n
 
--- the same of turns, by what they use of so many names
+-- the same of turns, by what they use of this number of names
 abbrev pub BreakTurns : ℕ → (ℕ → List Use) → ℕ → ℕ → Type 0
 BreakTurns count uses zero n = ⊥
 BreakTurns count uses (suc turn) n =

@@ -34,7 +34,7 @@ with_use ds (used.Change n) = ds
 abbrev pub sorted_ends : List Use → List ChannelEnd
 sorted_ends us = fold with_use [] us
 
--- those of so many channels, from this one on
+-- those of this number of channels, from this one on
 abbrev pub is_parameter : ℕ → ℕ → ℕ → Bool
 is_parameter first count n = nat_le first n && nat_lt (n - first) count
 

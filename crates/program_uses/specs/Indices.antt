@@ -19,7 +19,7 @@ abbrev pub is_seq : Terminal → Bool
 is_seq (Mark mark.Seq) = true
 is_seq t = false
 
--- whether a body stands under a SEQ
+-- whether a body is under a SEQ
 abbrev pub is_sequence : Body → Bool
 is_sequence (One kind c) = is_seq (block_word kind)
 
@@ -94,16 +94,16 @@ seen_repeats r = record {
   happens = r.happens;
 }
 
--- what the index of a block stands for in a turn
+-- what the index of a block denotes in a turn
 abbrev pub index_in : Repeats → ℕ → Meaning
 index_in r n = index_of r.sequential r.indices (index_at r.turns.first n)
 
--- what becomes of something in so many turns
+-- what becomes of something in this number of turns
 abbrev pub turn_by_turn : {A : Type 0} → (ℕ → A → A) → ℕ → A → A
 turn_by_turn step zero x = x
 turn_by_turn step (suc n) x = step n (turn_by_turn step n x)
 
--- what is gathered in so many turns
+-- what is gathered in this number of turns
 abbrev pub in_turns : {A : Type 0} → (ℕ → List A) → ℕ → List A
 in_turns f zero = []
 in_turns f (suc n) = in_turns f n ++ f n

@@ -17,14 +17,14 @@ use Rattle.program_uses.specs.Signatures.{Parameter}
 abbrev pub SameNumbers : List ℕ → List ℕ → Type 0
 SameNumbers ms ns = (n : ℕ) → is_one_of ms n ≡ is_one_of ns n
 
--- what stands for a line: nothing, or a list unless several constructs begin there
+-- the entry of a line: nothing, or a list unless several constructs begin there
 abbrev pub entry_on : ℕ → ChangeLists → Option (Option (List ℕ))
 entry_on line t = option_map (λ o. option_map (λ v. v.items) o) (get nat_cmp t.lists line)
 
 abbrev pub list_on : ℕ → ChangeLists → Option (List ℕ)
 list_on line t = option_and_then (λ o. o) (entry_on line t)
 
--- Something stands there, and no list but one of these numbers.
+-- Something is there, and no list but one of these numbers.
 abbrev pub Stands : Option (Option (List ℕ)) → List ℕ → Type 0
 Stands None ns = ⊥
 Stands (Some None) ns = Unit {0}
@@ -37,7 +37,7 @@ IsListed t line ns = Stands (entry_on line t) ns
 abbrev pub Keeps : ChangeLists → ChangeLists → Type 0
 Keeps old new = (line : ℕ) (ns : List ℕ) → IsListed old line ns → IsListed new line ns
 
--- Each construct in a process is listed, with what it changes in the scope where it stands.
+-- Each construct in a process is listed, with what it changes in the scope where it is.
 abbrev mutual
   pub AreListed : ChangeLists → List (List Parameter) → List Entry → Process → Type 0
   AreListed t signatures es (Declared d p) = AreListed t signatures (add_outline d es) p

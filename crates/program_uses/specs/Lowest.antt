@@ -1,7 +1,7 @@
--- Which of the rules that are broken is told.
+-- Which of the rules that are broken is reported.
 use Rattle.std.specs.Prelude.{ℕ, ◌≤◌, min, Bool, if◌then◌else◌, Option, Some, None, IfSome, IsSomeAnd}
 
--- If a rule is broken, the number of one is told, and none that is broken has a lower one.
+-- If a rule is broken, the number of one is reported, and none that is broken has a lower one.
 pub record IsLowest (Breaks : ℕ → Type 0) (told : Option ℕ) : Type 0 where
   pub broken : IfSome told Breaks
   pub least : (n : ℕ) → Breaks n → IsSomeAnd told (λ m. m ≤ n)

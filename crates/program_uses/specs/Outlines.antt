@@ -1,5 +1,5 @@
--- The outline of what is in scope: the names and what they stand for, but no ranges, values and sizes. What a process
--- changes hangs on it alone, so it can be found in one scope and asked in another one with the same outline.
+-- The outline of what is in scope: the names and what they denote, but no ranges, values and sizes. What a process
+-- changes depends on it alone, so it can be found in one scope and used in another one with the same outline.
 use Rattle.std.specs.Prelude.{◌≡◌, List, [], ◌∷◌, None}
 use Rattle.word_arithmetic.specs.Range.{full}
 use Rattle.occam_parser.specs.Lines.{Declaration, Replicator}

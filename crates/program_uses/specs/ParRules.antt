@@ -4,7 +4,7 @@ use Rattle.program_uses.specs.declared.faults.TheConstants.{SHARED_VARIABLE, CHA
 use Rattle.program_uses.specs.declared.uses.Use.{Use}
 use Rattle.program_uses.specs.declared.uses.Use.TheVariants as used
 
--- Of the names around, of which there are so many, a variable is changed by one component and used by another, or an
+-- Of this number of names around, a variable is changed by one component and used by another, or an
 -- end of a channel is used by both.
 abbrev pub is_shared : ℕ → (Use → Bool) → Use → Bool
 is_shared count before (used.Read n) = nat_lt n count && before (used.Change n)

@@ -30,7 +30,7 @@ abbrev pub is_subscripted : Option Expression → Bool
 is_subscripted None = false
 is_subscripted (Some e) = true
 
--- which element a subscript names of what a name stands for, if that is an array of channels; a channel is element 0
+-- which element a subscript names of what a name denotes, if that is an array of channels; a channel is element 0
 abbrev pub element_of : List Entry → Option Meaning → Option Expression → Option ℕ
 element_of es (Some (Channel type)) None = Some 0
 element_of es (Some (Channels type size)) (Some e) = element_in size (value_as es types.Int e)

@@ -55,7 +55,7 @@ uses_of_one a es (One kind c) = uses_of_component a es c
 abbrev pub uses_in_turn : Around → List Entry → Option ℤ → List ℕ → Body → ℕ → List Use
 uses_in_turn a es first name b n = uses_of_one a (add name (index_meaning false (index_at first n)) es) b
 
--- What is used was added, of the faults so far and of those in it the first one is told, and the scope is as it was.
+-- What is used was added, the first of the faults so far and of those in it is reported, and the scope is as it was.
 pub record Collects (old new : Uses) (told now : Option UsageFault) (before after : Known) (us : List Use)
     (Breaks : UsageFault → Type 0) : Type 0 where
   pub uses : Adds old new us

@@ -14,7 +14,7 @@ use Rattle.program_uses.specs.Indices.{is_seq, turns_of, in_turns}
 use Rattle.program_uses.specs.Processes.{in_turn, uses_in_turn}
 use Rattle.program_uses.specs.Telling.{At}
 
--- in one of so many turns
+-- in one of this number of turns
 abbrev pub InSomeTurn : (ℕ → UsageFault → Type 0) → ℕ → UsageFault → Type 0
 InSomeTurn Breaks zero f = ⊥
 InSomeTurn Breaks (suc n) f = InSomeTurn Breaks n f ⊎ Breaks n f

@@ -11,7 +11,7 @@ use Rattle.program_uses.specs.declared.signature.Signature as code_signature
 use Rattle.program_uses.specs.declared.signature.Passing.{Passing}
 use Rattle.program_uses.specs.declared.signature.Passing.TheVariants as passing
 
--- A parameter: what its name stands for in the procedure, and of a channel the ends that the procedure uses.
+-- A parameter: what its name denotes in the procedure, and of a channel the ends that the procedure uses.
 pub record Parameter : Type 0 where
   pub meaning : Meaning
   pub ends : List End
@@ -33,7 +33,7 @@ passing_of (Channel type) = passing.Channel
 passing_of (Channels type size) = passing.Channels
 passing_of m = passing.Value
 
--- the parameters of the procedure that a name stands for; none if it is no procedure
+-- the parameters of the procedure that a name denotes; none if it is no procedure
 abbrev pub parameters_in : List (List Parameter) → Option Meaning → List Parameter
 parameters_in signatures (Some (Procedure number)) = unwrap_or (item_at number signatures) []
 parameters_in signatures m = []

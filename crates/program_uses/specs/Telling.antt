@@ -1,4 +1,4 @@
--- Which fault of a program is told: one at the lowest line, and there the one with the lowest number.
+-- Which fault of a program is reported: one at the lowest line, and there the one with the lowest number.
 use Rattle.std.specs.Prelude.{◌≡◌, ℕ, ◌<◌, ◌≤◌, nat_lt, nat_eq, Bool, ◌&&◌, ◌||◌, ◌⊎◌, if◌then◌else◌}
 use Rattle.std.specs.Prelude.{Option, Some, None, IfSome, IsSomeAnd}
 use Rattle.program_uses.specs.declared.telling.UsageFault.{UsageFault}
@@ -6,7 +6,7 @@ use Rattle.program_uses.specs.declared.telling.UsageFault.{UsageFault}
 abbrev pub NotAfter : UsageFault → UsageFault → Type 0
 NotAfter f g = (f.line < g.line) ⊎ ((f.line ≡ g.line) × (f.number ≤ g.number))
 
--- If there is a fault, one is told, and none is before it.
+-- If there is a fault, one is reported, and none is before it.
 pub record IsFirst (Breaks : UsageFault → Type 0) (told : Option UsageFault) : Type 0 where
   pub broken : IfSome told Breaks
   pub first : (f : UsageFault) → Breaks f → IsSomeAnd told (λ g. NotAfter g f)
@@ -27,6 +27,6 @@ fault_at line (Some number) = Some (record { number = number; line = line })
 abbrev pub At : ℕ → (ℕ → Type 0) → UsageFault → Type 0
 At line Breaks f = (f.line ≡ line) × Breaks f.number
 
--- the fault that was told before, or a further one
+-- the fault that was reported before, or a further one
 abbrev pub Among : Option UsageFault → (UsageFault → Type 0) → UsageFault → Type 0
 Among old Breaks f = (old ≡ Some f) ⊎ Breaks f

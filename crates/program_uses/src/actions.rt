@@ -1,4 +1,4 @@
-//! What stands on one line uses: an action, a guard or a declaration.
+//! What one line uses: an action, a guard or a declaration.
 
 ghost use Rattle.std.specs.Prelude.{◌≡◌, map};
 ghost use Rattle.occam_parser.specs.OneOrMore.{as_list, one_or_more_of};
@@ -35,7 +35,7 @@ pub fn is_before(line: u32, end: Option<u32>) -> bool
 }
 
 impl Uses {
-    /// What an action uses that stands on this line.
+    /// What an action on this line uses.
     pub fn act(&mut self, around: Around, scope: &Scope, line: u32, action: &Action)
         ensures { Adds self.old self.new
             (uses_of_action (around_of around.entry) (entries_of scope.now) line (action_of action.now)) }

@@ -158,7 +158,7 @@ impl Changes {
         self.numbers.len()
     }
 
-    /// The numbers that were noted since there were so many.
+    /// The numbers that were noted since there were `first` of them.
     pub(crate) fn since(&self, alloc: Global, first: usize) -> Result<Vec<usize>, AllocError>
         ensures { IfOk result (λ numbers. numbers.items ≡ drop first self.now.numbers.items) }
     {

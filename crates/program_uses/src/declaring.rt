@@ -80,7 +80,7 @@ fn range_of_bytes(value_type: ValueType, text: Text) -> Option<Range>
     }
 }
 
-/// A table of so many items, which has a size if that is the stated one and the items have values.
+/// A table of `count` items, which has a size if that is the stated one and the items have values.
 fn table_of(value_type: ValueType, size: Option<u32>, count: usize, range: Option<Range>) -> Meaning
     ensures { meaning_of result ≡ table_of value_type size count (option_map ends_of range) }
 {
@@ -118,7 +118,7 @@ fn constant_of(scope: &Scope, value_type: ValueType, value: &Expr) -> Meaning
     }
 }
 
-/// What the name of a constant stands for.
+/// What the name of a constant denotes.
 pub fn constant_meaning(scope: &Scope, value_type: ValueType, value: &ConstantValue) -> Meaning
     ensures { meaning_of result ≡ constant_meaning (entries_of scope.now) value_type (value_of value.now) }
 {
@@ -139,7 +139,7 @@ pub fn constant_meaning(scope: &Scope, value_type: ValueType, value: &ConstantVa
     }
 }
 
-/// What the name of a constant stands for, but for the items of a table and how many there are.
+/// What the name of a constant denotes, but for the items of a table and how many there are.
 pub fn constant_outline(scope: &Scope, value_type: ValueType, value: &ConstantValue) -> Meaning
     ensures { meaning_of result ≡ constant_outline (entries_of scope.now) value_type (value_of value.now) }
 {
@@ -149,7 +149,7 @@ pub fn constant_outline(scope: &Scope, value_type: ValueType, value: &ConstantVa
     }
 }
 
-/// What the name of a variable stands for.
+/// What the name of a variable denotes.
 pub fn variable_meaning(scope: &Scope, value_type: ValueType, size: &Option<Expr>) -> Meaning
     ensures { meaning_of result ≡ variable_meaning (entries_of scope.now) value_type (any_of size.now) }
 {
@@ -176,7 +176,7 @@ fn array(scope: &Scope, kind: ArrayKind, value_type: ValueType, size: &Expr) -> 
     }
 }
 
-/// What the name of a channel stands for, or of an array of channels.
+/// What the name of a channel denotes, or of an array of channels.
 pub fn channel_meaning(scope: &Scope, value_type: ValueType, size: &Option<Expr>) -> Meaning
     ensures { meaning_of result ≡ channel_meaning (entries_of scope.now) value_type (any_of size.now) }
 {
@@ -189,7 +189,7 @@ pub fn channel_meaning(scope: &Scope, value_type: ValueType, size: &Option<Expr>
     }
 }
 
-/// What the name of a formal stands for, with the scope around all formals.
+/// What the name of a formal denotes, with the scope around all formals.
 pub fn formal_meaning(scope: &Scope, formal: &Formal) -> Meaning
     ensures { meaning_of result ≡ formal_meaning (entries_of scope.now) (formal_of formal.now) }
 {
@@ -215,7 +215,7 @@ pub fn formal_meaning(scope: &Scope, formal: &Formal) -> Meaning
     }
 }
 
-/// What the name of a formal stands for that is no channel, by what it is alone and as an array.
+/// What the name of a formal denotes that is no channel, by what it is alone and as an array.
 fn passed_meaning(
     scope: &Scope,
     kind: ScalarKind,

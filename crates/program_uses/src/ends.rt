@@ -17,14 +17,14 @@ pub struct ChannelEnd {
     pub end: End,
 }
 
-/// Whether a channel is one of so many parameters, the first of which has this number.
+/// Whether a channel is one of `count` parameters, the first of which has this number.
 fn is_parameter(first: usize, count: usize, channel: usize) -> bool
     ensures { result ≡ is_parameter first count channel }
 {
     first <= channel && channel - first < count
 }
 
-/// The ends that are used of so many parameters, the first of which has this number, in rising order: by channel, by
+/// The ends that are used of `count` parameters, the first of which has this number, in rising order: by channel, by
 /// element, and an input before an output.
 fn sorted_ends(
     alloc: Global,

@@ -1,4 +1,4 @@
-//! The numbers of the usage rules, and which of several broken rules is told.
+//! The numbers of the usage rules, and which of several broken rules is reported.
 
 ghost use Rattle.std.specs.Prelude.{◌≡◌};
 ghost use Rattle.program_uses.specs.Lowest.{lower, told_unless};
@@ -17,7 +17,7 @@ pub const CHANNEL_USE: u8 = 15;
 pub const PASSED_TWICE: u8 = 18;
 /// The number of the fault that the last item is no `main` with links.
 pub const NO_MAIN: u8 = 19;
-/// The number that is told at line 0 where memory ran out.
+/// The number that is reported at line 0 if memory ran out.
 pub const MEMORY: u8 = 20;
 
 /// The lower one of two numbers, if there are any.

@@ -40,7 +40,7 @@ impl Finding {
         }
     }
 
-    /// On this line a construct begins that changes the variables that were noted since there were so many.
+    /// On this line a construct begins that changes the variables that were noted since there were `first`.
     fn add_list(&mut self, line: u32, first: usize) -> Result<(), AllocError>
         ensures changes { self.new.changes ≡ self.old.changes }
         ensures listed { IfOk result (λ done. IsListed self.new.lists line

@@ -70,7 +70,7 @@ fn turns_from(counted: bool, base: Option<i32>, count: Option<i32>) -> Turns
     }
 }
 
-/// Whether a body stands under a `SEQ`.
+/// Whether a body is under a `SEQ`.
 pub fn is_sequence(body: &Body) -> bool
     ensures { result ≡ is_sequence (body_of body.now) }
 {
@@ -100,7 +100,7 @@ pub fn turns_of(counted: bool, scope: &Scope, sequential: bool, replicator: &Rep
     turns_for(counted, sequential, base, count)
 }
 
-/// What an index stands for: a number in a range under a `SEQ`, and a constant under another block.
+/// What an index denotes: a number in a range under a `SEQ`, and a constant under another block.
 fn index_of(sequential: bool, range: Range, value: Option<i32>) -> Meaning
     ensures { meaning_of result ≡ index_of sequential (ends_of range) value }
 {
@@ -118,7 +118,7 @@ fn index_of(sequential: bool, range: Range, value: Option<i32>) -> Meaning
     }
 }
 
-/// What an index stands for where nothing is known of that of a `SEQ`.
+/// What an index denotes where nothing is known of that of a `SEQ`.
 pub fn index_meaning(sequential: bool, index: Option<i32>) -> Meaning
     ensures { meaning_of result ≡ index_meaning sequential index }
 {
@@ -147,7 +147,7 @@ fn happens(counted: bool, base: Option<i32>, count: Option<i32>) -> bool
     }
 }
 
-/// The numbers from a base on, so many.
+/// This count of numbers, from a base on.
 fn numbers_from(base: i32, count: i32) -> Range
     requires { is_count base count ≡ true }
     ensures lo { result.lo ≡ base }
@@ -188,7 +188,7 @@ pub fn repeats_of(
 }
 
 impl Repeats {
-    /// What the index stands for in a turn.
+    /// What the index denotes in a turn.
     pub fn index_in(self, turn: u32) -> Meaning
         ensures { meaning_of result ≡ index_in (seen_repeats self) turn }
     {

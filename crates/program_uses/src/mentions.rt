@@ -11,7 +11,7 @@ use crate::uses::{Use, Uses};
 use occam_parser::{Expr, Operand, Operation};
 use scalar_ranges::{ArrayKind, Meaning, ScalarKind, Scope};
 
-/// Whether something can be assigned to what a name stands for, or to its elements.
+/// Whether something can be assigned to what a name denotes, or to its elements.
 pub fn is_variable(meaning: Option<Meaning>) -> bool
     ensures { result ≡ is_variable (option_map meaning_of meaning) }
 {

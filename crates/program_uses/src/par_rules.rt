@@ -45,8 +45,7 @@ fn fault_of_use(count: usize, before: &Uses, item: Use) -> Option<u8>
     }
 }
 
-/// The lowest number of the rules that these uses break with those before them, of the names around, of which there are
-/// so many.
+/// The lowest number of the rules that these uses break with those before them, of the `count` names around.
 fn fault_of_each(count: usize, before: &Uses, uses: &Uses) -> Option<u8>
     ensures { IsLowest (BreaksSharing count (has before.now) (has uses.now)) result }
 {
@@ -71,7 +70,7 @@ fn fault_of_sharing(count: usize, before: &Uses, component: &Uses) -> Option<u8>
 
 impl Uses {
     /// What a component of a `PAR` uses that begins on this line joins what those before it use. What they share of the
-    /// names around is told, of which there are so many.
+    /// `count` names around is reported.
     pub(crate) fn join_beside(
         &mut self,
         told: &mut Option<UsageFault>,

@@ -21,7 +21,7 @@ pub struct Spot {
     pub element: u32,
 }
 
-/// A name, and the subscript that follows it, wherever they stand.
+/// A name, and the subscript that follows it, wherever they are.
 #[derive(Clone, Copy)]
 pub struct PlaceRef<'e, 'a> {
     pub name: &'e [u8],
@@ -75,7 +75,7 @@ pub fn spot_of(scope: &Scope, place: PlaceRef) -> Option<Spot>
     })
 }
 
-/// Where a place stands.
+/// The name and the subscript of a place.
 pub fn place_ref<'e, 'a>(place: &'e Place<'a>) -> PlaceRef<'e, 'a>
     ensures { place_at result ≡ place_of place.now }
 {

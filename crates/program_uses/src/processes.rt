@@ -127,7 +127,7 @@ impl Uses {
         self.join_beside(told, scope.len(), line, used);
     }
 
-    /// What a body uses in all its turns, under a replicator that stands on this line.
+    /// What a body uses in all its turns, under a replicator on this line.
     #[cycle(collect)]
     pub(crate) fn collect_replicated<'a>(
         &mut self,
@@ -206,7 +206,7 @@ impl Uses {
         self.join(before);
     }
 
-    /// What a body uses where its index stands for this.
+    /// What a body uses where its index denotes this.
     #[cycle(collect)]
     pub(crate) fn collect_turn<'a>(
         &mut self,

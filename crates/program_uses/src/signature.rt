@@ -12,7 +12,7 @@ use scalar_ranges::{ArrayKind, Meaning, ScalarKind};
 /// A parameter of a procedure.
 #[derive(Drop)]
 pub struct Parameter {
-    /// What its name stands for in the procedure.
+    /// What its name denotes in the procedure.
     pub meaning: Meaning,
     /// The ends that the procedure uses of it, if it is a channel or an array of channels.
     pub ends: Vec<End>,
@@ -37,7 +37,7 @@ pub enum Passing {
     Channels,
 }
 
-/// How an actual is passed to a parameter that stands for this.
+/// How an actual is passed to a parameter that denotes this.
 pub fn passing_of(meaning: Meaning) -> Passing
     ensures { result ≡ passing_of (meaning_of meaning) }
 {

@@ -1,4 +1,4 @@
-//! Which fault of a program is told.
+//! Which fault of a program is reported.
 
 ghost use Rattle.std.specs.Prelude.{◌≡◌};
 ghost use Rattle.program_uses.specs.Telling.{is_before, earlier, fault_at};
@@ -12,14 +12,14 @@ pub struct UsageFault {
     pub line: u32,
 }
 
-/// Whether a fault is told before another one.
+/// Whether a fault is reported before another one.
 fn is_before(fault: UsageFault, other: UsageFault) -> bool
     ensures { result ≡ is_before fault other }
 {
     fault.line < other.line || (fault.line == other.line && fault.number < other.number)
 }
 
-/// The one of two faults that is told, if there are any.
+/// The one of two faults that is reported, if there are any.
 pub fn earlier(first: Option<UsageFault>, second: Option<UsageFault>) -> Option<UsageFault>
     ensures { result ≡ earlier first second }
 {
