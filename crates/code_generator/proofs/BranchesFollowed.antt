@@ -222,7 +222,7 @@ turns_end a line r c k = by_happens (repeats_of (is_before line a.uncounted) k.e
 
 -- ---- an ALT under a replicator
 
--- The names are left that the branches had, with so many before them.
+-- The names are left that the branches had, with this number before them.
 pub follows_repeated : (around : calling.Surroundings) (exits : ℕ → Exits) (line names : ℕ) (r : Replicator)
     (c : Component Branches)
     (x : Replication) {s t u within w : ProcessWriter} (left : code_frame.Frame) (ended : code_scope.Scope)

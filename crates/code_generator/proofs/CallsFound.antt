@@ -1,4 +1,4 @@
--- A procedure is found by its number, whatever procedures are behind it.
+-- A procedure is found by its number, whatever procedures are after it.
 use Rattle.std.proofs.Common.{◌≡◌, ℕ, zero, suc, ◌<◌, Bool, true, false, cond, nat_eq, List, Option, Some, slice_get}
 use Rattle.std.proofs.Common.{refl, ap, ◌∙◌, arith}
 use Rattle.std.proofs.lemmas.Bool.Decides.{nat_tests}

@@ -1,4 +1,4 @@
--- What is known and written behind the items before main, and that main's code is then the program's.
+-- What is known and written after the items before main, and that main's code is then the program's.
 use Rattle.std.proofs.Common.{◌≡◌, ℕ, ◌+◌, ◌<◌, ◌≤◌, Bool, true, false, cond, List, [], ◌∷◌, ◌++◌, length, map}
 use Rattle.std.proofs.Common.{take, get_or, max, nat_eq, Option, Some, None, IfSome, inl, inr, refl, sym, ap, subst}
 use Rattle.std.proofs.Common.{◌∙◌, arith}
@@ -63,7 +63,7 @@ abbrev IsStill : Meaning → Type 0
 IsStill (Scalar kind type range) = ⊥
 IsStill m = Unit {0}
 
--- no block is around, and no name stands for a scalar
+-- no block is around, and no name denotes a scalar
 record IsOutside (k : Known) : Type 0 where
   blocks : k.blocks ≡ []
   still : AllByRecursion (λ e. IsStill e.meaning) k.entries
@@ -169,7 +169,7 @@ outside_behind [] g outside = outside
 outside_behind (item ∷ items) g outside =
     outside_behind items (with_item item g) (outside_after item g.outside outside)
 
--- what an item makes of the place behind those before it
+-- what an item makes of the place after those before it
 known_behind : (item : ProgramItem) (g : Globals) (count : ℕ) → IsOutside g.outside.known
     → count ≡ length g.outside.signatures
     → behind_item item count (record { frame = g.frame; known = g.outside.known; label = 0 })
@@ -341,7 +341,7 @@ signed_before before p all rest x signed is =
     ∙ weighed_signatures item o
     ∙ ap (λ (o : Outside). o.signatures) (sym (outside_of before (globals_of [])))
 
--- The code of main behind the items before it is that of the program.
+-- The code of main after the items before it is that of the program.
 main_is_whole : (before : List ProgramItem) (p : Procedure) (s : Start) (t : ProcessWriter)
     (around : calling.Surroundings) → BreaksNoRule (before ++ GlobalProcedure p ∷ []) → Precedes s before
     → (around_of around.around).signatures ≡ (globals_of before).outside.signatures → around.around.uncounted ≡ None

@@ -1,4 +1,4 @@
--- A loop is written: its head, its body, and what is behind it.
+-- A loop is written: its head, its body, and what is after it.
 use Rattle.std.proofs.Common.{◌≡◌, ◌≢◌, ℕ, zero, suc, ◌+◌, ◌≤◌, ℤ, pos, negsuc, List, [], ◌∷◌, ◌++◌, length, take}
 use Rattle.std.proofs.Common.{true, Option, None, unwrap_or, refl, sym, ap, subst, ◌∙◌, arith}
 use Rattle.std.proofs.Math.Seq.{take-append_seam}

@@ -110,7 +110,7 @@ abbrev pub length_of : ValueType → ℤ
 length_of value_type.Int = pos 4
 length_of value_type.Byte = pos 1
 
--- the channel and the length of its messages, and then `in` or `out`, behind the address of the message
+-- the channel and the length of its messages, and then `in` or `out`, after the address of the message
 abbrev pub exchange : List Home → List Entry → Place → ℤ → List Piece
 exchange hs es channel op =
     channel_code (channel_home hs es channel)

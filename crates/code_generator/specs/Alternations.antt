@@ -200,7 +200,7 @@ tested_by None has_next narrows = has_next || narrows
 abbrev pub is_tested : List Entry → Option ℕ → Expression → Bool
 is_tested es next e = tested_by (exact_value (bound_of es e)) (is_some next) (is_some (test_of es e))
 
--- What is known goes on as this, and what names stand for is as before.
+-- What is known goes on as this, and what names denote is as before.
 pub record GoesOn (s t : ProcessWriter) (after : Known) : Type 0 where
   pub known : known_of t.scope ≡ after
   pub frame : frame_seen t.frame ≡ frame_seen s.frame
@@ -315,7 +315,7 @@ WritesBranches s t a exits cs =
     Writes s t (branches_code (surroundings_of a) exits cs (site_of s))
     (after_components (surroundings_of a).around (Mark mark.Alt) cs (known_of s.scope))
 
--- a branch under a replicator, in so many turns
+-- a branch under a replicator, in this number of turns
 abbrev pub after_some : Around → Replication → Component Branches → ℕ → Known → Known
 after_some a x c n k = turn_by_turn (turned a (Mark mark.Alt) x.name.now c (seen_repeats x.repeats)) n k
 

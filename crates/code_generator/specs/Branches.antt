@@ -50,7 +50,7 @@ abbrev pub end_code : ℕ → List Piece
 end_code block = points block ∷ operates END_PROCESS ∷ []
 
 -- The branches start, with labels from this one on that distances are counted from. The first one pays for what is
--- behind the PAR too.
+-- after the PAR too.
 abbrev pub starts_code : ℕ → Option ℕ → List Branch → List Piece
 starts_code from successor [] = []
 starts_code from successor (b ∷ bs) = start_code from b.entry b.depth successor ++ starts_code (from + 1) None bs
@@ -73,7 +73,7 @@ row_in b = b.row
 
 -- ---- what is known
 
--- What is known is as before, and what names stand for.
+-- What is known is as before, and what names denote.
 abbrev pub IsKept : (s t : ProcessWriter) → Type 0
 IsKept s t = Writes s t None (known_of s.scope)
 
@@ -105,7 +105,7 @@ WritesPar s t a cs =
     Writes s t None
     (end (after_components (surroundings_of a).around (Mark mark.Par) cs (begin_par (known_of s.scope))))
 
--- a component under a replicator, in so many turns
+-- a component under a replicator, in this number of turns
 abbrev pub WritesTurns : {part : Part} → (s t : ProcessWriter) → calling.Surroundings → List ℕ → Repeats → ℕ
     → Component part → Type 0
 WritesTurns s t a name repeats count c =

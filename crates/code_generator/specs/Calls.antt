@@ -23,7 +23,7 @@ abbrev pub with_entry : Option Entry → List Entry → List Entry
 with_entry None es = es
 with_entry (Some e) es = e ∷ es
 
--- the frame of a procedure before its formals: so many of the outermost names are known there
+-- the frame of a procedure before its formals: this number of the outermost names is known there
 abbrev pub outside_frame : ℕ → List Parameter → List Expression → Site → Frame
 outside_frame names qs actuals s = record {
   homes = take names s.frame.homes;
@@ -62,7 +62,7 @@ callee_code_if w (Some c) qs actuals s = callee_code w c qs actuals s
 abbrev pub around_before : ℕ → Around → Around
 around_before n a = record { signatures = take n a.signatures; uncounted = a.uncounted }
 
--- The code of instances of the first so many procedures. Each of them calls those before it.
+-- The code of instances of the first procedures, this number of them. Each of them calls those before it.
 abbrev pub calls_below : List Callee → Around → ℕ → Calls
 calls_below cs a zero number qs actuals s = None
 calls_below cs a (suc n) number qs actuals s =
@@ -71,6 +71,6 @@ calls_below cs a (suc n) number qs actuals s =
     (slice_get cs n) qs actuals s
     else calls_below cs a n number qs actuals s
 
--- where the first so many procedures may be called
+-- where the first procedures, this number of them, may be called
 abbrev pub where_called : List Callee → Around → ℕ → Surroundings
 where_called cs a count = record { around = a; calls = calls_below cs a count }

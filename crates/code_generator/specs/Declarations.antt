@@ -24,7 +24,7 @@ pub record Frame : Type 0 where
 abbrev pub facts_in : Frame → List Entry → List RowEntry
 facts_in f es = f.outer ++ facts_of f.homes es
 
--- one name more, which takes so many words
+-- one name more, which takes this number of words
 abbrev pub with_words : ℕ → Frame → Frame
 with_words count f = record f { homes = f.homes ++ Word f.top ∷ []; top = f.top + count }
 
@@ -62,8 +62,8 @@ abbrev pub channels_in : List Entry → Option Expression → ℕ
 channels_in es None = 1
 channels_in es (Some size) = unwrap_or (size_in es size) 0
 
--- Of so many words from this one on the first ones, as many as `done`, are 0. They are moved to the words behind them
--- until all are 0, in so many moves at most.
+-- Of `count` words from this one on the first `done` are 0. They are moved to the words after them
+-- until all are 0, in at most this number of moves.
 abbrev pub spread : ℕ → ℕ → ℕ → ℕ → List Piece
 spread zero word count done = []
 spread (suc more) word count done =
@@ -71,7 +71,7 @@ spread (suc more) word count done =
     then moves (min done (count - done)) word (word + done) ++ spread more word count (done + min done (count - done))
     else []
 
--- An array is set to 0 by moves, which also make its words full: the first one from a word behind the array.
+-- An array is set to 0 by moves, which also make its words full: the first one from a word after the array.
 abbrev pub zero_array : ℕ → ℕ → List Piece
 zero_array word count =
     constant (pos 0) ∷ stores (word + count) ∷ moves 1 (word + count) word ++ spread (count - 1) word count 1
@@ -83,7 +83,7 @@ abbrev pub zero_code : Option Expression → ℕ → ℕ → List Piece
 zero_code None word count = zero_scalar word
 zero_code (Some size) word count = zero_array word count
 
--- each of these names, which take so many words, from this word on
+-- each of these names, which take this number of words each, from this word on
 abbrev pub zero_names : Option Expression → ℕ → List (List ℕ) → ℕ → List Piece
 zero_names size count [] word = []
 zero_names size count (name ∷ names) word = zero_code size word count ++ zero_names size count names (word + count)

@@ -129,7 +129,7 @@ abbrev pub known_address : ValueType → ℕ → ℕ → List Piece
 known_address value_type.Int w n = points (w + n) ∷ []
 known_address value_type.Byte w n = byte_address w n
 
--- behind the code of a subscript
+-- after the code of a subscript
 abbrev pub subscript_code : ValueType → ℕ → List Piece
 subscript_code value_type.Int w = points w ∷ operates WORD_SUBSCRIPT ∷ []
 subscript_code value_type.Byte w = points w ∷ operates BYTE_SUBSCRIPT ∷ []
@@ -242,7 +242,7 @@ pair_code (pair.Comparison op) a b = comparison_code op a b
 abbrev pub joined : ℕ → ChainOperator → Bool → List Piece → List Piece
 joined t op leaf right = onto t leaf right ++ operates (chain_operation op) ∷ []
 
--- the value of so many operands, if they belong to the front
+-- the value of this number of operands, if they belong to the front
 abbrev pub covered : Option Front → ℕ → Option ℤ
 covered None count = None
 covered (Some front) count = if nat_le count front.operands then Some front.value else None

@@ -1,4 +1,4 @@
--- Where what names stand for is while a program runs, and what is known of it there.
+-- Where what names denote is kept while a program runs, and what is known of it there.
 use Rattle.std.specs.Prelude.{ℕ, ◌+◌, ◌/◌, ℤ, pos, ◌-ℤ◌, ◌+ℤ◌, unsigned_abs, List, [], ◌∷◌, ◌++◌, reverse}
 use Rattle.std.specs.Prelude.{Option, Some, None, option_and_then, slice_get}
 use Rattle.occam_parser.specs.declared.tree.ValueType.{ValueType}

@@ -1,4 +1,4 @@
--- What an instance passes: the code before and behind the body of its procedure, and where its formals are.
+-- What an instance passes: the code before and after the body of its procedure, and where its formals are.
 use Rattle.std.specs.Prelude.{ℕ, suc, nat_eq, Bool, true, false, ◌||◌, ◌&&◌, List, [], ◌∷◌, ◌++◌, map, if◌then◌else◌}
 use Rattle.std.specs.Prelude.{Option, Some, None, option_and_then, option_map}
 use Rattle.word_arithmetic.specs.Range.{full}
@@ -79,7 +79,7 @@ all_forgotten hs es t qs i [] rs = rs
 all_forgotten hs es t qs i (e ∷ actuals) rs =
     all_forgotten hs es t qs (suc i) actuals (forgotten (passed_target hs es t (meaning_at i qs) e) rs)
 
--- Behind the body a BYTE scalar that was passed as a variable has its byte alone again.
+-- After the body a BYTE scalar that was passed as a variable has its byte alone again.
 abbrev pub cleaning_code : List Home → List Entry → ℕ → List Parameter → ℕ → List Expression → List Piece
 cleaning_code hs es t qs i [] = []
 cleaning_code hs es t qs i (e ∷ actuals) =
@@ -120,7 +120,7 @@ abbrev pub is_own_word : Target → Bool
 is_own_word (OwnWord type w) = true
 is_own_word other = false
 
--- whether the machine knows more of a scalar behind an action than its range
+-- whether the machine knows more of a scalar after an action than its range
 abbrev pub is_finer : List Home → List Entry → ℕ → Action → Bool
 is_finer hs es t (Assign target value) = is_own_word (target_of hs es t target) && reads_table hs es value
 is_finer hs es t action = false

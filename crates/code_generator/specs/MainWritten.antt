@@ -1,4 +1,4 @@
--- What it is to write the code of main, behind the items before it.
+-- What it is to write the code of main, after the items before it.
 use Rattle.std.specs.Prelude.{◌≡◌, ℕ, List, [], length}
 use Rattle.occam_parser.specs.Lines.{Constants}
 use Rattle.occam_parser.specs.Blocks.{Procedure, ProgramItem, GlobalConstant, GlobalProcedure}
@@ -20,7 +20,7 @@ use Rattle.code_generator.specs.Written.{site_of, Appends}
 
 -- ---- items before main
 
--- where code goes on behind an item, before which there were so many procedures
+-- where code goes on after an item, before which there was this number of procedures
 abbrev pub behind_item : ProgramItem → ℕ → Site → Site
 behind_item (GlobalConstant c) count s = with_declaration (Constants c) s
 behind_item (GlobalProcedure p) count s = record {

@@ -33,7 +33,7 @@ use Rattle.code_generator.specs.Instances.{is_finer}
 
 -- ---- places
 
--- Where code is written: what names stand for, what is known of them, and the least label that is free.
+-- Where code is written: what names denote, what is known of them, and the least label that is free.
 pub record Site : Type 0 where
   pub frame : Frame
   pub known : Known
@@ -105,7 +105,7 @@ tested_choice s e end after process =
     before (test_code s.frame.homes s.known.entries s.frame.top e s.label)
     (closed_by (Jump end ∷ row_of s.label s.frame after ∷ []) process)
 
--- The last choice needs no test if its condition is TRUE. If it is not, the process stops behind it.
+-- The last choice needs no test if its condition is TRUE. If it is not, the process stops after it.
 abbrev pub last_choice : Bool → Option Code → Option Code → Option Code
 last_choice true always tested = always
 last_choice false always tested = closed_by (operates STOP_PROCESS ∷ []) tested
@@ -129,11 +129,11 @@ abbrev pub loop_start : ℕ → ℤ → ℤ → List Piece
 loop_start word base count =
     constant base ∷ stores word ∷ constant count ∷ stores (word + 1) ∷ []
 
--- behind the body
+-- after the body
 abbrev pub loop_end : ℕ → ℕ → Piece → List Piece
 loop_end word head behind = points word ∷ LoopBack head (head + 1) ∷ behind ∷ []
 
--- A loop has its head at the site's label, and the one after that behind it.
+-- A loop has its head at the site's label, and the next label after the loop.
 abbrev pub loop_code : Site → Site → Known → ℤ → ℤ → Option Code → Option Code
 loop_code s inner after base count body =
     before (loop_start s.frame.top base count ++ row_of s.label inner.frame inner.known ∷ [])
@@ -158,7 +158,7 @@ repeated_seq s changed after base loop count = loop
 
 -- ---- processes
 
--- SEQ is all its components, and IF its choices with a row behind them.
+-- SEQ is all its components, and IF its choices with a row after them.
 abbrev pub by_block : Terminal → Option Code → Option Code → Option Code
 by_block (Mark mark.Seq) all choices = all
 by_block (Mark mark.If) all choices = choices
@@ -189,7 +189,7 @@ turn_site a word name c repeats s n label = record {
   label = label;
 }
 
--- a choice in some turns, with others behind them
+-- a choice in some turns, with others after them
 abbrev pub tested_turns : ℕ → ℕ → (choice : ℕ → ℕ → Option Code) → Option Code
 tested_turns count label choice = turn_by_turn (λ n code. then_code code (choice n)) count (no_code label)
 
@@ -258,7 +258,7 @@ abbrev mutual
       then_code (tested_code w end cs s)
       (λ label. last_code w end c (at_place (after_components w.around (Mark mark.If) cs s.known) label s))
 
-  -- choices with others behind them
+  -- choices with others after them
   pub tested_code : {part : Part} → Surroundings → ℕ → Components part → Site → Option Code
   tested_code w end NoComponent s = no_code s.label
   tested_code w end (Further cs c) s =

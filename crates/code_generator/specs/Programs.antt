@@ -30,7 +30,7 @@ with_links fs f = record f { homes = f.homes ++ map (λ x. home_of_port (port_fo
 
 -- ---- items
 
--- the procedures that may be called after an item, before which so many names are known
+-- the procedures that may be called after an item, before which this number of names is known
 abbrev pub callable : ProgramItem → ℕ → List Callee → List Callee
 callable (GlobalConstant c) names cs = cs
 callable (GlobalProcedure p) names cs = cs ++ record { procedure = p; names = names } ∷ []
@@ -45,7 +45,7 @@ abbrev pub in_main : Procedure → Site → Site
 in_main p s =
     record { frame = with_links p.head.formals s.frame; known = in_body p s.known; label = s.label }
 
--- behind main the process stops
+-- after main the process stops
 abbrev pub main_code : Surroundings → Procedure → Site → Option Code
 main_code w p s = closed_by (operates STOP_PROCESS ∷ []) (process_code w p.body (in_main p s))
 

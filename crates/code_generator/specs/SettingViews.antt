@@ -1,4 +1,4 @@
--- The code of what stands in a setting of the program.
+-- The code of what is in a setting of the program.
 use Rattle.std.specs.Prelude.{ℕ, ◌+◌, List, [], ◌∷◌, ◌++◌, Option, ℤ}
 use Rattle.occam_parser.specs.Expressions.{Expression, Paired, Term, Terms}
 use Rattle.code_generator.specs.declared.expressions.Pushes.{Pushes}
@@ -40,7 +40,7 @@ onto_in s x = onto s.top (is_leaf_term (entries_in s) x) (term_above s x)
 abbrev pub joined_in : Setting → ChainOperator → Option ℤ → Term → List Piece
 joined_in s op known x = unless (is_known known) (onto_in s x ++ operates (chain_operation op) ∷ [])
 
--- the operands of a chain after so many others
+-- the operands of a chain after this number of others
 abbrev pub others_in : Setting → ChainOperator → Option Front → ℕ → List Term → List Piece
 others_in s op front count [] = []
 others_in s op front count (x ∷ xs) =

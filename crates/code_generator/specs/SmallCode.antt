@@ -136,7 +136,7 @@ abbrev pub picks : Process
 picks = Does 0 (under_if (record { name = i; base = number (pos 5); count = number (pos 2) })
     (Chosen 0 (Paired (pair.Comparison comparison.Equal) (Named x) (Named i)) (assigns x (number (pos 1)))))
 
--- x is compared with 5 and with 6. If it is neither, the process stops; so behind that x is 1.
+-- x is compared with 5 and with 6. If it is neither, the process stops; so x is 1 after the choices.
 abbrev pub picks_pieces : List Piece
 picks_pieces =
     constant (pos 0) ∷ stores 2

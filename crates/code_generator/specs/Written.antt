@@ -45,7 +45,7 @@ abbrev pub Appends : List Piece → List Piece → ℕ → Option Code → Type 
 Appends old new label None = ⊤
 Appends old new label (Some c) = (new ≡ old ++ c.pieces) × (label ≡ c.labels)
 
--- If there is code, it was appended. This is known after it, and what names stand for is as before.
+-- If there is code, it was appended. This is known after it, and what names denote is as before.
 pub record Writes (s t : ProcessWriter) (wanted : Option Code) (after : Known) : Type 0 where
   pub code : Appends s.listing t.listing t.label wanted
   pub known : known_of t.scope ≡ after
@@ -111,7 +111,7 @@ pub record BeginsInstance (s t body : ProcessWriter) (c : Callee) (qs : List Par
   pub known : known_of t.scope ≡ known_of s.scope
   pub frame : frame_seen t.frame ≡ frame_seen s.frame
 
--- What is behind the body is written where the body ended, and the code goes on with what was known before.
+-- What is after the body is written where the body ended, and the code goes on with what was known before.
 pub record EndsInstance (s t body : ProcessWriter) (qs : List Parameter) (actuals : List Expression) : Type 0 where
   pub code : t.listing
       ≡ body.listing ++ cleaning_code (frame_seen s.frame).homes (known_of s.scope).entries s.frame.top qs 0
@@ -181,7 +181,7 @@ pub record EntersLoop (s t : ProcessWriter) (l : Turning) (changed : List ℕ) :
       ++ row_of s.label (in_turning (site_of s) l changed).frame (in_turning (site_of s) l changed).known ∷ [])
   pub site : site_of t ≡ in_turning (site_of s) l changed
 
--- where the names are left that a loop's body has, with so many before them
+-- where the names are left that a loop's body has, with this number before them
 abbrev pub behind_loop : ℕ → ℕ → Site → Site
 behind_loop names word s = record {
   frame = record s.frame { homes = take names s.frame.homes; top = word };
@@ -189,7 +189,7 @@ behind_loop names word s = record {
   label = s.label;
 }
 
--- What is behind the body is written, and the names of the body are left.
+-- What is after the body is written, and the names of the body are left.
 pub record LeavesLoop (s t : ProcessWriter) (names word head : ℕ) : Type 0 where
   pub code : t.listing ≡ s.listing
       ++ loop_end word head
@@ -217,7 +217,7 @@ WritesNoLoop s t changed =
 
 -- ---- choices under a replicator
 
--- a choice in so many turns, of which the first one begins at this site
+-- a choice in this number of turns, of which the first one begins at this site
 abbrev pub turns_written : Surroundings → ℕ → List ℕ → Component Choices → Repeats → ℕ → Site → Option Code
 turns_written w end name c repeats count s =
     turns_code count s.label

@@ -27,7 +27,7 @@ use program_uses::place_ref;
 use scalar_ranges::{Meaning, range_of, test_of};
 
 impl Listing {
-    /// So many words go from one place of the frame to another.
+    /// Copies `count` words from one place of the frame to another.
     pub(crate) fn write_moves(&mut self, count: u32, from: u32, to: u32) -> Result<(), GenFault>
         ensures { IfOk result (λ _. self.new ≡ self.old ++ moves count from to) }
     {
@@ -206,7 +206,7 @@ impl Listing {
         self.uses(ChannelEnd { place, way }, length.unsigned_abs())
     }
 
-    /// The channel, the length of its messages and `in` or `out`, behind the address of a message.
+    /// The channel, the length of its messages and `in` or `out`, after the address of a message.
     fn write_exchange(
         &mut self,
         setting: Setting,

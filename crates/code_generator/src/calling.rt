@@ -27,7 +27,7 @@ pub struct Surroundings<'s, 'a> {
     pub around: Around<'s>,
     /// The procedures of the program before `main`.
     pub callees: &'s [Callee<'s, 'a>],
-    /// So many of them are before this place.
+    /// How many of them are before this place.
     pub count: usize,
     /// How many processes may be in one another here, bodies of procedures among them.
     pub deeper: u32,

@@ -95,7 +95,7 @@ pub(crate) fn pushes_of(operator: PairOperator, left: Option<i32>, right: Option
     }
 }
 
-/// The value of so many operands of a chain, if they belong to its front.
+/// The value of `count` operands of a chain, if they belong to its front.
 pub(crate) fn covered(front: Option<Front>, count: usize) -> Option<i32>
     ensures { result ≡ covered (option_map seen_front front) count }
 {

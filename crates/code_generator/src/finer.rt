@@ -105,7 +105,7 @@ fn is_own_word(setting: Setting, target: Target) -> bool
     }
 }
 
-/// Whether the machine knows more of a scalar behind an action than its range.
+/// Whether the machine knows more of a scalar after an action than its range.
 pub(crate) fn is_finer(setting: Setting, action: &Action) -> bool
     ensures { result ≡ is_finer (homes_in setting.entry) (entries_in setting.entry) setting.entry.top
         (action_of action.now) }

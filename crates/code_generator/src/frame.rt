@@ -13,7 +13,7 @@ use code_pieces::RowEntry;
 use module_builder::GenFault;
 use occam_parser::OneOrMore;
 
-/// Where what names stand for is, by the numbers of their declarations, and the first word that is free.
+/// Where what names denote is kept, by the numbers of their declarations, and the first word that is free.
 #[derive(Drop)]
 pub(crate) struct Frame {
     pub(crate) homes: Vec<Home>,
@@ -31,7 +31,7 @@ impl Frame {
         Ok(())
     }
 
-    /// One name more, which takes so many words.
+    /// One name more, which takes `count` words.
     pub(crate) fn add_words(&mut self, count: u32) -> Result<(), GenFault>
         ensures { IfOk result (λ _. frame_seen self.new ≡ with_words count (frame_seen self.old)) }
     {
@@ -54,7 +54,7 @@ impl Frame {
         Ok(())
     }
 
-    /// These names more, each of which takes so many words.
+    /// These names more, each of which takes `count` words.
     pub(crate) fn add_names(&mut self, count: u32, names: &OneOrMore<&[u8]>) -> Result<(), GenFault>
         ensures { IfOk result (λ _. frame_seen self.new
             ≡ with_names count (as_list (one_or_more_of spelling_of names.now)) (frame_seen self.old)) }
@@ -66,7 +66,7 @@ impl Frame {
         Ok(())
     }
 
-    /// The names are left that came since there were so many, and their words are free again.
+    /// Leaves the names that came since there were `count`. Their words are free again.
     pub(crate) fn leave(&mut self, count: usize, top: u32)
         ensures homes { homes_seen self.new.homes.items ≡ take count (homes_seen self.old.homes.items) }
         ensures top { self.new.top ≡ top }

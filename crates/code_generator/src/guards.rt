@@ -62,7 +62,7 @@ pub(crate) struct Guards {
     /// What each one waits for, in their order.
     sources: Vec<Source>,
     awaited: Vec<Awaited>,
-    /// The first word that is free behind those that have conditions.
+    /// The first word that is free after those that have conditions.
     top: u32,
 }
 
@@ -71,7 +71,7 @@ pub(crate) struct Guards {
 pub(crate) struct Labels {
     /// The end.
     pub(crate) end: usize,
-    /// Behind `altend`, from where the distances to guards are counted.
+    /// After `altend`, from where the distances to guards are counted.
     pub(crate) chosen: usize,
     /// That of the first guard. Those of the others follow.
     pub(crate) first: usize,

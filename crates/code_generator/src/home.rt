@@ -1,4 +1,4 @@
-//! Where what names stand for is while a program runs.
+//! Where what names denote is kept while a program runs.
 
 ghost use Rattle.std.specs.Prelude.{◌≡◌, IfOk, Some, take};
 ghost use Rattle.code_generator.specs.HomeViews.{home_seen, homes_seen};
@@ -8,7 +8,7 @@ use module_builder::GenFault;
 use std::alloc::Global;
 use std::rc::Rc;
 
-/// Where what a name stands for is. Words are those of the frame, from 0 on.
+/// Where what a name denotes is kept. Words are those of the frame, from 0 on.
 #[derive(Drop)]
 pub enum Home {
     /// It has no place: a constant, or a procedure.
@@ -55,7 +55,7 @@ impl Home {
     }
 }
 
-/// The places of the outermost names, so many of them.
+/// The places of the `count` outermost names.
 pub(crate) fn outermost_homes(
     alloc: Global,
     homes: &[Home],

@@ -34,7 +34,7 @@ fn declare_if<'a>(names: &mut Scope<'a>, entry: Option<Entry<'a>>) -> Result<(),
     Ok(())
 }
 
-/// A scope of the outermost names, so many of them.
+/// A scope of the `count` outermost names.
 fn outermost<'a>(alloc: Global, scope: &Scope<'a>, count: usize) -> Result<Scope<'a>, GenFault>
     ensures entries { IfOk result (λ s. entries_of s ≡ outermost count (entries_of scope.now)) }
     ensures blocks { IfOk result (λ s. blocks_of s ≡ []) }
@@ -83,7 +83,7 @@ impl<'a> ProcessWriter<'a> {
         Ok(body)
     }
 
-    /// Behind the body of a procedure that was passed this, which ended so.
+    /// After the body of a procedure that was passed this, which ended so.
     pub(crate) fn end_instance(
         &mut self,
         body: ProcessWriter<'a>,

@@ -61,7 +61,7 @@ impl Spent {
         }
     }
 
-    /// A body is gone over that has so many names from before its procedure.
+    /// A body is gone over that has `names` names from before its procedure.
     pub(crate) fn within(self, names: usize) -> Result<Spent, GenFault> {
         let names = size_of_count(names)?;
         Ok(Spent {
@@ -77,13 +77,13 @@ impl Spent {
         Ok(())
     }
 
-    /// A branch uses so many words and ends.
+    /// A branch uses `notes` words and ends of channels.
     pub(crate) fn count_notes(&mut self, notes: usize) -> Result<(), GenFault> {
         self.said = plus(self.said, size_of_count(notes)?, GREATEST_SAID)?;
         Ok(())
     }
 
-    /// Behind a body.
+    /// After a body.
     pub(crate) fn behind(self, body: Spent) -> Spent {
         Spent {
             open: self.open,
@@ -104,7 +104,7 @@ impl ProcessWriter<'_> {
         Ok(())
     }
 
-    /// A row has so many entries.
+    /// A row has `entries` entries.
     pub(crate) fn say(&mut self, entries: usize) -> Result<(), GenFault>
         ensures listing { IfOk result (λ _. self.new.listing ≡ self.old.listing) }
         ensures scope { IfOk result (λ _. self.new.scope ≡ self.old.scope) }

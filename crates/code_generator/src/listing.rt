@@ -55,7 +55,7 @@ impl Listing {
         }
     }
 
-    /// No code of a branch of a `PAR`, whose words begin with this one. The branches before it have so many pieces.
+    /// No code of a branch of a `PAR`, whose words begin with this one. The branches before it have `pieces` pieces.
     pub(crate) fn branch(&self, alloc: Global, first: u32, pieces: usize) -> Listing
         ensures { result ≡ [] }
     {

@@ -64,7 +64,7 @@ impl Listing {
         self.store(word_after(word, 1)?)
     }
 
-    /// Behind the body of a loop: back to its head, or on behind it.
+    /// After the body of a loop: back to its head, or on after it.
     fn write_loop_end(&mut self, word: u32, head: usize, behind: usize) -> Result<(), GenFault>
         ensures { IfOk result (λ _. self.new ≡ self.old ++ points word ∷ LoopBack head behind ∷ []) }
     {
@@ -94,7 +94,7 @@ impl<'a> ProcessWriter<'a> {
         Ok(())
     }
 
-    /// The end of a loop with its head at this label and its block at this word. There were so many names before it.
+    /// The end of a loop with its head at this label and its block at this word. There were `names` names before it.
     pub(crate) fn leave_loop(
         &mut self,
         names: usize,

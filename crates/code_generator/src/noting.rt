@@ -103,7 +103,7 @@ impl Notes {
         Ok(())
     }
 
-    /// An end of a channel is used whose messages have so many bytes.
+    /// An end of a channel is used whose messages have `length` bytes.
     pub(crate) fn note_end(&mut self, end: ChannelEnd, length: u32) -> Result<(), AllocError> {
         if self.has_outside(end.place) {
             self.ends.insert(end, length)?;
@@ -145,7 +145,7 @@ impl Listing {
         Ok(())
     }
 
-    /// An end of a channel is used whose messages have so many bytes.
+    /// An end of a channel is used whose messages have `length` bytes.
     pub(crate) fn uses(&mut self, end: ChannelEnd, length: u32) -> Result<(), GenFault>
         ensures { self.new ≡ self.old }
     {

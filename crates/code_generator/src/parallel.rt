@@ -187,7 +187,7 @@ impl<'a> ProcessWriter<'a> {
         fork.add(self.alloc, entry, branch, code)
     }
 
-    /// These branches start. The first one has the label behind the `PAR` too.
+    /// These branches start. The first one has the label after the `PAR` too.
     fn write_starts(&mut self, branches: &[Branch], successor: usize) -> Result<(), GenFault>
         ensures code { IfOk result (λ _. self.new.listing
             ≡ self.old.listing ++ starts_code self.old.label (Some successor) branches.now) }

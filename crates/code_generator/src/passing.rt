@@ -221,7 +221,7 @@ pub(crate) fn all_forgotten(
 }
 
 impl Listing {
-    /// Behind the body of a procedure each BYTE scalar that was passed as a variable has its byte alone again.
+    /// After the body of a procedure each BYTE scalar that was passed as a variable has its byte alone again.
     pub(crate) fn write_cleaning(
         &mut self,
         setting: Setting,

@@ -258,7 +258,7 @@ impl<'a> ProcessWriter<'a> {
         self.listing.write_test(setting, condition, label)
     }
 
-    /// Whether the machine knows more of a scalar behind an action than its range.
+    /// Whether the machine knows more of a scalar after an action than its range.
     fn is_finer(&self, action: &Action) -> bool
         ensures { result ≡ is_finer (frame_seen self.now.frame).homes (entries_of self.now.scope) self.now.frame.top
             (action_of action.now) }
@@ -605,7 +605,7 @@ impl<'a> ProcessWriter<'a> {
         Ok(())
     }
 
-    /// A choice in so many turns, of an `IF` that ends at a label. One without a turn stops.
+    /// A choice in `count` turns, of an `IF` that ends at a label. One without a turn stops.
     #[cycle(processes)]
     fn write_turns(
         &mut self,

@@ -87,7 +87,7 @@ struct Start<'s, 'a> {
 }
 
 impl<'a> ProcessWriter<'a> {
-    /// A procedure before `main`, which has no code of its own. So many were before it.
+    /// A procedure before `main`, which has no code of its own. `number` procedures were before it.
     fn declare_procedure(&mut self, proc: &Proc<'a>, number: u32) -> Result<(), GenFault>
         ensures listing { IfOk result (λ _. self.new.listing ≡ self.old.listing) }
         ensures site { IfOk result (λ _. site_of self.new
@@ -134,7 +134,7 @@ impl<'a> ProcessWriter<'a> {
         Ok(Start { writer, callees })
     }
 
-    /// The code of `main`, behind which the process stops.
+    /// The code of `main`, after which the process stops.
     fn write_main(&mut self, around: Surroundings<'_, 'a>, main: &Proc<'a>) -> Result<(), GenFault>
         ensures { IfOk result (λ _. WritesMain self.old self.new around.entry (procedure_of main.now)) }
     {

@@ -9,18 +9,18 @@ use crate::home::Home;
 use module_builder::GenFault;
 use scalar_ranges::Scope;
 
-/// What is around an expression: what is known of names, where what they stand for is, and which words are free.
+/// What is around an expression: what is known of names, where what they denote is kept, and which words are free.
 #[derive(Clone, Copy)]
 pub struct Setting<'s, 'a> {
     pub scope: &'s Scope<'a>,
-    /// By the number of its declaration, where what a name stands for is.
+    /// By the number of its declaration, where what a name denotes is kept.
     pub homes: &'s [Home],
     /// The first word that is free, as are all words after it.
     pub top: u32,
 }
 
 impl<'s, 'a> Setting<'s, 'a> {
-    /// Where what a name stands for is, if it is declared.
+    /// Where what a name denotes is kept, if it is declared.
     pub(crate) fn home(self, name: &[u8]) -> Option<&'s Home>
         ensures { option_map (λ h. home_seen h.now) result
             ≡ home_of (homes_in self.entry) (entries_in self.entry) name.now }
@@ -44,7 +44,7 @@ impl<'s, 'a> Setting<'s, 'a> {
     }
 }
 
-/// The word so many words after another one. The error is [`GenFault::Limit`] if it has no number.
+/// The word `count` words after another one. The error is [`GenFault::Limit`] if it has no number.
 pub(crate) fn word_after(word: u32, count: u32) -> Result<u32, GenFault>
     ensures { IfOk result (λ n. n ≡ word + count) }
 {

@@ -11,7 +11,7 @@ use module_builder::GenFault;
 use occam_parser::{Expr, OneOrMore};
 
 impl Listing {
-    /// The first of some words is 0. It is moved to those behind it until all of them are.
+    /// The first of some words is 0. It is moved to those after it until all of them are.
     fn write_spread(&mut self, word: u32, count: u32) -> Result<(), GenFault>
         ensures { IfOk result (λ _. self.new ≡ self.old ++ spread (count - 1) word count 1) }
     {
@@ -35,7 +35,7 @@ impl Listing {
         self.write_spread(word, count)
     }
 
-    /// What one name stands for, by its first word.
+    /// What one name denotes, by its first word.
     fn write_zero(&mut self, size: &Option<Expr>, word: u32, count: u32) -> Result<(), GenFault>
         ensures { IfOk result (λ _. self.new ≡ self.old ++ zero_code (any_of size.now) word count) }
     {
@@ -48,7 +48,7 @@ impl Listing {
         }
     }
 
-    /// What these names stand for, each of which takes so many words, from this word on.
+    /// What these names denote, each of which takes `count` words, from this word on.
     pub(crate) fn write_zeros(
         &mut self,
         size: &Option<Expr>,

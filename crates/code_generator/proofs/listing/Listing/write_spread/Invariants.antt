@@ -5,7 +5,7 @@ use Rattle.code_generator.proofs.listing.Listing.write_spread.Given as goal
 abbrev pub decreases-loop-done : goal.decreases-loop-done
 decreases-loop-done l = l.count - l.done
 
--- what is left to move, behind what was written
+-- what is left to move, after what was written
 abbrev pub invariant-loop-done : goal.invariant-loop-done
 invariant-loop-done l = record {
   some : 1 ≤ l.done;

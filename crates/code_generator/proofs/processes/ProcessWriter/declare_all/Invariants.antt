@@ -5,7 +5,7 @@ use Rattle.code_generator.specs.Processes.{with_declaration}
 use Rattle.code_generator.specs.Written.{site_of, declarations_code}
 use Rattle.code_generator.proofs.processes.ProcessWriter.declare_all.Given as goal
 
--- what is left to declare, behind what was written
+-- what is left to declare, after what was written
 abbrev pub invariant-loop-declaration : goal.invariant-loop-declaration
 invariant-loop-declaration l = record {
   code : l.self.listing
