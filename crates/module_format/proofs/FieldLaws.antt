@@ -15,7 +15,8 @@ use Rattle.module_format.specs.Order.{IsBytes, IsInterval}
 use Rattle.module_format.specs.Spelling.{u16_bytes, u32_bytes, u64_bytes, i32_bytes}
 use Rattle.module_format.specs.Reading.{fault, number_at, int_at, limited_at, positive_at, at_most_at, bytes_at}
 use Rattle.module_format.specs.Reading.{byte_at, in_code_at, hi_at, interval_at}
-use Rattle.module_format.proofs.ReadsInSteps.{Has, has_ok, has_err, has_then, has_unless, step, join, Spelled, tested_takes}
+use Rattle.module_format.proofs.ReadsInSteps.{Has, has_ok, has_err, has_then, has_unless, step, join, Spelled}
+use Rattle.module_format.proofs.ReadsInSteps.{tested_takes}
 use Rattle.module_format.proofs.ReadsInSteps.{tested_again}
 
 pub IsBytes-drop : (n : ℕ) (bytes : List ℕ) → IsBytes bytes → IsBytes (drop n bytes)

@@ -38,7 +38,7 @@ use Rattle.module_format.proofs.RowLaws.{labels_take, labels_again}
 use Rattle.module_format.proofs.ProcedureLaws.{procedures_take, procedures_again, tables_take as table_rows_take}
 use Rattle.module_format.proofs.ProcedureLaws.{tables_again as table_rows_again}
 use Rattle.module_format.proofs.ParLaws.{pars_take, pars_again}
-use Rattle.module_format.proofs.LateLaws.{late_fits, late_passes}
+use Rattle.module_format.proofs.ReferenceLaws.{references_fit, references_pass}
 use Rattle.module_format.proofs.HeaderLaws.{sizes_bytes, max_code_small, FlagFits, head_bytes, HeaderFits, header_takes}
 use Rattle.module_format.proofs.HeaderLaws.{header_again}
 
@@ -48,13 +48,13 @@ ended_takes : (size at : ℕ) (c : Contents) (rest : List ℕ) {Q : Contents →
     → Has (ended_at size at c rest) Q
 unfolding ended_at
 ended_takes size at c rest h =
-    has_then _ _ (late_fits at c) (λ u there.
+    has_then _ _ (references_fit at c) (λ u there.
     has_if (eqb (length rest) 0) (fault faults.LeftOver (place size rest)) (Ok c) (λ none.
     has_ok c (h there (nil_from_length rest (eqb-true _ _ none)))))
 
 ended_again : (size at : ℕ) (c : Contents) → NamesAreThere c → ended_at size at c [] ≡ Ok c
 unfolding ended_at
-ended_again size at c there = step _ (late_passes at c there) refl
+ended_again size at c there = step _ (references_pass at c there) refl
 
 -- ---- the code, the constants and the rows
 

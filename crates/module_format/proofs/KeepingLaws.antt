@@ -12,9 +12,9 @@ use Rattle.module_format.specs.declared.fault.FormatFault.{FormatFault}
 use Rattle.module_format.specs.Keeping.{LimitsKeep, RowsKeep, NamesAreThere}
 use Rattle.module_format.specs.Spelling.{label_bytes, par_bytes}
 use Rattle.module_format.specs.Reading.{Tells}
-use Rattle.module_format.specs.Late.{late_at}
+use Rattle.module_format.specs.References.{references_at}
 use Rattle.module_format.proofs.ReadsInSteps.{has_at}
-use Rattle.module_format.proofs.LateLaws.{late_fits, late_passes}
+use Rattle.module_format.proofs.ReferenceLaws.{references_fit, references_pass}
 use Rattle.module_format.proofs.Sizes.{labels_small, pars_small}
 use Rattle.module_format.proofs.WritingLaws.{labels_writable, pars_writable}
 use Rattle.module_format.proofs.RowLaws.{no_entry, none_begins}
@@ -46,10 +46,10 @@ words_end (a ∷ b ∷ c ∷ d ∷ more) h = absurd (omega arith)
 
 -- ---- what rows name
 
-pub names_is : {X : Type 0} (r : Result X FormatFault) (c : Contents) (at : ℕ) → Tells r (late_at at c)
+pub names_is : {X : Type 0} (r : Result X FormatFault) (c : Contents) (at : ℕ) → Tells r (references_at at c)
     → IsTrue (is_ok r) ↔ NamesAreThere c
-names_is (Ok x) c at told = (λ _. has_at (late_at at c) tt (late_fits at c) told, λ _. refl)
-names_is (Err f) c at told = (λ e. absurd cc, λ h. absurd (let p = late_passes at c h in cc))
+names_is (Ok x) c at told = (λ _. has_at (references_at at c) tt (references_fit at c) told, λ _. refl)
+names_is (Err f) c at told = (λ e. absurd cc, λ h. absurd (let p = references_pass at c h in cc))
 
 -- the bytes of rows that keep their rules fit in memory
 pub rows_in_memory : (c : Contents) → LimitsKeep c → RowsKeep c

@@ -14,7 +14,7 @@ pub mod EndLaws
 pub mod BranchLaws
 pub mod ParLaws
 pub mod HeaderLaws
-pub mod LateLaws
+pub mod ReferenceLaws
 pub mod FileLaws
 pub mod IntervalLaws
 pub mod KeepingLaws

@@ -10,7 +10,7 @@ use Rattle.module_format.specs.declared.fault.ReadError.{ReadError}
 use Rattle.module_format.specs.declared.fault.ReadError.TheVariants as errors
 use Rattle.module_format.specs.Reading.{◌>>=◌, and_then, Fails, Tells, Read, list_at}
 use Rattle.module_format.specs.Taking.{Took, TookAfter}
-use Rattle.module_format.specs.Late.{late_list}
+use Rattle.module_format.specs.References.{list_references}
 
 -- what was read before, and what is still read
 abbrev pub with_front : {A : Type 0} → List A → Read (List A) → Read (List A)
@@ -105,29 +105,29 @@ mapped_item_at {A = A} f xs ys i x same lt is =
 -- ---- looking at items one after the other, once all are read
 
 module _ {A : Type 0} (item : ℕ → A → Result ⊤ FormatFault) (spelled : A → List ℕ) where
-  pub late_goes_on : (xs : List A) (i at : ℕ) (x : A) (u : ⊤) (total : Result ⊤ FormatFault)
+  pub references_go_on : (xs : List A) (i at : ℕ) (x : A) (u : ⊤) (total : Result ⊤ FormatFault)
       → drop i xs ≡ x ∷ drop (i + 1) xs → item at x ≡ Ok u
-      → late_list item spelled at (drop i xs) ≡ total
-      → late_list item spelled (at + length (spelled x)) (drop (i + 1) xs) ≡ total
-  unfolding late_list and_then
-  late_goes_on xs i at x u total e h so_far =
-      let one : late_list item spelled at (drop i xs)
-      ≡ late_list item spelled (at + length (spelled x)) (drop (i + 1) xs) = rw (e, h) refl in
+      → list_references item spelled at (drop i xs) ≡ total
+      → list_references item spelled (at + length (spelled x)) (drop (i + 1) xs) ≡ total
+  unfolding list_references and_then
+  references_go_on xs i at x u total e h so_far =
+      let one : list_references item spelled at (drop i xs)
+      ≡ list_references item spelled (at + length (spelled x)) (drop (i + 1) xs) = rw (e, h) refl in
       sym one ∙ so_far
 
-  pub late_ends : (f : FormatFault) (xs : List A) (i at : ℕ) (x : A) (total : Result ⊤ FormatFault)
+  pub references_end : (f : FormatFault) (xs : List A) (i at : ℕ) (x : A) (total : Result ⊤ FormatFault)
       → drop i xs ≡ x ∷ drop (i + 1) xs → item at x ≡ Err f
-      → late_list item spelled at (drop i xs) ≡ total → total ≡ Err f
-  unfolding late_list and_then
-  late_ends f xs i at x total d h so_far =
-      let one : late_list item spelled at (drop i xs) ≡ Err f = rw (d, h) refl in
+      → list_references item spelled at (drop i xs) ≡ total → total ≡ Err f
+  unfolding list_references and_then
+  references_end f xs i at x total d h so_far =
+      let one : list_references item spelled at (drop i xs) ≡ Err f = rw (d, h) refl in
       sym so_far ∙ one
 
-  pub late_is_done : (xs : List A) (i at : ℕ) (total : Result ⊤ FormatFault) → length xs ≤ i
-      → late_list item spelled at (drop i xs) ≡ total → total ≡ Ok tt
-  unfolding late_list
-  late_is_done xs i at total le so_far =
-      let one : late_list item spelled at (drop i xs) ≡ Ok tt = rw (drop_all i xs le) refl in
+  pub references_are_done : (xs : List A) (i at : ℕ) (total : Result ⊤ FormatFault) → length xs ≤ i
+      → list_references item spelled at (drop i xs) ≡ total → total ≡ Ok tt
+  unfolding list_references
+  references_are_done xs i at total le so_far =
+      let one : list_references item spelled at (drop i xs) ≡ Ok tt = rw (drop_all i xs le) refl in
       sym so_far ∙ one
 
 -- the bytes of the items that are left

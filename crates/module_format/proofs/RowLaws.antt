@@ -24,7 +24,8 @@ use Rattle.module_format.specs.ReadingRows.{range_at, step_at, pointer_at, code_
 use Rattle.module_format.specs.ReadingRows.{register_at, word_at, first_word_at, span_at, entry_at, entries_at}
 use Rattle.module_format.specs.ReadingRows.{label_offset_at, registers_at, label_row_at, label_rows_at}
 use Rattle.module_format.proofs.ReadsInSteps.{nothing_taken, tag_taken, field, regroup, all_taken}
-use Rattle.module_format.proofs.ReadsInSteps.{Has, has_ok, has_err, has_then, has_if, has_cond, has_weaker, step, Spelled}
+use Rattle.module_format.proofs.ReadsInSteps.{Has, has_ok, has_err, has_then, has_if, has_cond, has_weaker, step}
+use Rattle.module_format.proofs.ReadsInSteps.{Spelled}
 use Rattle.module_format.proofs.ReadsInSteps.{join, tested_takes, tested_again, list_takes, list_again}
 use Rattle.module_format.proofs.FieldLaws.{IsBytes-rest, eqb-false, eqb-differ, int_le-true, int_le-le, wide16, wide64}
 use Rattle.module_format.proofs.FieldLaws.{number_takes, number_again, u32_takes, u32_again, int_takes, int_again}

@@ -17,6 +17,6 @@ pub mod Meaning
 pub mod Taking
 pub mod ReadingRows
 pub mod ReadingPars
-pub mod Late
+pub mod References
 pub mod ReadingFile
 pub mod Stack

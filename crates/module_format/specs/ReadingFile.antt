@@ -18,7 +18,7 @@ use Rattle.module_format.specs.Keeping.{max_code, LimitsKeep, RowsKeep}
 use Rattle.module_format.specs.Reading.{◌>>=◌, Read, fault, place, limited_at, positive_at, at_most_at, bytes_at}
 use Rattle.module_format.specs.ReadingRows.{procedure_rows_at, label_rows_at, table_rows_at}
 use Rattle.module_format.specs.ReadingPars.{par_rows_at}
-use Rattle.module_format.specs.Late.{late_at}
+use Rattle.module_format.specs.References.{references_at}
 
 unfoldable pub magic_at : List ℕ → Read Version
 magic_at bytes =
@@ -126,7 +126,7 @@ contents_from h code constants procedures labels pars table_rows = record {
 -- the contents whose label rows began at `at`, where `rest` is what follows the last row
 unfoldable pub ended_at : ℕ → ℕ → Contents → List ℕ → Result Contents FormatFault
 ended_at size at c rest = do
-  _ ← late_at at c
+  _ ← references_at at c
   if length rest == 0 then Ok c else Err (fault faults.LeftOver (place size rest))
 
 -- the code, the constants and the rows, with the place of the label rows

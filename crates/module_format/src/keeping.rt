@@ -25,7 +25,7 @@ use crate::limits::{
     MAX_TABLES,
 };
 use crate::listed::{Code, Constants, Labelled};
-use crate::reading::{late_rows, max_code};
+use crate::reading::{rows_references, max_code};
 use crate::row_owners::row_owners;
 use crate::rows::{LabelRow, ProcedureRow};
 use crate::tables::{Tables, Version};
@@ -128,7 +128,7 @@ fn names_are_there(tables: &Tables) -> bool
     ensures { IsTrue result ↔ NamesAreThere (contents_of tables.now) }
 {
     let owners = row_owners(tables);
-    late_rows(&Contexts::of_rows(tables, &owners), 0).is_ok()
+    rows_references(&Contexts::of_rows(tables, &owners), 0).is_ok()
 }
 
 /// Whether tables keep the rules of the format.

@@ -8,11 +8,11 @@ mod fields;
 mod file;
 mod header;
 mod labels;
-mod late;
-mod late_pars;
 mod list;
+mod par_references;
 mod pars;
 mod procedures;
+mod references;
 mod table_rows;
 mod taken;
 
@@ -38,7 +38,7 @@ pub(crate) use facts::{
 };
 pub use header::max_code;
 pub(crate) use labels::read_label_offset;
-pub use late::late_rows;
+pub use references::rows_references;
 pub use pars::first_entry;
 pub(crate) use procedures::{
     read_frame_end, read_frame_start, read_parameter_kind, read_parameter_word, read_parameters,

@@ -15,7 +15,7 @@ use crate::places::{Place, places_of};
 use crate::reading::cursor::Cursor;
 use crate::reading::header::{Header, read_header};
 use crate::reading::labels::read_label_rows;
-use crate::reading::late::late_rows;
+use crate::reading::references::rows_references;
 use crate::reading::pars::read_par_rows;
 use crate::reading::procedures::read_procedure_rows;
 use crate::reading::table_rows::read_table_rows;
@@ -81,7 +81,7 @@ fn conclude(
 {
     from.outcome()?;
     let places = places_of(alloc, tables)?;
-    late_rows(&Contexts::of_places(tables, &places), rows)?;
+    rows_references(&Contexts::of_places(tables, &places), rows)?;
     if !from.is_at_end() {
         let left_over = FormatFault::new(FormatFaultKind::LeftOver, from.place());
         return Err(ReadError::Fault(left_over));

@@ -6,11 +6,12 @@ use Rattle.module_format.proofs.keeping.names_are_there.Goals as goal
 pub of_rows-requires-clause-few : goal.of_rows-requires-clause-few
 of_rows-requires-clause-few c = few_contexts (contents_of c.args.tables.now) c.requires.limits c.requires.rows
 
-pub late_rows-requires : goal.late_rows-requires
-late_rows-requires c =
+pub rows_references-requires : goal.rows_references-requires
+rows_references-requires c =
     rw c.of_rows.ensures (rows_in_memory (contents_of c.args.tables.now) c.requires.limits c.requires.rows)
 
 pub returns : goal.returns
 returns c =
     rw c.is_ok.ensures.value
-    (names_is c.late_rows.result (contents_of c.args.tables.now) 0 (rw c.of_rows.ensures at c.late_rows.ensures))
+    (names_is c.rows_references.result (contents_of c.args.tables.now) 0
+        (rw c.of_rows.ensures at c.rows_references.ensures))

@@ -7,5 +7,5 @@ of_places-requires-clause-few c =
     let ready = c.requires c.in_ok-outcome.ensures in
     few_contexts (contents_of c.args.tables.now) ready.limits ready.rows
 
-pub late_rows-requires : goal.late_rows-requires
-late_rows-requires c = rw c.of_places.ensures (c.requires c.in_ok-outcome.ensures).fits
+pub rows_references-requires : goal.rows_references-requires
+rows_references-requires c = rw c.of_places.ensures (c.requires c.in_ok-outcome.ensures).fits

@@ -3,10 +3,10 @@ use Rattle.std.proofs.lemmas.List.{map-id}
 use Rattle.module_format.specs.Contents.{label_of}
 use Rattle.module_format.proofs.Loop.{ok_weaker}
 use Rattle.module_format.proofs.Sizes.{label_size}
-use Rattle.module_format.proofs.reading.late.late_row.Goals as goal
+use Rattle.module_format.proofs.reading.references.row_references.Goals as goal
 
-pub late_list-requires : goal.late_list-requires
-late_list-requires c =
+pub list_references-requires : goal.list_references-requires
+list_references-requires c =
     let row = c.args.row.now in
     let size = label_size (label_of row) in
     rw (c.deref.ensures.value, map-id row.entries.items)
@@ -23,8 +23,8 @@ pub returns-clause-behind : goal.returns-clause-behind
 returns-clause-behind c =
     let row = c.args.row.now in
     let size = label_size (label_of row) in
-    let behind = rw (c.deref.ensures.value, map-id row.entries.items) at c.late_list.ensures.behind in
-    ok_weaker c.late_list.result behind
+    let behind = rw (c.deref.ensures.value, map-id row.entries.items) at c.list_references.ensures.behind in
+    ok_weaker c.list_references.result behind
     (λ end e. omega (
       arith,
       e,

@@ -2,13 +2,14 @@ use Rattle.std.proofs.Common.{◌≡◌, ◌≤◌, drop, map, length, refl, ari
 use Rattle.std.proofs.lemmas.Result.{err_from_is_err_and}
 use Rattle.std.proofs.lemmas.List.{length-map, drop_all}
 use Rattle.std.specs.List.{flat_map}
-use Rattle.module_format.specs.Late.{late_list}
-use Rattle.module_format.proofs.Loop.{mapped_item_at, late_goes_on, late_ends, late_is_done, length-left}
-use Rattle.module_format.proofs.reading.late.late_list.Goals as goal
+use Rattle.module_format.specs.References.{list_references}
+use Rattle.module_format.proofs.Loop.{mapped_item_at, references_go_on, references_end, references_are_done}
+use Rattle.module_format.proofs.Loop.{length-left}
+use Rattle.module_format.proofs.reading.references.list_references.Goals as goal
 
-pub late-requires : goal.late-requires
-late-requires g c =
-    let T = g.T.Late in
+pub references-requires : goal.references-requires
+references-requires g c =
+    let T = g.T.References in
     let xs = map T.naming.view c.args.items.now in
     let here =
     mapped_item_at T.naming.view c.args.items.now c.args.items.now c.loop-item.item-index c.item-item.result refl
@@ -22,20 +23,20 @@ late-requires g c =
 
 pub returns-in_err-at-clause-gives : goal.returns-in_err-at-clause-gives
 returns-in_err-at-clause-gives g c =
-    let T = g.T.Late in
+    let T = g.T.References in
     let p = err_from_is_err_and c.from_residual.result c.from_residual.ensures.1 in
     let xs = map T.naming.view c.args.items.now in
     let item = T.naming.looked c.args.context.now in
     let here =
     mapped_item_at T.naming.view c.args.items.now c.args.items.now c.loop-item.item-index c.item-item.result refl
     c.loop-item-test.true c.item-item.is in
-    rw (p.1, p.2) (late_ends item T.naming.bytes c.in_err-at.field-0.0 xs c.loop-item.item-index c.loop-item.at
+    rw (p.1, p.2) (references_end item T.naming.bytes c.in_err-at.field-0.0 xs c.loop-item.item-index c.loop-item.at
     (T.naming.view c.item-item.result)
-    (late_list item T.naming.bytes c.args.start xs) here c.in_err-at.ensures.gives c.loop-item.invariant.rest)
+    (list_references item T.naming.bytes c.args.start xs) here c.in_err-at.ensures.gives c.loop-item.invariant.rest)
 
 pub loop-item-preserved : goal.loop-item-preserved
 loop-item-preserved g c =
-    let T = g.T.Late in
+    let T = g.T.References in
     let xs = map T.naming.view c.args.items.now in
     let item = T.naming.looked c.args.context.now in
     let i = c.loop-item.item-index in
@@ -47,23 +48,24 @@ loop-item-preserved g c =
     let left = length-left T.naming.bytes xs i x here in
     let place = c.loop-item.invariant.place in
     record {
-      rest = rw behind (late_goes_on item T.naming.bytes xs i c.loop-item.at x tt
-          (late_list item T.naming.bytes c.args.start xs) here c.in_ok-at.ensures.gives c.loop-item.invariant.rest);
+      rest = rw behind (references_go_on item T.naming.bytes xs i c.loop-item.at x tt
+          (list_references item T.naming.bytes c.args.start xs) here c.in_ok-at.ensures.gives
+          c.loop-item.invariant.rest);
       place = omega (arith, behind, left, place);
     }
 
 pub returns-clause-gives : goal.returns-clause-gives
 returns-clause-gives g c =
-    let T = g.T.Late in
+    let T = g.T.References in
     let xs = map T.naming.view c.args.items.now in
     let item = T.naming.looked c.args.context.now in
     let past : length xs ≤ c.loop-item.item-index = rw length-map c.loop-item-test.false in
-    late_is_done item T.naming.bytes xs c.loop-item.item-index c.loop-item.at
-    (late_list item T.naming.bytes c.args.start xs) past c.loop-item.invariant.rest
+    references_are_done item T.naming.bytes xs c.loop-item.item-index c.loop-item.at
+    (list_references item T.naming.bytes c.args.start xs) past c.loop-item.invariant.rest
 
 pub returns-clause-behind : goal.returns-clause-behind
 returns-clause-behind g c =
-    let T = g.T.Late in
+    let T = g.T.References in
     let xs = map T.naming.view c.args.items.now in
     let past : length xs ≤ c.loop-item.item-index = rw length-map c.loop-item-test.false in
     let nothing : length (flat_map T.naming.bytes (drop c.loop-item.item-index xs)) ≡ 0 =

@@ -4,11 +4,11 @@ use Rattle.std.proofs.lemmas.Result.{err_from_is_err_and}
 use Rattle.std.proofs.lemmas.List.{map-id}
 use Rattle.module_format.specs.Contents.{Branch, branch_of}
 use Rattle.module_format.specs.Spelling.{u16_bytes, interval_bytes, end_bytes, branch_bytes}
-use Rattle.module_format.specs.Late.{late_branch}
+use Rattle.module_format.specs.References.{branch_references}
 use Rattle.module_format.proofs.ReadsInSteps.{step}
 use Rattle.module_format.proofs.Loop.{ok_weaker, tells_err, tells_same}
 use Rattle.module_format.proofs.Sizes.{branch_size, intervals_size}
-use Rattle.module_format.proofs.reading.late_pars.BranchRowLateContextParameters.late.Goals as goal
+use Rattle.module_format.proofs.reading.par_references.BranchRowReferencesContextParameters.references.Goals as goal
 
 -- the bytes of a branch, by how many intervals it has
 sized : (b : Branch) → length (branch_bytes b) ≡ 18 + 8 * length b.writes + 8 * length b.reads
@@ -42,14 +42,14 @@ overflow_add-written-3 c =
     let b = branch_of c.args.self.now in
     omega (arith, sized b, c.len.ensures.value, c.len-2.ensures.value, c.requires)
 
-pub late_list-requires : goal.late_list-requires
-late_list-requires c =
+pub list_references-requires : goal.list_references-requires
+list_references-requires c =
     let b = branch_of c.args.self.now in
     rw (c.deref.ensures, map-id b.written_parameters)
     (omega (arith, sized b, c.len.ensures.value, c.len-2.ensures.value, c.requires))
 
 pub returns-in_err-read-clause-gives : goal.returns-in_err-read-clause-gives
-unfolding late_branch
+unfolding branch_references
 returns-in_err-read-clause-gives c =
     let b = branch_of c.args.self.now in
     let p = err_from_is_err_and c.from_residual.result c.from_residual.ensures.1 in
@@ -57,15 +57,15 @@ returns-in_err-read-clause-gives c =
     let first = rw (c.deref.ensures, map-id b.written_parameters, place) at c.in_err-read.ensures.gives in
     rw (p.1, p.2) (tells_err c.in_err-read.field-0.0 _ first)
 
-pub late_list-requires-2 : goal.late_list-requires-2
-late_list-requires-2 c =
+pub list_references-requires-2 : goal.list_references-requires-2
+list_references-requires-2 c =
     let b = branch_of c.args.self.now in
     let read = rw (c.deref.ensures, map-id b.written_parameters) at c.in_ok-read.ensures.behind in
     rw (c.deref-2.ensures, map-id b.read_parameters)
     (omega (arith, read, sized b, c.len.ensures.value, c.len-2.ensures.value, c.requires))
 
 pub returns-in_err-ends-clause-gives : goal.returns-in_err-ends-clause-gives
-unfolding late_branch
+unfolding branch_references
 returns-in_err-ends-clause-gives c =
     let b = branch_of c.args.self.now in
     let p = err_from_is_err_and c.from_residual-in_err-ends.result c.from_residual-in_err-ends.ensures.1 in
@@ -75,8 +75,8 @@ returns-in_err-ends-clause-gives c =
     let second = rw (c.deref-2.ensures, map-id b.read_parameters, read) at c.in_err-ends.ensures.gives in
     rw (p.1, p.2) (step _ first (tells_err c.in_err-ends.field-0.0 _ second))
 
-pub late_list-requires-3 : goal.late_list-requires-3
-late_list-requires-3 c =
+pub list_references-requires-3 : goal.list_references-requires-3
+list_references-requires-3 c =
     let b = branch_of c.args.self.now in
     let read = rw (c.deref.ensures, map-id b.written_parameters) at c.in_ok-read.ensures.behind in
     let ends = rw (c.deref-2.ensures, map-id b.read_parameters) at c.in_ok-ends.ensures.behind in
@@ -84,7 +84,7 @@ late_list-requires-3 c =
     (omega (arith, read, ends, sized b, c.len.ensures.value, c.len-2.ensures.value, c.requires))
 
 pub returns-clause-gives : goal.returns-clause-gives
-unfolding late_branch
+unfolding branch_references
 returns-clause-gives c =
     let b = branch_of c.args.self.now in
     let place = behind_intervals b c.args.at _ _ c.len.ensures.value c.len-2.ensures.value in
@@ -92,14 +92,14 @@ returns-clause-gives c =
     let read = rw (c.deref.ensures, map-id b.written_parameters, place) at c.in_ok-read.ensures.behind in
     let second = rw (c.deref-2.ensures, map-id b.read_parameters, read) at c.in_ok-ends.ensures.gives in
     let ends = rw (c.deref-2.ensures, map-id b.read_parameters, read) at c.in_ok-ends.ensures.behind in
-    let third = rw (c.deref-3.ensures.value, map-id b.ends, ends) at c.late_list-3.ensures.gives in
-    tells_same c.late_list-3.result (sym (step _ first (step _ second refl))) third
+    let third = rw (c.deref-3.ensures.value, map-id b.ends, ends) at c.list_references-3.ensures.gives in
+    tells_same c.list_references-3.result (sym (step _ first (step _ second refl))) third
 
 pub returns-clause-behind : goal.returns-clause-behind
 returns-clause-behind c =
     let b = branch_of c.args.self.now in
     let read = rw (c.deref.ensures, map-id b.written_parameters) at c.in_ok-read.ensures.behind in
     let ends = rw (c.deref-2.ensures, map-id b.read_parameters) at c.in_ok-ends.ensures.behind in
-    let behind = rw (c.deref-3.ensures.value, map-id b.ends) at c.late_list-3.ensures.behind in
-    ok_weaker c.late_list-3.result behind
+    let behind = rw (c.deref-3.ensures.value, map-id b.ends) at c.list_references-3.ensures.behind in
+    ok_weaker c.list_references-3.result behind
     (λ end e. omega (arith, e, read, ends, sized b, c.len.ensures.value, c.len-2.ensures.value))

@@ -6,11 +6,12 @@ ghost use Rattle.module_format.specs.Contents.{branch_of, par_of};
 ghost use Rattle.module_format.specs.Keeping.{is_region, has_element, names, names_end};
 ghost use Rattle.module_format.specs.Spelling.{u16_bytes, end_bytes, branch_bytes, par_bytes};
 ghost use Rattle.module_format.specs.Meaning.{naming};
-ghost use Rattle.module_format.specs.Late.{late_parameter, late_end, late_branch, late_par};
+ghost use Rattle.module_format.specs.References.{parameter_references, end_references, branch_references};
+ghost use Rattle.module_format.specs.References.{par_references};
 
 use crate::contexts::Contexts;
 use crate::fault::FormatFault;
-use crate::reading::late::{Late, late_list, not_there};
+use crate::reading::references::{References, list_references, not_there};
 use crate::row_sizes::{
     BRANCH_HEAD_SIZE, CHANNEL_SIZE, END_SIZE, INTERVAL_SIZE, PAR_HEAD_SIZE, PARAMETER_NUMBER_SIZE,
     TAG_SIZE,
@@ -55,11 +56,11 @@ impl ContextParameters<'_> {
     }
 }
 
-impl<'p> Late<ContextParameters<'p>> for u16 {
-    ghost naming = { naming (λ n. n) u16_bytes (λ parameters. late_parameter parameters.0.now) };
+impl<'p> References<ContextParameters<'p>> for u16 {
+    ghost naming = { naming (λ n. n) u16_bytes (λ parameters. parameter_references parameters.0.now) };
 
-    #[tactic(auto, unfolding(crate::specs::Late::late_parameter, crate::specs::Spelling::u16_bytes))]
-    fn late(&self, parameters: &ContextParameters<'p>, at: usize) -> Result<usize, FormatFault> {
+    #[tactic(auto, unfolding(crate::specs::References::parameter_references, crate::specs::Spelling::u16_bytes))]
+    fn references(&self, parameters: &ContextParameters<'p>, at: usize) -> Result<usize, FormatFault> {
         if !parameters.has_region(*self) {
             return Err(not_there(at));
         }
@@ -67,11 +68,11 @@ impl<'p> Late<ContextParameters<'p>> for u16 {
     }
 }
 
-impl<'p> Late<ContextParameters<'p>> for EndRow {
-    ghost naming = { naming (λ e. e) end_bytes (λ parameters. late_end parameters.0.now) };
+impl<'p> References<ContextParameters<'p>> for EndRow {
+    ghost naming = { naming (λ e. e) end_bytes (λ parameters. end_references parameters.0.now) };
 
-    #[tactic(auto, using(crate::proofs::Sizes::end_size), unfolding(crate::specs::Late::late_end))]
-    fn late(&self, parameters: &ContextParameters<'p>, at: usize) -> Result<usize, FormatFault> {
+    #[tactic(auto, using(crate::proofs::Sizes::end_size), unfolding(crate::specs::References::end_references))]
+    fn references(&self, parameters: &ContextParameters<'p>, at: usize) -> Result<usize, FormatFault> {
         if !parameters.has_end(self.kind) {
             return Err(not_there(at + TAG_SIZE));
         }
@@ -79,28 +80,28 @@ impl<'p> Late<ContextParameters<'p>> for EndRow {
     }
 }
 
-impl<'p> Late<ContextParameters<'p>> for BranchRow {
-    ghost naming = { naming branch_of branch_bytes (λ parameters. late_branch parameters.0.now) };
+impl<'p> References<ContextParameters<'p>> for BranchRow {
+    ghost naming = { naming branch_of branch_bytes (λ parameters. branch_references parameters.0.now) };
 
-    #[tactic(auto, using(crate::proofs::Sizes::branch_size), unfolding(crate::specs::Late::late_branch, crate::specs::Reading::and_then))]
-    fn late(&self, parameters: &ContextParameters<'p>, at: usize) -> Result<usize, FormatFault> {
+    #[tactic(auto, using(crate::proofs::Sizes::branch_size), unfolding(crate::specs::References::branch_references, crate::specs::Reading::and_then))]
+    fn references(&self, parameters: &ContextParameters<'p>, at: usize) -> Result<usize, FormatFault> {
         let written = at
             + BRANCH_HEAD_SIZE
             + INTERVAL_SIZE * self.writes.len()
             + INTERVAL_SIZE * self.reads.len();
-        let read = late_list(parameters, written, &self.written_parameters)?;
-        let ends = late_list(parameters, read, &self.read_parameters)?;
-        late_list(parameters, ends, &self.ends)
+        let read = list_references(parameters, written, &self.written_parameters)?;
+        let ends = list_references(parameters, read, &self.read_parameters)?;
+        list_references(parameters, ends, &self.ends)
     }
 }
 
-impl Late<Contexts<'_, '_>> for ParRow {
-    ghost naming = { naming par_of par_bytes late_par };
+impl References<Contexts<'_, '_>> for ParRow {
+    ghost naming = { naming par_of par_bytes par_references };
 
-    #[tactic(auto, using(crate::proofs::Sizes::par_size), unfolding(crate::specs::Late::late_par))]
-    fn late(&self, contexts: &Contexts<'_, '_>, at: usize) -> Result<usize, FormatFault> {
+    #[tactic(auto, using(crate::proofs::Sizes::par_size), unfolding(crate::specs::References::par_references))]
+    fn references(&self, contexts: &Contexts<'_, '_>, at: usize) -> Result<usize, FormatFault> {
         let parameters = ContextParameters(contexts.parameters(u32::from(self.context)));
         let branches = at + PAR_HEAD_SIZE + CHANNEL_SIZE * self.channels.len();
-        late_list(&parameters, branches, &self.branches)
+        list_references(&parameters, branches, &self.branches)
     }
 }

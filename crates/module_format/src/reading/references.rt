@@ -8,7 +8,8 @@ ghost use Rattle.module_format.specs.Contents.{label_of};
 ghost use Rattle.module_format.specs.Meaning.{Naming, naming};
 ghost use Rattle.module_format.specs.Spelling.{fact_bytes, entry_bytes, label_bytes, par_bytes};
 ghost use Rattle.module_format.specs.Reading.{fault, Tells};
-ghost use Rattle.module_format.specs.Late.{late_fact, late_entry, late_list, late_row, late_label, late_at};
+ghost use Rattle.module_format.specs.References.{fact_references, entry_references, list_references, row_references};
+ghost use Rattle.module_format.specs.References.{label_references, references_at};
 
 use crate::contexts::{Context, Contexts};
 use crate::fact::Fact;
@@ -25,31 +26,31 @@ pub(crate) fn not_there(offset: usize) -> FormatFault
 }
 
 /// An item of a list, which is looked at in a context.
-pub(crate) trait Late<C>: Drop {
+pub(crate) trait References<C>: Drop {
     /// Whether what the item at an offset names is there.
     ghost naming: { Naming C Self };
 
     /// Returns the offset after the item.
-    fn late(&self, context: &C, at: usize) -> Result<usize, FormatFault>
+    fn references(&self, context: &C, at: usize) -> Result<usize, FormatFault>
         requires { at + length (naming.bytes (naming.view self.now)) < 2 ^ 64 }
         ensures gives { Tells result (naming.looked context.now at (naming.view self.now)) }
         ensures behind { IfOk result (λ end. end ≡ at + length (naming.bytes (naming.view self.now))) };
 }
 
 /// Each item in turn, the first of them at offset `start`. Returns the offset after the last.
-pub(crate) fn late_list<C, T: Late<C>>(
+pub(crate) fn list_references<C, T: References<C>>(
     context: &C,
     start: usize,
     items: &[T],
 ) -> Result<usize, FormatFault>
     requires { start + length (flat_map T.naming.bytes (map T.naming.view items.now)) < 2 ^ 64 }
     ensures gives { Tells result
-        (late_list (T.naming.looked context.now) T.naming.bytes start (map T.naming.view items.now)) }
+        (list_references (T.naming.looked context.now) T.naming.bytes start (map T.naming.view items.now)) }
     ensures behind { IfOk result (λ end. end ≡ start + length (flat_map T.naming.bytes (map T.naming.view items.now))) }
 {
     let mut at = start;
     for item in items {
-        at = item.late(context, at)?;
+        at = item.references(context, at)?;
     }
     Ok(at)
 }
@@ -70,10 +71,10 @@ fn fact_size(fact: &Fact) -> usize
 }
 
 /// A pointer's region is there; the fact is at offset `at`.
-#[tactic(auto, unfolding(crate::specs::Late::late_fact))]
-fn late_fact(parameters: usize, at: usize, fact: &Fact) -> Result<(), FormatFault>
+#[tactic(auto, unfolding(crate::specs::References::fact_references))]
+fn fact_references(parameters: usize, at: usize, fact: &Fact) -> Result<(), FormatFault>
     requires { at + 1 < 2 ^ 64 }
-    ensures { Tells result (late_fact parameters at fact.now) }
+    ensures { Tells result (fact_references parameters at fact.now) }
 {
     match fact {
         Fact::Pointer { region, .. } => {
@@ -87,57 +88,57 @@ fn late_fact(parameters: usize, at: usize, fact: &Fact) -> Result<(), FormatFaul
     }
 }
 
-impl Late<Context> for Entry {
-    ghost naming = { naming (λ e. e) entry_bytes late_entry };
+impl References<Context> for Entry {
+    ghost naming = { naming (λ e. e) entry_bytes entry_references };
 
-    #[tactic(auto, using(crate::proofs::Sizes::entry_size), unfolding(crate::specs::Late::late_entry))]
-    fn late(&self, context: &Context, at: usize) -> Result<usize, FormatFault> {
+    #[tactic(auto, using(crate::proofs::Sizes::entry_size), unfolding(crate::specs::References::entry_references))]
+    fn references(&self, context: &Context, at: usize) -> Result<usize, FormatFault> {
         if i64::from(self.word) < context.lo || end_of(self) > context.hi {
             return Err(not_there(at));
         }
-        late_fact(context.parameters, at + ENTRY_HEAD_SIZE, &self.fact)?;
+        fact_references(context.parameters, at + ENTRY_HEAD_SIZE, &self.fact)?;
         Ok(at + ENTRY_HEAD_SIZE + fact_size(&self.fact))
     }
 }
 
 /// What the row at offset `at` says is there in its context. Returns the offset after the row.
-#[tactic(auto, using(crate::proofs::Sizes::label_size), unfolding(crate::specs::Late::late_row, crate::specs::Reading::and_then))]
-fn late_row(context: &Context, at: usize, row: &LabelRow) -> Result<usize, FormatFault>
+#[tactic(auto, using(crate::proofs::Sizes::label_size), unfolding(crate::specs::References::row_references, crate::specs::Reading::and_then))]
+fn row_references(context: &Context, at: usize, row: &LabelRow) -> Result<usize, FormatFault>
     requires { at + length (label_bytes (label_of row.now)) < 2 ^ 64 }
-    ensures gives { Tells result (late_row context.now at (label_of row.now)) }
+    ensures gives { Tells result (row_references context.now at (label_of row.now)) }
     ensures behind { IfOk result (λ end. end ≡ at + length (label_bytes (label_of row.now))) }
 {
     let at_a = at + LABEL_HEAD_SIZE;
-    late_fact(context.parameters, at_a, &row.stack.a)?;
+    fact_references(context.parameters, at_a, &row.stack.a)?;
     let at_b = at_a + fact_size(&row.stack.a);
-    late_fact(context.parameters, at_b, &row.stack.b)?;
+    fact_references(context.parameters, at_b, &row.stack.b)?;
     let at_c = at_b + fact_size(&row.stack.b);
-    late_fact(context.parameters, at_c, &row.stack.c)?;
+    fact_references(context.parameters, at_c, &row.stack.c)?;
     let at_entries = at_c + fact_size(&row.stack.c) + COUNT_SIZE;
-    late_list(context, at_entries, &row.entries)
+    list_references(context, at_entries, &row.entries)
 }
 
-impl Late<Contexts<'_, '_>> for LabelRow {
-    ghost naming = { naming label_of label_bytes late_label };
+impl References<Contexts<'_, '_>> for LabelRow {
+    ghost naming = { naming label_of label_bytes label_references };
 
-    #[tactic(auto, using(crate::proofs::Sizes::label_size), unfolding(crate::specs::Late::late_label))]
-    fn late(&self, contexts: &Contexts<'_, '_>, at: usize) -> Result<usize, FormatFault> {
+    #[tactic(auto, using(crate::proofs::Sizes::label_size), unfolding(crate::specs::References::label_references))]
+    fn references(&self, contexts: &Contexts<'_, '_>, at: usize) -> Result<usize, FormatFault> {
         match contexts.context(u32::from(self.context)) {
-            Some(context) => late_row(&context, at, self),
+            Some(context) => row_references(&context, at, self),
             None => Err(not_there(at + LABEL_OFFSET_SIZE)),
         }
     }
 }
 
 /// Each label row and then each PAR row in turn, the first label row at offset `start`.
-#[tactic(auto, unfolding(crate::specs::Late::late_at, crate::specs::Reading::and_then))]
-pub fn late_rows(contexts: &Contexts, start: usize) -> Result<(), FormatFault>
+#[tactic(auto, unfolding(crate::specs::References::references_at, crate::specs::Reading::and_then))]
+pub fn rows_references(contexts: &Contexts, start: usize) -> Result<(), FormatFault>
     requires { start + length (flat_map label_bytes contexts.now.labels) + length
         (flat_map par_bytes contexts.now.pars) < 2 ^ 64 }
-    ensures { Tells result (late_at start contexts.now) }
+    ensures { Tells result (references_at start contexts.now) }
 {
     let tables = contexts.tables();
-    let pars = late_list(contexts, start, &tables.labels)?;
-    late_list(contexts, pars, &tables.pars)?;
+    let pars = list_references(contexts, start, &tables.labels)?;
+    list_references(contexts, pars, &tables.pars)?;
     Ok(())
 }

@@ -25,81 +25,84 @@ abbrev pub passes : Result ⊤ FormatFault
 passes = Ok tt
 
 -- each item in turn, where `at` is the place of the first and spelled gives the bytes of one
-unfoldable pub late_list : {A : Type 0} → (ℕ → A → Result ⊤ FormatFault) → (A → List ℕ) → ℕ → List A
+unfoldable pub list_references : {A : Type 0} → (ℕ → A → Result ⊤ FormatFault) → (A → List ℕ) → ℕ → List A
     → Result ⊤ FormatFault
-late_list item spelled at [] = passes
-late_list item spelled at (x ∷ xs) = do
+list_references item spelled at [] = passes
+list_references item spelled at (x ∷ xs) = do
   _ ← item at x
-  late_list item spelled (at + length (spelled x)) xs
+  list_references item spelled (at + length (spelled x)) xs
 
 -- ---- label rows
 
 -- a pointer's region is there; `at` is the place of the fact, and its region is after the tag
-unfoldable pub late_fact : ℕ → ℕ → Fact → Result ⊤ FormatFault
-late_fact parameters at facts.Unknown = passes
-late_fact parameters at (facts.Number lo hi) = passes
-late_fact parameters at (facts.Pointer region lo hi step) =
+unfoldable pub fact_references : ℕ → ℕ → Fact → Result ⊤ FormatFault
+fact_references parameters at facts.Unknown = passes
+fact_references parameters at (facts.Number lo hi) = passes
+fact_references parameters at (facts.Pointer region lo hi step) =
     if nat_lt region (2 + parameters) then passes else Err (fault faults.Range (at + TAG_SIZE))
-late_fact parameters at (facts.CodeAddress offset) = passes
-late_fact parameters at (facts.Loop base count weight) = passes
-late_fact parameters at facts.ReturnAddress = passes
+fact_references parameters at (facts.CodeAddress offset) = passes
+fact_references parameters at (facts.Loop base count weight) = passes
+fact_references parameters at facts.ReturnAddress = passes
 
 -- an entry's words lie in the frame; `at` is the place of the entry, and its fact is 8 bytes after it
-unfoldable pub late_entry : Context → ℕ → Entry → Result ⊤ FormatFault
-late_entry context at e =
+unfoldable pub entry_references : Context → ℕ → Entry → Result ⊤ FormatFault
+entry_references context at e =
     if int_lt e.word context.lo then Err (fault faults.Range at)
-    else (if int_lt context.hi (end_of e) then Err (fault faults.Range at) else late_fact context.parameters
+    else (if int_lt context.hi (end_of e) then Err (fault faults.Range at) else fact_references context.parameters
     (at + ENTRY_HEAD_SIZE) e.fact)
 
 -- what a label row says is there in its context; the facts are 18 bytes after the row's place, and the entries after
 -- them and their number
-unfoldable pub late_row : Context → ℕ → Label → Result ⊤ FormatFault
-late_row context at row =
+unfoldable pub row_references : Context → ℕ → Label → Result ⊤ FormatFault
+row_references context at row =
     let at_a = at + LABEL_HEAD_SIZE in
     let at_b = at_a + length (fact_bytes row.stack.a) in
     let at_c = at_b + length (fact_bytes row.stack.b) in do
-      _ ← late_fact context.parameters at_a row.stack.a
-      _ ← late_fact context.parameters at_b row.stack.b
-      _ ← late_fact context.parameters at_c row.stack.c
-      late_list (late_entry context) entry_bytes (at_c + length (fact_bytes row.stack.c) + COUNT_SIZE) row.entries
+      _ ← fact_references context.parameters at_a row.stack.a
+      _ ← fact_references context.parameters at_b row.stack.b
+      _ ← fact_references context.parameters at_c row.stack.c
+      list_references (entry_references context) entry_bytes
+          (at_c + length (fact_bytes row.stack.c) + COUNT_SIZE) row.entries
 
 -- a label's context is there; its number is 4 bytes after the row's place
-abbrev pub late_in : Option Context → ℕ → Label → Result ⊤ FormatFault
-late_in None at row = Err (fault faults.Range (at + LABEL_OFFSET_SIZE))
-late_in (Some context) at row = late_row context at row
+abbrev pub references_in : Option Context → ℕ → Label → Result ⊤ FormatFault
+references_in None at row = Err (fault faults.Range (at + LABEL_OFFSET_SIZE))
+references_in (Some context) at row = row_references context at row
 
-unfoldable pub late_label : Contents → ℕ → Label → Result ⊤ FormatFault
-late_label c at row = late_in (context_at c row.context) at row
+unfoldable pub label_references : Contents → ℕ → Label → Result ⊤ FormatFault
+label_references c at row = references_in (context_at c row.context) at row
 
 -- ---- PAR rows
 
 -- a parameter that a branch is given is a region
-unfoldable pub late_parameter : List Parameter → ℕ → ℕ → Result ⊤ FormatFault
-late_parameter parameters at j = if names is_region parameters j then passes else Err (fault faults.Range at)
+unfoldable pub parameter_references : List Parameter → ℕ → ℕ → Result ⊤ FormatFault
+parameter_references parameters at j = if names is_region parameters j then passes else Err (fault faults.Range at)
 
 -- the parameter that an end belongs to has that channel; its number is after the kind
-unfoldable pub late_end : List Parameter → ℕ → EndRow → Result ⊤ FormatFault
-late_end parameters at e = if names_end parameters e.kind then passes else Err (fault faults.Range (at + TAG_SIZE))
+unfoldable pub end_references : List Parameter → ℕ → EndRow → Result ⊤ FormatFault
+end_references parameters at e = if names_end parameters e.kind then passes else Err
+    (fault faults.Range (at + TAG_SIZE))
 
 -- what a branch is given is there; its intervals are 18 bytes after its place, and the parameters and ends after
 -- them
-unfoldable pub late_branch : List Parameter → ℕ → Branch → Result ⊤ FormatFault
-late_branch parameters at b =
+unfoldable pub branch_references : List Parameter → ℕ → Branch → Result ⊤ FormatFault
+branch_references parameters at b =
     let at_written =
     at + BRANCH_HEAD_SIZE + length (flat_map interval_bytes b.writes) + length (flat_map interval_bytes b.reads) in
     let at_read = at_written + length (flat_map u16_bytes b.written_parameters) in do
-      _ ← late_list (late_parameter parameters) u16_bytes at_written b.written_parameters
-      _ ← late_list (late_parameter parameters) u16_bytes at_read b.read_parameters
-      late_list (late_end parameters) end_bytes (at_read + length (flat_map u16_bytes b.read_parameters)) b.ends
+      _ ← list_references (parameter_references parameters) u16_bytes at_written b.written_parameters
+      _ ← list_references (parameter_references parameters) u16_bytes at_read b.read_parameters
+      list_references (end_references parameters) end_bytes
+          (at_read + length (flat_map u16_bytes b.read_parameters)) b.ends
 
 -- the branches of a row are 18 bytes after its place and after its channels
-unfoldable pub late_par : Contents → ℕ → Par → Result ⊤ FormatFault
-late_par c at row =
-    late_list (late_branch (parameters_at c row.context)) branch_bytes
+unfoldable pub par_references : Contents → ℕ → Par → Result ⊤ FormatFault
+par_references c at row =
+    list_references (branch_references (parameters_at c row.context)) branch_bytes
     (at + PAR_HEAD_SIZE + length (flat_map channel_bytes row.channels)) row.branches
 
 -- ---- both, where the label rows begin at `at` and the PAR rows follow them
-unfoldable pub late_at : ℕ → Contents → Result ⊤ FormatFault
-late_at at c = do
-  _ ← late_list (late_label c) label_bytes at c.labels
-  late_list (late_par c) par_bytes (at + length (flat_map label_bytes c.labels)) c.pars
+unfoldable pub references_at : ℕ → Contents → Result ⊤ FormatFault
+references_at at c = do
+  _ ← list_references (label_references c) label_bytes at c.labels
+  list_references (par_references c) par_bytes (at + length (flat_map label_bytes c.labels)) c.pars
