@@ -1,4 +1,4 @@
--- The parts of the step of lend, behind its first tests.
+-- The parts of the step of lend, after its first tests.
 use Rattle.std.specs.Prelude.{ℕ, ◌-◌, ◌%◌, ◌^◌, ◌&&◌, Bool, if◌then◌else◌, ℤ, pos, int_lt}
 use Rattle.machine_state.specs.declared.fault.FaultKind.TheVariants.{NotOwn}
 use Rattle.machine_state.specs.Holding.{Holding, may_write_word}

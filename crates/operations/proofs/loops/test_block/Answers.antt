@@ -6,4 +6,5 @@ use Rattle.operations.proofs.loops.test_block.Goals as goal
 
 pub returns : goal.returns
 unfolding holds
-returns g c = performs-by {S = g.row.S.Denot} g.S.LoadStore _ _ _ _ _ (search (rules, schedules-is)) c.turn_block.ensures
+returns g c = performs-by {S = g.row.S.Denot} g.S.LoadStore _ _ _ _ _ (search (rules, schedules-is))
+    c.turn_block.ensures
