@@ -10,12 +10,12 @@ use machine_state::LoadStore;
 use std::alloc::AllocError;
 
 /// The processes that wait for their turn. A queue and the store together are seen as a list: a queue may keep a
-/// process in words of its workspace, which nobody else may write while the process is in the queue.
+/// process in words of its workspace, which no other process may write while the process is in the queue.
 pub trait ReadyQueue<S: LoadStore> {
     /// The processes in the queue, the first in front.
     ghost waiting: { Self → S → List ℕ };
 
-    /// For how many more processes there is room.
+    /// For how many more processes there is capacity.
     ghost room: { Self → ℕ };
 
     /// In which bytes of memory the queue keeps a process that is in it.
@@ -27,7 +27,7 @@ pub trait ReadyQueue<S: LoadStore> {
     /// Whether the queue can keep this process in the store, besides those that are in it.
     ghost can_push: { Self → S → ℕ → Type 0 };
 
-    /// Makes room for one more process. If memory runs out, there was none, and the queue is as before.
+    /// Reserves capacity for one more process. If memory runs out, there was none, and the queue is as before.
     fn reserve(&mut self) -> Result<(), AllocError>
         ensures ok { OnOk result (0 < room self.new) }
         ensures err { OnErr result (room self.old ≡ 0) }
