@@ -16,7 +16,7 @@ effect_of Busy = busy
 abbrev pub acknowledged_if : Bool → Effect
 acknowledged_if goes_on = if goes_on then acknowledged else ignored
 
--- By the answer: this is the turn of the event, which had this effect; or memory ran out, and nothing changed.
+-- By the result: this is the turn of the event, which had this effect; or memory ran out, and nothing changed.
 abbrev pub IsTurn : {A E : Type 0} → (A → Effect) → World → World → Result A E → Turn → Type 0
 IsTurn effect before after (Ok answer) turn = turn ≡ answered (effect answer) after
 IsTurn effect before after (Err e) turn = after ≡ before

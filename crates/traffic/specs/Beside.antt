@@ -26,7 +26,7 @@ AcknowledgesBeside = (counters : Counters) (fault : Option Fault) (k : ℕ) (w :
 
 -- ---- instructions that ask something of others
 
--- the world that such an instruction leaves, by its answer: one more byte is counted, or it is at fault
+-- the world that such an instruction leaves, by its result: one more byte is counted, or it is at fault
 abbrev pub world_beside : Counters → Option Fault → Result Effect Fault → World → World
 world_beside counters fault (Ok effect) w = counted (beside counters fault w)
 world_beside counters fault (Err f) w = faulty f (beside counters fault w)

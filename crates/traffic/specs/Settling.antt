@@ -78,7 +78,7 @@ abbrev pub is_wanted : Option Channel → Bool
 is_wanted None = false
 is_wanted (Some channel) = is_some channel.waiting || is_some channel.enabled
 
--- By the answer: the instruction is executed, with the answer's effect; or it is at fault, and nothing has changed.
+-- By the result: the instruction is executed, with the result's effect; or it is at fault, and nothing has changed.
 abbrev pub SettlesBy : {A : Type 0} → (A → Effect) → World → World → Result A Fault → Turn → Type 0
 SettlesBy effect before after (Ok answer) turn = turn ≡ answered (effect answer) (counted after)
 SettlesBy effect before after (Err fault) turn =

@@ -22,7 +22,8 @@ pub(crate) fn count_of(counts: &[usize], process: u64) -> Option<usize>
     counts.get(process as usize).copied()
 }
 
-/// Whether nobody else has something enabled, if that was so, once this process has something enabled too.
+/// Whether no process without a count has something enabled, if that was so, once this process has something enabled
+/// too.
 pub(crate) fn are_still_all(were_all: bool, counts: &[usize], process: Option<u64>) -> bool
     ensures { result ≡ (were_all && is_counted counts.now process) }
 {

@@ -80,7 +80,7 @@ impl<S: Store> Traffic<S, ListQueue> {
         self.wake(other);
     }
 
-    /// Receives a message from an internal channel. Answers whether the process goes on: it does if the sender waits
+    /// Receives a message from an internal channel. Returns whether the process goes on: it does if the sender waits
     /// there already. Only then can memory run out.
     #[tactic(auto, unfolding(machine_state::specs::Moves::dispatch))]
     pub(crate) fn receive_inside(
@@ -131,7 +131,7 @@ impl<S: Store> Traffic<S, ListQueue> {
         Ok(true)
     }
 
-    /// Sends a message on an internal channel. Answers whether the process goes on: it does if the receiver waits there
+    /// Sends a message on an internal channel. Returns whether the process goes on: it does if the receiver waits there
     /// already. If not, what has enabled the channel becomes ready. Only in these two cases can memory run out.
     #[tactic(auto, unfolding(machine_state::specs::Moves::dispatch))]
     pub(crate) fn send_inside(&mut self, tables: &Tables, message: &Message) -> Result<bool, Stop>

@@ -89,10 +89,10 @@ impl<S: Store> Traffic<S, ListQueue> {
         }
     }
 
-    /// The channels of this opener are no more, and nobody has them enabled.
+    /// Removes the channels of this opener; no process has them enabled any more.
     ///
-    /// It takes time linear in the channels that it has opened since it was last called for it. Where memory ran out
-    /// as channels were opened or processes counted, it takes time linear in all data words.
+    /// It takes time linear in the channels that it has opened since it was last called for it. If memory ran out as
+    /// channels were opened or processes counted, it takes time linear in all data words.
     pub fn remove_channels(&mut self, opener: u64)
         ensures { let w = self.old.world in
             self.new ≡ record self.old { world = record w { channels = without_channels opener w.channels } } }

@@ -108,8 +108,8 @@ impl<S: Store> Traffic<S, ListQueue> {
         Ok(Arrival::Kept)
     }
 
-    /// The message that was emitted on a link is acknowledged. Answers whether its sender goes on: nobody may wait.
-    /// Only where its sender waits can memory run out.
+    /// The message that was emitted on a link is acknowledged. Returns whether its sender goes on: it may be that none
+    /// waits. Memory can only run out if its sender waits.
     pub fn acknowledge(&mut self, link: Link) -> Result<bool, AllocError>
         ensures turn { let turn = acknowledge_turn (link_index link) self.old.world in
             IsTurn acknowledged_if self.old.world self.new.world result turn }

@@ -64,7 +64,7 @@ fn output_link(address: u32) -> Option<Link>
 }
 
 impl<S: Store> Traffic<S, ListQueue> {
-    /// Receives a message from the link or internal channel at its exchange's address. Answers whether the process
+    /// Receives a message from the link or internal channel at its exchange's address. Returns whether the process
     /// goes on. Only where a process may become ready, and no rule is broken, can memory run out.
     pub fn receive(&mut self, tables: &Tables, message: &Message) -> Result<bool, Stop>
         requires code { length tables.now.code.now < 2 ^ 32 }

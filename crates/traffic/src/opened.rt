@@ -28,7 +28,7 @@ fn is_of(cell: Option<Channel>, opener: u64) -> bool
     }
 }
 
-/// A data word is listed for the process, unless it has no list or memory runs out. Answers whether it is.
+/// A data word is listed for the process, unless it has no list or memory runs out. Returns whether it is.
 fn push_cell(lists: &mut Vec<Vec<usize>>, cell: usize, opener: u64) -> bool
     ensures kept { KeepsAll lists.old.items lists.new.items }
     ensures added { result ≡ true → Contains (listed lists.new.items opener) cell }
@@ -39,7 +39,7 @@ fn push_cell(lists: &mut Vec<Vec<usize>>, cell: usize, opener: u64) -> bool
     }
 }
 
-/// There is room for this many more data words of a process.
+/// Reserves capacity for this many more data words of a process.
 fn reserve_list(lists: &mut Vec<Vec<usize>>, opener: u64, count: usize) -> Result<(), AllocError>
     ensures { KeepsAll lists.old.items lists.new.items }
 {
@@ -74,7 +74,7 @@ impl OpenedCells {
         Ok(())
     }
 
-    /// Makes room for this many more data words of a process.
+    /// Reserves capacity for this many more data words of a process.
     pub(crate) fn reserve(&mut self, opener: u64, count: usize) -> Result<(), AllocError>
         ensures { KeepsListed self.old self.new }
     {

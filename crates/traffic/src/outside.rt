@@ -15,7 +15,7 @@ use module_format::Tables;
 use process_queue::ListQueue;
 
 impl<S: Store> Traffic<S, ListQueue> {
-    /// The process waits on the input link for the bytes after so many, and another may run.
+    /// The process waits on the input link for the bytes after the first `done`, and another may run.
     fn wait_on(&mut self, message: &Message, link: Link, input: InputLink, done: u32)
         requires next { message.now.here.task.registers.at + 1 < 2 ^ 32 }
         requires more { done < message.now.exchange.length }
@@ -74,7 +74,7 @@ impl<S: Store> Traffic<S, ListQueue> {
         Ok(())
     }
 
-    /// Receives a message from a link. Answers whether the process goes on: a byte that is kept there is the message's
+    /// Receives a message from a link. Returns whether the process goes on: a byte that is kept there is the message's
     /// first, and if it is the last too, nothing is waited for.
     #[tactic(auto, unfolding(machine_state::specs::Moves::dispatch))]
     pub(crate) fn receive_on(

@@ -1,4 +1,4 @@
-//! The channels of one opener are no more, and nobody has them enabled.
+//! Removes the channels of one opener; no process has them enabled any more.
 
 ghost use Rattle.std.specs.Prelude.{◌≡◌, []};
 ghost use Rattle.machine_state.specs.Joins.{without_channels};

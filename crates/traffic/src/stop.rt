@@ -6,8 +6,8 @@ use std::alloc::AllocError;
 /// Why an event, or the instruction of one, had no effect.
 #[derive(Clone, Copy, Debug, PartialEq, Eq)]
 pub enum Stop {
-    /// A process is at fault, by this event or since an earlier one. A machine that is at fault stays so, and answers
-    /// the same to each later event.
+    /// A process is at fault, by this event or since an earlier one. A machine that is at fault stays so, and returns
+    /// the same fault for each later event.
     Fault(Fault),
     /// Memory ran out: the event did not happen, and all is as before.
     Memory,

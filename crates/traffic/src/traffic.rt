@@ -50,9 +50,10 @@ pub struct Traffic<S: Store, Q: ReadyQueue<S>> {
     inputs: [InputLink; 4],
     outputs: [OutputLink; 4],
     pub(crate) channels: Vec<Option<Channel>>,
-    /// How many links and channels each process has enabled, by process number. Who has no count is searched for.
+    /// How many links and channels each process has enabled, by process number. A process without a count is searched
+    /// for.
     pub(crate) enabled_counts: Vec<usize>,
-    /// Whether nobody else has something enabled.
+    /// Whether no process without a count has something enabled.
     pub(crate) are_all_counted: bool,
     /// Where each process has opened channels.
     pub(crate) opened: OpenedCells,
@@ -128,7 +129,7 @@ impl<S: Store> Traffic<S, ListQueue> {
         self.running = None;
     }
 
-    /// Makes room for one more ready process. If memory runs out, there was none, and nothing changed.
+    /// Reserves capacity for one more ready process. If memory runs out, there was none, and nothing changed.
     pub fn reserve(&mut self) -> Result<(), AllocError>
         ensures world { self.new.world ≡ self.old.world }
         ensures holding { self.new.holding ≡ self.old.holding }
@@ -238,7 +239,7 @@ impl<S: Store> Traffic<S, ListQueue> {
         }
     }
 
-    /// One more process is counted, the next by number: so it takes constant time to tell whether it has something
+    /// One more process is counted, the next by number: so it takes constant time to decide whether it has something
     /// enabled, and its channels are listed. If memory runs out, both are searched for.
     ///
     /// It is called once for each process, right before it is there.
@@ -256,8 +257,8 @@ impl<S: Store> Traffic<S, ListQueue> {
         Ok(())
     }
 
-    /// Makes room for this many more channels of a process, which `set_channel` can then list without memory. A process
-    /// that is not counted has no list, and nothing happens. If memory runs out, nothing changes.
+    /// Reserves capacity for this many more channels of a process, which `set_channel` can then list without memory. A
+    /// process that is not counted has no list, and nothing happens. If memory runs out, nothing changes.
     pub(crate) fn reserve_cells(&mut self, opener: u64, count: usize) -> Result<(), AllocError>
         ensures { self.new ≡ self.old }
     {
