@@ -21,7 +21,7 @@ abbrev pub selects : Mode → Option ℤ → Bool
 selects mode None = false
 selects mode (Some distance) = selected mode true distance
 
--- the same where it selects this distance or not: A tells whether it does
+-- the same where it selects this distance or not: register A says whether it does
 abbrev pub after_choice : Here → Option ℤ → Local → World → World
 after_choice here ready l w =
     if selects here.task.mode ready

@@ -21,7 +21,7 @@ use module_format::{Stack, Tables};
 use process_queue::ListQueue;
 use traffic::{Here, Traffic};
 
-/// Waits until something that is enabled is ready. Answers whether the process goes on: it does if something is ready
+/// Waits until something that is enabled is ready. Returns whether the process goes on: it does if something is ready
 /// already.
 #[tactic(auto, unfolding(machine_state::specs::Moves::dispatch))]
 pub fn wait<S: Store>(
@@ -58,7 +58,7 @@ fn selects(mode: Mode, ready: Option<i32>) -> bool
     ready.is_some() && matches!(mode, Mode::Disabling { selection: None })
 }
 
-/// Selects this distance, if there is one and nothing is selected yet. A tells whether it is selected.
+/// Selects this distance, if there is one and nothing is selected yet. Register A says whether it is selected.
 fn choose<S: Store>(
     traffic: &mut Traffic<S, ListQueue>,
     here: &Here,
