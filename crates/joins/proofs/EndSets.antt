@@ -49,7 +49,7 @@ is_same_end-true a b h =
 
 -- ---- ends that differ
 
--- ends with one behind them differ where they do and it is none of them
+-- ends with one after them differ where they do and it is none of them
 differ_push : (ends : List End) (end : End)
     → differ (ends ++ end ∷ []) ≡ (differ ends && not (is_listed ends end))
 differ_push [] end = refl

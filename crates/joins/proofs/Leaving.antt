@@ -17,7 +17,7 @@ use Rattle.machine_state.specs.Joins.{on_role, on_row, own_end, branch_end, join
 use Rattle.machine_state.specs.JoinLookups.{opened_by}
 use Rattle.machine_state.specs.Roles.{members_without, without_member, without_own}
 
--- nobody is left where all that are there leave
+-- no member is left where all that are there leave
 pub nobody_left : (p : ℕ) (members : List ℕ) → list_all (λ q. q == p) members
     ≡ (length (members_without p members) == 0)
 nobody_left p [] = refl

@@ -1,4 +1,4 @@
--- The numbers of a row and of a branch are small in a module that keeps the format.
+-- The numbers of a row and of a branch are small in a valid module.
 use Rattle.std.proofs.Common.{◌≡◌, ℕ, ◌+◌, ◌^◌, ◌<◌, ◌≤◌, Bool, true, false, List, [], ◌∷◌, length, Option, Some, None}
 use Rattle.std.proofs.Common.{if◌then◌else◌, refl, sym, ap, arith}
 use Rattle.std.specs.Prelude.{◌==◌}
@@ -55,7 +55,7 @@ found_within target r (par ∷ pars) found few e =
         record { row = omega arith; number = omega (arith, few.0) }
     on None is e rest = let later = rest e in record { row = omega (arith, later.row); number = later.number }
 
--- where a branch stands can be counted in words
+-- where a branch is can be counted in words
 pub small_numbers : (c : Contents) (target : ℕ) (found : Found) → Keeps c → found_at c target ≡ Some found
     → (found.row < 2 ^ 32) × (found.number + 1 < 2 ^ 32)
 small_numbers c target found keeps e =

@@ -63,7 +63,7 @@ left_for_reading end writes reads given taken = same_runs _ _ end (λ p h. at p 
         ∙ split (nat_lt p end) (covered writes p) (covered reads p) (covered given p) (covered taken p)
         (lt-ltb p end h)))
 
--- spans that cover, of a memory of so many places, what a share has
+-- spans that cover, of a memory of `end` places, what a share has
 pub record Covers (end : ℕ) (spans : List Span) (test : ℕ → Bool) : Type 0 where
   pub on : (p : ℕ) → p < end → covered spans p ≡ test p
 

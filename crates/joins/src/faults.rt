@@ -29,7 +29,7 @@ use machine_state::{DATA_START, End, Holding, Stretch, TaggedStore, local_addres
 use module_format::{BranchRow, ChannelRow, ParRow, Tables};
 use std::alloc::{AllocError, Global};
 
-/// Whether no end stands twice. It takes time n log n.
+/// Whether no end occurs twice. It takes time n log n.
 fn differ(alloc: Global, ends: &[End]) -> Result<bool, AllocError>
     ensures { IfOk result (λ all. all ≡ differ ends.now) }
 {

@@ -1,4 +1,4 @@
-//! The branch that begins at a code offset, where it stands in the module, and a start of it.
+//! The branch that begins at a code offset, where it is in the module, and a start of it.
 
 ghost use Rattle.std.specs.Prelude.{◌≡◌, ◌+◌, ◌<◌, ◌^◌, if◌then◌else◌, Some, None, OnOk, map, length, nat_lt};
 ghost use Rattle.std.specs.Prelude.{MatchOption};

@@ -21,7 +21,7 @@ pub(crate) struct Open {
     pub block: u32,
     /// How many branches are started.
     pub started: u32,
-    /// Whether nobody else is left.
+    /// Whether no other member is left.
     pub is_last: bool,
 }
 

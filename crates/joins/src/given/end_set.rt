@@ -51,7 +51,7 @@ impl EndSet {
         }
     }
 
-    /// Adds the end, and tells whether it was not there.
+    /// Adds the end, and returns whether it was not there.
     pub(crate) fn insert(&mut self, end: End) -> Result<bool, AllocError>
         ensures added { IfOk result (λ added. added ≡ not (has self.old end)) }
         ensures all { OnOk result ((other : HeldEnd) →
