@@ -82,7 +82,8 @@ row_even base (c ∷ rows) a even (inr there) = row_even base rows a even there
 
 -- ---- which joins are open once a role was changed
 
-pub on_role_tells : (q : ℕ) (f : Role → Role) (w : World) (p : ℕ) (j : Join) → opened_in (on_role q f w).roles p ≡ Some j
+pub on_role_tells : (q : ℕ) (f : Role → Role) (w : World) (p : ℕ) (j : Join)
+    → opened_in (on_role q f w).roles p ≡ Some j
     → (opened_in w.roles p ≡ Some j)
     ⊎ ((r : Role) × (slice_get w.roles q ≡ Some r) × (q ≡ p) × ((f r).opened ≡ Some j))
 on_role_tells q f w p j = on (slice_get w.roles q) refl
@@ -409,7 +410,7 @@ module _ (m : Contents) (w : World) (g : Ground w) (even : AllEven w.tasks)
   happened e t (turns.is_acknowledged output n here waiting) p x k =
       as_kept w t.world w.roles w.channels (wake_only n _).roles (wake_only n _).channels (as_it_was w) p x k
 
-  -- nobody reaches what is kept
+  -- no process reaches what is kept
   unreached : (p x : ℕ) → Kept w.roles w.channels p x → Reaches w x → ⊥
   unreached p x k reaches = on reaches
     where

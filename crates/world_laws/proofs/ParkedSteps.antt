@@ -217,7 +217,7 @@ module _ (h : Here) (w : World) (runs : w.queue.running ≡ Some h.process)
   abbrev hold : Holding
   hold = holding_at w.roles h.process
 
-  -- what nobody reaches has stayed, and who has not ended holds what it did
+  -- what no process reaches has stayed, and a process that has not ended holds what it did
   abbrev Steady : Memory → Type 0
   Steady memory = (x : ℕ) → (Reaches w x → ⊥) → byte_at memory x ≡ byte_at w.memory x
 
@@ -231,7 +231,7 @@ module _ (h : Here) (w : World) (runs : w.queue.running ≡ Some h.process)
   ready : h.from.condition ≡ Ready
   ready = running_is_ready h w runs there g.keeps
 
-  -- nobody reaches what another process keeps
+  -- no process reaches what another one keeps
   unreached : (q : ℕ) (t : Task) (x : ℕ) → h.process ≢ q → slice_get w.tasks q ≡ Some t
       → may_write (holding_at w.roles q) x ≡ true → (InOwn t x → ⊥) → Reaches w x → ⊥
   unreached q t x differ at own elsewhere (by_runner p also reached) =

@@ -80,7 +80,7 @@ grows m w ts rs cs ls (change.keeps_byte k byte link tasks here empty roused) =
     one_size w.tasks ts (roused_size w.tasks tasks link.enabled roused)
 grows m w ts rs cs ls (change.acknowledges p k link here waiting x) = one_size w.tasks ts (length-set w.tasks p _)
 
--- an event that executes no byte starts nobody
+-- an event that executes no byte starts no process
 abbrev Counts : World → Turn → Type 0
 Counts w t = length t.world.tasks ≤ length w.tasks + bytes_of t.answer
 

@@ -8,9 +8,9 @@ use Rattle.machine_state.specs.Ownership.{IsAmong}
 use Rattle.machine_state.specs.Waiting.{AllDiffer}
 use Rattle.machine_state.specs.World.{Join}
 
--- The members of a join that the process p has open differ and have numbers below this one: there are p and the branches
--- that are started, at most. No more branches are started than the row of the PAR has, and all of them once p is no
--- member.
+-- The members of a join that the process p has open differ and have numbers below this one: there are p and the
+-- branches that are started, at most. No more branches are started than the row of the PAR has, and all of them once p
+-- is no member.
 pub record HasMembers (m : Contents) (size p : ℕ) (j : Join) : Type 0 where
   pub differ : AllDiffer j.members
   pub processes : (q : ℕ) → IsAmong q j.members → q < size

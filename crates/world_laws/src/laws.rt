@@ -8,8 +8,8 @@ ghost use Rattle.world_laws.specs.Parked.{ParkedWordsAreBlank, SelectionsAreBlan
 ghost use Rattle.world_laws.specs.Parked.{ArrivalsFollow, WorkspacesDiffer};
 ghost use Rattle.world_laws.specs.TasksCounted.{TasksAreCounted};
 
-/// Memory keeps its length, and all that a process may read or write lies in it, now and for good. In all that a module
-/// that keeps the format does, what a process may write is data.
+/// Memory keeps its length, and all that a process may read or write lies in it, now and for good. In all that a valid
+/// module does, what a process may write is data.
 pub fn holdings_lie_in_memory()
     ensures inside { HoldingsLieInMemory }
     ensures written { WrittenIsData }
@@ -27,21 +27,21 @@ pub fn waiting_processes_are_parked()
     ensures others { WhoWaitsIsParked }
 {}
 
-/// Whatever a module that keeps the format does, a parked process has no defined register, and is between two
+/// Whatever a valid module does, a parked process has no defined register, and is between two
 /// instructions.
 #[tactic(auto, using(crate::proofs::ParkedLaws::parked_are_at_rest))]
 pub fn parked_processes_are_at_rest()
     ensures { WhoIsParkedIsAtRest }
 {}
 
-/// Whatever a module that keeps the format does, a parked process, and one in an alternation, may write the three words
+/// Whatever a valid module does, a parked process, and one in an alternation, may write the three words
 /// below its workspace, which are undefined. From altwt to altend so is the word at the workspace.
 pub fn parked_words_are_blank()
     ensures below { ParkedWordsAreBlank }
     ensures selection { SelectionsAreBlank }
 {}
 
-/// Whatever a module that keeps the format does, a process that waits to send may read its buffer, and one that waits
+/// Whatever a valid module does, a process that waits to send may read its buffer, and one that waits
 /// to receive may write it. No buffer meets the words below its process's workspace. A byte that arrives on a link
 /// follows those that have come.
 pub fn buffers_are_held()
@@ -49,21 +49,22 @@ pub fn buffers_are_held()
     ensures arrivals { ArrivalsFollow }
 {}
 
-/// Whatever a module that keeps the format does, no two processes that are parked, or in alternations, have one
+/// Whatever a valid module does, no two processes that are parked, or in alternations, have one
 /// workspace.
 pub fn workspaces_differ()
     ensures { WorkspacesDiffer }
 {}
 
-/// Whatever a module that keeps the format does, the block of an open join and the words of its channels are data, and
+/// Whatever a valid module does, the block of an open join and the words of its channels are data, and
 /// undefined.
 pub fn kept_words_are_blank()
     ensures blocks { BlocksAreBlank }
     ensures channels { ChannelWordsAreBlank }
 {}
 
-/// The members of an open join differ and are processes: who has opened it and the branches that are started, at most. No
-/// more branches are started than the PAR has, and all of them once the process that has opened the join is no member.
+/// The members of an open join differ and are processes: who has opened it and the branches that are started, at most.
+/// No more branches are started than the PAR has, and all of them once the process that has opened the join is no
+/// member.
 pub fn joins_have_members()
     ensures { JoinsHaveMembers }
 {}
