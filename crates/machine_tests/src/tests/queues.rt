@@ -6,7 +6,7 @@ use machine_state::{LoadStore, TaggedStore};
 use process_queue::{ListQueue, ReadyQueue};
 use std::alloc::{AllocError, Global};
 
-/// Pushes a process, once there is room.
+/// Pushes a process, once capacity is reserved.
 fn push<S: LoadStore, Q: ReadyQueue<S>>(
     queue: &mut Q,
     store: &mut S,
@@ -32,7 +32,7 @@ fn take<S: LoadStore, Q: ReadyQueue<S>>(queue: &mut Q, store: &mut S, pick: usiz
     Some(queue.take_at(store, pick))
 }
 
-/// Each process that is taken out of these: a pick takes the one at its place, and a push goes behind all others.
+/// Each process that is taken out of these: a pick takes the one at its place, and a push goes after all others.
 fn put_turns(
     queue: &mut ListQueue,
     store: &mut TaggedStore,
