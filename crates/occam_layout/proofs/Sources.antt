@@ -245,7 +245,7 @@ unfolding lines_of
 lines_whole [] = record { whole = inl refl; apart = tt }
 lines_whole (c ∷ rest) = line_then (eqb c 10) c rest refl (lines_whole rest)
 
--- ---- what is answered
+-- ---- what is returned
 
 pub is_found : (source : List ℕ) (r : Result (Vec Line) LayoutFault) → Answers r (read source)
     → IfOk r (λ v. IsSource source (map row_of v.items))

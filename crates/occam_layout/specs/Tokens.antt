@@ -20,7 +20,7 @@ is_last len None = false
 is_last len (Some at) = len == at + 1
 
 -- What a token may look like, by its first byte: a word, decimal digits, # (35) with digits after it, a literal
--- between quotes (39 and 34), a sign. Whether a literal is in range isn't asked.
+-- between quotes (39 and 34), a sign. Whether a literal is in range isn't checked.
 unfoldable pub is_lexeme : List ℕ → Bool
 is_lexeme [] = false
 is_lexeme (c ∷ rest) =

@@ -176,7 +176,7 @@ fn read_lines(alloc: Global, source: &[u8]) -> Result<Vec<Line<'_>>, LayoutFault
 /// `TOO_LARGE` at line 0, checked before all others. If memory runs out, the fault is [`MEMORY`](crate::MEMORY) at
 /// line 0.
 pub fn lines(alloc: Global, source: &[u8]) -> Result<Vec<Line<'_>>, LayoutFault>
-    // What is answered are the source's lines of tokens.
+    // The lines that are returned are the source's lines of tokens.
     ensures found { IfOk result (λ v. IsSource source.now (map row_of v.items)) }
     // A source that has lines of tokens is read, unless memory runs out.
     ensures only { (rows : List Row) → IsSource source.now rows → Answers result (Ok rows) }
