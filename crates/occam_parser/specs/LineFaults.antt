@@ -23,7 +23,7 @@ use Rattle.occam_parser.specs.LineReading.{shape_at, name_at, only}
 use Rattle.occam_parser.specs.Blocks.{Row, rows_of, Procedure, ProgramItem, GlobalProcedure}
 use Rattle.occam_parser.specs.BlockReading.{begins_at}
 
--- memory ran out, which no line is to blame for
+-- memory ran out, which is no line's fault
 abbrev pub out_of_memory : ParseFault
 out_of_memory = record { number = MEMORY; line = 0 }
 
@@ -54,7 +54,7 @@ IsToldOf (Ok x) left told = told ≡ Ok x
 IsToldOf (Err errors.Memory) left told = told ≡ Err refusals.Memory
 IsToldOf (Err (errors.Fault fault)) left told = told ≡ Err (refusals.Fault fault left)
 
--- Memory may always run out. Else it is what reading gives; a fault comes exactly where that is nothing.
+-- Memory may always run out. Otherwise it is what reading gives; a fault is returned exactly if that is nothing.
 abbrev pub Lacks : {Y : Type 0} → Refusal → Option Y → Type 0
 Lacks refusals.Memory read = Unit {0}
 Lacks (refusals.Fault fault left) read = read ≡ None
@@ -63,7 +63,7 @@ abbrev pub Tells : {X Y : Type 0} → (X → Y) → Result X Refusal → Option 
 Tells view (Ok x) read = read ≡ Some (view x)
 Tells view (Err e) read = Lacks e read
 
--- what was looked for is answered, unless memory ran out
+-- what was looked for is returned, unless memory ran out
 abbrev pub Answers : {X Y : Type 0} → (X → Y) → Result X ParseFault → Y → Type 0
 Answers view (Ok x) y = view x ≡ y
 Answers view (Err e) y = e ≡ out_of_memory
@@ -113,7 +113,7 @@ Pushes (Err e) old new answer = answer ≡ Err e
 Pushes (Ok x) old new (Err e) = e ≡ refusals.Memory
 Pushes (Ok x) old new (Ok rest) = (new ≡ old ++ x.0 ∷ []) × (rest.now ≡ x.1.now)
 
--- What was read and is seen so, made into what is seen as another tree: its refusal, or a lack of memory, or that tree,
+-- What was read and is seen so, made into what is seen as another tree: its refusal, out of memory, or that tree,
 -- and the same lines after it.
 abbrev pub Makes : {A B X Y : Type 0} → (A → X) → (B → Y) → (X → Y) → Result (A × Bor (List Line)) Refusal
     → Result (B × Bor (List Line)) Refusal → Type 0

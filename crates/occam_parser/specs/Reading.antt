@@ -35,9 +35,9 @@ abbrev pub ◌>>=◌ : {A B : Type 0} → Option A → (A → Option B) → Opti
 None >>= f = None
 (Some x) >>= f = f x
 
--- ---- what a function of the program answered
+-- ---- what a function of the program returned
 
--- Memory may always run out. Else it is what reading gives; a fault comes exactly where that is nothing.
+-- Memory may always run out. Otherwise it is what reading gives; a fault is returned exactly if that is nothing.
 abbrev pub Fails : {Y : Type 0} → LineError → Option Y → Type 0
 Fails errors.Memory read = Unit {0}
 Fails (errors.Fault fault) read = read ≡ None

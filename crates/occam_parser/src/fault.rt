@@ -25,7 +25,7 @@ pub const MEMORY: u8 = 20;
 pub struct ParseFault {
     /// One of the named numbers of this crate.
     pub number: u8,
-    /// The number of the line at fault, or 0 where memory ran out.
+    /// The number of the line at fault, or 0 if memory ran out.
     pub line: u32,
 }
 

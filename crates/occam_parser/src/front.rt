@@ -12,7 +12,7 @@ use word_arithmetic::Comparison;
 /// What was read from the front of some tokens, and the tokens after it.
 pub(crate) type Read<'t, 'a, T> = Result<(T, &'t [Token<'a>]), LineError>;
 
-/// An operator that is between operands.
+/// An operator between operands.
 #[derive(Clone, Copy)]
 pub(crate) enum Operator {
     Pair(PairOperator),

@@ -113,15 +113,15 @@ fn items<'a>(alloc: Global, lines: &[Line<'a>]) -> Result<Vec<Item<'a>>, Refusal
 /// [`UNEXPECTED_TOKEN`](crate::UNEXPECTED_TOKEN) is reported for a token or a line where the grammar has
 /// another or none; [`MISSING_BODY`](crate::MISSING_BODY) at a head that has no body; [`NESTING`](crate::NESTING) at a
 /// line that is more than [`MAX_LEVEL`](crate::MAX_LEVEL) levels deep, or that has an expression with more than
-/// [`MAX_NESTING`](crate::MAX_NESTING) brackets, subscripts and conversions one in another; and
-/// [`MIXTURE`](crate::MIXTURE) where operators are side by side without brackets. Where memory runs out,
-/// it is [`MEMORY`](crate::MEMORY) at line 0.
+/// [`MAX_NESTING`](crate::MAX_NESTING) nested brackets, subscripts and conversions; and
+/// [`MIXTURE`](crate::MIXTURE) where operators are side by side without brackets. If memory runs out, the fault is
+/// [`MEMORY`](crate::MEMORY) at line 0.
 pub fn parse<'a>(alloc: Global, lines: &[Line<'a>]) -> Result<Program<'a>, ParseFault>
-    // What is answered is the program that the lines are.
+    // The program that is returned is the one that the lines are.
     ensures found { IfOk result (λ p. IsProgram (rows_of lines.now) (items_of p)) }
     // Lines that are a program are read, unless memory runs out.
     ensures only { (items : List ProgramItem) → IsProgram (rows_of lines.now) items → Answers items_of result items }
-    // A refusal is a lack of memory, or one of the faults at one of the lines.
+    // A refusal says that memory ran out, or is one of the faults at one of the lines.
     ensures refused { IfErr result (λ fault. IsRefusal (rows_of lines.now) fault) }
     // No lines are two programs.
     ensures unique { (rows : List Row) (items others : List ProgramItem) → IsProgram rows items

@@ -26,7 +26,7 @@ impl Item<'_> {
     }
 }
 
-/// What has one item at least.
+/// A list of one item or more.
 #[derive(Drop)]
 pub struct OneOrMore<T> {
     pub first: T,
