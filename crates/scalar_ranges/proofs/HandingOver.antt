@@ -322,7 +322,7 @@ module _ (ss : List Slot) (b o : Branching) (bs : List Branching) (tracked : Are
     tracked = now_tracked;
   }
 
-  -- The block around has room for the list.
+  -- The block around has capacity for the list.
   pub list_fits : length b.changes ≤ o.count
   list_fits = let enough = room (λ s. true) (λ s mark recent. refl) in omega arith
 

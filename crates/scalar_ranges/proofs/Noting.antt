@@ -153,7 +153,7 @@ new_in : (d : ℕ) (o : Option Slot) → is_new_in d o ≡ true → (s : Slot) �
 new_in d None is = absurd (cc)
 new_in d (Some s) is = (s, refl, not_marked (nat_eq s.mark d) is)
 
--- what is so of a new entry: its slot, and that there is room for it
+-- what is so of a new entry: its slot, and that there is capacity for it
 pub record IsNew (n : ℕ) (slots : List code_slot.Slot) (b : code_branching.Branching)
     (rest : List code_branching.Branching) : Type 0 where
   pub slot : Slot

@@ -130,7 +130,7 @@ taken_back slots cut lent now back listed changes depth b taken same is all conc
       begins = ap slots_from whole ∙ undoing ∙ (λ i. undone (changes_from (is i)) (seen i));
     }
 
--- What is known after changes does not hang on whether lists take note of those that change nothing.
+-- What is known after changes does not depend on whether lists note those that change nothing.
 known_put : (o : Option Meaning) (n : ℕ) (t : Tracked) → AreTracked t.slots t.blocks
     → known_if o n (known_in t) ≡ known_in (put_if o n t)
 known_put None n t tracked = refl

@@ -139,7 +139,7 @@ is_marked d s = nat_eq s.mark d
 abbrev pub is_recent : ℕ → Slot → Bool
 is_recent d s = if nat_eq s.mark d then s.recent else false
 
--- A block's list has the entries that it marked, and room for those that it did not, each once.
+-- A block's list has the entries that it marked, each once, and capacity for those that it did not.
 abbrev pub AreMarked : List Slot → Branching → List Branching → Type 0
 AreMarked ss b bs =
     (b.count ≤ length ss) × AreUpTo (suc (length bs)) ss
@@ -157,7 +157,7 @@ abbrev pub AreSettled : ℕ → Branching → List Slot → Type 0
 AreSettled d b ss =
     (i : ℕ) (s : Slot) → item_at i ss ≡ Some s → is_one_of b.recent i ≡ false → IsSettled d b i s
 
--- Each block has the entries that its branches changed in its lists, and room for the others.
+-- Each block has the entries that its branches changed in its lists, and capacity for the others.
 abbrev pub AreTracked : List Slot → List Branching → Type 0
 AreTracked ss [] = AreUpTo 0 ss
 AreTracked ss (b ∷ bs) =

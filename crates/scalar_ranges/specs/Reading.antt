@@ -9,7 +9,7 @@ use Rattle.occam_parser.specs.Expressions.{Expression, Alone, Prefixed, Paired, 
 use Rattle.occam_parser.specs.Expressions.{Number, Byte, Truth, MostPos, MostNeg, Named, Element, Bracketed, Converted}
 use Rattle.scalar_ranges.specs.Steps.{and_then, both}
 
--- What each kind of part gives, or the number of a fault. An element asks itself what its subscript gives.
+-- What each kind of part gives, or the number of a fault. An element itself checks what its subscript gives.
 pub record Reader (A : Type 0) : Type 0 where
   pub number : ℤ → A
   pub byte : ℕ → A

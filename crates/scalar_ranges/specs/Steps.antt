@@ -15,7 +15,7 @@ abbrev pub and_then : {A B : Type 0} → Result A ℕ → (A → Result B ℕ) �
 and_then (Ok x) f = f x
 and_then (Err e) f = Err e
 
--- two parts, of which both are asked: of two faults it is the one with the lower number
+-- two parts, each of which is checked: of two faults it is the one with the lower number
 abbrev pub paired : {A B : Type 0} → Result A ℕ → Result B ℕ → Result (A × B) ℕ
 paired (Ok x) (Ok y) = Ok (x, y)
 paired (Ok x) (Err e) = Err e

@@ -189,8 +189,8 @@ impl<'a> Tracked<'a> {
         self.update(number, update);
     }
 
-    /// A block begins, which has ends if it is a `PAR`. It gets room for all entries to change. If memory runs out, all
-    /// is as it was.
+    /// A block begins, which has ends if it is a `PAR`. Its lists get the capacity for all entries. If memory runs out,
+    /// all is as it was.
     pub(crate) fn begin(&mut self, alloc: Global, ended: bool) -> Result<(), AllocError>
         ensures ok { OnOk result (tracked_of self.new ≡ begun ended (tracked_of self.old)) }
         ensures err { OnErr result (tracked_of self.new ≡ tracked_of self.old) }

@@ -148,7 +148,7 @@ impl<'a> Names<'a> {
         Ok(number)
     }
 
-    /// A spelling that has just got its number is found by its first bytes. If memory does not suffice for that, it is
+    /// A spelling that has just got its number is found by its first bytes. If memory runs out for that, it is
     /// found by all of them.
     fn remember(&mut self, spelling: Spelling<'a>)
         requires { spelling_of spelling.name.now self.old.spellings ≡ Some spelling.number }

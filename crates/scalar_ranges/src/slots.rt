@@ -41,11 +41,11 @@ pub(crate) struct Branching<'a> {
     /// Whether the ends of entries stay as they are where a branch ends that does not change them, unless the branch
     /// before changed them.
     pub(crate) even: bool,
-    /// The entries that changed in it, the first one first. There is room for all that it began with.
+    /// The entries that changed in it, the first one first. It has the capacity for all that the block began with.
     pub(crate) changes: Vec<Change<'a>>,
     /// The entries that the branch before changed.
     pub(crate) earlier: Vec<usize>,
-    /// Those that this branch changed, each once. In both there is room for all that the block began with.
+    /// Those that this branch changed, each once. Both have the capacity for all that the block began with.
     pub(crate) recent: Vec<usize>,
     ghost room: { count ≤ vec_capacity changes },
     ghost earlier_room: { count ≤ vec_capacity earlier },

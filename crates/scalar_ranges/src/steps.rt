@@ -3,7 +3,7 @@
 ghost use Rattle.std.specs.Prelude.{◌≡◌};
 ghost use Rattle.scalar_ranges.specs.Steps.{paired};
 
-/// Both parts, of which both are asked: of two faults it is the one with the lower number.
+/// Both parts, each of which is checked: of two faults it is the one with the lower number.
 pub(crate) fn paired<A: Copy, B: Copy>(
     first: Result<A, u8>,
     second: Result<B, u8>,
