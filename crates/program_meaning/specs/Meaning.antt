@@ -81,7 +81,7 @@ abbrev pub not_yet : List (List ℕ) → Links
 not_yet inputs =
     record { incoming = map (λ bytes. record { read = []; unread = bytes }) inputs; written = [] ∷ [] ∷ [] ∷ [] ∷ [] }
 
--- The meaning of a program, of the bytes that come in on each of four links, and of whether somebody listens to each
+-- The meaning of a program, of the bytes that come in on each of four links, and of whether something listens to each
 -- of the four links out.
 abbrev pub meaning : List ProgramItem → List (List ℕ) → List Bool → Report
 meaning items inputs listens = reported (run_program items listens (not_yet inputs))

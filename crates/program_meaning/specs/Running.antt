@@ -19,7 +19,7 @@ use Rattle.program_meaning.specs.Links.{after_reading, after_writing}
 use Rattle.program_meaning.specs.Storing.{bind, number_held, declare, stored}
 
 -- What does not change while main runs: which declarations are links, by their numbers, and on which of the four links
--- out somebody listens.
+-- out something listens.
 pub record Surroundings : Type 0 where
   pub ports : List (Option Port)
   pub listens : List Bool

@@ -65,8 +65,8 @@ pub fn loops_go_on()
     ensures { LoopsGoOn }
 {}
 
-/// Outcomes that are not stuck and leave what is known true are so together: one after the other, where scopes are
-/// left, and turn by turn in a loop.
+/// Outcomes that are not stuck and leave what is known true compose: one after the other, where scopes are left, and
+/// turn by turn in a loop.
 #[tactic(auto, using(crate::proofs::OutcomesGoWell::outcomes_go_well))]
 pub fn outcomes_go_well()
     ensures { OutcomesGoWell }
