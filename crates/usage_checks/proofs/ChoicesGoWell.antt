@@ -44,8 +44,7 @@ IsEnd o None = ⊥
 IsEnd o (Some es) = IsWell o es
 
 -- No condition held so far, and what is known where the next choice begins is true; or one held, and what is known
--- after
--- the choices so far is true.
+-- after the choices so far is true.
 abbrev pub IsFound : Option Outcome → Environment → List Entry → Option (List Entry) → Type 0
 IsFound None env start ends = IsTrueIn start env
 IsFound (Some o) env start ends = IsEnd o ends

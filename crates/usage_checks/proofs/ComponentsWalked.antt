@@ -105,7 +105,7 @@ only_second P f (inr p) = p
 second_only : (P : UsageFault → Type 0) (f : UsageFault) → P f → ⊥ ⊎ P f
 second_only P f p = inr p
 
--- a move of which nothing is asked, and then a part
+-- a move for which nothing is checked, and then a part
 pub walks_after : {s t w : Findings} {k l m : Known} (g : Known → Known) (Q : Known → UsageFault → Type 0)
     → Walks s t k l (λ f. ⊥) → Walks t w m (g k) (Q k) → Walks s w m (g l) (Q l)
 walks_after {l = l} g Q a b = walks_as (only_second (Q l)) (second_only (Q l)) (walks_both g Q a b)

@@ -9,7 +9,7 @@ use Rattle.usage_checks.specs.Telling.{Walks}
 
 -- ---- parts of the walk
 
--- Something is asked, and nothing moves.
+-- Something is checked, and nothing moves.
 pub walks_first : {K : Type 0} {Breaks : UsageFault → Type 0} (s t : Findings) (k : K) (told : Option UsageFault)
     → t.first ≡ earlier s.first told → t.complete ≡ s.complete → IsFirst Breaks told → Walks s t k k Breaks
 walks_first {Breaks = Breaks} s t k told first complete x = record {
@@ -18,7 +18,7 @@ walks_first {Breaks = Breaks} s t k told first complete x = record {
   first = λ e. subst (IsFirst (Among s.first Breaks)) (sym first) (earlier_first s.first told x);
 }
 
--- A line is asked.
+-- A line is checked.
 pub walks_told : {K : Type 0} {Breaks : ℕ → Type 0} (s t : Findings) (k : K) (line : ℕ) (told : Option ℕ)
     → t.first ≡ earlier s.first (fault_at line told) → t.complete ≡ s.complete → IsLowest Breaks told
     → Walks s t k k (At line Breaks)
@@ -30,7 +30,7 @@ pub walks_still : {K L : Type 0} {s t : Findings} {k : K} (l : L) {P : UsageFaul
     → Walks s t l l P
 walks_still l a = record { complete = a.complete; known = λ e. refl; first = a.first }
 
--- Nothing is asked.
+-- Nothing is checked.
 pub walks_moved : {K : Type 0} (s : Findings) (after wanted : K) → after ≡ wanted → Walks s s after wanted (λ f. ⊥)
 walks_moved s after wanted e = record { complete = λ c. c; known = λ c. e; first = λ c. first_none s.first }
 
@@ -45,7 +45,7 @@ walks_both {s = s} {t = t} {w = w} {l = l} g Q a b = record {
       (subst (λ k. IsFirst (Among t.first (Q k)) w.first) (a.known (b.complete e)) (b.first e));
 }
 
--- then something moves, of which nothing is asked
+-- then something moves, for which nothing is checked
 pub walks_then : {K L : Type 0} {s t : Findings} {k l : K} {m : L} {P : UsageFault → Type 0} (g : K → L)
     → Walks s t k l P → m ≡ g k → Walks s t m (g l) P
 walks_then g a e = record { complete = a.complete; known = λ c. e ∙ ap g (a.known c); first = a.first }
@@ -54,7 +54,7 @@ pub walks_as : {K : Type 0} {s t : Findings} {k l : K} {P Q : UsageFault → Typ
     → ((f : UsageFault) → Q f → P f) → Walks s t k l P → Walks s t k l Q
 walks_as there back a = record { complete = a.complete; known = a.known; first = λ c. first_as there back (a.first c) }
 
--- Where memory was not enough nothing is said.
+-- If memory was not enough, nothing is said.
 pub walks_failed : {K : Type 0} (s t : Findings) (k l : K) (P : UsageFault → Type 0) → t.complete ≡ false
     → Walks s t k l P
 walks_failed s t k l P lacks =
@@ -72,7 +72,7 @@ pub from_one : (P : UsageFault → Type 0) (f : UsageFault) → P f ⊎ ⊥ → 
 from_one P f (inl p) = p
 from_one P f (inr x) = absurd x
 
--- then something is done in which nothing is asked
+-- then something is done in which nothing is checked
 pub walks_on : {K L : Type 0} {s t w : Findings} {k l : K} {m : L} {P : UsageFault → Type 0} (g : K → L)
     → Walks s t k l P → Walks t w m (g k) (λ f. ⊥) → Walks s w m (g l) P
 walks_on {P = P} g a b = walks_as (from_one P) (only_one P) (walks_both g (λ k f. ⊥) a b)

@@ -1,4 +1,4 @@
--- The lowest number of a rule that is asked of one item after another.
+-- The lowest number of a rule that is checked for one item after another.
 use Rattle.std.proofs.Common.{◌≡◌, ℕ, suc, ◌+◌, ◌<◌, List, [], ◌∷◌, ◌++◌, length, map, take, get_or, Option, None}
 use Rattle.std.proofs.Common.{inl, inr, sym, subst, ◌⊎◌, arith, add-zero}
 use Rattle.std.proofs.lemmas.List.{length-take, length-map}

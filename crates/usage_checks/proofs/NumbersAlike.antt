@@ -1,4 +1,4 @@
--- Loops and PARs ask of a list of variables only which numbers are in it.
+-- Of a list of variables, loops and PARs use only which numbers are in it.
 use Rattle.std.proofs.Common.{◌≡◌, ℕ, true, List, [], ◌∷◌, length, Some, None, option_map, refl, ap, ◌∙◌}
 use Rattle.scalar_ranges.specs.Entries.{Entry}
 use Rattle.scalar_ranges.specs.Moves.{is_one_of, widened_if, widen, of_both, taken, Block, Known, begin, end_of}

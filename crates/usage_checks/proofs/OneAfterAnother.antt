@@ -12,7 +12,7 @@ use Rattle.usage_checks.specs.NameRules.{with_entries}
 use Rattle.usage_checks.specs.Telling.{Walks}
 use Rattle.usage_checks.proofs.FaultsInOrder.{walks_both, walks_as}
 
--- ---- what is asked
+-- ---- what is checked
 
 breaks_last : {A S : Type 0} (step : A → S → S) (Breaks : A → S → UsageFault → Type 0) (xs : List A) (x : A) (s : S)
     (f : UsageFault) → BreaksInTurn step Breaks xs s f ⊎ Breaks x (in_turn step xs s) f

@@ -28,7 +28,7 @@ pub total_both : (ms ns : List Measured) → total (ms ++ ns) ≡ total ms + tot
 total_both [] ns = omega arith
 total_both (m ∷ ms) ns = omega (arith, total_both ms ns)
 
--- one sum after another, each as far as just above the greatest size
+-- one sum after another, each up to just above the greatest size
 sum_both : (s t w a b n : ℕ) → capped t ≡ capped (s + a) → capped w ≡ capped (t + b) → n ≡ a + b
     → capped w ≡ capped (s + n)
 sum_both s t w a b n first second both = omega arith

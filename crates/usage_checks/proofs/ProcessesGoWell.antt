@@ -1,6 +1,5 @@
 -- A process of a sequential program that breaks no rule is not stuck, and where it goes on, what the walk knows there
--- is
--- true.
+-- is true.
 use Rattle.std.proofs.Common.{◌≡◌, ℕ, zero, suc, ◌<◌, ◌≤◌, ℤ, pos, negsuc, ◌+ℤ◌, ◌-ℤ◌, Bool, true, false, cond, ◌&&◌}
 use Rattle.std.proofs.Common.{List, []}
 use Rattle.std.proofs.Common.{◌∷◌, length, Option, Some, None, inl, inr, refl, sym, ap, subst, arith, ◌∙◌, IsSomeAnd}

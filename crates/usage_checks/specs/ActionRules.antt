@@ -17,7 +17,7 @@ BreaksAction p signatures es (Input channel target) n = BreaksInput p es channel
 BreaksAction p signatures es (Output channel value) n = BreaksOutput p es channel value n
 BreaksAction p signatures es (Instance name actuals) n = BreaksInstance p signatures es name actuals n
 
--- The input of a guard is asked where its condition holds.
+-- The input of a guard is checked where its condition holds.
 abbrev pub BreaksGuard : Position → List Entry → Guard → ℕ → Type 0
 BreaksGuard p es (Receives condition channel target) n =
     BreaksConditionIfAny es condition n ⊎ BreaksInput p (where_holds condition es) channel target n

@@ -1,4 +1,4 @@
--- What is asked of items one after another, of each where those before it are done with.
+-- What is checked for items one after another, for each after those before it.
 use Rattle.std.specs.Prelude.{List, [], ◌∷◌, ◌⊎◌}
 use Rattle.program_uses.specs.declared.telling.UsageFault.{UsageFault}
 

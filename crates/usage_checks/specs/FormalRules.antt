@@ -18,7 +18,7 @@ BreakSizes es fs = BreaksEach (λ i f. BreaksSizeIfAny es f.size) 0 fs
 abbrev pub parameter_for : List Entry → Formal → Parameter
 parameter_for es f = record { meaning = formal_meaning es f; ends = [] }
 
--- each name is asked after those before it
+-- each name is checked after those before it
 abbrev pub BreakFormals : (first line : ℕ) → List Entry → List Formal → List Entry → UsageFault → Type 0
 BreakFormals first line outer =
     BreaksInTurn (λ f. add f.name (formal_meaning outer f)) (λ f. BreaksName first line f.name)

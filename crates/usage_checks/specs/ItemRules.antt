@@ -70,7 +70,7 @@ signature_of a p k =
 
 -- ---- items
 
--- What is known after some items: of the names, of the procedures among them, how large they are, as far as just above
+-- What is known after some items: of the names, of the procedures among them, how large they are, up to just above
 -- the greatest size, and from which line on nothing is counted.
 pub record Outside : Type 0 where
   pub known : Known

@@ -21,7 +21,7 @@ is_of_scope first (Some number) = nat_le first number
 abbrev pub IsTwice : ℕ → List Entry → List ℕ → ℕ → Type 0
 IsTwice first es name n = (is_of_scope first (number_in name es) ≡ true) × (n ≡ DECLARED_TWICE)
 
--- names of one line, which mean the same: each is asked after those before it
+-- names of one line, which mean the same: each is checked after those before it
 abbrev pub BreaksName : ℕ → ℕ → List ℕ → List Entry → UsageFault → Type 0
 BreaksName first line name es f = At line (IsTwice first es name) f
 

@@ -8,8 +8,7 @@ use Rattle.program_meaning.specs.RangesWithin.{EntriesWithin}
 use Rattle.usage_checks.specs.AfterProcesses.{inside, after_construct}
 
 -- The blocks around are the same, and of the names that were in scope before, each range lies within the one before,
--- but
--- for the variables with these numbers.
+-- but for the variables with these numbers.
 pub record Stays (ns : List ℕ) (k l : Known) : Type 0 where
   pub blocks : l.blocks ≡ k.blocks
   pub within : EntriesWithin ns (outermost (length k.entries) l.entries) k.entries

@@ -141,8 +141,8 @@ abbrev pub BreaksPiece : Standing → Piece → Known → UsageFault → Type 0
 BreaksPiece s (AProcess first p) k f = BreaksIn s.around s.position first p k f
 BreaksPiece s (AComponent c) k f = BreaksComponent s.around s.position c k f
 
--- No rule is broken at a place and in it, but for what components share, which is asked of the whole body of a
--- procedure; the names there are whole, and its first line has what the rules ask for.
+-- No rule is broken at a place and in it, but for what components share, which is checked for the whole body of a
+-- procedure; the names there are whole, and its first line has what the rules require.
 pub record IsRight (s : Standing) (piece : Piece) (k : Known) : Type 0 where
   pub unbroken : (f : UsageFault) → BreaksPiece s piece k f → ⊥
   pub whole : IsWhole (length s.around.signatures) k

@@ -193,7 +193,7 @@ measures_of_item signatures es (GlobalProcedure p) =
 abbrev pub greatest_size : ℕ
 greatest_size = 2 ^ 23
 
--- a size, as far as just above the greatest one
+-- a size, up to just above the greatest one
 abbrev pub capped : ℕ → ℕ
 capped n = min n (greatest_size + 1)
 

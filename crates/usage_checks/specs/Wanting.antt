@@ -1,4 +1,4 @@
--- The rules of expressions: O9 and O11 by their types, O16 and O17 by their bounds, and what a place wants of them.
+-- The rules of expressions: O9 and O11 by their types, O16 and O17 by their bounds, and what a place requires.
 use Rattle.std.specs.Prelude.{◌≡◌, ℕ, Bool, true, false, ◌&&◌, List, ◌⊎◌, Option, Some, Result, Ok, Err, IsOk}
 use Rattle.occam_parser.specs.Expressions.{Expression, Alone, Prefixed, Paired, Chained, Terms, Two, Then, Term}
 use Rattle.occam_parser.specs.Expressions.{Named, Element, Bracketed, Converted}

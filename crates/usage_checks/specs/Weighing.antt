@@ -24,7 +24,7 @@ pub record Sums (old new : Weight) (n : ℕ) : Type 0 where
   pub sum : new.complete ≡ true → capped new.sum ≡ capped (old.sum + n)
 
 -- The parts of a program are counted one after another, with the first line at which counting ends, if memory was
--- enough. The sum is exact as far as just above the greatest size.
+-- enough. The sum is exact up to just above the greatest size.
 pub record Weighs (old new : Weight) (ms : List Measured) : Type 0 where
   pub complete : new.complete ≡ true → old.complete ≡ true
   pub sum : new.complete ≡ true → capped new.sum ≡ capped (old.sum + total ms)

@@ -29,7 +29,7 @@ pub fn signatures_stay()
     ensures { SignaturesStay }
 {}
 
-/// What the components of PARs share is asked in the body of a procedure, by the names that are declared there; so at
+/// What the components of PARs share is checked in the body of a procedure, by the names that are declared there; so at
 /// each place in it, with what is declared between, they share nothing.
 #[tactic(auto, using(crate::proofs::NothingShared::nothing_shared))]
 pub fn nothing_shared()

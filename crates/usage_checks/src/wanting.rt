@@ -1,4 +1,4 @@
-//! The rules of expressions: O9 and O11 by their types, O16 and O17 by their bounds, and what a place wants of them.
+//! The rules of expressions: O9 and O11 by their types, O16 and O17 by their bounds, and what a place requires.
 
 ghost use Rattle.std.specs.Prelude.{◌≡◌, ◌&&◌, Ok, option_map};
 ghost use Rattle.occam_parser.specs.Views.{expression_of, term_of};
@@ -84,7 +84,7 @@ fn is_constant_operand(scope: &Scope, operand: &Operand) -> bool
     }
 }
 
-/// The lowest number of what a place wants and an expression of this type is not.
+/// The lowest number of the rules by which an expression of this type is not what a place requires.
 fn unfit(scope: &Scope, wanted: Wanted, found: ExprType, expr: &Expr) -> Option<u8>
     ensures { IsLowest
         (IsUnfit wanted (Ok found) (is_constant (entries_of scope.now) (expression_of expr.now))) result }

@@ -33,7 +33,7 @@ use std::alloc::Global;
 /// What is counted of a program so far. It remembers whether memory ran out, so that something may be missing.
 #[derive(Clone, Copy)]
 pub(crate) struct Weight {
-    /// The sum of the sizes, as far as just above the greatest one.
+    /// The sum of the sizes, up to just above the greatest one.
     pub(crate) sum: u32,
     /// The first line at which counting ends, if there is one.
     pub(crate) over: Option<u32>,
