@@ -10,7 +10,7 @@ use Rattle.code_pieces.specs.declared.piece.Workspace.{Workspace}
 abbrev pub in_root : Workspace
 in_root = record { context = Root; depth = pos 0 }
 
--- The label of its entry, the depth of its workspace, the words that it writes, those that it reads alone, and ends of
+-- The label of its entry, the depth of its workspace, the words that it writes, those that it only reads, and ends of
 -- channels.
 pub record ParBranch : Type 0 where
   pub entry : ℕ

@@ -74,7 +74,7 @@ alternation_module = record {
   table_rows = [];
 }
 
--- The pieces are apart as they are, these are the bytes that instructions need, and the module says what it should: of
+-- The rows are apart already, these are the bytes that instructions need, and the module says what it should: of
 -- its 38 bytes all but one are executed if the number is received.
 pub record SmallAlternationIsLaid : Type 0 where
   pub apart : apart alternation_pieces ≡ alternation_pieces

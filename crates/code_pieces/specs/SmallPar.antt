@@ -155,7 +155,7 @@ par_module = record {
   table_rows = [];
 }
 
--- The pieces are apart as they are, these are the bytes that instructions need, and the module says what it should: of
+-- The rows are apart already, these are the bytes that instructions need, and the module says what it should: of
 -- its 69 bytes each is executed once.
 pub record SmallParIsLaid : Type 0 where
   pub apart : apart par_pieces ≡ par_pieces

@@ -24,7 +24,7 @@ value_count ts = sum_by (λ (t : List ℤ). length t) ts
 
 -- ---- limits
 
--- as many tables as there may be table rows, in as many bytes as constants may have
+-- no more tables than there may be table rows, in no more bytes than constants may have
 pub record TablesAreWithin (ts : List (List ℤ)) : Type 0 where
   pub few : length ts ≤ MAX_TABLES
   pub short : 4 * value_count ts ≤ MAX_CONSTANTS

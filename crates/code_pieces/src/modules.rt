@@ -103,8 +103,8 @@ fn draft_of(
 }
 
 /// The module of pieces with `labels` labels, for links that take messages of these lengths: output links 0 to 3
-/// and input links 0 to 3. Its version is 2, its code the pieces apart, and it is finished at the end of the code. Its
-/// budget is what the code executes at most.
+/// and input links 0 to 3. Its version is 2, its code is the pieces with their rows kept apart, and it is finished at
+/// the end of the code. Its budget is what the code executes at most.
 ///
 /// # Errors
 ///

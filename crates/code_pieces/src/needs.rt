@@ -73,7 +73,7 @@ fn set_number(numbers: &mut [u64], label: usize, number: u64) -> Result<(), GenF
     Ok(())
 }
 
-/// The largest number of labels.
+/// The largest of the numbers of these labels.
 fn largest_at(numbers: &[u64], labels: &[usize]) -> Result<u64, GenFault>
     ensures ok { IfOk result (λ n. (ns : List Numbered) → Tells numbers.now ns → n ≡ largest_at labels.now ns) }
     ensures err { IfErr result (λ e. e ≡ GenFault.Invalid) }

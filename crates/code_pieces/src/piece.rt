@@ -47,7 +47,7 @@ pub struct ParBranch {
     pub depth: i32,
     /// The words that it writes.
     pub writes: Vec<Interval>,
-    /// The words that it reads alone.
+    /// The words that it only reads.
     pub reads: Vec<Interval>,
     /// The ends of channels that it has.
     pub ends: Vec<EndRow>,

@@ -14,8 +14,8 @@ use module_format::{MAX_CONSTANTS, MAX_TABLES, TableRow};
 use std::alloc::Global;
 use std::marker::Model;
 
-/// The tables that code reads, each once, in the order in which they are first read. They are as many as a module may
-/// have.
+/// The tables that code reads, each once, in the order in which they are first read. They are at most as many as a
+/// module may have.
 #[derive(Drop)]
 pub struct ConstantTables<'a> {
     tables: Vec<&'a [i32]>,
