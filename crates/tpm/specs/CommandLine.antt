@@ -42,7 +42,7 @@ wants_verdict (lists path) = false
 abbrev pub path_rule : Text → Rule
 path_rule name = record (new_rule name) { required = true }
 
--- a subcommand, which wants the path of a module file
+-- a subcommand, which takes the path of a module file
 abbrev pub subcommand_shape : Text → Shape
 subcommand_shape name = record (new_shape name) { rules = path_rule (codes "MOD") ∷ [] }
 

@@ -37,12 +37,12 @@ module _ {F X : Type 0} (gives : F → Text → Result X FileFault → F → Typ
   GivesAll before (path ∷ paths) (file ∷ files) after =
       (next : F) × (MayGive before path file next × GivesAll next paths files after)
 
-  -- this is the path, and its file cannot be had
+  -- this is the path, and its file cannot be opened or created
   abbrev pub FailsForPath : F → Option Text → Text → FileFault → F → Type 0
   FailsForPath before None path fault after = ⊥
   FailsForPath before (Some text) path fault after = (path ≡ text) × gives before path (Err fault) after
 
-  -- The file of this path cannot be had. Those of the paths before it were, and no other.
+  -- The file of this path cannot be opened or created. Those of the paths before it were, and no other.
   pub data FailsAtPath : F → List (Option Text) → List (Option X) → Text → FileFault → F → Type 0 where
     here : {before after : F} {first : Option Text} {paths : List (Option Text)} {path : Text} {fault : FileFault}
         → FailsForPath before first path fault after

@@ -67,7 +67,7 @@ module _ {F R W : Type 0} (creates : F → Text → Result W FileFault → F →
   abbrev pub Finishes : Report → Type 0
   Finishes report = (closed : ByLink Bool) × (RunsAndCloses (Ok report) closed × (first_unclosed closed ≡ None))
 
-  -- An output file was not created, or a link failed in the run. Whether closing succeeded is not reported then.
+  -- An output file was not created, or the run failed. Whether closing succeeded is not reported then.
   abbrev pub Stops : Failure → Type 0
   Stops failure = (closed : ByLink Bool) × RunsAndCloses (Err failure) closed
 

@@ -27,7 +27,7 @@ impl From<io::Error> for FileFault {
     }
 }
 
-/// Files that are named by paths. Who gives them keeps the allocator for what they read.
+/// Files that are named by paths. Their implementation keeps the allocator for what they read.
 pub trait Files {
     /// A file that is read byte by byte.
     type Reader: LinkReader + Drop;

@@ -6,7 +6,7 @@ use std::rt::Env;
 use std::{env, io};
 use thiserror::Error;
 
-/// Why the words of the command line cannot be had.
+/// Why the words of the command line cannot be read.
 #[derive(Debug, Drop, Error)]
 pub enum WordFault {
     #[error("out of memory")]
