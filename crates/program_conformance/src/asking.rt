@@ -29,7 +29,7 @@ fn spoken<'l, 't>(statement: Statement<'l, 't>) -> Statement<'l, 't> {
     }
 }
 
-/// Whether an answer of a word and what follows it is this statement. `compiled` alone is so for each length.
+/// Whether an answer, a word and what follows it, is this statement. `compiled` alone is right for any length.
 fn is_answer(answer: &str, statement: Statement) -> bool {
     let (word, rest) = answer.split_once(' ').unwrap_or((answer, ""));
     let is_any = statement.word == "compiled" && statement.rest.is_empty();

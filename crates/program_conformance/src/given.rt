@@ -10,7 +10,7 @@ pub(crate) const LINKS: [Link; 4] = [Link::Zero, Link::One, Link::Two, Link::Thr
 pub(crate) struct Given {
     /// The bytes that there are on each input link, if it is given some.
     pub(crate) inputs: [Option<Vec<u8>>; 4],
-    /// The bytes that are wanted on each output link, if somebody listens there.
+    /// The bytes that are wanted on each output link, if something listens there.
     pub(crate) outputs: [Option<Vec<u8>>; 4],
 }
 
@@ -52,7 +52,7 @@ impl Given {
         self.inputs[link.index()].is_some()
     }
 
-    /// Whether somebody listens on a link.
+    /// Whether something listens on a link.
     pub(crate) fn has_listener(&self, link: Link) -> bool {
         self.outputs[link.index()].is_some()
     }
