@@ -1,4 +1,4 @@
-//! Asks the layers what statements ask of a source.
+//! Runs the layers on a source, as statements ask.
 
 use crate::setting::Setting;
 use crate::tokens::write_lines;
@@ -32,7 +32,7 @@ fn judge_lines(found: &[Line], statement: Statement, out: &mut Answer) -> Outcom
     Outcome::of(has_lines(out.as_str(), statement.block))
 }
 
-/// What comes of the items of a program: `ok`, or `same` where they are printed back as their source, or their lines as
+/// What comes of the items of a program: `ok`, or `same` if they are printed back as their source, or their lines as
 /// they are printed back.
 fn judge_items(items: &[Item], source: &[u8], statement: Statement, out: &mut Answer) -> Outcome {
     write_items(out, items);

@@ -1,4 +1,4 @@
-//! Asks the layers of sources what cases in text say that they answer, and prints each case that differs.
+//! Checks what the layers of sources return against cases in text, and prints each case that differs.
 //!
 //! The arguments name files of cases; without any, the cases are read from standard input. The last line has the
 //! counts. The status is 1 if a case differs or cannot be read.
