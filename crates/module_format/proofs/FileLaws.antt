@@ -1,5 +1,4 @@
--- The laws of reading a file: what is read is the file of what it says, and the file of contents that
--- keep the rules is read.
+-- The laws of reading a file: what is read is the file of what it says, and the file of valid contents is read.
 use Rattle.std.proofs.Common.{◌≡◌, ℕ, ◌+◌, ◌*◌, ◌<◌, ◌≤◌, ◌^◌, Bool, eqb, List, [], ◌++◌, length, Result, Ok, Err, refl}
 use Rattle.std.proofs.Common.{sym, ap, ◌∙◌, append_assoc, arith}
 use Rattle.std.specs.Prelude.{None}
@@ -281,7 +280,7 @@ read_finds bytes fits =
     let whole : Format bytes c = record { spelled = spelled; keeps = all_keeps h.0 c f.keeps g.from there } in
     whole)))
 
--- ---- the file of contents that keep the rules is read
+-- ---- the file of valid contents is read
 
 header_fits : (c : Contents) → Keeps c → HeaderFits (header_of c)
 unfolding header_of

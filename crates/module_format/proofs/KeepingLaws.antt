@@ -1,4 +1,4 @@
--- Testing whether tables keep the rules.
+-- Testing whether tables are valid.
 use Rattle.std.proofs.Common.{◌≡◌, ℕ, ◌<◌, ◌≤◌, length, drop, Bool, true, false, ◌↔◌, List, [], ◌∷◌, refl, sym, arith}
 use Rattle.std.proofs.Common.{eqb, ◌+◌, ◌^◌, Result, Ok, Err}
 use Rattle.std.specs.Prelude.{IsTrue, not, is_ok}
@@ -51,7 +51,7 @@ pub names_is : {X : Type 0} (r : Result X FormatFault) (c : Contents) (at : ℕ)
 names_is (Ok x) c at told = (λ _. has_at (references_at at c) tt (references_fit at c) told, λ _. refl)
 names_is (Err f) c at told = (λ e. absurd cc, λ h. absurd (let p = references_pass at c h in cc))
 
--- the bytes of rows that keep their rules fit in memory
+-- the bytes of valid rows fit in memory
 pub rows_in_memory : (c : Contents) → LimitsKeep c → RowsKeep c
     → 0 + length (flat_map label_bytes c.labels) + length (flat_map par_bytes c.pars) < 2 ^ 64
 rows_in_memory c limits rows =

@@ -102,7 +102,7 @@ mapped_item_at {A = A} f xs ys i x same lt is =
     item_at (map f xs) i (f x) long ∙ ap (λ y. y ∷ drop (i + 1) (map f xs))
     (get_or-map f xs i x (f x) there ∙ ap f x_is)
 
--- ---- looking at items one after the other, once all are read
+-- ---- checking references, item by item, once all are read
 
 module _ {A : Type 0} (item : ℕ → A → Result ⊤ FormatFault) (spelled : A → List ℕ) where
   pub references_go_on : (xs : List A) (i at : ℕ) (x : A) (u : ⊤) (total : Result ⊤ FormatFault)
@@ -141,13 +141,13 @@ pub ok_weaker : {X E : Type 0} {P Q : X → Type 0} (r : Result X E) → IfOk r 
 ok_weaker (Ok x) h f = f x h
 ok_weaker (Err e) h f = tt
 
--- a look that found a fault, as the first step of a longer one
+-- a check that found a fault, as the first step of a longer one
 pub tells_err : {look : Result ⊤ FormatFault} (f : FormatFault) (k : ⊤ → Result ⊤ FormatFault) → look ≡ Err f
     → and_then look k ≡ Err f
 unfolding and_then
 tells_err f k e = rw e refl
 
--- a look that is another one
+-- a check that is another one
 pub tells_same : {X : Type 0} {look other : Result ⊤ FormatFault} (r : Result X FormatFault) → look ≡ other
     → Tells r look → Tells r other
 tells_same (Ok x) e h = rw (← e) h

@@ -1,4 +1,4 @@
--- What is looked at once all rows are read: nothing is at fault exactly where all is there.
+-- References, which are checked once all rows are read: none is at fault exactly if all is there.
 use Rattle.std.proofs.Common.{◌≡◌, ℕ, ◌+◌, cond, ltb, List, [], ◌∷◌, length, Option, Some, None, Result, Err, refl}
 use Rattle.std.specs.Prelude.{⊤, int_lt, IsTrue, MatchOption}
 use Rattle.std.specs.List.{flat_map, AllByRecursion}

@@ -1,4 +1,4 @@
--- What writing needs of contents that keep the rules.
+-- What writing needs of valid contents.
 use Rattle.std.proofs.Common.{◌≡◌, ℕ, ◌<◌, ◌^◌, arith, length, List, [], ◌∷◌, ◌++◌, map, All, append_assoc, Bool, false}
 use Rattle.std.specs.Prelude.{⊤}
 use Rattle.std.specs.List.{AllByRecursion}
@@ -41,7 +41,7 @@ pub item_fits : {A B : Type 0} (view : A → B) (Fits : B → Type 0) (xs : List
     → All (λ x. Fits (view x)) xs
 item_fits view Fits xs h = All-from_recursion (λ x. Fits (view x)) xs (unmapped view Fits xs h)
 
--- ---- rows that keep their rules can be written
+-- ---- valid rows can be written
 
 pub nothing_asked : {A : Type 0} (xs : List A) → AllByRecursion (λ (x : A). ⊤) xs
 nothing_asked [] = tt

@@ -34,7 +34,7 @@ pub record IsLoop (base : ℤ) (count weight : ℕ) : Type 0 where
   pub last : (base +ℤ pos count) ≤ℤ pos 2147483648
   pub weight_fits : weight < 2 ^ 64
 
--- a fact of a value, in a module with this much code: a register and a frame word may have it
+-- a fact of a value, in a module with code of this length: a register and a frame word may have it
 abbrev pub ValueKeeps : ℕ → Fact → Type 0
 ValueKeeps code_len facts.Unknown = ⊥
 ValueKeeps code_len (facts.Number lo hi) = IsInterval lo hi
@@ -43,7 +43,7 @@ ValueKeeps code_len (facts.CodeAddress offset) = offset ≤ code_len
 ValueKeeps code_len (facts.Loop base count weight) = ⊥
 ValueKeeps code_len facts.ReturnAddress = ⊥
 
--- A fact of a register, in a module with this much code: the words of a loop and a return address are in memory.
+-- A fact of a register, in a module with code of this length: the words of a loop and a return address are in memory.
 abbrev pub RegisterKeeps : ℕ → Fact → Type 0
 RegisterKeeps code_len facts.Unknown = ⊤
 RegisterKeeps code_len (facts.Number lo hi) = IsInterval lo hi

@@ -146,7 +146,7 @@ pub record Keeps (c : Contents) : Type 0 where
   pub rows : RowsKeep c
   pub names : NamesAreThere c
 
--- This file is the one spelling of these contents, which keep the rules.
+-- This file is the one spelling of these contents, which are valid.
 pub record Format (bytes : List ℕ) (c : Contents) : Type 0 where
   pub spelled : bytes ≡ file_of c
   pub keeps : Keeps c

@@ -161,7 +161,7 @@ abbrev pub first_entry : List Branch → ℕ
 first_entry [] = 0
 first_entry (b ∷ bs) = b.entry
 
--- a PAR row of a module with this much code, where `own` is the number of the root and the procedures
+-- a PAR row of a module with code of this length, where `own` is the number of the root and the procedures
 pub record ParKeeps (own code_len : ℕ) (before : Before) (row : Par) : Type 0 where
   pub context_fits : row.context < 2 ^ 16
   pub context : row.context < own + length before.entries

@@ -30,7 +30,7 @@ abbrev pub Gives : {X Y : Type 0} → (X → Y) → Result X ReadError → Resul
 Gives view (Ok x) read = read ≡ Ok (view x)
 Gives view (Err e) read = Fails e read
 
--- a look that can't want memory: what it returned is what it passes or the fault
+-- a check that can't run out of memory: what it returned is what it passes or the fault
 abbrev pub Tells : {X : Type 0} → Result X FormatFault → Result ⊤ FormatFault → Type 0
 Tells (Ok x) look = look ≡ Ok tt
 Tells (Err f) look = look ≡ Err f

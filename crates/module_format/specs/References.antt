@@ -1,4 +1,4 @@
--- What is looked at once all rows are read, in the order of the file: whether what the rows name is there.
+-- References, which are checked once all rows are read, in the order of the file: whether what the rows name is there.
 use Rattle.std.specs.Prelude.{⊤, ℕ, ◌+◌, int_lt, nat_lt, if◌then◌else◌, List, [], ◌∷◌, length, Option, Some, None}
 use Rattle.std.specs.Prelude.{Result, Ok, Err}
 use Rattle.std.specs.List.{flat_map}

@@ -48,7 +48,7 @@ abbrev pub memory_after : Option ReadError → Option ReadError
 memory_after (Some e) = Some e
 memory_after None = Some errors.Memory
 
--- what is returned once a cursor went over a file: its failure, or what is still looked at gives
+-- what is returned once a cursor went over a file: its failure, or what the remaining checks give
 abbrev pub Concludes : {X Y : Type 0} → (X → Y) → Option ReadError → Result X ReadError → Result Y FormatFault → Type 0
 Concludes view (Some e) result looked = result ≡ Err e
 Concludes view None result looked = Gives view result looked

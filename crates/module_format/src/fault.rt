@@ -39,9 +39,9 @@ impl FormatFaultKind {
     }
 }
 
-/// The number where a file has fewer than four bytes, or another magic.
+/// The number of a file with fewer than four bytes, or another magic.
 pub const MAGIC: u8 = 1;
-/// The number where a file ends within a field.
+/// The number of a file that ends within a field.
 pub const TRUNCATED: u8 = 2;
 /// The number of rows or items that do not rise, or that overlap.
 pub const ORDER: u8 = 3;
@@ -51,10 +51,10 @@ pub const RANGE: u8 = 4;
 pub const LEFT_OVER: u8 = 5;
 /// The number of a value above a limit of the format.
 pub const LIMIT: u8 = 6;
-/// The number where memory ran out.
+/// The number of running out of memory.
 pub const MEMORY: u8 = 7;
 
-/// The fault where memory ran out.
+/// The fault of running out of memory.
 const NO_MEMORY: FormatFault = FormatFault {
     number: MEMORY,
     offset: 0,

@@ -1,4 +1,4 @@
-//! Whether tables keep the rules of the format.
+//! Whether tables are valid: they keep the rules of the format.
 
 mod labels;
 mod list;
@@ -131,7 +131,7 @@ fn names_are_there(tables: &Tables) -> bool
     rows_references(&Contexts::of_rows(tables, &owners), 0).is_ok()
 }
 
-/// Whether tables keep the rules of the format.
+/// Whether tables are valid: they keep the rules of the format.
 pub fn keeps(tables: &Tables) -> bool
     ensures { IsTrue result ↔ Keeps (contents_of tables.now) }
 {

@@ -22,7 +22,7 @@ pub fn reading_finds()
     ensures { (bytes : List ℕ) (c : Contents) → IsBytes bytes → read_contents bytes ≡ Ok c → Format bytes c }
 {}
 
-/// The file of contents that keep the rules is read as those contents.
+/// The file of valid contents is read as those contents.
 pub fn reading_again()
     ensures { (c : Contents) → Keeps c → read_contents (file_of c) ≡ Ok c }
 {}

@@ -47,8 +47,8 @@ pub(crate) use procedures::{
 use std::alloc::Global;
 pub(crate) use table_rows::{read_table_end, read_table_start, words_lie_within};
 
-/// What the bytes say, with the places of the branches, or the first fault in the order of the fields; but
-/// whether what rows name is there is looked at once all rows are read.
+/// What the bytes say, with the places of the branches, or the first fault in the order of the fields. References are
+/// checked once all rows are read.
 pub fn read(alloc: Global, bytes: &[u8]) -> Result<(Tables<'_>, Vec<Place>), FormatFault>
     // What is read is what the bytes spell.
     ensures found { IfOk result (λ x. Format bytes.now (contents_of x.0)) }

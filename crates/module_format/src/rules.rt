@@ -1,4 +1,4 @@
-//! Rules of single values, which are asked where a file is read and where tables are tested.
+//! Rules of single values, which are tested when a file is read and when tables are checked.
 
 ghost use Rattle.std.specs.Prelude.{◌≡◌, ◌↔◌, ◌<◌, ◌≤◌, IsTrue};
 ghost use Rattle.module_format.specs.Order.{is_multiple_of_four, is_stepped};

@@ -60,8 +60,8 @@ impl Tables<'_> {
     ghost use Rattle.module_format.specs.Contexts.{first_branch};
     ghost use Rattle.module_format.specs.Keeping.{Keeps};
 
-    /// Whether the tables keep the rules of the format: exactly those have a file. It allocates nothing, and
-    /// takes linear time, but for searches by halving: that of a context in the PAR rows is one.
+    /// Whether the tables are valid: they keep the rules of the format. Exactly the valid tables have a file. It
+    /// allocates nothing, and takes linear time, except for binary searches, such as that of a context in the PAR rows.
     pub fn keeps(&self) -> bool
         ensures { IsTrue result ↔ Keeps (contents_of self.now) }
     {

@@ -94,7 +94,7 @@ fn put_rows(out: &mut Writer, tables: &Tables)
     put_all(out, tables.version, &tables.table_rows);
 }
 
-/// The one file of tables that keep the format.
+/// The one file of valid tables.
 #[tactic(auto, unfolding(crate::specs::Spelling::file_of))]
 pub fn write(alloc: Global, tables: &Tables) -> Result<Vec<u8>, AllocError>
     requires { Keeps (contents_of tables.now) }

@@ -100,7 +100,7 @@ impl<'a> Cursor<'a> {
         }
     }
 
-    /// Fails where memory runs out, unless it has failed before.
+    /// Fails with out of memory, unless it has failed before.
     pub(crate) fn run_out_of_memory(&mut self)
         ensures failure { self.new.failure ≡ memory_after self.old.failure }
         ensures stays { Stays self.old self.new }

@@ -1,4 +1,4 @@
-//! What PAR rows name, looked at once all rows are read.
+//! References of PAR rows, which are checked once all rows are read.
 
 ghost use Rattle.std.specs.Prelude.{◌≡◌, ◌+◌, ⊤, ℕ, length, map};
 ghost use Rattle.std.specs.List.{flat_map};

@@ -1,4 +1,4 @@
-//! What is looked at once all rows are read: whether what the rows name is there.
+//! References, which are checked once all rows are read: whether what the rows name is there.
 
 ghost use Rattle.std.specs.Prelude.{◌≡◌, ◌+◌, ◌^◌, ◌<◌, ◌≤◌, ⊤, ℕ, List, length, map, IfOk, Result};
 ghost use Rattle.std.specs.List.{flat_map};
@@ -25,8 +25,8 @@ pub(crate) fn not_there(offset: usize) -> FormatFault
     FormatFault::new(FormatFaultKind::Range, offset)
 }
 
-/// An item of a list, which is looked at in a context.
-pub(crate) trait References<C>: Drop {
+/// An item of a list, whose references are checked in a context.
+pub(crate) trait Late<C>: Drop {
     /// Whether what the item at an offset names is there.
     ghost naming: { Naming C Self };
 
