@@ -139,7 +139,7 @@ pub record IsWithinLimits (d : Draft) (lengths : List ℕ) : Type 0 where
   pub draft : IsWithin d
   pub code : length (spelled d.code lengths) ≤ max_code d.version
 
--- the contexts are there, and the tables keep the rules of the format
+-- the contexts are there, and the tables are valid
 pub record IsValid (d : Draft) (a : Arrangement) : Type 0 where
   pub contexts : ContextsAreThere d a
   pub tables : Keeps (tables_of d a)

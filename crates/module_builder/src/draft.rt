@@ -1,4 +1,4 @@
-//! A module as a compiler thinks of it.
+//! A module as a compiler describes it.
 
 use crate::instructions::Instructions;
 use crate::item::Label;
