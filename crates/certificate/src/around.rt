@@ -44,7 +44,7 @@ fn give(lengths: &mut BTreeMap<i32, u32>, channels: &[ChannelRow]) -> Result<(),
     Ok(())
 }
 
-/// Gives the words of channels back what they had.
+/// Restores what the words of channels had.
 fn restore(
     lengths: &mut BTreeMap<i32, u32>,
     channels: &[ChannelRow],

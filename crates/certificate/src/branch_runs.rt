@@ -47,7 +47,7 @@ fn sizes_of(alloc: Global, tables: &Tables, places: &[Place]) -> Result<Vec<u32>
 }
 
 /// Positions of the PAR rows in an order in which a row is followed by those in it, so that few are left and entered
-/// on a walk. Nothing but the time of the walk hangs on it.
+/// on a walk. Only the time of the walk depends on it.
 fn positions_of(alloc: Global, tables: &Tables, places: &[Place]) -> Result<Vec<u32>, AllocError> {
     let sizes = sizes_of(alloc, tables, places)?;
     let mut positions: Vec<u32> = Vec::new(alloc);

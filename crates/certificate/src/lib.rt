@@ -1,5 +1,5 @@
-//! What a module is asked: its contexts and branches, where its instructions start, and what a context may
-//! touch. The module file itself is in `module_format`.
+//! Queries on a module: its contexts and branches, where its instructions start, and what a context may touch. The
+//! module file itself is in `module_format`, which is re-exported.
 #![tactic(auto)]
 
 mod around;
