@@ -35,7 +35,7 @@ pub enum Fun {
     Operate = 0xf,
 }
 
-/// The code of `pfix`, after which the operand goes on to the left.
+/// The code of `pfix`, which shifts the operand left.
 pub const PREFIX: u8 = 0x2;
 /// The code of `nfix`, which complements the operand first.
 pub const NEGATIVE_PREFIX: u8 = 0x6;
