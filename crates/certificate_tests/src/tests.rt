@@ -1,5 +1,5 @@
-//! Each public call once, and tables by hand that no file gives. What files say, and which are refused, is asked by the
-//! cases of `machine_conformance`.
+//! Each public call once, and tables by hand that no file gives. What files say, and which are refused, is tested by
+//! the cases of `machine_conformance`.
 
 mod by_hand;
 mod files;

@@ -1,6 +1,5 @@
-//! Tables by hand, of which no file can be the only question: such as have no file, and such as are as long as the
-//! format allows. Whether other tables keep the format is asked of their files, by the cases of
-//! `machine_conformance`.
+//! Tables by hand, for what no file can test: tables that have no file, and tables that are as long as the format
+//! allows. Whether other tables are valid is tested by their files, in the cases of `machine_conformance`.
 
 use super::JUMP;
 use bitflags::Flags;
@@ -304,7 +303,7 @@ const LISTS: [(Items, u16, bool); 17] = [
     (Items::Ends, 65_535, false),
 ];
 
-/// Whether tables with such a list keep the format.
+/// Whether tables with such a list are valid.
 fn keep(alloc: Global, items: Items, last: u16) -> Result<bool, AllocError> {
     match items {
         Items::Labels => labels_keep(alloc, last),
@@ -326,7 +325,7 @@ fn long_lists(rt: HostRuntime) -> Result<(), Fail> {
     Ok(())
 }
 
-/// Kinds of a parameter in version 1, where regions have the full range alone, and whether they keep the format.
+/// Kinds of a parameter in version 1, where regions have the full range alone, and whether they are valid.
 fn kinds() -> [(ParameterKind, bool); 7] {
     [
         (read_region(0, i32::MAX), false),
@@ -355,7 +354,7 @@ fn channels(ends: Ends) -> ParameterKind {
     }
 }
 
-/// Whether tables of version 1 with a procedure that has this parameter keep the format.
+/// Whether tables of version 1 with a procedure that has this parameter are valid.
 fn kind_keeps(alloc: Global, kind: ParameterKind) -> Result<bool, AllocError> {
     let mut row = ProcedureRow::numbered(alloc, 1)?;
     row.parameters = alone(alloc, Parameter { word: 1, kind })?;
@@ -389,7 +388,7 @@ fn table_rows(alloc: Global, rows: &[Row]) -> Result<Vec<TableRow>, AllocError> 
     Ok(table_rows)
 }
 
-/// Whether tables of a version keep the format, with this flag and these table rows.
+/// Whether tables of a version are valid, with this flag and these table rows.
 fn extension_keeps(
     alloc: Global,
     version: Version,
@@ -405,7 +404,7 @@ fn extension_keeps(
     Ok(tables.keeps())
 }
 
-/// Versions, flags, table rows over the six words, and whether they keep the format. Version 1 has neither a flag nor
+/// Versions, flags, table rows over the six words, and whether they are valid. Version 1 has neither a flag nor
 /// rows; of these rows the first five are right in version 2.
 const EXTENSIONS: [(Version, bool, &[Row], bool); 18] = [
     (Version::One, false, &[], true),
