@@ -1,5 +1,5 @@
 //! What is known of a process, by the calls that change it, and what a state pays at the greatest numbers. What words
-//! and labels say of each other is asked by cases.
+//! and labels say of each other is tested by cases.
 
 ghost use Rattle.std.specs.Prelude.{◌≡◌, IfSome, Some, slice_get};
 ghost use Rattle.module_format.specs.Contents.{label_of, procedure_of};
@@ -34,7 +34,7 @@ const FILE: [u8; 342] = [
     0, 0, 0, 0x40,
 ];
 
-/// The word of the frame has this fact from now on, if the context may write it.
+/// Gives the word of the frame this fact, if the context may write it.
 fn write(module: &Module, state: &mut State, word: i64, fact: Fact)
     requires { BelongsTo «module».now state.old }
     ensures { BelongsTo «module».now state.new }
@@ -175,7 +175,8 @@ fn set_four(module: &Module, state: &mut State, words: [i32; 4])
     set(module, state, 3, words[3]);
 }
 
-/// What it costs to go on as a label's with these words and this number, or the number of the rule that is broken.
+/// What it costs to continue with the label's state, with these words and this number, or the number of the rule that
+/// is broken.
 fn put_price(
     module: &Module,
     state: &mut State,
