@@ -81,7 +81,7 @@ use Rattle.machine_state.proofs.ChannelWaiters.{channel_there, same_channel, cha
 
 -- ---- what a module has
 
--- Data and code end before addresses go round, the links are before the data, and each row is small.
+-- Data and code end before addresses wrap around, the links are before the data, and each row is small.
 pub record IsSmall (m : Contents) : Type 0 where
   pub words : 4 * m.data_words < 0x7fffff00
   pub links : length m.lengths ≤ 64

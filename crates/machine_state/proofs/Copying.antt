@@ -37,7 +37,7 @@ all_places-here test place n =
     let all : n ≡ n - 0 = omega arith in
     ap (λ (p : ℕ). all_places test p n) here ∙ ap (λ (m : ℕ). all_places test (place + 0) m) all
 
--- so far so good: what is left decides
+-- all pass so far: what is left decides
 pub all_places-on : (test : ℕ → Bool) (place k n : ℕ) (b : Bool) → k < n → b ≡ test (place + k) → b ≡ true
     → all_places test place n ≡ all_places test (place + k) (n - k)
     → all_places test place n ≡ all_places test (place + (k + 1)) (n - (k + 1))

@@ -191,7 +191,7 @@ not_count n small same =
 
 -- ---- a join is opened
 
--- what holds of a module's rows: the successor is in the code, whose addresses do not go round, and branches are few
+-- what holds of a module's rows: the successor is in the code, whose addresses do not wrap around, and branches are few
 pub record RowIsSmall (m : Contents) (par : Par) : Type 0 where
   pub code : data_start + 4 * m.data_words + par.successor < 2 ^ 32
   pub branches : length par.branches + 1 < 0x80000000

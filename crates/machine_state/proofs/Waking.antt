@@ -25,7 +25,7 @@ module _ (P : Condition → Type 0) (not_ready : P Ready → ⊥) where
     | inr other ↦ other
   ]
 
-  -- who waits once somebody was roused did so before
+  -- who waits once one process was roused did so before
   pub roused_was : (tasks later : List Task) (o : Option ℕ) → Roused tasks o later → (p : ℕ) (t : Task)
       → slice_get later p ≡ Some t → P t.condition → (x : Task) × (slice_get tasks p ≡ Some x) × P x.condition
   roused_was tasks later o (change.nobody deaf) p t here waits = (t, here, waits)

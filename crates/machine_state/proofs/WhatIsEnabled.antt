@@ -123,7 +123,7 @@ quiet_push ts u cs ls ready plain old p t here waits has = elim (got_either ts u
     ]
     was (a_byte k l byte at by kept) = a_byte k l byte at by kept
 
--- somebody was roused by what has become ready, which is one channel or link
+-- a process was roused by what has become ready, which is one channel or link
 quiet_roused : (ts later : List Task) (cs : List (Option Channel)) (ls : List InputLink) (o : Option ℕ)
     → Roused ts o later → ((p : ℕ) → HasEnabled cs ls p → IsInAlternation ts p)
     → ((p : ℕ) (t : Task) → (o ≡ Some p → ⊥) → slice_get ts p ≡ Some t → MayWait t → HasReady ts cs ls p → ⊥)

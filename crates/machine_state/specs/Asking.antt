@@ -54,7 +54,7 @@ local_for (DisableChannel guard address distance) registers memory =
 local_for (DisableSkip guard distance) registers memory = without_selection_word (untouched registers memory)
 local_for (End to) registers memory = untouched registers memory
 
--- ---- what whoever grants a request relies on
+-- ---- what the one that grants a request relies on
 
 -- the process may write the three words that scheduling takes
 abbrev pub HoldsSchedulingWords : Site → Registers → Type 0

@@ -23,7 +23,7 @@ pub record WaitsAt (tasks : List Task) (p k : ℕ) : Type 0 where
   pub waits : (task.condition ≡ Sending exchange) ⊎ (task.condition ≡ Receiving exchange)
   pub at : cell_of exchange.channel ≡ k
 
--- whoever a channel says to wait there does wait there
+-- a process that a channel says to wait there does wait there
 abbrev pub HaveTheirWaiters : List Task → List (Option Channel) → Type 0
 HaveTheirWaiters tasks channels =
     (k : ℕ) (channel : Channel) (p : ℕ) → slice_get channels k ≡ Some (Some channel) → channel.waiting ≡ Some p

@@ -24,7 +24,7 @@ pub data IsAtLink (roles : List Role) (links : Links) (p : ℕ) (e : Exchange) :
       → has_end (holding_at roles p) (record { address = e.channel; direction = Out }) ≡ true
       → IsAtLink roles links p e
 
--- whoever waits on a link is recorded there
+-- a process that waits on a link is recorded there
 abbrev pub AreAtLinks : List Task → List Role → Links → Type 0
 AreAtLinks tasks roles links =
     (p : ℕ) (task : Task) (e : Exchange) (done : ℕ) → slice_get tasks p ≡ Some task → task.condition ≡ OnLink e done

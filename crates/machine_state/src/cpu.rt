@@ -195,7 +195,7 @@ impl<S> Cpu<S> {
             && !meet(address, count, local_address(workspace, -3), 4)
     }
 
-    /// The code offset that lies so far from the next instruction, modulo 2^32.
+    /// The code offset at a distance from the next instruction, modulo 2^32.
     pub fn target(&self, distance: i32) -> u32
         ensures { result ≡ target (self.now.registers.at + 1) distance }
     {
