@@ -1,4 +1,4 @@
--- Whoever is not counted has nothing enabled.
+-- A process that is not counted has nothing enabled.
 use Rattle.std.proofs.Common.{◌≡◌, ℕ, ◌<◌, ◌≤◌, ◌&&◌, Bool, true, false, cond, List, [], ◌∷◌, ◌++◌}
 use Rattle.std.proofs.Common.{length, Option, Some, None, slice_get, slice_set, refl, ◌∙◌, sym, arith}
 use Rattle.std.proofs.Common.{length-append, replicate, ⊎_elim}

@@ -21,7 +21,7 @@ enabled_count p inputs channels =
 pub record AreCounts (counts : List ℕ) (inputs : List InputLink) (channels : List (Option Channel)) : Type 0 where
   pub each : (p : ℕ) → p < length counts → slice_index counts p ≡ enabled_count p inputs channels
 
--- where this holds, whoever is not counted has nothing enabled
+-- where this holds, a process that is not counted has nothing enabled
 pub record AreAll (holds : Bool) (counts : List ℕ) (inputs : List InputLink) (channels : List (Option Channel))
     : Type 0 where
   pub others : holds ≡ true → (p : ℕ) → length counts ≤ p → enabled_count p inputs channels ≡ 0

@@ -56,7 +56,7 @@ fn remove_searched(channels: &mut Vec<Option<Channel>>, counts: &mut Vec<usize>,
     }
 }
 
-/// The channels of this opener are no more. Where all are listed, no others are gone through.
+/// The channels of this opener are no more. If all are listed, no others are searched.
 pub(crate) fn remove_all(
     channels: &mut Vec<Option<Channel>>,
     counts: &mut Vec<usize>,

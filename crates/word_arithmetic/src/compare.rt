@@ -65,7 +65,7 @@ pub fn is_greater(left: i32, right: i32) -> bool
     right < left
 }
 
-/// Whether the first is below the second, both unsigned: what the checks of a subscript and of a count ask.
+/// Whether the first is below the second, both unsigned: as the checks of a subscript and of a count test.
 pub fn is_below_unsigned(left: i32, right: i32) -> bool
     ensures { result ≡ is_below_unsigned left right }
 {

@@ -1,4 +1,4 @@
--- A byte stays that neither the running process may write nor anybody waits to receive.
+-- A byte stays that neither the running process may write nor any process waits to receive.
 use Rattle.std.proofs.Common.{◌≡◌, ℕ, ◌+◌, ◌<◌, Bool, true, false, List, Option, Some, None, refl, sym, ap, ◌∙◌}
 use Rattle.std.proofs.Common.{subst, slice_get}
 use Rattle.std.proofs.lemmas.Bool.{leb-true, ltb-true, eqb-true}

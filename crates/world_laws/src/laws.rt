@@ -21,7 +21,7 @@ pub fn tasks_are_counted()
     ensures { TasksAreCounted }
 {}
 
-/// Whoever waits for its turn, for a message or for a guard is parked: it will go on, and does not run.
+/// A process that waits for its turn, for a message or for a guard is parked: it will go on, and is not running.
 pub fn waiting_processes_are_parked()
     ensures ready { WhoIsReadyIsParked }
     ensures others { WhoWaitsIsParked }

@@ -2,7 +2,6 @@ use Rattle.std.proofs.Common.{◌≡◌, Some, slice_get}
 use Rattle.traffic.proofs.Counting.{enabled_by_count}
 use Rattle.traffic.proofs.traffic.Traffic+S+ListQueue.has_enabled.Goals as goal
 
--- src/traffic.rt:226:5
 pub returns-in-Some : goal.returns-in-Some
 returns-in-Some g c =
     let counts = c.self.inside.enabled_counts.items in

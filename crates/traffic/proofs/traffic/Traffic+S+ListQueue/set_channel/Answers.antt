@@ -4,7 +4,6 @@ use Rattle.traffic.proofs.Counting.{channel_recounted}
 use Rattle.traffic.proofs.Uncounted.{all_after_channel}
 use Rattle.traffic.proofs.traffic.Traffic+S+ListQueue.set_channel.Goals as goal
 
--- src/traffic.rt:209:5
 pub invariant_of-self : goal.invariant_of-self
 invariant_of-self g c =
     let channels = c.self.inside.channels.items in

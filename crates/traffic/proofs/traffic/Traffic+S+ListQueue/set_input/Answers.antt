@@ -4,7 +4,6 @@ use Rattle.traffic.proofs.Counting.{input_recounted}
 use Rattle.traffic.proofs.Uncounted.{all_after_input}
 use Rattle.traffic.proofs.traffic.Traffic+S+ListQueue.set_input.Goals as goal
 
--- src/traffic.rt:183:5
 pub invariant_of-self : goal.invariant_of-self
 invariant_of-self g c =
     let inputs = c.self.inside.inputs in
