@@ -94,7 +94,7 @@ module _ (c : Contents) (keeps : Keeps c) where
         let found = rw (le-ltb n (first_branch c) ge) at is in
         let row = in_row c.pars s (n - first_branch c) x found (omega arith) in
         let known = context_before (first_branch c) (length c.code) no_branches c.pars row.at x.0
-            keeps.rows.pars row.is in
+        keeps.rows.pars row.is in
         let low = row.before in
         (row.at, row.below, omega arith, omega arith)
   ]
@@ -195,9 +195,9 @@ pub given_more : (old new init : ℤ → Option ℕ) (chs : List ChannelRow) (i 
 given_more old new init chs i d lt now before k =
     now k ∙ ap (cond (is_eq (int_cmp (get_or chs i d).word k)) (Some (get_or chs i d).length)) (before k)
     ∙ by_word (is_eq (int_cmp (get_or chs i d).word k)) (get_or chs i d).length
-        (listed_length (drop (i + 1) chs) k) (init k)
+    (listed_length (drop (i + 1) chs) k) (init k)
     ∙ ap (λ (o : Option ℕ). nearer o (init k))
-        (sym (ap (λ (l : List ChannelRow). listed_length l k) (drop_more chs i d lt)
+    (sym (ap (λ (l : List ChannelRow). listed_length l k) (drop_more chs i d lt)
     ∙ listed_first (get_or chs i d) (drop (i + 1) chs) k))
 
 -- the length of one channel more is saved

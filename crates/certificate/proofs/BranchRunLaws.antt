@@ -1,6 +1,5 @@
 -- Visits of all branches.
-use Rattle.std.proofs.Common.{◌≡◌, ℕ, zero, suc, ◌<◌, Bool, true, false, List, [], ◌∷◌, length, get_or, sym, ap, ◌∙◌,
-  arith}
+use Rattle.std.proofs.Common.{◌≡◌, ℕ, zero, suc, ◌<◌, Bool, true, false, List, [], ◌∷◌, length, get_or, sym, ap, ◌∙◌, arith}
 use Rattle.std.proofs.Common.{refl, subst, inl, inr, ◌+◌, ◌-◌, ◌≤◌, ◌^◌, ℤ, Option, Some, None, cond, ◌&&◌}
 use Rattle.std.specs.Prelude.{◌==◌, Vec, MatchOption, slice_get, is_some, if◌then◌else◌}
 use Rattle.std.specs.List.{list_any}
@@ -156,7 +155,7 @@ runs_missing c all n h ge past =
     let many = h.many in
     let count = many_branches c.pars in
     rw (le-ltb n (first_branch c) ge)
-        (slice_get_past (branches_of c.pars) (n - first_branch c) (omega (arith, many, count, past)))
+    (slice_get_past (branches_of c.pars) (n - first_branch c) (omega (arith, many, count, past)))
 
 -- the run that is at the place of a word's end
 pub run_at : (c : Contents) (n : ℕ) (k : ℤ) (d : Direction) (x : Par × Branch) (runs : List ChannelRun) (place : ℕ)

@@ -249,14 +249,14 @@ word_before es i j k d h here next = elim (cases_lt i j) [
   | inr ge ↦ elim (cases_lt j i) [
     | inl behind ↦
         let rises = rise (word_end k d) first_key es j i h behind (slice_get_within es i (word_end k d) here) in
-        let below = rw (get_or_from_slice_get es i _ (word_end k d) here,
-            get_or_from_slice_get es j _ (word_end k d) next)
+        let below =
+        rw (get_or_from_slice_get es i _ (word_end k d) here, get_or_from_slice_get es j _ (word_end k d) next)
         at rises in
         absurd (grind (arith, nat_tests, ints))
     | inr le ↦
         let same : j ≡ i = omega arith in
         let both : Some (word_end k d) ≡ Some (word_end (k +ℤ pos 1) d) =
-            sym here ∙ ap (slice_get es) (sym same) ∙ next in
+        sym here ∙ ap (slice_get es) (sym same) ∙ next in
         let same_end : word_end k d ≡ word_end (k +ℤ pos 1) d = cc in
         let word : k ≡ k +ℤ pos 1 = ap (λ (x : EndRow). number_of x.kind) same_end in
         absurd (omega (arith, ints))

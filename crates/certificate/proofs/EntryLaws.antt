@@ -1,6 +1,5 @@
 -- What the entries of a label say of words: they rise, and a search finds the one that is about a word.
-use Rattle.std.proofs.Common.{◌≡◌, ℕ, zero, suc, ◌<◌, ◌≤◌, ℤ, pos, ◌+ℤ◌, ◌≤ℤ◌, ◌<ℤ◌, Bool, true, false, ◌&&◌, ◌||◌,
-  not, List}
+use Rattle.std.proofs.Common.{◌≡◌, ℕ, zero, suc, ◌<◌, ◌≤◌, ℤ, pos, ◌+ℤ◌, ◌≤ℤ◌, ◌<ℤ◌, Bool, true, false, ◌&&◌, ◌||◌, not, List}
 use Rattle.std.proofs.Common.{[], ◌∷◌, length, get_or, Some, find, refl, sym, subst, arith, int_le, int_lt}
 use Rattle.std.specs.Prelude.{◌==◌}
 use Rattle.std.specs.List.{AllByRecursion, list_any}
@@ -37,7 +36,7 @@ pub label_rises : (c : Contents) (at : ℕ) (t : Label) → Keeps c → label_at
 label_rises c at t keeps is =
     let rows = each (LabelKeeps (length c.code) c.procedures) behind_label (λ (row : Label). EntriesRise row.entries)
     (λ low row h.
-        record { low = least_word; order = order_kept (length c.code) least_word row.entries h.facts.entries })
+    record { low = least_word; order = order_kept (length c.code) least_word row.entries h.facts.entries })
     0 c.labels keeps.rows.labels in
     found_item (λ (row : Label). EntriesRise row.entries) (λ (row : Label). row.offset == at) c.labels t rows is
 

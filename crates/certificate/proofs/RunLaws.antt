@@ -116,7 +116,7 @@ module _ (length_of : ℤ → Option ℕ) (listed : List EndRow) (runs : List Ch
     run_here None count none is =
         let inside = slice_get_within listed i (word_end k direction) here in
         let stops : held (k +ℤ pos 1) ≡ Some (length_of k) → ⊥ =
-            λ e. absurd (let no : None ≡ Some (length_of k) = rw none at e in cc) in
+        λ e. absurd (let no : None ≡ Some (length_of k) = rw none at e in cc) in
         (rw is (one_alone held k (length_of k) held_here stops), omega arith)
     run_here (Some run) count has is =
         let j = has.at in
@@ -153,7 +153,7 @@ few_enough length_of listed runs i h few order k direction here (Some run) has =
     let found = get_or_from_slice_get runs has.at run run has.is in
     let most : has.at + run.count ≤ length listed =
     subst (λ (r : ChannelRun). has.at + r.count ≤ length listed) found
-        (h.few has.at _ direction run (omega arith) has.end)
+    (h.few has.at _ direction run (omega arith) has.end)
     in
     omega arith
 

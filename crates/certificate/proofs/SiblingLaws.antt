@@ -1,8 +1,7 @@
 -- What branches have in common: lists of intervals that rise are gone over together, and the branches of rows keep the
 -- rules.
 use Rattle.std.proofs.Common.{◌≡◌, ℕ, zero, suc, ◌+◌, ◌-◌, ◌<◌, ◌≤◌, ℤ, ◌≤ℤ◌, true, false, List, [], ◌∷◌, length}
-use Rattle.std.proofs.Common.{map, take, get_or, ◌++◌, Option, Some, None, refl, sym, ap, subst, ◌∙◌, arith, w32,
-  FitsSigned}
+use Rattle.std.proofs.Common.{map, take, get_or, ◌++◌, Option, Some, None, refl, sym, ap, subst, ◌∙◌, arith, w32, FitsSigned}
 use Rattle.std.specs.Prelude.{int_lt, int_le, slice_get}
 use Rattle.std.specs.List.{AllByRecursion, list_any}
 use Rattle.std.proofs.Math.Bool.{and-false}
@@ -108,7 +107,7 @@ module _ (left right : List Interval) (one other : Interval) (ones others : List
   one_left h e =
       subst (λ (y : List Interval). have_common_word ones y ≡ have_common_word left y) (sym r)
       (subst (λ (x : List Interval). have_common_word ones (other ∷ others) ≡ have_common_word x (other ∷ others))
-          (sym l)
+      (sym l)
       (one_is_passed one other ones others (subst Rise r h) e))
 
   pub other_left : Rise left → int_le other.hi one.lo ≡ true

@@ -1,8 +1,6 @@
 -- Neighbouring words that a context may use.
-use Rattle.std.proofs.Common.{◌≡◌, ℕ, zero, suc, ◌+◌, ◌-◌, ◌<◌, ◌≤◌, ℤ, pos, ◌+ℤ◌, ◌-ℤ◌, ◌≤ℤ◌, ◌<ℤ◌, Bool, true, false,
-  ◌&&◌}
-use Rattle.std.proofs.Common.{◌||◌, not, List, length, get_or, Option, Some, None, MatchOption, refl, sym, ap, subst,
-  ◌∙◌, arith}
+use Rattle.std.proofs.Common.{◌≡◌, ℕ, zero, suc, ◌+◌, ◌-◌, ◌<◌, ◌≤◌, ℤ, pos, ◌+ℤ◌, ◌-ℤ◌, ◌≤ℤ◌, ◌<ℤ◌, Bool, true, false, ◌&&◌}
+use Rattle.std.proofs.Common.{◌||◌, not, List, length, get_or, Option, Some, None, MatchOption, refl, sym, ap, subst, ◌∙◌, arith}
 use Rattle.std.proofs.Common.{int_le, int_lt}
 use Rattle.std.proofs.Math.Bool.{and-false, or-true}
 use Rattle.std.proofs.lemmas.Bool.{le-ltb}
@@ -157,7 +155,7 @@ module _ (c : Contents) (n : ℕ) (first : ℤ) (count : ℕ) where
             (λ k low high. are.reads.each k)
             ∙ ap (λ (b : Bool). b && all_words (λ k. is_among x.1.writes k || is_among x.1.reads k) first count) (sym e)
             ∙ sym (both_pass (has_word (context_at c n)) (λ k. is_among x.1.writes k || is_among x.1.reads k)
-                first count)
+            first count)
 
 -- ---- looked up
 

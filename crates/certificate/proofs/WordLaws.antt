@@ -13,8 +13,7 @@ use Rattle.module_format.specs.Order.{InOrder, least_word}
 use Rattle.module_format.specs.Pars.{IntervalKeeps, behind_interval}
 use Rattle.module_format.proofs.FieldLaws.{int_le-false, int_le-true, int_le-le, int_lt-false}
 use Rattle.certificate.specs.Rights.{is_among}
-use Rattle.certificate.specs.Words.{all_words, is_within, beyond_interval, BeginBy, BeginsFrom, from_begin,
-  BeginInOrder}
+use Rattle.certificate.specs.Words.{all_words, is_within, beyond_interval, BeginBy, BeginsFrom, from_begin, BeginInOrder}
 use Rattle.certificate.specs.Words.{IsAdded}
 
 -- ---- intervals by their first words
@@ -67,7 +66,7 @@ pub first_is_next : (joined rest after : List Interval) (i : Interval) → rest 
     → BeginBy i.lo joined
 first_is_next joined rest after i is h =
     let order : InOrder BeginsFrom from_begin h.low (i ∷ after) =
-        subst (InOrder BeginsFrom from_begin h.low) is h.order in
+    subst (InOrder BeginsFrom from_begin h.low) is h.order in
     begin_by h.low i.lo joined order.0 h.begun
 
 -- one of the rest is joined
@@ -75,7 +74,7 @@ pub goes_on : (joined rest after now : List Interval) (i : Interval) → rest �
     → InOrder IntervalKeeps beyond_interval least_word now → BeginBy i.lo now → Joining now after
 goes_on joined rest after now i is h apart begun =
     let order : InOrder BeginsFrom from_begin h.low (i ∷ after) =
-        subst (InOrder BeginsFrom from_begin h.low) is h.order in
+    subst (InOrder BeginsFrom from_begin h.low) is h.order in
     record { low = i.lo; apart = apart; begun = begun; order = order.1 }
 
 -- ---- one more interval

@@ -814,7 +814,7 @@ module _ (seen : ℕ → Bool) where
 
       opens : (plan : plans.Plan) (found : lookups.Found) (workspace : ℕ) (r : Registers) (m n : Memory)
           → Agree seen m n → SameTurn seen
-              (join.start_or_fail h (plans.first_faults h.contents w.memory mine plan found workspace)
+          (join.start_or_fail h (plans.first_faults h.contents w.memory mine plan found workspace)
           (join.started h plan found workspace (join.opened h plan (here r m) w).0 (join.opened h plan (here r m) w).1)
           w)
           (join.start_or_fail h (plans.first_faults h.contents n0 mine plan found workspace)

@@ -18,7 +18,7 @@ loop-index-preserved c =
     given_more (get int_cmp c.loop-index.lengths) (get int_cmp c.insert.new.self) (get int_cmp c.args.lengths.now)
     c.args.channels.now (c.loop-index.index - 1) d inside
     (λ k. rw (to_z-of_z w32 (get_or c.args.channels.now (c.loop-index.index - 1) d).word fits) at
-        (c.in_ok-insert.ensures.updates.0 k))
+    (c.in_ok-insert.ensures.updates.0 k))
     (λ k. subst (λ (n : ℕ). get int_cmp c.loop-index.lengths k
     ≡ nearer (listed_length (drop n c.args.channels.now) k) (get int_cmp c.args.lengths.now k)) same
     (c.loop-index.invariant k))

@@ -25,7 +25,7 @@ returns-in-Some-clause-runs c =
     IfOk-weaker c.runs_of.result _ _ (λ runs are. λ x is.
     let there : (par_of c.in-Some._row.now, branch_of c.in-Some.branch.now) ≡ x =
     let both : Some (par_of c.in-Some._row.now, branch_of c.in-Some.branch.now) ≡ Some x =
-        sym c.in-Some.ensures.found ∙ is
+    sym c.in-Some.ensures.found ∙ is
     in cc in
     subst (λ (y : Par × Branch). AreRuns (channel_length m c.args.context) y.1.ends runs.items) there
     (runs_same (get int_cmp c.enter.new.self.lengths) (channel_length m c.args.context) _ runs.items

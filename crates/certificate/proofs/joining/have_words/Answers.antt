@@ -39,7 +39,7 @@ returns-then-from-lo c =
     (λ j m e. parted e (single first) least_word is order j m) (λ a r f' h. search rules) in
     let inside : n < length is = ltb-true n (length is) (sym c.in-Some.ensures.lookup.0) in
     let told = found_has first count (search rules) least_word is n d c.requires inside point
-        c.in-Some.ensures.lookup.1 in
+    c.in-Some.ensures.lookup.1 in
     let lo : to_z w64 (of_z w64 c.from-lo.result) ≡ first = search rules in
     let other : to_z w64 (of_z w64 c.from.result) ≡ pos count = search rules in
     let fits : FitsSigned w64 (first +ℤ pos count) = search rules in
@@ -61,7 +61,7 @@ returns-else-from-lo c =
     (λ j m e. parted e (single first) least_word is order j m) (λ a r f' h. search rules) in
     let inside : n < length is = ltb-true n (length is) (sym c.in-Some.ensures.lookup.0) in
     let told = found_has first count (search rules) least_word is n d c.requires inside point
-        c.in-Some.ensures.lookup.1 in
+    c.in-Some.ensures.lookup.1 in
     let lo : to_z w64 (of_z w64 c.from-lo.result) ≡ first = search rules in
     let low : to_z w64 (of_z w64 c.from-in-Some.result) ≡ d.lo = search rules in
     let before : int_le d.lo first ≡ false = rw (low, lo) at c.if-from-lo.false in

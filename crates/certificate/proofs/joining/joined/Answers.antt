@@ -24,7 +24,7 @@ pub loop-interval-preserved : goal.loop-interval-preserved
 loop-interval-preserved c = record {
   are = goes_on c.loop-interval.joined.items c.loop-interval.rest.now c.in-Some.after.now c.add.new.joined.items
       c.in-Some.interval.now (search rules) c.loop-interval.invariant.are c.in_ok-add.ensures.apart
-          c.in_ok-add.ensures.begun;
+      c.in_ok-add.ensures.begun;
   words = λ k. word_goes_on k c.loop-interval.joined.items c.loop-interval.rest.now c.in-Some.after.now
       c.add.new.joined.items c.in-Some.interval.now (search rules) (c.in_ok-add.ensures.words k)
       ∙ c.loop-interval.invariant.words k;

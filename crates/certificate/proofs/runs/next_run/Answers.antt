@@ -11,7 +11,7 @@ returns-in_err-checked_add c =
     let fits : FitsSigned w32 c.args.word = search rules in
     let far = rw (c.in_err-checked_add.was, to_z-of_z w32 c.args.word fits) at c.checked_add.ensures in
     rw c.from_residual.ensures (no_word c.args.ends.now first_key (c.args.word +ℤ pos 1) c.args.direction
-        c.requires.order
+    c.requires.order
     far)
 
 pub offset_bounds-runs-index : goal.offset_bounds-runs-index

@@ -34,7 +34,7 @@ count_from-count-requires c =
     let most = c.loop-index.auto.index in let some = c.loop-index-test.true in omega arith in
     let here = end_at c.args.ends.now (c.loop-index.index - 1) _ c.in-FrameWord.word inside c.in-FrameWord.is in
     few_enough _ _ c.loop-index.runs.items (c.loop-index.index - 1) at c.requires.few c.requires.order
-        c.in-FrameWord.word _ here _
+    c.in-FrameWord.word _ here _
     (rw (to_z-of_z w32 c.in-FrameWord.word fits, c.deref.ensures.value) at c.next_run-next.ensures)
 
 pub loop-index-preserved-in-FrameWord : goal.loop-index-preserved-in-FrameWord
@@ -45,12 +45,12 @@ loop-index-preserved-in-FrameWord c =
     let most = c.loop-index.auto.index in let some = c.loop-index-test.true in omega arith in
     let here = end_at c.args.ends.now (c.loop-index.index - 1) _ c.in-FrameWord.word inside c.in-FrameWord.is in
     let found : c.copied-length.result ≡ get int_cmp c.args.lengths.now c.in-FrameWord.word = c.copied-length.ensures
-        ∙ (rw (to_z-of_z w32 c.in-FrameWord.word fits) at c.get.ensures.value) in
+    ∙ (rw (to_z-of_z w32 c.in-FrameWord.word fits) at c.get.ensures.value) in
     let count : MatchOption c.next_run-next.result (c.count_from-count.result ≡ 1)
     (λ run. IsCount (get int_cmp c.args.lengths.now c.in-FrameWord.word) run c.count_from-count.result) =
     rw found at c.count_from-count.ensures in
     let right = run_here (get int_cmp c.args.lengths.now) c.args.ends.now c.loop-index.runs.items
-        (c.loop-index.index - 1) at
+    (c.loop-index.index - 1) at
     c.in-FrameWord.word _ c.requires.order here c.next_run-next.result c.count_from-count.result
     (rw (to_z-of_z w32 c.in-FrameWord.word fits, c.deref.ensures.value) at c.next_run-next.ensures) count in
     rw found (runs_set _ _ c.loop-index.runs.items _ at c.in-FrameWord.word _ _ here right.0 right.1)
@@ -60,7 +60,7 @@ loop-index-preserved c =
     runs_kept _ _ _ _ (before _ _ _ _ c.loop-index-test.true c.loop-index.invariant)
     (λ k way is. c.in_default.not-FrameWord k
     (ap (λ (e : EndRow). e.kind) (get_or_from_slice_get c.args.ends.now (c.loop-index.index - 1)
-        (word_end k way) _ is)))
+    (word_end k way) _ is)))
 
 pub returns : goal.returns
 returns c =

@@ -8,6 +8,6 @@ pub returns : goal.returns
 unfolding goes_on
 returns g c = performs-by {S = g.row.S.Denot} g.S.LoadStore _ _ _ _ _
     (shifts-word (site_of g.S.LoadStore c.args.cpu.now) (local_of g.S.LoadStore c.args.cpu.now) c.args.op
-        c.in_ok-count.count
+    c.in_ok-count.count
     c.in_ok-word.word c.in_ok-count-2.count c.in_ok-count.ensures (search rules) (search rules) (search rules))
     (search rules)

@@ -7,7 +7,7 @@ use Rattle.operations.proofs.messages.message.Goals as goal
 pub returns-in_err-schedulable-clause-asks : goal.returns-in_err-schedulable-clause-asks
 returns-in_err-schedulable-clause-asks g c = without_message {S = g.row.S.Denot} g.S.LoadStore _ _ _ NotOwn
     (unscheduled (site_of g.S.LoadStore c.args.cpu.now) _ (local_of g.S.LoadStore c.args.cpu.now)
-        c.in_ok-exchange.exchange
+    c.in_ok-exchange.exchange
     (search rules) c.in_ok-exchange.ensures.asks (search rules))
     (search rules)
 

@@ -34,7 +34,7 @@ returns-in_default-clause-around t c =
       lengths = c.leave_until.new.self.lengths;
       saved = c.leave_until.new.self.saved;
     }) None (c.in_ok-leave_until.ensures.outside refl) c.in_default.ensures.found
-        c.in_ok-leave_until.ensures.around refl
+    c.in_ok-leave_until.ensures.around refl
     refl
 
 pub enter-requires : goal.enter-requires
@@ -42,7 +42,7 @@ enter-requires t c =
     let below = context_below (contents_of c.args.tables.now) c.requires.keeps c.args.context
     (par_of c.in-Some.par.now, branch_of c.in-Some._branch.now) c.in-Some.ensures.found in
     let outer : c.from-outer.result < t =
-        let d = c.decreases in let e = c.from-outer.ensures in omega (arith, d, e, below) in
+    let d = c.decreases in let e = c.from-outer.ensures in omega (arith, d, e, below) in
     (outer, (c.requires.keeps, (c.requires.places, c.in_ok-leave_until-2.ensures.around)))
 
 pub returns-clause-around : goal.returns-clause-around

@@ -13,7 +13,7 @@ loop-number-preserved c =
     let m = contents_of c.args.tables.now in
     let x : Par × Branch = (par_of c.in-Some.par.now, branch_of c.in-Some._branch.now) in
     let left = saved_left m c.loop-number.self.context x c.loop-number.self.saved.items c.pop.new.self.items
-        c.pop.result
+    c.pop.result
     c.in-Some.ensures.found c.loop-number.invariant.saved c.pop.ensures.items
     (λ lt. c.pop.ensures.variant.1 (rw c.loop-number.self.saved.ok.0 lt)) in
     elim c.match-pop.branch [

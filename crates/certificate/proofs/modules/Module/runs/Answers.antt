@@ -28,4 +28,4 @@ returns c =
     rw c.deref-2.ensures.value (subst (λ (m : Contents). MatchOption (numbered_branch m c.args.context) ⊥
     (λ x. AreRuns (channel_length m c.args.context) x.1.ends c.in_ok-runs.runs.now.items)) c.self.view_is
     (runs_there t c.self.inside.index.runs.items c.args.context c.in_ok-runs.runs.now c.self.invariant.1.runs
-        ge within is))
+    ge within is))
