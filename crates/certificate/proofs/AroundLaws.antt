@@ -84,7 +84,7 @@ by_listed (Some len) other = refl
 by_listed None other = refl
 
 module _ (c : Contents) (keeps : Keeps c) where
-  -- the row of a branch is in a context that is a branch of a row before it
+  -- the context of a branch's row is below the contexts of that row's branches
   pub context_in : (s n : ℕ) (x : Par × Branch) → numbered_branch c n ≡ Some x
       → n < first_branch c + branch_count (take s c.pars)
       → (at : ℕ) × (at < s) × (x.0.context < first_branch c + branch_count (take at c.pars)) × (x.0.context < n)

@@ -22,7 +22,7 @@ is_within i k = int_le i.lo k && int_lt k i.hi
 
 -- ---- joined intervals
 
--- an interval leaves the words after the one next to it: no interval after it touches it
+-- an interval leaves the words after the word next to it: no interval after it touches it
 abbrev pub beyond_interval : ℤ → Interval → ℤ
 beyond_interval low i = i.hi +ℤ pos 1
 

@@ -92,8 +92,8 @@ loop = sized 7 3 (of_code (0x40 ∷ 0xd1 ∷ 0x43 ∷ 0xd2 ∷ 0x47 ∷ 0xd3 ∷
 abbrev pub LoopEnds : Type 0
 LoopEnds = IsFinished (world_after loop (steps 24)) 24
 
--- a branch whose workspace is `below + 1` words below the frame: with the three words below it one word of the
--- frame is its own
+-- a branch whose workspace is `below + 1` words below word 0 of the frame: with the three words below it one word of
+-- the frame is its own
 abbrev pub branch_with : ℕ → ℕ → ℕ → List EndRow → Branch
 branch_with entry below word ends = record {
   entry = entry;
