@@ -31,7 +31,7 @@ SaysLess facts wanted = (k : ℤ) × (says (facts k) (wanted k) ≡ false)
 abbrev pub OneSaysAll : Facts → Facts → Facts → Type 0
 OneSaysAll facts others wanted = (k : ℤ) → (says (facts k) (wanted k) ≡ true) ⊎ (says (others k) (wanted k) ≡ true)
 
--- of each word that was written at least that is known which is wanted
+-- of each word that was written, at least what is wanted is known
 abbrev pub WrittenSaysAll : List Written → ℤ → Facts → Facts → Type 0
 WrittenSaysAll written lo facts wanted =
     (k : ℤ) (fact : Fact) → fact_of_index written (k -ℤ lo) ≡ Some fact → says (facts k) (wanted k) ≡ true

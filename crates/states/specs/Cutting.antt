@@ -17,11 +17,11 @@ use Rattle.states.specs.Rows.{rise_from, AreApart}
 
 -- ---- what is asked of some words
 
--- of each word that no interval has at least that is known which is wanted
+-- of each word that no interval has, at least what is wanted is known
 abbrev pub SaysOutside : List Interval → Facts → Facts → Type 0
 SaysOutside intervals facts wanted = (k : ℤ) → is_among intervals k ≡ false → says (facts k) (wanted k) ≡ true
 
--- of each word that an interval has at least that is known which is wanted, and what is wanted is no loop's
+-- of each word that an interval has, at least what is wanted is known, and what is wanted is no loop's
 abbrev pub SaysInside : List Interval → Facts → Facts → Type 0
 SaysInside intervals facts wanted =
     (k : ℤ) → is_among intervals k ≡ true → (says (facts k) (wanted k) ≡ true) × (is_alone (wanted k) ≡ true)
@@ -41,8 +41,8 @@ keeps Outside is_among = not is_among
 abbrev pub kept_facts : Side → List Interval → Facts → Facts
 kept_facts side intervals facts = λ k. if keeps side (is_among intervals k) then facts k else Alone Unknown
 
--- The pieces say what the entries say of the words that are kept, and no interval has a word of a loop. Where the words
--- are kept that no interval has, the pieces have all loops.
+-- The pieces say what the entries say of the words that are kept, and no interval has a word of a loop. If the words
+-- that no interval has are kept, the pieces have all loops.
 pub record AreCut (side : Side) (intervals : List Interval) (entries pieces : List Entry) : Type 0 where
   pub apart : AreApart pieces
   pub kept : (k : ℤ) → entry_fact pieces k ≡ kept_facts side intervals (entry_fact entries) k

@@ -8,7 +8,7 @@ use Rattle.states.specs.declared.known.WordFact.TheVariants.{Alone}
 use Rattle.states.specs.State.{Facts, entry_fact}
 use Rattle.states.specs.declared.overlay.Written.{Written}
 
--- the fact of an index, where it was written
+-- the fact of an index, if it was written
 abbrev pub lookup : List Written → ℕ → Option Fact
 lookup [] index = None
 lookup (w ∷ ws) index = if w.index == index then Some w.fact else lookup ws index

@@ -11,6 +11,6 @@ pub record Covers (m : Contents) (lo hi : ℤ) : Type 0 where
   pub low : (n : ℕ) (k : ℤ) → has_word (context_at m n) k ≡ true → lo ≤ℤ k
   pub high : (n : ℕ) (k : ℤ) → has_word (context_at m n) k ≡ true → k <ℤ hi
 
--- memory for as many guards as an alternation may have is there
+-- there is capacity for as many guards as an alternation may have
 pub record HasRoomForGuards (s : State) : Type 0 where
   pub room : MAX_GUARDS ≤ vec_capacity s.guards

@@ -50,7 +50,7 @@ by_itself (Alone fact) = fact
 by_itself (Index loop) = Number loop.base (loop.base +ℤ pos loop.count -ℤ pos 1)
 by_itself (Count loop) = Number (pos 1) (pos loop.count)
 
--- what an instruction learns of a fact: a return address is not handed out, and no word is a loop
+-- what an instruction learns of a fact: it does not learn a return address, and no word is a loop
 abbrev pub handed_out : Fact → Fact
 handed_out (Loop base count weight) = Unknown
 handed_out ReturnAddress = Unknown

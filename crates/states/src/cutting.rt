@@ -22,7 +22,7 @@ pub(crate) enum Side {
 }
 
 impl Side {
-    /// Whether words are kept, which an interval has or none.
+    /// Whether words are kept. Either an interval has them, or none has.
     #[inline(always)]
     fn keeps(self, is_among: bool) -> bool
         ensures { result ≡ keeps self is_among }
@@ -34,7 +34,7 @@ impl Side {
     }
 }
 
-/// Puts one more piece to the others, where there is a place for it.
+/// Pushes one more piece, if there is capacity for it.
 #[inline(always)]
 fn push(pieces: &mut Vec<Entry>, piece: Entry) -> Option<()>
     ensures { IfSome result (λ _. pieces.new.items ≡ pieces.old.items ++ (piece ∷ [])) }
@@ -45,7 +45,7 @@ fn push(pieces: &mut Vec<Entry>, piece: Entry) -> Option<()>
     pieces.push(piece).ok()
 }
 
-/// The entry of the words from `word` up to `end`, of which the fact is.
+/// The entry of the words from `word` up to `end`, with this fact.
 #[inline(always)]
 fn piece_of(fact: Fact, word: i64, end: i64) -> Option<Entry>
     requires { word ≤ℤ end }
@@ -62,8 +62,8 @@ fn piece_of(fact: Fact, word: i64, end: i64) -> Option<Entry>
     })
 }
 
-/// The first words of an entry from a word on of which intervals have all or none. They are put to the pieces, if they
-/// are kept.
+/// The first words of an entry from a word on of which intervals have all or none. They are pushed to the pieces, if
+/// they are kept.
 #[inline(always)]
 fn cut_run<'a>(
     pieces: &mut Vec<Entry>,
@@ -162,8 +162,8 @@ fn cut_entry<'a>(
     }
 }
 
-/// The pieces become the words of entries that are kept, by one pass over entries and intervals. None: an interval has
-/// a word of a loop, or there is no place for a piece.
+/// The pieces become the words of entries that are kept, by one pass over entries and intervals. `None`: an interval
+/// has a word of a loop, or there is no capacity for a piece.
 pub(crate) fn cut(
     pieces: &mut Vec<Entry>,
     side: Side,

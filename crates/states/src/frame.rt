@@ -223,7 +223,7 @@ impl<'a> Frame<'a> {
         self.row = row;
     }
 
-    /// What the words hold where a procedure begins is known from now on, and nothing else.
+    /// What the words hold when a procedure begins is known from now on, and nothing else.
     pub(crate) fn begin(&mut self, row: &ProcedureRow)
         requires first { HasRoom self.old (pos 0) }
         requires room { HasRoomForAll self.old row.now.parameters.items }
@@ -249,7 +249,7 @@ impl<'a> Frame<'a> {
         i64::from(self.lo) + index as i64
     }
 
-    /// Whether of each word of an entry at least that is known which the entry says, word by word.
+    /// Whether at least what an entry says is known of each of its words, tested word by word.
     fn entry_holds(&self, entry: &Entry) -> bool
         ensures { result ≡ words_say (frame_facts self.now) entry.now entry.now.span }
     {
@@ -265,7 +265,7 @@ impl<'a> Frame<'a> {
         true
     }
 
-    /// Whether of each word at least that is known which a row wants, word by word.
+    /// Whether at least what a row wants is known of each word, tested word by word.
     fn each_holds(&self, row: &[Entry]) -> bool
         ensures { result ≡ entries_hold (frame_facts self.now) row.now }
     {
@@ -277,7 +277,7 @@ impl<'a> Frame<'a> {
         true
     }
 
-    /// Whether both words of a loop come from that loop, or neither does, where the entry is of one.
+    /// Whether both words of a loop come from that loop, or neither does, if the entry is of one.
     #[inline(always)]
     fn is_whole_at(&self, entry: &Entry) -> bool
         ensures { result ≡ is_whole (frame_facts self.now) entry.now }
@@ -304,8 +304,8 @@ impl<'a> Frame<'a> {
         true
     }
 
-    /// Whether of each word at least that is known which a row wants, and no loop that it wants is half known,
-    /// word by word.
+    /// Whether at least what a row wants is known of each word, and no loop that it wants is half known, tested word by
+    /// word.
     pub(crate) fn says_all(&self, row: &[Entry]) -> bool
         requires { AreApart row.now }
         ensures { result ≡ (entries_hold (frame_facts self.now) row.now
@@ -314,8 +314,8 @@ impl<'a> Frame<'a> {
         self.each_holds(row) && self.is_whole(row)
     }
 
-    /// What it costs to enter the loop that an entry wants: its weight for each turn but the first, where its
-    /// words are constants. None where that is no number of 128 bits.
+    /// What it costs to enter the loop that an entry wants: its weight for each turn but the first, if its words are
+    /// constants. `None` if that is no number of 128 bits.
     #[inline(always)]
     fn price(&self, entry: &Entry) -> Option<u128>
         ensures { SomeIff result (price (frame_facts self.now) entry.now < 2 ^ 128) (price (frame_facts self.now) entry.now) }
@@ -339,7 +339,7 @@ impl<'a> Frame<'a> {
         }
     }
 
-    /// What is left of a number once the loops are entered that a row wants, where it covers them.
+    /// What is left of a number once the loops that a row wants are entered, if the number covers them.
     #[inline(never)]
     pub(crate) fn left_of(&self, number: u128, row: &[Entry]) -> Option<u128>
         ensures { let prices = sum_by (price (frame_facts self.now)) row.now in SomeIff result (prices ≤ number) (number - prices) }
@@ -354,7 +354,7 @@ impl<'a> Frame<'a> {
     }
 }
 
-/// What a parameter's word holds where the procedure begins.
+/// What a parameter's word holds when the procedure begins.
 fn parameter_fact(region: u16, kind: ParameterKind) -> Fact
     ensures { result ≡ parameter_fact region kind }
 {

@@ -50,8 +50,8 @@ fn weight_of(wanted: Loop) -> Option<u128>
     u128::from(wanted.weight).checked_mul(u128::from(wanted.count.saturating_sub(1)))
 }
 
-/// What is paid where the words of a loop that is wanted say this: what it costs to enter it where they are its first
-/// constants, and nothing where they are that loop's. None: they say less, or only one of them is a loop's.
+/// What is paid for a loop that is wanted, whose words say this: what it costs to enter it if they are its first
+/// constants, and nothing if they are that loop's. `None`: they say less, or only one of them is a loop's.
 fn due(wanted: Loop, first: WordFact, second: WordFact) -> Option<u128>
     requires first { LoopFits first }
     requires second { LoopFits second }
@@ -120,7 +120,7 @@ impl Frame<'_> {
         }
     }
 
-    /// Whether of each word that was written at least that is known which a row wants.
+    /// Whether at least what a row wants is known of each word that was written.
     fn written_holds(&self, row: &[Entry]) -> bool
         requires { AreApart row.now }
         ensures { IsTrue result
@@ -135,7 +135,7 @@ impl Frame<'_> {
         true
     }
 
-    /// Whether of each word of a block at least that is known which a row wants.
+    /// Whether at least what a row wants is known of each word of a block.
     fn block_holds(&self, number: usize, row: &[Entry]) -> bool
         requires room { number < self.now.by_block.room }
         requires apart { AreApart row.now }
@@ -152,7 +152,7 @@ impl Frame<'_> {
         true
     }
 
-    /// Whether of each word of the blocks that were left at least that is known which a row wants.
+    /// Whether at least what a row wants is known of each word of the blocks that were left.
     fn left_holds(&self, row: &[Entry]) -> bool
         requires { AreApart row.now }
         ensures { IsTrue result
@@ -166,7 +166,7 @@ impl Frame<'_> {
         true
     }
 
-    /// Whether too many words were changed to seek each in a row: it is to be asked word by word.
+    /// Whether too many words were changed to seek each in a row, so that the row is tested word by word.
     fn asks_each(&self, row: &[Entry]) -> bool {
         let in_blocks = self
             .by_block
@@ -294,8 +294,8 @@ impl Frame<'_> {
         Some(paid)
     }
 
-    /// Whether of each word of an entry, which wants no loop, at least that is known which it wants: by what is left of
-    /// the label's row, or else by itself.
+    /// Whether at least what an entry that wants no loop wants is known of each of its words: by what is left of the
+    /// label's row, or else by itself.
     fn words_hold(&self, base: &[Entry], entry: &Entry) -> bool
         requires { AreApart base.now }
         ensures { IsTrue result → IsBase (entry_fact self.now.row.now) base.now entry.now.word
@@ -319,7 +319,7 @@ impl Frame<'_> {
         true
     }
 
-    /// What is paid for an entry, where it holds by what is left of the label's row or by what is known of its words.
+    /// What is paid for an entry, if it holds by what is left of the label's row or by what is known of its words.
     fn entry_paid(&self, base: &[Entry], entry: &Entry) -> Option<u128>
         requires { AreApart base.now }
         ensures { IfSome result (λ paid. IsBase (entry_fact self.now.row.now) base.now entry.now.word
@@ -336,7 +336,7 @@ impl Frame<'_> {
     }
 
     /// What is left once the first entry that is wanted is passed, or more: those that are pairs, those that one entry
-    /// of the label's row is over, or the loops that are entered.
+    /// of the label's row covers, or the loops that are entered.
     fn past_some<'b>(&self, from: &'b [Entry], rest: &'b [Entry], paid: u128) -> Option<Walk<'b>>
         requires { AreApart from.now }
         ensures walks { IfSome result (λ next. (row : List Row)
@@ -379,7 +379,7 @@ impl Frame<'_> {
         })
     }
 
-    /// What is paid for the entries of a row, where each holds by the label's row or by what is known of its words.
+    /// What is paid for the entries of a row, if each holds by the label's row or by what is known of its words.
     fn row_paid(&self, row: &[Entry]) -> Option<u128>
         requires { AreApart row.now }
         ensures { IfSome result (AreEntered (entry_fact self.now.row.now) (frame_facts self.now) row.now) }
@@ -396,9 +396,8 @@ impl Frame<'_> {
         Some(paid)
     }
 
-    /// What is paid for the loops that a row wants and that are entered, where of each word at least that is known
-    /// which the row wants, and no loop that it wants is half known. None: one of these fails, or too many words were
-    /// changed.
+    /// What is paid for the loops that a row wants and that are entered. At least what the row wants is known of each
+    /// word, and no loop that it wants is half known. `None`: one of these fails, or too many words were changed.
     pub(crate) fn paid(&self, row: &[Entry]) -> Option<u128>
         requires { AreApart row.now }
         ensures hold { IfSome result (λ _. entries_hold (frame_facts self.now) row.now ≡ true) }
@@ -418,8 +417,8 @@ impl Frame<'_> {
         Some(paid)
     }
 
-    /// Whether no word is one of a loop by what is known and by what a row wants. The time goes with the entries of the
-    /// label's row and of this one.
+    /// Whether no word is one of a loop by what is known and by what a row wants. The time grows with the entries of
+    /// the label's row and of this one.
     pub(crate) fn has_loops_apart(&self, row: &[Entry]) -> bool
         requires { AreApart row.now }
         ensures { IsTrue result → AreLoopsApart (frame_facts self.now) (entry_fact row.now) }

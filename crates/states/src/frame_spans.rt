@@ -97,8 +97,8 @@ impl Frame<'_> {
         }
     }
 
-    /// The block that begins at a word is summed from now on, if one does that has no more words than `most`.
-    /// Returned is how many it has, or else one.
+    /// Sums the block that begins at a word from now on, if there is one of at most `most` words. Returns how many
+    /// words it has, or else one.
     fn sum_some(&mut self, word: i32, most: u32) -> u32
         requires { 1 ≤ most }
         ensures some { 1 ≤ result }
@@ -161,7 +161,7 @@ impl Frame<'_> {
         false
     }
 
-    /// How a block is left that is left so: where all its words are known to become one fact, it is that fact.
+    /// How a block that is left so is left: if all its words are known to become one fact, it is that fact.
     fn block_leaving(&self, number: usize, leaving: Leaving) -> Leaving
         requires { number < self.now.by_block.room }
         ensures { let first = first_of self.now.lo number in

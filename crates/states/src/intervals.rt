@@ -85,8 +85,8 @@ fn stretch_from<'a>(intervals: &'a [Interval], word: i64, end: i64) -> Stretch<'
     }
 }
 
-/// Whether intervals, which rise, or others have each of the words from the first up to `end` (not included). The
-/// time goes with their number.
+/// Whether intervals, which rise, or others have each of the words from the first up to `end` (not included). The time
+/// grows with their number.
 pub(crate) fn have_words(intervals: &[Interval], others: &[Interval], first: i64, end: i64) -> bool
     requires order { InOrder IntervalKeeps behind_interval least_word intervals.now }
     requires others { InOrder IntervalKeeps behind_interval least_word others.now }

@@ -58,7 +58,7 @@ impl WordFact {
         }
     }
 
-    /// What an instruction learns that reads the word: a return address is not handed out.
+    /// What an instruction learns that reads the word: it does not learn a return address.
     pub fn plain(self) -> Fact
         requires { LoopFits self }
         ensures { result ≡ plain self }
@@ -103,7 +103,7 @@ pub enum Source {
     From {
         word: i32,
     },
-    /// It is 1 where this frame word lies from `lo` to `hi`, else 0; the other way round where `is_inside` is false.
+    /// It is 1 if this frame word lies from `lo` to `hi`, else 0; if `is_inside` is false, it is the opposite.
     Test {
         word: i32,
         lo: i32,

@@ -257,7 +257,7 @@ fn past_apart<'a>(row: &'a [Entry], entry: &Entry) -> Option<&'a [Entry]>
     Some(left)
 }
 
-/// Whether no word is one of a loop by both of two rows. The time goes with their entries.
+/// Whether no word is one of a loop by both of two rows. The time grows with their entries.
 pub(crate) fn have_loops_apart(row: &[Entry], other: &[Entry]) -> bool
     requires row { AreApart row.now }
     requires other { AreApart other.now }

@@ -134,7 +134,7 @@ fn room_of(tables: &Tables) -> (i32, i32)
     (lo, hi)
 }
 
-/// The word, where it is allowed and one of 32 bits.
+/// The word, if it is allowed and fits in 32 bits.
 fn word_where(is_allowed: bool, word: i64) -> Option<i32>
     ensures { SomeIff result (IsTrue is_allowed × FitsSigned w32 word) word }
 {
@@ -167,16 +167,16 @@ impl<'a> State<'a> {
         })
     }
 
-    /// The word, if the state's context may write it. The time goes with the logarithm of the intervals of a
-    /// branch's row.
+    /// The word, if the state's context may write it. The time grows with the logarithm of the intervals of a branch's
+    /// row.
     pub fn writable_word(&self, word: i64) -> Option<i32>
         ensures { IsUsable may_write_word self.now word result }
     {
         word_where(self.module.may_write_word(self.context, word), word)
     }
 
-    /// The word, if the state's context may read it. The time goes with the logarithm of the intervals of a
-    /// branch's row.
+    /// The word, if the state's context may read it. The time grows with the logarithm of the intervals of a branch's
+    /// row.
     pub fn readable_word(&self, word: i64) -> Option<i32>
         ensures { IsUsable may_read_word self.now word result }
     {
@@ -200,9 +200,8 @@ impl<'a> State<'a> {
         self.frame.fact_at(word)
     }
 
-    /// A word of the frame has this fact from now on, and no register speaks of what it was. A loop that
-    /// loses one of its words leaves what the other says by itself. The time goes with the logarithm of the
-    /// label's entries.
+    /// A word of the frame has this fact from now on, and no register speaks of what it was. A loop that loses one of
+    /// its words leaves what the other says by itself. The time grows with the logarithm of the label's entries.
     pub fn write(&mut self, word: i32, fact: Fact)
         requires { CanWrite self.old word }
         ensures state { state_of self.new ≡ written word fact (state_of self.old) }
@@ -310,8 +309,8 @@ impl<'a> State<'a> {
         self.stack.c = forgets_span(first, count, self.stack.c);
     }
 
-    /// What is paid for the loops that entries want and that are entered. Of each word at least what the entries want
-    /// is known, and no loop that they want is half known. `None`: one of these fails, or too many words were changed
+    /// What is paid for the loops that entries want and that are entered. At least what the entries want is known of
+    /// each word, and no loop that they want is half known. `None`: one of these fails, or too many words were changed
     /// since the last label. The time is as that of `cost_below`.
     pub fn paid(&self, entries: &[Entry]) -> Option<u128>
         requires { AreApart entries.now }
@@ -322,8 +321,8 @@ impl<'a> State<'a> {
         self.frame.paid(entries)
     }
 
-    /// The same, but only the words are asked that no interval has. None: an interval has a word of a loop, or one of
-    /// the others fails, or too many words were changed. The time goes with the intervals besides.
+    /// The same, but only the words that no interval has are tested. `None`: an interval has a word of a loop, or one
+    /// of the others fails, or too many words were changed. The time grows with the intervals besides.
     pub fn paid_outside(&mut self, entries: &[Entry], intervals: &[Interval]) -> Option<u128>
         requires apart { AreApart entries.now }
         requires order { InOrder IntervalKeeps behind_interval least_word intervals.now }
@@ -338,8 +337,8 @@ impl<'a> State<'a> {
         Some(paid)
     }
 
-    /// Whether of each word that an interval has at least that is known which entries want, and no interval has a word
-    /// of a loop that they want. False: one of these fails, or too many words were changed. The time goes with the
+    /// Whether at least what entries want is known of each word that an interval has, and no interval has a word of a
+    /// loop that they want. `false`: one of these fails, or too many words were changed. The time grows with the
     /// entries and the intervals, and as that of `cost_below`.
     pub fn holds_inside(&mut self, entries: &[Entry], intervals: &[Interval]) -> bool
         requires apart { AreApart entries.now }
@@ -409,8 +408,8 @@ impl<'a> State<'a> {
         self.guards.clear();
     }
 
-    /// The state goes on as that in which a procedure begins, whose number as a context is given. The time
-    /// goes with its parameters.
+    /// The state goes on as that in which a procedure begins, whose number as a context is given. The time grows with
+    /// its parameters.
     pub fn become_procedure(&mut self, module: &'a Module<'a>, row: &ProcedureRow, context: u32)
         requires belongs { BelongsTo «module».now self.old }
         requires some { 1 ≤ context }
