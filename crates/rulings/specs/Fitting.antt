@@ -1,4 +1,4 @@
--- When the rule of an instruction and its step fit each other: where the rule is not broken, the step is no fault, it
+-- When the rule of an instruction and its step fit each other: if the rule is not broken, the step is no fault, it
 -- changes own bytes only, and what the rule says of the state after it holds.
 use Rattle.std.specs.Prelude.{◌≡◌, ℕ, ◌+◌, ◌*◌, ◌≤◌, ◌<◌, ℤ, pos, ◌+ℤ◌, ◌≤ℤ◌, Bool, true, false, List, [], ◌∷◌, ◌++◌}
 use Rattle.std.specs.Prelude.{length, Option, Some, None, slice_get, slice_set}
@@ -91,7 +91,7 @@ step_site x = record {
   has_long_operations = x.m.has_long_operations;
 }
 
--- ---- who waits for a return
+-- ---- activations that wait for a return
 
 -- An activation that waits until the one that it called returns, and the state in which it goes on then.
 pub record Caller : Type 0 where
@@ -128,7 +128,7 @@ pub data GoesTo (x : Here) : Outcome → ℕ → Local → Type 0 where
   is_jump : {to : ℕ} {l : Local} → GoesTo x (jumps to l) to l
   is_landing : {to : ℕ} {l : Local} → GoesTo x (lands to l) to l
 
--- A channel of which the activation has the end in a direction, over which messages are as long as this one.
+-- A channel of which the activation has the end in a direction, and whose messages have the length of this one.
 pub record GoesOver (x : Here) (direction : Direction) (e : Exchange) : Type 0 where
   pub kind : EndKind
   pub end : (scope_of x.m x.context x.act.layout).ends kind direction ≡ true

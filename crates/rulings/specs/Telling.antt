@@ -32,7 +32,8 @@ Advances (Ok Returns) after ruling = ruling ≡ returns
 Advances (Ok Ends) after ruling = ruling ≡ ends
 Advances (Err broken) after ruling = ruling ≡ breaks broken
 
--- a state may go on at a label, or after the instruction in another state; or a rule is broken, whatever that is
+-- a state may go on at a label, or after the instruction in another state; or a rule is broken, whatever that other
+-- state is
 abbrev pub Forks : {A : Type 0} → Result A Rule → ℕ → (State → Ruling) → Type 0
 Forks (Ok x) to forks = (here : State) → forks here ≡ falls_or_leads here to
 Forks (Err broken) to forks = (here : State) → forks here ≡ breaks broken

@@ -5,8 +5,8 @@ use certificate::Module;
 use module_format::Fact;
 use states::{Rule, State, cost_below, label_rows_are_sound};
 
-/// The place of an instruction: its module, its offset and its bytes. The functions of a place are what the rules
-/// there are made of. Where a rule is broken, the state is left part of the way.
+/// The place of an instruction: its module, its offset and its bytes. The functions of a place are what the rules there
+/// are made of. If a rule is broken, the state is left part of the way.
 #[derive(Clone, Copy)]
 pub struct Place<'m, 'a> {
     pub module: &'m Module<'a>,
@@ -24,7 +24,7 @@ impl Place<'_, '_> {
     ghost use Rattle.rulings.specs.Telling.{Admits, Leaves, Advances, Forks};
     ghost use Rattle.rulings.specs.Places.{site_of};
 
-    /// The state's context may write the word so far from the workspace.
+    /// The state's context may write the word at this distance from the workspace.
     #[tactic(auto, unfolding(crate::specs::Rulings::writes_word))]
     pub fn writes_word(&self, state: &State, distance: i32) -> Result<i32, Rule>
         requires { BelongsTo self.now.module.now state.now }
@@ -37,7 +37,7 @@ impl Place<'_, '_> {
         word.ok_or(Rule::OwnWord)
     }
 
-    /// The state's context may read the word so far from the workspace.
+    /// The state's context may read the word at this distance from the workspace.
     #[tactic(auto, unfolding(crate::specs::Rulings::reads_word))]
     pub fn reads_word(&self, state: &State, distance: i32) -> Result<i32, Rule>
         requires { BelongsTo self.now.module.now state.now }
