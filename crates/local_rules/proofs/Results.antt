@@ -147,7 +147,7 @@ module _ (m : Contents) (layout : Layout) where
 
 -- ---- shifts
 
--- a shift; None where the count is out of range
+-- a shift; `None` if the count is out of range
 abbrev pub shift_computed : Shift → ℤ → ℤ → Option ℤ
 shift_computed op x y = if int_le (pos 0) y && int_le y (pos 31) then Some (shifted op x (nat_abs y)) else None
 

@@ -453,7 +453,7 @@ module _ (x : Here) (s : State) (l : Local) (a : Within ArePlain x.m x.h x.mode 
 
   -- ---- cj
 
-  -- where the condition came out so
+  -- where the condition had this result
   after_narrowing : (s' : State) (l' : Local) (source : Source) (holds : Bool) (v : ℤ)
       → Within ArePlain x.m x.h x.mode x.act s' l'
       → ComesFrom (words_in x.m s'.context).reads l'.memory x.act.layout.origin source (Some v)

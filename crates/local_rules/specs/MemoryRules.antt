@@ -27,7 +27,7 @@ with_fact_a site fact s = alone s.mode (goes_on site (with_a (known fact) s))
 
 -- ---- pointers that are made
 
--- the fact of a pointer, where its offsets are near
+-- the fact of a pointer, if its offsets are near
 unfoldable pub near_fact : ℕ → ℤ → ℤ → Step → Result Fact Rule
 near_fact region lo hi step = if are_near lo hi then Ok (Pointer region lo hi step) else Err rules.Pointer
 
@@ -90,7 +90,7 @@ loads_place site s =
 
 -- ---- words and bytes that are read
 
--- a pointer to words, where its offsets are near
+-- a pointer to words, if its offsets are near
 unfoldable pub words_at : ℕ → ℤ → ℤ → Result Pointed Rule
 words_at region lo hi =
     if are_near lo hi then Ok (record { region = region; lo = lo; hi = hi; step = Word }) else Err rules.Pointer

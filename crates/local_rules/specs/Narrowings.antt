@@ -4,7 +4,7 @@ use Rattle.local_rules.specs.declared.narrowing.Narrowing.{Narrowing}
 use Rattle.states.specs.State.{Facts}
 use Rattle.states.specs.Frames.{with_alone}
 
--- where the condition came out so
+-- where the condition had this result
 abbrev pub narrowed_by : Option Narrowing → Bool → Facts → Facts
 narrowed_by None holds facts = facts
 narrowed_by (Some n) holds facts = with_alone n.word (if holds then n.if_true else n.if_false) facts

@@ -53,7 +53,7 @@ range_of _ = None
 abbrev pub number_in : Ends → Fact
 number_in r = Number r.lo r.hi
 
--- the one number that a fact says; None where it says several, or is none
+-- the one number that a fact says; `None` if it says several, or is none
 abbrev pub constant_in : Fact → Option ℤ
 constant_in fact = option_and_then constant_of (range_of fact)
 
@@ -74,7 +74,7 @@ has_long_operations site k = if site.contents.has_long_operations then k else br
 
 -- ---- results
 
--- what is known of the results of an operation of two numbers, of whose ranges this is the range; None where it may
+-- what is known of the results of an operation of two numbers, of whose ranges this is the range; `None` if it may
 -- fail, or they are no numbers
 unfoldable pub fact_of_two : (Ends → Ends → Option Ends) → Fact → Fact → Option Fact
 fact_of_two results left right = elim (range_of left) [
@@ -96,7 +96,7 @@ unary_result_fact op operand = elim (range_of operand) [
 abbrev pub are_shift_counts : Ends → Bool
 are_shift_counts counts = int_le (pos 0) counts.lo && int_le counts.hi (pos 31)
 
--- the range of a shift; None where a count may be out of range
+-- the range of a shift; `None` if a count may be out of range
 unfoldable pub shift_range : Shift → Ends → Ends → Option Ends
 shift_range shifts.Left r counts = if are_shift_counts counts then Some (shift_left_range r counts) else None
 shift_range shifts.Right r counts = if are_shift_counts counts then Some (shift_right_range r) else None
@@ -184,8 +184,8 @@ own_range _ = None
 abbrev pub same : Bool → Bool → Bool
 same within holds = if within then holds else not holds
 
--- What is known of words where a value is true, or false, that comes from there: a test narrows its word, where that is
--- a number.
+-- What is known of words if a value that comes from there is true, or false: a test narrows its word, if that is a
+-- number.
 unfoldable pub narrowed : Source → Bool → Facts → Facts
 narrowed (Test word lo hi within) holds facts = elim (own_range (facts word)) [
   | None ↦ facts

@@ -51,9 +51,9 @@ fn operate(place: &Place, state: &mut State, op: Op) -> Result<Continuation, Rul
     }
 }
 
-/// Takes a state over an instruction of this family, by the rule of that instruction, and reports how a process
-/// goes on there. Where the rule is broken, the state is left part of the way. An instruction of another family
-/// breaks `Rule::Spelling`.
+/// Takes a state over an instruction of this family, by the rule of that instruction, and reports how a process goes on
+/// there. If the rule is broken, the state is left part of the way. An instruction of another family breaks
+/// `Rule::Spelling`.
 #[tactic(auto, unfolding(crate::specs::LocalRules::local_rule))]
 pub fn advance_locally(
     place: &Place,

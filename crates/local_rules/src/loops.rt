@@ -129,7 +129,7 @@ fn block_of(place: &Place, state: &State, fact: Fact) -> Option<Block>
     block_at(place, state, word_pointed(fact)?)
 }
 
-/// The label where a turn begins, with its code offset: so far back from the next instruction.
+/// The label where a turn begins, with its code offset: this far back from the next instruction.
 #[tactic(auto, unfolding(crate::specs::LoopRules::beginning))]
 fn beginning<'p>(place: &'p Place, distance: Fact) -> Option<(u32, &'p LabelRow)>
     requires { Keeps place.now.module.now }

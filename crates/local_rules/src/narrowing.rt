@@ -31,7 +31,7 @@ fn own_range(fact: WordFact) -> Option<Range>
     }
 }
 
-/// What is known of a word in a range, where a test whether it lies in the other one came out so.
+/// What is known of a word in a range, after a test of whether it lies in the other one had this result.
 fn left_fact(is_inside: bool, holds: bool, range: Range, other: Range) -> Fact
     ensures { result ≡ number_in (left_by (same is_inside holds) (ends_of range) (ends_of other)) }
 {

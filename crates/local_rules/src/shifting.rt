@@ -19,7 +19,7 @@ pub(crate) fn is_stepped(number: i32) -> bool
     number.unsigned_abs() % 4 == 0
 }
 
-/// The fact of a pointer, where its offsets are near.
+/// The fact of a pointer, if its offsets are near.
 #[tactic(auto, unfolding(rulings::specs::Rulings::settles, crate::specs::MemoryRules::near_fact))]
 fn near_fact(region: u16, lo: i64, hi: i64, step: Step) -> Result<Fact, Rule>
     ensures { Gives (λ fact. fact) result (settles (near_fact region lo hi step)) }
@@ -35,7 +35,7 @@ fn near_fact(region: u16, lo: i64, hi: i64, step: Step) -> Result<Fact, Rule>
     })
 }
 
-/// A pointer to words, where its offsets are near.
+/// A pointer to words, if its offsets are near.
 #[tactic(auto, unfolding(rulings::specs::Rulings::settles, crate::specs::MemoryRules::words_at))]
 fn words_at(region: u16, lo: i64, hi: i64) -> Result<Pointed, Rule>
     ensures answer { Gives (λ pointer. pointer) result (settles (words_at region lo hi)) }
@@ -76,7 +76,7 @@ fn is_of_a_word(number: i64) -> bool
     i64::from(i32::MIN) <= number && number <= i64::from(i32::MAX)
 }
 
-/// A number, where its bounds are words.
+/// A number, if its bounds are words.
 #[tactic(auto, unfolding(rulings::specs::Rulings::settles, crate::specs::MemoryRules::word_fact))]
 fn word_fact(lo: i64, hi: i64) -> Result<Fact, Rule>
     ensures { Gives (λ fact. fact) result (settles (word_fact lo hi)) }

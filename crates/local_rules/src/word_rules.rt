@@ -332,7 +332,7 @@ pub(crate) fn conditional_jump(
     forks(place, state, place.target(distance))
 }
 
-/// Where the condition in A is false, the process goes on at a label, and else after the instruction.
+/// If the condition in A is false, the process goes on at a label, and else after the instruction.
 fn forks(place: &Place, state: &mut State, to: u32) -> Result<Continuation, Rule>
     requires { BelongsTo place.now.module.now state.old }
     ensures ruling { let before = state_of state.old in
