@@ -268,7 +268,7 @@ fn message_out(place: &Place, state: &mut State) -> Result<Continuation, Rule>
 }
 
 /// Takes a state over an operation of this family, by the rule of that operation, and reports how a process goes on
-/// there. Where the rule is broken, the state is left part of the way. An operation of another family breaks
+/// there. If the rule is broken, the state is left part of the way. An operation of another family breaks
 /// `Rule::Spelling`.
 #[tactic(auto, unfolding(crate::specs::MessageRules::message_rule))]
 pub fn advance_message(place: &Place, state: &mut State, op: Op) -> Result<Continuation, Rule>
