@@ -135,7 +135,7 @@ disables site s kind distance =
     (settles (distance_of distance) (λ distance.
     keeps_selection site (with_disabled done (disabled_guard distance guard) s) (goes_on site))))))
 
--- disc: the guard of the channel that C names is disabled. Where the context has not the end, the guard waits for
+-- disc: the guard of the channel that C names is disabled. If the context does not have the end, the guard waits for
 -- another one.
 unfoldable pub disc_rule : Site → State → Ruling
 disc_rule site s =
@@ -150,7 +150,7 @@ diss_rule site s = uses s.stack.a (λ a. uses s.stack.b (λ b. disables site s S
 
 -- ---- altend
 
--- A state may go on where each guard leads. If not, it is the lowest rule of all that is broken.
+-- A state may go on where each guard leads. If not, the lowest rule of all is the one that is broken.
 unfoldable pub leaves_by_exits : Site → List Guard → State → Ruling
 leaves_by_exits site guards s =
     if list_all (is_below_exit site s) guards then selects (exits site guards)

@@ -168,7 +168,7 @@ fn disable_skip(place: &Place, state: &mut State) -> Result<Continuation, Rule>
 }
 
 /// Takes a state over an operation of this family, by the rule of that operation, and reports how a process goes on
-/// there. Where the rule is broken, the state is left part of the way. `altend`, of which nothing goes on after itself,
+/// there. If the rule is broken, the state is left part of the way. `altend`, of which nothing goes on after itself,
 /// has `end_alternation`; it and an operation of another family break `Rule::Spelling` here.
 #[tactic(auto, unfolding(crate::specs::AlternationRules::alternation_rule))]
 pub fn advance_alternation(place: &Place, state: &mut State, op: Op) -> Result<Continuation, Rule>

@@ -120,7 +120,7 @@ fn has_unpaid(place: &Place, state: &State) -> bool
         .any(|guard| has_unpaid_exit(place, state, *guard))
 }
 
-/// A state may go on where each guard leads. If not, it is the lowest rule of all that is broken.
+/// A state may go on where each guard leads. If not, the lowest rule of all is the one that is broken.
 #[tactic(auto, unfolding(crate::specs::AlternationRules::leaves_by_exits))]
 fn leaves_by_exits(place: &Place, state: &State) -> Result<(), Rule>
     requires { Keeps place.now.module.now }
