@@ -19,7 +19,7 @@ use module_format::{Entry, Fact, LabelRow};
 use rulings::Place;
 use states::{State, label_rows_are_sound};
 
-/// What going on at the labels of a start costs, where it is known that what they say of words is known.
+/// What going on at the labels of a start costs, if it is known that what they say of words is known.
 #[derive(Clone, Copy)]
 pub(crate) struct Costs {
     /// At the label of the branch.
@@ -46,7 +46,7 @@ fn are_readable(entries: &[Entry]) -> bool
     entries.iter().all(is_readable)
 }
 
-/// What the label of the branch costs that a state starts. It takes the time of a comparison with a label.
+/// What the label of the branch that a state starts costs. It takes the time of a comparison with a label.
 pub(crate) fn cost_of_branch(
     place: &Place,
     state: &State,
@@ -76,7 +76,7 @@ pub(crate) fn cost_of_branch(
     Some(cost)
 }
 
-/// What the label after a PAR costs at the first start. It takes the time of a comparison with a label, and that goes
+/// What the label after a PAR costs at the first start. It takes the time of a comparison with a label, which grows
 /// with the intervals that the branches write.
 fn cost_of_successor(
     module: &Module,

@@ -41,7 +41,7 @@ pub(crate) fn may_give_parameters(place: &Place, context: u32, branch: &BranchRo
         && reads_parameters(place, context, &branch.read_parameters)
 }
 
-/// Whether a context may write the word so far below a workspace.
+/// Whether a context may write the word this far below a workspace.
 fn writes_below(module: &Module, context: u32, workspace: i32, distance: u32) -> bool
     ensures { result ≡ may_write_word «module».now context (workspace -ℤ pos distance) }
 {

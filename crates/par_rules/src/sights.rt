@@ -173,7 +173,7 @@ impl Sight<'_, '_, '_> {
     ghost use Rattle.states.specs.Below.{is_whole, price, entries_hold};
     ghost use Rattle.par_rules.specs.Sights.{facts_in};
 
-    /// Whether of each word at least that is known which a label says.
+    /// Whether at least what a label says is known of each word.
     #[tactic(auto, using(crate::proofs::WordTests::entries_hold_by_words))]
     pub(crate) fn says_all(&self, row: &LabelRow) -> bool
         ensures { result ≡ entries_hold (facts_in self.now) (label_of row.now).entries }
@@ -181,7 +181,7 @@ impl Sight<'_, '_, '_> {
         Asked::Implied { sight: *self }.label_passes(row)
     }
 
-    /// Whether both words of a loop come from that loop, or neither does, where the entry is of one.
+    /// Whether both words of a loop come from that loop, or neither does, if the entry is of one.
     fn is_whole(&self, entry: &Entry) -> bool
         ensures { result ≡ is_whole (facts_in self.now) entry.now }
     {
@@ -201,8 +201,8 @@ impl Sight<'_, '_, '_> {
         row.entries.iter().all(|entry| self.is_whole(entry))
     }
 
-    /// What it costs to enter the loop that an entry wants: its weight for each turn but the first, where its
-    /// words are constants. None where that is no number of 128 bits.
+    /// What it costs to enter the loop that an entry wants: its weight for each turn but the first, if its words are
+    /// constants. `None` if that is no number of 128 bits.
     fn price(&self, entry: &Entry) -> Option<u128>
         ensures { let price = price (facts_in self.now) entry.now in SomeIff result (price < 2 ^ 128) price }
     {
@@ -225,7 +225,7 @@ impl Sight<'_, '_, '_> {
         }
     }
 
-    /// What is left of a number once the loop is entered that an entry wants, where it covers that.
+    /// What is left of a number once the loop that an entry wants is entered, if the number covers that.
     fn left_of_price(&self, number: u128, entry: &Entry) -> Option<u128>
         ensures { let price = price (facts_in self.now) entry.now in SomeIff result (price ≤ number) (number - price) }
     {
@@ -233,7 +233,7 @@ impl Sight<'_, '_, '_> {
         number.checked_sub(price)
     }
 
-    /// What is left of a number once the loops are entered that a label's entries want, where it covers them.
+    /// What is left of a number once the loops that a label's entries want are entered, if the number covers them.
     fn left_of_prices(&self, number: u128, entries: &[Entry]) -> Option<u128>
         ensures { let prices = sum_by (price (facts_in self.now)) entries.now in
             SomeIff result (prices ≤ number) (number - prices) }
@@ -245,7 +245,7 @@ impl Sight<'_, '_, '_> {
         Some(left)
     }
 
-    /// What is left of a number once a label is paid, and the loops that it enters, where the number covers both.
+    /// What is left of a number once a label is paid, and the loops that it enters, if the number covers both.
     pub(crate) fn left_of(&self, number: u64, row: &LabelRow) -> Option<u64>
         ensures { let cost = row.now.number + sum_by (price (facts_in self.now)) row.now.entries.items in
             SomeIff result (cost ≤ number) (number - cost) }

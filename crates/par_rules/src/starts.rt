@@ -153,7 +153,7 @@ fn may_open(module: &Module, state: &State, found: &Found) -> bool
     }
 }
 
-/// The label after the PAR, where a process in this mode starts its first branch.
+/// The label after the PAR, if a process in this mode starts its first branch.
 fn label_after<'s>(module: &'s Module, mode: Mode, par: &ParRow) -> Option<&'s LabelRow>
     ensures { label_view result ≡ label_after «module».now mode (par_of par.now) }
 {
@@ -185,8 +185,8 @@ fn sight_of<'s, 'm, 't>(
     }
 }
 
-/// What is left of a number once the label of a branch that a state starts is paid, and the loops that it enters. It
-/// may be known what that costs.
+/// What is left of a number once the label of a branch that a state starts is paid, and the loops that it enters.
+/// `known` is what that costs, if it is known.
 fn left_of_branch(
     place: &Place,
     state: &State,
@@ -221,7 +221,7 @@ fn left_after_asking(state: &State, number: u64, after: Option<&LabelRow>) -> Op
     }
 }
 
-/// The same where it may be known what that costs.
+/// The same. `known` is what that costs, if it is known.
 fn left_after(
     state: &State,
     number: u64,
@@ -295,7 +295,7 @@ fn branch_agrees(place: &Place, state: &State, found: &Found, row: &LabelRow) ->
     begins_and_says(place, state, found, row) && branch_is_whole(place, state, found, row)
 }
 
-/// The same where it may be known what the label costs.
+/// The same. `known` is what the label costs, if it is known.
 fn branch_agrees_if(
     place: &Place,
     state: &State,
@@ -338,7 +338,7 @@ fn agrees_after(module: &Module, state: &State, found: &Found, after: Option<&La
     }
 }
 
-/// The same where it may be known what the label costs.
+/// The same. `known` is what the label costs, if it is known.
 fn agrees_after_if(
     module: &Module,
     state: &State,
@@ -458,7 +458,7 @@ fn known_costs(
     }
 }
 
-/// The labels are paid, and what they say is known, where it may be known what they cost.
+/// The labels are paid, and what they say is known. `known` is what they cost, as far as it is known.
 #[tactic(auto, unfolding(crate::specs::ParRules::pays_labels))]
 fn pays_knowing(
     place: &Place,
@@ -563,7 +563,7 @@ fn starts_branch(place: &Place, state: &mut State, a: Fact, found: &Found) -> Re
 
 /// Judges `startp`, by its rule, and reports the labels at which others go on. The process goes on after the
 /// instruction, in the state that is left: one more branch is started, each label is paid from the number, and nothing
-/// is known of the registers. Where the rule is broken, the state is left part of the way. `Rule::Label` and
+/// is known of the registers. If the rule is broken, the state is left part of the way. `Rule::Label` and
 /// `Rule::Budget` speak of the label of the branch, and at the first start of a PAR of the label after it.
 #[tactic(auto, unfolding(crate::specs::ParRules::startp_rule))]
 pub fn start_process(place: &Place, state: &mut State) -> Result<Started, Rule>
