@@ -80,7 +80,7 @@ BranchesBegin = (m : Contents) (found : Found) (act : Activation) (base : ℕ) (
 
 -- ---- the first start
 
--- What an opening leaves can start the first branch, where its share is left and its parameters lie where they should.
+-- What an opening leaves can start the first branch, if its share is left and its parameters lie where they should.
 abbrev pub OpeningsCanStart : Type 0
 OpeningsCanStart = (m : Contents) (found : Found) (act : Activation) (base : ℕ) (addresses : List (Option ℕ))
     (h : Holding) (memory : Memory) (depth : ℤ) (workspace : ℕ)

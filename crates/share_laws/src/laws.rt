@@ -29,12 +29,12 @@ pub fn shares_are_left()
     ensures { SharesAreLeft }
 {}
 
-/// Where a branch's share is left, the branch has its frame from its start on, and holds what its context names.
+/// If a branch's share is left, the branch has its frame from its start on, and holds what its context names.
 pub fn branches_hold_their_shares()
     ensures { BranchesHoldTheirShares }
 {}
 
-/// And its starter has its frame still, and holds what its scope has left after one start more.
+/// And its starter still has its frame, and holds what its scope has left after one start more.
 pub fn starters_hold_the_rest()
     ensures { StartersHoldTheRest }
 {}
@@ -66,8 +66,8 @@ pub fn shares_are_there()
     ensures { SharesAreThere }
 {}
 
-/// Where the words of a PAR are prepared, and the share of the next branch is left, none of the tests of its start
-/// fails. The plan of the first start has the frame and the parameters where the starter's layout says.
+/// If the words of a PAR are prepared, and the share of the next branch is left, none of the tests of its start fails.
+/// The plan of the first start has the frame and the parameters where the starter's layout says.
 pub fn starts_pass_their_tests()
     ensures first { FirstStartsPass }
     ensures later { LaterStartsPass }
@@ -80,8 +80,8 @@ pub fn branches_are_apart()
 {}
 
 /// After a start, the first or a later one, the starter is in a state among the starts of its row: it holds what the
-/// scope of that state has, and what was known of the words that are left is so still. What a process holds that has
-/// opened the PAR can start the first branch.
+/// scope of that state has, and what was known of the words that are left still holds. What a process that has opened
+/// the PAR holds can start the first branch.
 pub fn starters_go_on()
     ensures later { StartersGoOn }
     ensures first { OpenersGoOn }
@@ -94,7 +94,7 @@ pub fn branches_begin()
     ensures { BranchesBegin }
 {}
 
-/// What a branch has its opener has lent it.
+/// What a branch has, its opener has lent it.
 pub fn branches_are_lent()
     ensures { BranchesAreLent }
 {}
