@@ -29,7 +29,7 @@ use Rattle.start_laws.specs.BranchLabels.{BranchLabel, BeginsAtLabel, LabelAfter
 abbrev pub LiesInside : Here → Memory → Type 0
 LiesInside x memory = (place : ℕ) → may_read x.h place ≡ true → place < length memory
 
--- where a base lies that is that of the frame
+-- this base is that of the frame
 abbrev pub IsBase : Here → ℕ → Type 0
 IsBase x base = pos base ≡ pos data_start +ℤ x.act.layout.origin
 
@@ -46,7 +46,7 @@ pub record StartsBranch (x : Here) (s after : State) (l : Local) (found : Found)
   pub low : x.at + x.len < length x.m.code
   pub goes_on : GoesOnAs x.m found x.act l.memory s.depth after
 
--- The branch is the next one of a PAR, of which some are started. Where the join's base and the addresses of its
+-- The branch is the next one of a PAR, of which some are started. If the join's base and the addresses of its
 -- parameters are those of the starter's layout, it can start the branch, whose label is paid by the number.
 pub record StartsNext (x : Here) (s after : State) (l : Local) (found : Found) : Type 0 where
   pub mode : s.mode ≡ Starting found.row found.number
@@ -58,8 +58,8 @@ pub record StartsNext (x : Here) (s after : State) (l : Local) (found : Found) :
   pub begins : BeginsAtLabel branch x.act x.h l.memory s.depth l.registers.workspace
   pub paid : after.number + owed_at_label branch.label branch.turns + x.len ≤ s.number
 
--- The branch is the first one of its PAR. The process can open it, where no end that it holds lies in a word of its
--- own; the words that the PAR wants are prepared; and besides the label of the branch the one after the PAR is paid.
+-- The branch is the first one of its PAR. The process can open it, if no end that it holds lies in a word of its own;
+-- the words that the PAR wants are prepared; and besides the label of the branch the one after the PAR is paid.
 pub record StartsFirst (x : Here) (s after : State) (l : Local) (found : Found) : Type 0 where
   pub mode : s.mode ≡ Plain
   pub machine_mode : x.mode ≡ machine.Plain
