@@ -40,7 +40,7 @@ use Rattle.call_rules.specs.declared.lent.Lent.{Lent}
 abbrev pub callee_word : State → ℤ → ℤ
 callee_word s k = (s.depth +ℤ negsuc 3) +ℤ k
 
--- the word so far from the workspace has this fact from now on, where the context may write it
+-- the word at this distance from the workspace has this fact from now on, if the context may write it
 unfoldable pub passes : Contents → ℤ → Fact → State → State
 passes m e fact s = if may_write_word m s.context (s.depth +ℤ e) then written (s.depth +ℤ e) fact s else s
 
@@ -93,8 +93,8 @@ lent c p = lent_to p.kind (given c p)
 
 -- ---- numbers
 
--- a range of a region's words suits the callee: where it reads, it lies within the callee's, and where it writes, it is
--- the same
+-- a range of a region's words suits the callee: if it reads, the range lies within the callee's, and if it writes, it
+-- is the same
 abbrev pub suits : Lent → ℤ → ℤ → Bool
 suits l low high = if l.is_written then is_word low l.lo && is_word high l.hi else lies_within low high l.lo l.hi
 
@@ -129,7 +129,7 @@ numbers_fit c p = elim p.kind [
 
 -- ---- pointers
 
--- where a pointer is used, its offsets are near
+-- a pointer that is used has near offsets
 abbrev pub is_near_fact : WordFact → Bool
 is_near_fact (Alone (Pointer region lo hi step)) = are_near lo hi
 is_near_fact _ = true

@@ -396,8 +396,8 @@ impl Calling<'_, '_, '_, '_> {
         all
     }
 
-    /// The caller may call the procedure, which has this number as a context, and pass it what it passes. Returned is
-    /// what the call may change.
+    /// The caller may call the procedure, which has this number as a context, and pass it what it passes. Returns what
+    /// the call may change.
     pub fn touched(&self, context: u32) -> Result<Touched, Rule>
         requires belongs { BelongsTo self.now.place.module.now self.now.state.now }
         requires row { let procedure = procedure_of self.now.callee.now in

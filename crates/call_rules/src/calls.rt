@@ -24,7 +24,7 @@ use rulings::combinators::alone;
 use rulings::{Continuation, Place};
 use states::{Known, Leaving, Rule, State, WordFact};
 
-/// The word so far from the workspace has this fact from now on, where the context may write it.
+/// The word at this distance from the workspace has this fact from now on, if the context may write it.
 #[tactic(auto, unfolding(crate::specs::CallRules::passes))]
 fn passes(place: &Place, state: &mut State, distance: i32, fact: Fact)
     requires { BelongsTo place.now.module.now state.old }
@@ -234,7 +234,7 @@ fn may_return(place: &Place, state: &State) -> bool
         && matches!(state.fact_at(0), WordFact::Alone(Fact::ReturnAddress))
 }
 
-/// `ret`: a procedure returns to where it was called. Where the rule is broken, the state is left part of the way.
+/// `ret`: a procedure returns to where it was called. If the rule is broken, the state is left part of the way.
 #[tactic(auto, unfolding(crate::specs::CallRules::return_rule, rulings::specs::Rulings::wants))]
 pub fn return_to_caller(place: &Place, state: &mut State) -> Result<Continuation, Rule>
     ensures ruling { let ruling = return_rule (site_of place.now) (state_of state.old) in

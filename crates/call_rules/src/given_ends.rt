@@ -71,8 +71,8 @@ impl Calling<'_, '_, '_, '_> {
         self.has_each_end(first, count, direction)
     }
 
-    /// The same, end by end. Where it has those before the last if it has that of the last, this alone is looked up;
-    /// else the first one that it does not have ends it.
+    /// The same, end by end. If the last one implies those before it, only the last is looked up; else the search ends
+    /// at the first one that the caller does not have.
     fn has_each_end(&self, first: EndKind, count: u32, direction: Direction) -> bool
         requires { Keeps self.now.place.module.now }
         ensures { let has = has_end_further self.now.place.module.now self.now.state.now.context first direction in

@@ -70,8 +70,8 @@ impl Lent {
         self.lo <= low && high <= self.hi
     }
 
-    /// Whether the range of a region's words suits the procedure: where it reads, it lies within the one that it
-    /// wants, and where it writes, it is the same.
+    /// Whether the range of a region's words suits the procedure: if it reads, the range lies within the one that it
+    /// wants, and if it writes, it is the same.
     fn suits(self, low: i32, high: i32) -> bool
         ensures { result ≡ suits self low high }
     {
