@@ -61,9 +61,9 @@ pub fn reserve_guards(state: &mut State) -> Result<(), AllocError>
     state.guards.reserve(missing)
 }
 
-/// Takes a state over the instruction at a code offset, by the rule of that instruction, and reports how a
-/// process goes on there: a jump leads to the label at its code offset. Where the rule is broken, the state is
-/// left part of the way. The end of an alternation has `leave`, and the start of a branch `start`.
+/// Takes a state over the instruction at a code offset, by the rule of that instruction, and reports how a process goes
+/// on there: a jump leads to the label at its code offset. If the rule is broken, the state is left part of the way.
+/// The end of an alternation has `leave`, and the start of a branch `start`.
 #[tactic(auto, unfolding(crate::specs::Rules::rule, crate::specs::Rules::rule_of, crate::specs::Rules::instruction_rule, crate::specs::Rules::operation_rule, crate::specs::Rules::way_of, local_rules::specs::LocalRules::local_rule))]
 pub fn advance(
     state: &mut State,
@@ -107,7 +107,7 @@ pub fn advance(
 }
 
 /// Takes a state over the end of an alternation at a code offset, by its rule: a process goes on at one of the labels
-/// to which the guards lead. Where the rule is broken, the state is left part of the way.
+/// to which the guards lead. If the rule is broken, the state is left part of the way.
 #[tactic(auto, unfolding(crate::specs::Rules::rule, crate::specs::Rules::rule_of, crate::specs::Rules::instruction_rule, crate::specs::Rules::operation_rule, crate::specs::Rules::way_of))]
 pub fn leave(state: &mut State, module: &Module, at: usize, instr: Instr) -> Result<(), Rule>
     requires belongs { BelongsTo «module».now state.old }

@@ -28,7 +28,7 @@ pub struct Successor<'a> {
     pub state: State<'a>,
 }
 
-/// The states that follow an instruction. None follows where the process stops, or returns to its caller.
+/// The states that follow an instruction. None follows if the process stops, or returns to its caller.
 #[derive(Drop)]
 pub struct Successors<'a> {
     /// The state that falls through, after the instruction; of a call, once the procedure has returned.
