@@ -22,7 +22,7 @@ first_state (Some e) = Some (procedure_state e.context e.procedure)
 abbrev pub given : Contents → ℕ → Option State
 given m at = elim (label_at m at) [ None ↦ first_state (procedure_at m at) | Some t ↦ Some (label_state t) ]
 
--- the state at an offset into which `before` falls: the one that the tables give, where they give one
+-- the state at an offset into which `before` falls: the one that the tables give, if they give one
 abbrev pub state_at : Contents → ℕ → Option State → Option State
 state_at m at before = elim (given m at) [ None ↦ before | Some s ↦ Some s ]
 

@@ -1,5 +1,5 @@
 -- What holds of every world that a certified module comes to, in parts: but for alternations, each reads only some
--- parts of the world. Who runs and who waits, and that holdings are apart, are laws of every module.
+-- parts of the world. Which process runs and which wait, and that holdings are apart, are laws of every module.
 use Rattle.std.specs.Prelude.{◌≡◌, ℕ, ◌+◌, ◌≤◌, ◌<◌, ⊤, true, if◌then◌else◌, List, [], ◌∷◌, length, Option, Some, None}
 use Rattle.std.specs.Prelude.{nat_lt, slice_get}
 use Rattle.module_format.specs.Contents.{Contents, link_length}
@@ -24,7 +24,7 @@ use Rattle.certified_worlds.specs.Alternating.{AlternatesHere}
 
 -- ---- processes
 
--- who has stopped or ended is in no alternation
+-- a process that has stopped or ended is in no alternation
 abbrev pub AlternatesIn : {m : Contents} {h : Holding} {start : Began} {memory : Memory} {t : Task} {due : ℕ}
     → World → ℕ
     → Meets m h start memory t due → Type 0
@@ -32,8 +32,8 @@ AlternatesIn {m = m} {t = t} w p (it_lives l) = AlternatesHere m w p t l.point.s
 AlternatesIn w p (it_stopped e) = ⊤
 AlternatesIn w p (it_ended e) = ⊤
 
--- A process with its role, what it began with, and what it owes. Who is no branch began as the root. Of one in an
--- alternation the guards of its state are what it has enabled.
+-- A process with its role, what it began with, and what it owes. A process that is no branch began as the root. If one
+-- is in an alternation, the guards of its state are what it has enabled.
 pub record Process (m : Contents) (w : World) (began : List Began) (dues : List ℕ) (p : ℕ) (t : Task) : Type 0 where
   pub role : Role
   pub has_role : slice_get w.roles p ≡ Some role
@@ -50,7 +50,7 @@ pub record Table (m : Contents) (w : World) (began : List Began) (dues : List �
 
 -- ---- lengths of messages
 
--- the messages at an end are as long as who began with it knows
+-- the messages at an end have the length that the process that began with it knows
 pub data LengthAgrees (m : Contents) (channels : List (Option Channel)) (began : Began) (e : End) : Type 0 where
   at_link : (k : ℕ) → k < 8 → e ≡ record { address = link_word k; direction = if nat_lt k 4 then Out else In }
       → link_length m k ≡ began.layout.lengths e.address → LengthAgrees m channels began e

@@ -29,8 +29,8 @@ IsExchanging condition e = (condition ≡ Sending e) ⊎ (condition ≡ Receivin
 
 -- Whatever the awaited bytes are, and whatever happens to bytes that the process may not read, it is at its point when
 -- it goes on. It may write what it waits for, and that changes nothing else of what its activation has; what it sends
--- are bytes that it may read; a message has the length that who began with its channel knows. What its activation has,
--- and what waits for its return, is so now, not only once all bytes are there.
+-- are bytes that it may read; a message has the length that the process that began with its channel knows. What its
+-- activation has, and what waits for its return, holds now, not only once all bytes are there.
 pub record Lives (m : Contents) (h : Holding) (began : Began) (memory : Memory) (t : Task) (due : ℕ) : Type 0 where
   pub point : Point m t
   pub claim : (later : Memory) → length later ≡ length memory

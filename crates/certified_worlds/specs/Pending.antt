@@ -59,7 +59,7 @@ pub record IsStarter (m : Contents) (t : Task) (point : Point m t) (par : Par) (
     pub starts : (n : ℕ) → point.act.layout.starts n ≡ act.layout.starts n
     pub back : point.act.layout.back ≡ act.layout.back
 
--- who has done its own endp is over, and has started all branches
+-- a process that has done its own endp is over, and has started all branches
 abbrev pub StartsHere : {m : Contents} {h : Holding} {b : Began} {memory : Memory} {t : Task} {due : ℕ}
     → Meets m h b memory t due → Par → Join → Activation → Type 0
 StartsHere {m = m} {t = t} (it_lives l) par j act = IsStarter m t l.point par j act

@@ -48,7 +48,7 @@ pub data Behind (m : Contents) (h : Holding) (began : Began) : ℕ → Layout �
       → Behind m h began c.state.context c.act.layout later cs)
       → Behind m h began context layout memory (c ∷ cs)
 
--- what those owe that wait
+-- what the callers that wait owe
 abbrev pub owed_behind : List Caller → ℕ
 owed_behind [] = 0
 owed_behind (c ∷ cs) = owed c.state c.act + owed_behind cs
