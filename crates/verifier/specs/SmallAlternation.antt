@@ -4,8 +4,8 @@ use Rattle.states.specs.declared.rule.Rule.TheVariants as rules
 use Rattle.alternation_rules.specs.Choice.{choice, well, well_but_for, bare_label}
 use Rattle.verifier.specs.Judge.{verdict, refused}
 
--- It is accepted. It is refused where the budget or a label's number does not cover what is paid, where the second link
--- has no messages, where a guard is disabled by another name than it has, and where a label is missing.
+-- It is accepted. It is refused if the budget or a label's number does not cover what is paid, if the second link has
+-- no messages, if a guard is disabled by another name than it has, and if a label is missing.
 pub record AlternationIsJudged : Type 0 where
   pub accepted : verdict (choice well) ≡ Ok tt
   pub dear : verdict (choice (record well { budget = 33 })) ≡ refused rules.Budget 30

@@ -94,7 +94,7 @@ fn both_at_start(entered: Result<u64, Rule>, started: Result<Started, Rule>) -> 
     }
 }
 
-/// The rule that an instruction breaks to which nothing leads: `Rule::Spelling` where it is none of the machine, else
+/// The rule that an instruction to which nothing leads breaks: `Rule::Spelling` if it is none of the machine, else
 /// `Rule::Flow`.
 fn unreached(module: &Module, instr: Instr) -> Rule
     ensures { result ≡ (if is_instruction «module».now instr then rules.Flow else rules.Spelling) }
