@@ -9,8 +9,8 @@ use Rattle.verifier.specs.Judge.{verdict, refused}
 abbrev pub echo : ℕ → Contents
 echo budget = record small.echo { budget = budget }
 
--- It is accepted. It is refused where the budget does not cover it, where messages of the input have four bytes, where
--- there is no output, and where the word that it sends was no number before.
+-- It is accepted. It is refused if the budget does not cover it, if messages of the input have four bytes, if there is
+-- no output, and if the word that it sends was no number before.
 pub record EchoIsJudged : Type 0 where
   pub accepted : verdict (echo 15) ≡ Ok tt
   pub unpaid : verdict (echo 14) ≡ refused rules.Budget 13

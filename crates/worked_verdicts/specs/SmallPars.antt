@@ -9,10 +9,10 @@ use Rattle.par_rules.specs.PairOverChannel as channel
 use Rattle.par_rules.specs.PairOverChannel.{sending}
 use Rattle.verifier.specs.Judge.{verdict, refused}
 
--- Two branches that write a word each are accepted, also where the label after the PAR says what they leave. They are
--- refused where the budget or a label's number does not cover what is paid, where scheduling takes a word that the
--- branch has not, where a branch has a word of the block, where both write a word or one reads what the other writes,
--- where the block leads elsewhere, and where the label after the PAR says what is not so.
+-- Two branches that write a word each are accepted, also if the label after the PAR says what they leave. They are
+-- refused if the budget or a label's number does not cover what is paid, if scheduling takes a word that the branch
+-- does not have, if a branch has a word of the block, if both write a word or one reads what the other writes, if the
+-- block leads elsewhere, and if the label after the PAR says what is not so.
 pub record PairIsJudged : Type 0 where
   pub accepted : verdict (pair well) ≡ Ok tt
   pub told : verdict (pair (telling (pos 1) (pos 2))) ≡ Ok tt
