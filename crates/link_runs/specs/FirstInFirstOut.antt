@@ -32,8 +32,7 @@ pub record RunMoment : Type 0 where
 abbrev pub beginning : Contents → ByLink Supply → RunMoment
 beginning m inputs = record { world = loaded m; left = inputs; read = for_all 0; written = for_all [] }
 
--- A message that was emitted goes to the link's writer and is acknowledged. Where there is none it goes nowhere, and
--- its
+-- A message that was emitted goes to the link's writer and is acknowledged. If there is none, it goes nowhere, and its
 -- sender waits for good.
 abbrev pub delivered : Contents → ByLink Bool → Link → List ℕ → RunMoment → RunMoment
 delivered m writers link bytes s =
@@ -63,7 +62,7 @@ can_be_asked s link = wants link s.world && is_some (of_link s.left link)
 abbrev pub asked : RunMoment → Option Link
 asked s = first_link (can_be_asked s)
 
--- The next byte of this link arrives. Where none is left, the link has ended.
+-- The next byte of this link arrives. If none is left, the link has ended.
 abbrev pub supplied : Contents → Link → Supply → RunMoment → RunMoment
 supplied m link None s = s
 supplied m link (Some []) s = record s { left = with_link link None s.left }
@@ -78,7 +77,7 @@ abbrev pub answered_by : Contents → RunMoment → Option Link → Option RunMo
 answered_by m s None = None
 answered_by m s (Some link) = Some (supplied m link (of_link s.left link) s)
 
--- The next moment: a process runs, or a link is asked. Where neither can be, the run is over.
+-- The next moment: a process runs, or a link is asked. If neither can be, the run is over.
 unfoldable pub next : Contents → ByLink Bool → RunMoment → Option RunMoment
 next m writers s = if is_running s.world then Some (stepped m writers s) else answered_by m s (asked s)
 
