@@ -47,8 +47,8 @@ fn put<W: LinkWriter>(
     }
 }
 
-/// The message that the machine emitted last goes to the writer of this link and is acknowledged. Where there is no
-/// writer nothing happens.
+/// The message that the machine emitted last goes to the writer of this link and is acknowledged. If there is no
+/// writer, nothing happens.
 pub(crate) fn deliver<M: Machine, W: LinkWriter>(
     machine: &mut M,
     writers: &mut [Option<W>; 4],
