@@ -23,7 +23,7 @@ impl Machine {
         }
     }
 
-    /// The sender goes on, where one waits.
+    /// The sender goes on, if one waits.
     pub(crate) fn acknowledge(&mut self, link: Link) -> Result<Act, Stop>
         ensures { let turn = acknowledge_turn (link_index link) self.old.world in
             Applies self.old.world self.new.world result turn }

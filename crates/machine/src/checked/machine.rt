@@ -68,7 +68,7 @@ impl Machine {
         self.executed += 1;
     }
 
-    /// The module is finished, where this holds.
+    /// The module is finished, if this holds.
     pub(crate) fn finish_where(&mut self, finishes: bool)
         ensures { self.new ≡ record self.old { world = finished_where finishes self.old.world } }
     {

@@ -52,7 +52,7 @@ impl Machine {
         fault
     }
 
-    /// A prefix: its process goes on with this operand, whoever would run next if it did not.
+    /// A prefix: its process goes on with this operand, whichever process would run next if it did not.
     fn prefix(&mut self, tables: &Tables, here: &Here, operand: i32) -> Result<Act, Stop>
         requires code { length tables.now.code.now < 2 ^ 32 }
         requires executed { self.old.world.counters.executed < most_executed }
@@ -201,8 +201,8 @@ impl Machine {
     }
 
     /// A step: one byte of the running process, unless no process is running or enough bytes were executed. With
-    /// `slice` the process goes to the back of the ready list where it completes a jump; `pick` says which ready
-    /// process runs next, counted round the list, where the running one stops running.
+    /// `slice` the process goes to the back of the ready list if it completes a jump; `pick` says which ready process
+    /// runs next, counted round the list, if the running one stops running.
     pub(crate) fn step(&mut self, module: &Module<'_>, slice: bool, pick: u64) -> Result<Act, Stop>
         ensures { let turn = step_turn «module».now slice pick self.old.world in
             Applies self.old.world self.new.world result turn }
