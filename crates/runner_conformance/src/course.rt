@@ -74,7 +74,7 @@ fn put_outcome(out: &mut Answer, ran: Result<Report, RunError>) {
     }
 }
 
-/// What each writer took, `-` where it took nothing or there is none.
+/// What each writer took, `-` if it took nothing or there is none.
 fn put_wrote(out: &mut Answer, writers: &[Option<CaseWriter>]) {
     for writer in writers {
         let length = out.as_str().len();
