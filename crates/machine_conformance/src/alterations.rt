@@ -39,7 +39,7 @@ impl Sums {
         wrong: 0,
     };
 
-    /// Counts a file by its fault, 0 where it has none.
+    /// Counts a file by its fault, 0 if it has none.
     fn add(&mut self, number: u8) {
         if let Some(count) = self.numbers.get_mut(usize::from(number)) {
             *count = count.wrapping_add(1);
@@ -146,7 +146,7 @@ pub(crate) fn altered_sums(
     judge_altered(alloc, file, ways, &mut sums, expected, out)
 }
 
-/// Whether a file is refused as cut: for its magic, where that is cut, and else at its length.
+/// Whether a file is refused as cut: for its magic, if that is cut, and else at its length.
 fn is_cut(alloc: Global, file: &[u8]) -> bool {
     let (number, offset) = if file.len() < 4 {
         (MAGIC, 0)

@@ -85,7 +85,7 @@ impl Tally for Runs<'_> {
     }
 }
 
-/// The next event of a text, which begins again after its last one; none where there is none or it cannot be read.
+/// The next event of a text, which begins again after its last one. `None` if there is none or it cannot be read.
 fn next_event<'t>(words: &mut Words<'t>, text: &'t str) -> Option<Event> {
     if let Some(word) = words.next() {
         return event(word);

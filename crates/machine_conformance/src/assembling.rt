@@ -17,7 +17,7 @@ fn put_fault(fault: GenFault, out: &mut Answer) {
     }
 }
 
-/// `same` where a draft is assembled to the file, and else how many bytes it is assembled to, or the fault.
+/// `same` if a draft is assembled to the file, and else how many bytes it is assembled to, or the fault.
 fn put_assembled(alloc: Global, draft: &Draft, file: &[u8], out: &mut Answer) {
     if !is_whole(draft) {
         out.put("not whole");

@@ -62,7 +62,7 @@ fn add_words(alloc: Global, draft: &mut Draft, words: &mut Words) {
     }
 }
 
-/// Adds a copy of a line to a draft. False where it cannot be read or memory runs out.
+/// Adds a copy of a line to a draft. `false` if it cannot be read or memory runs out.
 fn add_copy(alloc: Global, draft: &mut Draft, line: &str, copy: i64) -> bool {
     let mut words = Words::of_copy(line, copy);
     add_words(alloc, draft, &mut words);
@@ -92,7 +92,7 @@ fn add_line(alloc: Global, draft: &mut Draft, line: &str) -> bool {
     true
 }
 
-/// Adds the lines of a block to a draft. False where one cannot be read or memory runs out.
+/// Adds the lines of a block to a draft. `false` if one cannot be read or memory runs out.
 pub(crate) fn add_lines(alloc: Global, draft: &mut Draft, block: &[&str]) -> bool {
     for line in block {
         if !add_line(alloc, draft, unindented(line)) {

@@ -12,7 +12,7 @@ pub(crate) struct Edit {
 }
 
 impl Edit {
-    /// `AT:WIDTH=VALUE` or `FROM..TO=BYTE`. The words remember where it is neither.
+    /// `AT:WIDTH=VALUE` or `FROM..TO=BYTE`. The words remember if it is neither.
     pub(crate) fn of(word: &str, words: &mut Words) -> Edit {
         let (range, value) = word.split_once('=').unwrap_or((word, ""));
         let value = words.parsed(value);
@@ -42,7 +42,7 @@ impl Edit {
         self.value.to_le_bytes().get(index).copied().unwrap_or(0)
     }
 
-    /// Alters a file. False where it has no such bytes.
+    /// Alters a file. `false` if it has no such bytes.
     pub(crate) fn apply(self, file: &mut [u8]) -> bool {
         let from = usize::try_from(self.from).unwrap_or(usize::MAX);
         let to = usize::try_from(self.to).unwrap_or(usize::MAX);

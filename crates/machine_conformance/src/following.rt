@@ -15,7 +15,7 @@ use prefix_decoder::{Fun, Instr};
 use states::{Known, Loop, Source, State, WordFact, label_rows_are_sound};
 use std::alloc::Global;
 
-/// A fact as a word: `?` where nothing is known, `@OFFSET`, or a number as `LO..HI` or alone.
+/// A fact as a word: `?` if nothing is known, `@OFFSET`, or a number as `LO..HI` or alone.
 fn fact(word: &str) -> Option<Fact> {
     if word == "?" {
         return Some(Fact::Unknown);
@@ -199,7 +199,7 @@ fn instruction(words: &mut Words) -> Instr {
     }
 }
 
-/// What follows an instruction, after `no instruction` where it is none of the machine.
+/// What follows an instruction, after `no instruction` if it is none of the machine.
 fn put_following<'a>(
     alloc: Global,
     module: &'a Module<'a>,

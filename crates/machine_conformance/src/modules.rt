@@ -15,7 +15,7 @@ pub(crate) fn put_fault(fault: FormatFault, out: &mut Answer) {
     out.fault("C", fault.number, fault.offset as u64);
 }
 
-/// `ok` where the file is read, valid and written back byte for byte, or else the fault.
+/// `ok` if the file is read, valid and written back byte for byte, or else the fault.
 pub(crate) fn read(alloc: Global, file: &[u8], out: &mut Answer) {
     match reading(alloc, file) {
         Ok(validity) => out.put(validity),
@@ -23,7 +23,7 @@ pub(crate) fn read(alloc: Global, file: &[u8], out: &mut Answer) {
     }
 }
 
-/// What comes of reading a file: `READ` where it is valid and written back byte for byte.
+/// What comes of reading a file: `READ` if it is valid and written back byte for byte.
 pub(crate) fn reading(alloc: Global, file: &[u8]) -> Result<&'static str, FormatFault> {
     match Module::read(alloc, file) {
         Ok(module) => Ok(validity(alloc, &module, file)),

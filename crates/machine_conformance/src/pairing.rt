@@ -71,7 +71,7 @@ fn pair_verified(alloc: Global, module: &Module, verified: &Verified, text: &str
     }
 }
 
-/// Whether the events of a run do the same on both machines, where the module is accepted.
+/// Whether the events of a run do the same on both machines, if the module is accepted.
 pub(crate) fn pair(alloc: Global, module: &Module, text: &str) -> Outcome {
     match verify(alloc, module) {
         Ok(verified) => pair_verified(alloc, module, &verified, text),

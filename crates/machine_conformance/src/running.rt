@@ -138,7 +138,7 @@ pub(crate) fn run(
     }
 }
 
-/// Appends the events of a run. False where one cannot be read or memory runs out.
+/// Appends the events of a run. `false` if one cannot be read or memory runs out.
 fn read_events(events: &mut Vec<Event>, text: &str) -> bool {
     let mut words = Words::of(text);
     for _ in 0..words.count() {

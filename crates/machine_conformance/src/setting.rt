@@ -95,7 +95,7 @@ impl Setting {
     }
 }
 
-/// Keeps a text for the questions that follow. False if memory runs out.
+/// Keeps a text for the questions that follow. `false` if memory runs out.
 fn keep(kept: &mut String, text: &str) -> bool {
     kept.clear();
     kept.push_str(text).is_ok()

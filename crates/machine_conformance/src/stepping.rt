@@ -121,7 +121,7 @@ fn put_flow(flow: Result<Flow, FaultKind>, out: &mut Answer) {
     }
 }
 
-/// A word after a space, `-` where it is undefined.
+/// A word after a space, `-` if it is undefined.
 fn put_value(value: Word, out: &mut Answer) {
     out.put(" ");
     match value {
@@ -130,7 +130,7 @@ fn put_value(value: Word, out: &mut Answer) {
     }
 }
 
-/// The three registers, the number of the data word that is the workspace where that is another, and whether any of the
+/// The three registers, the number of the data word that is the workspace if that is another, and whether any of the
 /// others is not as before.
 fn put_registers(before: Registers, after: Registers, out: &mut Answer) {
     put_value(after.stack.a, out);
@@ -163,7 +163,7 @@ fn put_data(store: &TaggedStore, count: u64, out: &mut Answer) {
     }
 }
 
-/// Executes an instruction of the process that the first words say. False where it cannot be read.
+/// Executes an instruction of the process that the first words say. `false` if it cannot be read.
 fn execute(
     cpu: &mut Cpu<TaggedStore>,
     mut process: Words,

@@ -64,7 +64,7 @@ impl<'t> Words<'t> {
         repeated
     }
 
-    /// The next word; an empty one where there is none.
+    /// The next word; an empty one if there is none.
     pub(crate) fn word(&mut self) -> &'t str {
         let next = self.next();
         self.is_wrong |= next.is_none();
@@ -122,7 +122,7 @@ impl<'t> Words<'t> {
         self.signed().cast_unsigned()
     }
 
-    /// The next word as a word of the machine, `-` where it is undefined.
+    /// The next word as a word of the machine, `-` if it is undefined.
     pub(crate) fn value(&mut self) -> Option<i32> {
         let word = self.given()?;
         Some(self.integer_of(word))
