@@ -32,7 +32,7 @@ fn second_of(alloc: Global, source: &[u8]) -> Option<u8> {
     }
 }
 
-/// Where memory ran out it is asked for once more, so that the test holds whichever allocation is refused.
+/// If memory ran out, it is asked for once more, so that the test holds whichever allocation is refused.
 #[test]
 fn a_string_is_its_bytes(rt: HostRuntime) {
     let source = b"\"a*n\"";
