@@ -87,7 +87,7 @@ forward_breaks (negsuc n) r all = (rules.Forward, refl)
 abbrev pub IsBusy : Mode → Type 0
 IsBusy mode = mode ≡ Plain → ⊥
 
--- who starts branches is busy
+-- a process that starts branches is busy
 pub starting_is_busy : (mode : Mode) → is_starting mode ≡ true → IsBusy mode
 starting_is_busy mode starting e = let no' : true ≡ false = sym starting ∙ ap is_starting e in cc
 
