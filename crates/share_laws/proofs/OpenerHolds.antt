@@ -92,7 +92,7 @@ ends_more (a ∷ addresses) held e among =
       direction = Out;
     } ∷ []) among)
 
--- who has one end of each of these has both
+-- if one end of each of these is held, both are
 abbrev HaveBoth : List ℕ → List End → Type 0
 HaveBoth addresses held = (a : ℕ) → IsAmong a addresses → IsAmong (record { address = a; direction = In }) held
     → IsAmong (record { address = a; direction = Out }) held

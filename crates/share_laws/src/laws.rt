@@ -46,7 +46,7 @@ pub fn openers_hold_the_rest()
 {}
 
 /// Whatever a valid module does, no end that a process has for good is one of a channel in a word that it may write:
-/// whoever has opened the channel keeps its word.
+/// the process that has opened the channel keeps its word.
 pub fn ends_lie_outside()
     ensures { EndsLieOutside }
 {}
