@@ -238,7 +238,7 @@ give_other_ends c p q = elim p.kind [
 unfoldable pub ends_are_given : Calling → Bool
 ends_are_given c = list_all (ends_are_held c) c.callee.parameters && each_two (give_other_ends c) c.callee.parameters
 
--- ---- who may call whom
+-- ---- which procedures a context may call
 
 -- The root and its branches may call any procedure, and a procedure and its branches those before it.
 abbrev pub may_call : Contents → ℕ → ℕ → Bool
