@@ -43,7 +43,7 @@ behind_lifts {m} {h} {context = context} {layout = layout} {old = old} {new = ne
     (lift m h (scope_of m caller.state.context caller.act.layout) (scope_of m context layout) base lends old new named
     keeps)
 
--- who has what an activation has has what its process began with
+-- a holding that has what an activation names has what its process began with
 pub behind_named : {m : Contents} {h : Holding} {began : Began} {context : ℕ} {layout : Layout} {memory : Memory}
     {callers : List Caller} → Behind m h began context layout memory callers
     → HoldsNamed m h (scope_of m context layout) memory → HoldsNamed m h (scope_of m began.context began.layout) memory

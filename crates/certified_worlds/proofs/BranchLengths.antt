@@ -70,7 +70,7 @@ address_alike alike (ends.Parameter (pos j) element) = ap (λ (n : ℕ). (n + 4 
 address_alike alike (ends.Parameter (negsuc j) element) = refl
 address_alike alike (ends.Link link) = refl
 
--- who knows the same length of an end agrees with the channel as well
+-- what began with the same length of an end agrees with the channel as well
 agrees_too : {m : Contents} {cells : List (Option Channel)} {start other : Began} {e : End}
     → start.layout.lengths e.address ≡ other.layout.lengths e.address → LengthAgrees m cells start e
     → LengthAgrees m cells other e

@@ -27,7 +27,7 @@ pub record SameEnabled (w after : World) (p : ℕ) : Type 0 where
   pub fewer : (address : ℕ) → EnablesAt after p address → EnablesAt w p address
   pub more : (address : ℕ) → EnablesAt w p address → EnablesAt after p address
 
--- where no channel and not_so link has changed
+-- where no channel and no link has changed
 pub enabled_as_before : (w after : World) (p : ℕ) → after.channels ≡ w.channels → after.links.inputs ≡ w.links.inputs
     → SameEnabled w after p
 enabled_as_before w after p channels inputs = record {

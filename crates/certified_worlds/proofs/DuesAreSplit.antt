@@ -34,7 +34,7 @@ start_owes dues pending p due waited later waits new has waiting covers =
     let two = total_grown pending p waited waits 0 waiting in
     omega (arith, one, two, covers)
 
--- An end: who has ended owes nothing.
+-- An end: a process that has ended owes nothing.
 pub end_owes : (dues : List ℕ) (p due : ℕ) → slice_get dues p ≡ Some due → 1 ≤ due
     → total (slice_set dues p 0) + 1 ≤ total dues
 end_owes dues p due has pays = let set = total_set dues p due 0 has in omega (arith, set, pays)

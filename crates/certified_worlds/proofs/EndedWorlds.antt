@@ -28,7 +28,7 @@ use Rattle.certified_worlds.proofs.StartedWorlds.{plain_beside}
 
 -- ---- a member has gone
 
--- who is among the starts of a PAR, or has ended after them, is so whoever has gone from its join
+-- a process that is among the starts of a PAR, or has ended after them, still is, whatever has gone from its join
 starts_without : {m : Contents} {h : Holding} {start : Began} {memory : Memory} {t : Task} {due : ℕ} (gone : ℕ)
     (meets : Meets m h start memory t due) (par : Par) (j : Join) (act : Activation) → StartsHere meets par j act
     → StartsHere meets par (join_without gone j) act
@@ -226,7 +226,7 @@ module _ (m : Contents) (w : World) (h : Holds m w) (p : ℕ) (t : Task) (here :
 
     -- ---- each opener
 
-    -- who was a member and is not gone is one still
+    -- what was a member and is not gone is still one
     members_reduced : (q : ℕ) (par : Par) (layout : Layout)
         → ((d : ℕ) (branch : Role) (first : Began) → slice_get w.roles d ≡ Some branch → branch.opener ≡ Some q
         → (IsGone w.tasks branch d → ⊥) → slice_get h.began d ≡ Some first → IsMember m par layout first)

@@ -1,4 +1,5 @@
--- No fault of an end comes: whoever ends a PAR has started all its branches or is one of them, and names its block.
+-- No fault of an end comes: a process that ends a PAR has started all its branches or is one of them, and names its
+-- block.
 use Rattle.std.proofs.Common.{◌≡◌, ℕ, ◌-◌, ◌<◌, ◌==◌, true, false, Bool, Option, cond, inl, inr, ℤ, pos, ◌+ℤ◌, List}
 use Rattle.std.proofs.Common.{length, Some, None, refl, sym, ap, ◌∙◌, subst, arith}
 use Rattle.std.proofs.lemmas.Bool.{cases_lt, eq-eqb, lt-ltb}
@@ -78,7 +79,7 @@ is_starting_mode both_starting e = refl
 
 -- ---- how a process ends a PAR
 
--- who has stopped or ended ends no PAR
+-- a process that has stopped or ended ends no PAR
 abbrev pub EndsIn : {m : Contents} {h : Holding} {start : Began} {memory : Memory} {t : Task} {due : ℕ}
     → Meets m h start memory t due → ℕ → Type 0
 EndsIn {m = m} (it_lives l) block = EndsAPar m l.point.state l.point.act.layout block
@@ -96,7 +97,7 @@ data EndsAs (m : Contents) (t : Task) (start : Began) (block : ℕ)
   as_branch : t.mode ≡ machine_modes.Plain → (par : Par) (b : Branch) → numbered_branch m start.context ≡ Some (par, b)
       → block ≡ channel_address start.layout (FrameWord par.block) → EndsAs m t start block Starts
 
--- whoever is ready is in the mode of its state
+-- a process that is ready is in the mode of its state
 same_mode : {m : Contents} {g : Holding} {start : Began} {memory : Memory} {t : Task} {due : ℕ} → t.condition ≡ Ready
     → (l : Lives m g start memory t due) → SameMode l.point.state.mode t.mode
 same_mode {memory = memory} ready l = (l.claim memory refl (λ place held free. refl) (λ place awaited.
@@ -168,7 +169,7 @@ module _ (m : Contents) (w : World) (h : Holds m w) (branches : Branches w.tasks
       let no' : Ended ≡ Ready = sym over.over ∙ (ap (λ (t : Task). t.condition) same ∙ ready) in
       cc
 
-  -- who is in plain mode has no join open
+  -- a process in plain mode has no join open
   pub none_open : t.mode ≡ machine_modes.Plain → (j : Join) → opened_by w p ≡ Some j → ⊥
   none_open plain j opens = elim (starters.openers p (record {
     role = row.role;

@@ -67,7 +67,7 @@ empty : (xs : List ℕ) → (length xs == 0) ≡ true → xs ≡ []
 empty [] none = refl
 empty (x ∷ xs) none = let same = eqb-true (length (x ∷ xs)) 0 none in absurd (omega (arith, same))
 
--- who is over alternates no more
+-- a process that is over alternates no more
 over_beside : {mode : Mode} {condition : Condition} → condition ≡ Ended → Alternates mode condition → ⊥
 over_beside is (inl enables) = let no' : Ended ≡ Ready = sym is ∙ enables.1 in cc
 over_beside is (inr disables) = elim disables.1 [
@@ -75,7 +75,7 @@ over_beside is (inr disables) = elim disables.1 [
   | inr waits ↦ let no' : Ended ≡ Alternating = sym is ∙ waits in cc
 ]
 
--- who is over and was among the starts of a PAR has started all branches
+-- a process that is over and was among the starts of a PAR has started all branches
 ends_started : {m : Contents} {g : Holding} {start : Began} {memory : Memory} {t : Task} {due : ℕ}
     (meets : Meets m g start memory t due) → t.condition ≡ Ended → (par : Par) (j : Join) (act : Activation)
     → StartsHere meets par j act → j.started ≡ length par.branches
@@ -117,7 +117,7 @@ module _ (m : Contents) (d : Decodes m) (wf : IsWellFormed m) (c : IsCertified m
       let no' : Ended ≡ Ready = sym gone.1.over ∙ (ap (λ (u : Task). u.condition) same ∙ r.ready) in
       cc
 
-  -- who alternates has no join open
+  -- a process that alternates has no join open
   alternates_alone : (q : ℕ) (u : Task) → slice_get w.tasks q ≡ Some u → Alternates u.mode u.condition → (role : Role)
       → slice_get w.roles q ≡ Some role → role.opened ≡ None
   alternates_alone q u at alternates role has = on role.opened refl

@@ -77,7 +77,7 @@ word_alike alike back (Count loop) alone means = absurd (cc)
 
 -- ---- members
 
--- who is still a member once another one has gone
+-- a member is still one once another one has gone
 pub member_stays : (members : List ℕ) (gone p : ℕ) → gone ≢ p → is_member members p ≡ true
     → is_member (members_without gone members) p ≡ true
 member_stays [] gone p differ h = h
@@ -199,7 +199,7 @@ module _ {m : Contents} {own : Holding} {o : ℕ} {began : Began} {all : List Be
       ];
     }
 
-  -- ---- the end of who has started them
+  -- ---- the end of the process that has started them
 
   -- it is no branch of the join
   pub own_leaves : Pending m own o began all memory (join_without o j) due (after_without o after)

@@ -129,7 +129,7 @@ module _ (m : Contents) (row : ℕ) (par : Par) (layout : Layout) (base : ℕ) (
   mine_in : (x : ℕ) → may_write role.own x ≡ true → may_write (own_in roles p) x ≡ true
   mine_in x mine = subst (λ (g : Holding). may_write g x ≡ true) (sym (own_is roles p role has_role)) mine
 
-  -- what was there stays: no channel lies in a word of one who has no join open
+  -- what was there stays: no channel lies in a word of a process that has no join open
   pub channels_stay : KeepsChannels cells cells_after
   channels_stay k c here = kept_channel p base par.channels cells k c here (λ a among cell.
       let d = among_map (λ (x : ChannelRow). frame_address base x.word) par.channels a among in

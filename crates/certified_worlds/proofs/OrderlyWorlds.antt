@@ -62,8 +62,8 @@ reached_is_orderly m es keeps inside =
       enabled = enabled_is_held m es;
     }
 
--- A process meets in the world after what it met before, in the same way: who alternates does so, and who is among the
--- starts of a PAR, or has ended after them, is so still.
+-- A process meets in the world after what it met before, in the same way: if it alternates, it still does, and if it is
+-- among the starts of a PAR, or has ended after them, it still is.
 pub record MeetsStill (m : Contents) (w after : World) (q : ℕ) {h : Holding} {start : Began} {t : Task} {due : ℕ}
     (old : Meets m h start w.memory t due) : Type 0 where
   pub meets : Meets m h start after.memory t due
@@ -88,7 +88,7 @@ pub record IsAtLastByte (m : Contents) (w : World) (h : Holds m w) (p : ℕ) (t 
   pub is : (h.table.each p t here).meets ≡ it_lives lives
   pub last : lives.point.taken + 1 ≡ lives.point.instr.len
 
--- who is ready lives
+-- a process that is ready lives
 pub ready_lives : {m : Contents} {h : Holding} {start : Began} {memory : Memory} {t : Task} {due : ℕ}
     (meets : Meets m h start memory t due) → t.condition ≡ Ready
     → (lives : Lives m h start memory t due) × (meets ≡ it_lives lives)

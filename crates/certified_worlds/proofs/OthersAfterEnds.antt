@@ -23,7 +23,7 @@ use Rattle.certified_worlds.proofs.EndedWorlds.{reduced}
 use Rattle.certified_worlds.proofs.OrderlyWorlds.{OthersMeet}
 use Rattle.certified_worlds.proofs.OthersStay.{nothing_meets, others_meet}
 
--- who is ready sends nothing
+-- a process that is ready sends nothing
 pub reduced_others : (m : Contents) (w : World) (h : Holds m w) (p : ℕ) (t u : Task) (roles : List Role) (queue : Queue)
     → slice_get w.tasks p ≡ Some t → t.condition ≡ Ready
     → OthersMeet m w h p (reduced w (slice_set w.tasks p u) roles queue)

@@ -36,7 +36,7 @@ use Rattle.certified_worlds.proofs.OrderlyWorlds.{MeetsStill, OthersMeet}
 use Rattle.certified_worlds.proofs.StartedWorlds.{starts_beside}
 use Rattle.certified_worlds.proofs.Steps.{still_state}
 
--- who alternates awaits no bytes
+-- a process that alternates awaits no bytes
 alternates_quietly : (u : Task) → Alternates u.mode u.condition → (place : ℕ) → awaits u.condition place ≡ false
 alternates_quietly u (inl enables) place = ap (λ (c : Condition). awaits c place) enables.1
 alternates_quietly u (inr disables) place = elim disables.1 [

@@ -30,7 +30,7 @@ use Rattle.certified_worlds.proofs.BranchChanges.{scope_began, within_began, has
 use Rattle.certified_worlds.proofs.BranchChanges.{filled_within, climbs}
 use Rattle.certified_worlds.proofs.BranchChanges.{member_leaves, pending_elsewhere}
 
--- ---- who is under whom
+-- ---- which process is under which
 
 no_opener : {opener : ℕ → Option ℕ} {q p : ℕ} → Under opener q p → opener p ≡ None → ⊥
 no_opener (child p is) none = let no' = sym is ∙ none in cc

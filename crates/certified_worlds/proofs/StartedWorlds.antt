@@ -322,7 +322,7 @@ module _ (m : Contents) (w : World) (h : Holds m w) (p : ℕ) (t : Task) (here :
           )) (began_before d first (omega (arith, below, as_many)) begun)
         ]
       where
-        -- who starts is not over
+        -- a process that starts is not over
         unended : IsGone w.tasks row.role p → ⊥
         unended gone =
             let same = only_one (slice_get w.tasks p) gone.1.task t gone.1.here here in

@@ -55,7 +55,7 @@ module _ (m : Contents) (d : Decodes m) (wf : IsWellFormed m) (keeps : formats.K
   abbrev local : Local
   local = record { registers = t.registers; memory = w.memory }
 
-  -- who is among the starts of a PAR has a join open, and who is in plain mode has none
+  -- a process that is among the starts of a PAR has a join open, and one in plain mode has none
   has_join : t.mode ≡ machine_modes.Starting → (j : Join) × (opened_by w p ≡ Some j)
   has_join starting =
       let o = order.starters.starters p t r.here starting in (o.join, opened_is w.roles p o.role o.here ∙ o.is_open)

@@ -104,9 +104,9 @@ after_next {m = m} more after = record {
   paid = after.paid;
 }
 
--- ---- who starts
+-- ---- the process that starts
 
--- who is among the starts of a PAR lies where the activation does that goes on after it
+-- the frame of a process that is among the starts of a PAR lies where that of the activation does that goes on after it
 module _ {m : Contents} {t : Task} {point : Point m t} {j : Join} {due : ℕ} (after : AfterPar m j due)
     (starter : IsStarter m t point after.par j after.act) where
   pub starter_alike : LieAlike after.act.layout point.act.layout
