@@ -123,7 +123,7 @@ any_found {A} test (y ∷ ys) e = on (test y) refl e (λ rest. any_found test ys
     on true is e further = (0, y, refl, is)
     on false is e further = let rest = further e in (suc rest.0, rest.1, rest.2, rest.3)
 
--- who is found to have enabled something has
+-- a process that is found to have enabled something has
 is_by_it : (o : Option ℕ) (p : ℕ) → is_by o p ≡ true → o ≡ Some p
 is_by_it None p e = absurd (cc)
 is_by_it (Some q) p e = elim (eqb_tells q p) [
@@ -136,7 +136,7 @@ is_by_nobody : (o : Option ℕ) (p : ℕ) → is_some o ≡ false → o ≡ Some
 is_by_nobody None p none e = cc
 is_by_nobody (Some q) p none e = cc
 
--- who is found by the machine to have something enabled has
+-- a process that is found by the machine to have something enabled has
 in_list_of : (w : World) (p : ℕ) → has_enabled w p ≡ true → HasEnabled w.channels w.links.inputs p
 in_list_of w p some =
     on (list_any (λ (link : InputLink). is_by link.enabled p) w.links.inputs) refl some
@@ -342,7 +342,7 @@ module _ (m : Contents) (wf : IsWellFormed m) (w : World) (lawful : IsLawful m w
         let no' : None ≡ Some some.0 = sym none ∙ some.1 in
         cc
 
-    -- whoever waits there is a sender
+    -- a process that waits there is a sender
     sender_found : (c : Channel) → channel_at w address ≡ Some c → is_some c.waiting ≡ true
         → HasReady w.tasks (slice_set w.channels (cell_of address) (Some (record c { enabled = Some p })))
         w.links.inputs p
@@ -377,7 +377,7 @@ module _ (m : Contents) (wf : IsWellFormed m) (w : World) (lawful : IsLawful m w
         named_now.differ other kind In ((guards_now busy).fit.held n g other here is) holds.end
         (at ∙ sym holds.address_is)
 
-  -- ---- who has enabled a channel or a link
+  -- ---- the process that has enabled a channel or a link
 
   -- the channel is enabled by this process, or by none, and no other process has enabled it
   sets_cell : (address : ℕ) (c : Channel) (by : Option ℕ) (after : World) → channel_at w address ≡ Some c

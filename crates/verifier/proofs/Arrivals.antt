@@ -1,4 +1,4 @@
--- Bytes that arrive and messages that are acknowledged: who waits on a link goes on.
+-- Bytes that arrive and messages that are acknowledged: a process that waits on a link goes on.
 use Rattle.std.proofs.Common.{◌≡◌, ℕ, ◌+◌, ◌-◌, ◌<◌, Bool, true, false, if◌then◌else◌, eqb}
 use Rattle.std.proofs.Common.{◌||◌, inl, inr, List, Some, None, refl, sym, ap, ◌∙◌, subst, arith}
 use Rattle.std.proofs.lemmas.Bool.Decides.{eqb_tells}
@@ -46,7 +46,7 @@ pub wake_is : (w : World) (p : ℕ) (t : Task) → slice_get w.tasks p ≡ Some 
     → enqueue p (record w { tasks = slice_set w.tasks p (record t { condition = Ready }) }) ≡ wake p w
 wake_is w p t here = ap (enqueue p) (sym (on_task_is p (λ task. record task { condition = Ready }) w t here))
 
--- who waits on a link is in plain mode
+-- a process that waits on a link is in plain mode
 link_waiter_is_plain : (m : Contents) (w : World) → IsLawful m w → (p : ℕ) (t : Task) (e : Exchange) (done : ℕ)
     → slice_get w.tasks p ≡ Some t → t.condition ≡ OnLink e done → t.mode ≡ modes.Plain
 link_waiter_is_plain m w lawful p t e done here waits =
@@ -111,7 +111,7 @@ module _ (m : Contents) (w : World) (lawful : IsLawful m w) (h : Holds m w) (k b
   abbrev kept : World
   kept = with_input k with_it w
 
-  -- it is enabled by whoever has enabled it
+  -- it is enabled by the process that has enabled it
   fewer_enabled : (p address : ℕ) → EnablesAt kept p address → EnablesAt w p address
   fewer_enabled p address (a_channel word c there is) = a_channel word c there is
   fewer_enabled p address (a_link j link at there is) = elim (set_either w.links.inputs k with_it j link there) [

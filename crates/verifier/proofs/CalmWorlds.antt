@@ -31,7 +31,7 @@ pub data IsCalm (t : Task) : Type 0 where
   is_among_starts : t.mode ≡ modes.Starting → t.condition ≡ Ready → IsCalm t
   is_alternating : Alternates t.mode t.condition → IsCalm t
 
--- who waits for a message is in plain mode
+-- a process that waits for a message is in plain mode
 pub plain_of : (t : Task) → IsCalm t → (t.condition ≡ Ready → ⊥) → (t.condition ≡ Alternating → ⊥)
     → t.mode ≡ modes.Plain
 plain_of t (is_plain plain) unready unroused = plain
@@ -57,7 +57,7 @@ grown_calm tasks u calm all p t here = elim (got_either tasks u p t here) [
   | inr last ↦ subst IsCalm (sym last.1) calm
 ]
 
--- who waited for a message is ready
+-- a process that waited for a message is ready
 woken_calm : (t : Task) (c : Condition) → t.condition ≡ c → (c ≡ Ready → ⊥) → (c ≡ Alternating → ⊥) → IsCalm t
     → (next : Condition) → IsCalm (record t { condition = next })
 woken_calm t c is unready unroused calm next =

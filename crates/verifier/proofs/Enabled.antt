@@ -69,7 +69,7 @@ module _ (m : Contents) (wf : IsWellFormed m) (w : World) (lawful : IsLawful m w
   no_link_there address k c here few is = no_cell m wf w lawful h (4 + k) address c (omega (arith, few)) (omega
       (arith, is)) here
 
-  -- who has enabled what is at an address
+  -- a process that has enabled a source has enabled what is at its address
   pub source_enables : (p address : ℕ) (s : Source) → has_end (holding_at w.roles p) (record {
     address = address;
     direction = In;

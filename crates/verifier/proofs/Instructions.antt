@@ -113,7 +113,7 @@ module _ (m : Contents) (d : Decodes m) (wf : IsWellFormed m) (kept : IsKept m) 
   went_on after u new later puts leaves more less plain changes meets =
       holds_put m w h (shared_out lawful) p t r after u new later puts leaves changes no_join (omega arith) plain meets
 
-  -- it lives on at another offset, whoever runs next
+  -- it lives on at another offset, whichever process runs next
   module _ (to : ℕ) (l : Local) (later : ℕ) (queue : Queue) (less : later + 1 ≤ (row_of r).due)
       (changes : Allows r.lives w.memory l.memory)
       (goes : GoesOnAs m here_now (row_of r).start t (task_at m t t.mode to l) l later) where

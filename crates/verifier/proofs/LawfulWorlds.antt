@@ -69,7 +69,7 @@ lawful m es keeps = record {
   free = λ p. ends_lie_outside m es p keeps;
 }
 
--- who runs is ready
+-- the process that runs is ready
 pub runs_ready : {m : Contents} (w : World) → IsLawful m w → (p : ℕ) (t : Task) → w.queue.running ≡ Some p
     → slice_get w.tasks p ≡ Some t → t.condition ≡ Ready
 runs_ready w lawful p t running here =

@@ -89,7 +89,7 @@ module _ (m : Contents) (wf : IsWellFormed m) (w : World) (lawful : IsLawful m w
   abbrev behind : Condition → Local → Task
   behind c l = record t { registers = between (t.registers.at + 1) l.registers; condition = c }
 
-  -- who waits for a message is in plain mode
+  -- a process that waits for a message is in plain mode
   calmly : (c : Condition) (u : Task) (q : ℕ) → slice_get w.tasks q ≡ Some u → u.condition ≡ c → (c ≡ Ready → ⊥)
       → (c ≡ Alternating → ⊥) → u.mode ≡ modes.Plain
   calmly c u q there is unready unroused =
@@ -424,7 +424,7 @@ module _ (m : Contents) (wf : IsWellFormed m) (w : World) (lawful : IsLawful m w
           }) (enabled_same refl refl (stepped_silent (Sending e) l)) nothing_changes refl refl
           (out_lives (behind (Sending e) l) (omega (arith, at, few)) out_mine.lives)
 
-      -- it waits for one that receives, and whoever has enabled the channel is roused
+      -- it waits for one that receives, and the process that has enabled the channel is roused
       waits_to_send : (c : Channel) → channel_at w e.channel ≡ Some c → c.waiting ≡ None
           → Holds m (counted (dispatch pick (leave (rouse c.enabled (waits_at here (Sending e) e.channel c l w)))))
       unfolding dispatch

@@ -19,7 +19,7 @@ use Rattle.certified_worlds.proofs.Carrying.{SameEnabled}
 
 -- ---- channels and links
 
--- What others than p have enabled of channels is as before, and who waits there still does.
+-- What others than p have enabled of channels is as before, and a process that waits there still does.
 pub record LeavesChannels (p : ℕ) (old new : List (Option Channel)) : Type 0 where
   pub back : (k : ℕ) (c : Channel) (q : ℕ) → p ≢ q → slice_get new k ≡ Some (Some c) → c.enabled ≡ Some q
       → (d : Channel) × (slice_get old k ≡ Some (Some d)) × (d.enabled ≡ Some q)
@@ -46,7 +46,7 @@ pub record LeavesEnabled (w after : World) (p : ℕ) (t : Task) : Type 0 where
   pub links : LeavesLinks p w.links.inputs after.links.inputs
   pub silent : IsSilent w p t
 
--- who is ready waits to send nothing
+-- a process that is ready waits to send nothing
 pub ready_is_silent : (w : World) (p : ℕ) (t : Task) → t.condition ≡ Ready → IsSilent w p t
 ready_is_silent w p t ready k c q e other here enabled waiting sends = let no' = sym ready ∙ sends in cc
 
@@ -71,7 +71,7 @@ pub enabled_same : {w after : World} {p : ℕ} {t : Task} → after.channels ≡
 enabled_same channels links silent =
     record { channels = channels_same channels; links = links_same links; silent = silent }
 
--- One channel has changed, of which others have enabled what they had, and of such a one who waits there stays.
+-- One channel has changed: others have enabled of it what they had, and if one has, a process that waits there stays.
 pub channel_set : {p : ℕ} (cells : List (Option Channel)) (k : ℕ) (old new : Channel)
     → slice_get cells k ≡ Some (Some old) → ((q : ℕ) → p ≢ q → new.enabled ≡ Some q → old.enabled ≡ Some q)
     → ((q : ℕ) → p ≢ q → old.enabled ≡ Some q

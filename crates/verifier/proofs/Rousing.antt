@@ -35,7 +35,7 @@ still_enabling is_ready enables both_enabling = both_enabling
 still_enabling is_ready enables both_disabling = let no' = enables.1 in absurd (cc)
 still_enabling is_ready enables both_starting = let no' = enables.1 in absurd (cc)
 
--- who enables is ready, as it waits for not_so message
+-- a process that enables is ready, as it waits for no message
 enabling_is_ready : (t : Task) → IsCalm t → Enables t.mode → t.condition ≡ Ready
 enabling_is_ready t (is_plain plain) enables =
     let no' : modes.Plain ≡ modes.Enabling enables.0 = sym plain ∙ enables.1 in absurd (cc)
@@ -44,7 +44,7 @@ enabling_is_ready t (is_alternating (inl e)) enables = e.1
 enabling_is_ready t (is_alternating (inr d)) enables =
     let no' : modes.Disabling d.0.0 ≡ modes.Enabling enables.0 = sym d.0.1 ∙ enables.1 in absurd (cc)
 
--- who waits for a guard disables next
+-- a process that waits for a guard disables next
 waiting_disables : (t : Task) → IsCalm t → t.condition ≡ Alternating
     → (t.mode ≡ modes.Plain) ⊎ ((selection : Option ℤ) × (t.mode ≡ modes.Disabling selection))
 waiting_disables t (is_plain plain) waits = inl plain
@@ -67,7 +67,7 @@ module _ (m : Contents) (w : World) (h : Holds m w) (out : IsSharedOut m w) wher
     fault = only.fault;
   }
 
-  -- who enables, or waits for a guard, has no join open
+  -- a process that enables, or waits for a guard, has no join open
   enables_unopened : (q : ℕ) (t : Task) → slice_get w.tasks q ≡ Some t → Enables t.mode → t.condition ≡ Ready
       → opened_in w.roles q ≡ None
   enables_unopened q t here enables ready = none_open out.starters.openers q t here

@@ -1,5 +1,5 @@
 -- How what there is is shared out in a world: no two processes hold the same, holders are in order, a join counts its
--- branches that are not over, who has one open starts branches or is over, and each process is calm.
+-- branches that are not over, a process that has one open starts branches or is over, and each process is calm.
 use Rattle.std.proofs.Common.{◌≡◌, ◌≢◌, ◌⊎◌, ℕ, ◌*◌, inl, inr, List, Option, Some, None, refl, sym, ap, ◌∙◌, subst}
 use Rattle.std.specs.Prelude.{slice_get, slice_set}
 use std.Path.{fun_ext}
@@ -24,7 +24,7 @@ abbrev pub AreApart : List Role → Type 0
 AreApart roles = (p q : ℕ) (r s : Role) → p ≢ q → slice_get roles p ≡ Some r → slice_get roles q ≡ Some s
     → IsApart (held r) (held s)
 
--- who has a join open starts branches, or has done its own endp
+-- a process that has a join open starts branches, or has done its own endp
 abbrev pub OpenersStart : List Task → List Role → Type 0
 OpenersStart tasks roles = (p : ℕ) → HasOpened roles p → IsStarting tasks p ⊎ IsOver tasks p
 
@@ -69,7 +69,7 @@ none_open {tasks} {roles} openers p t here going unstarted = on (slice_get roles
     on None here = refl
     on (Some role) here = none role here role.opened refl
 
--- who has none open starts none
+-- a process that has none open starts none
 pub never_starting : {tasks : List Task} {roles : List Role} → Starters tasks roles → (p : ℕ) (t : Task)
     → slice_get tasks p ≡ Some t → opened_in roles p ≡ None → t.mode ≡ modes.Starting → ⊥
 never_starting {roles = roles} starters p t here none starting =
@@ -89,7 +89,7 @@ holds_own roles p role here none =
 
 module _ (tasks : List Task) (roles : List Role) (p : ℕ) (t u : Task) (here : slice_get tasks p ≡ Some t)
     (going : t.condition ≡ Ended → ⊥) where
-  -- who was over is so still
+  -- a process that was over still is
   pub over_still : (q : ℕ) → IsOver tasks q → IsOver (slice_set tasks p u) q
   over_still q over = record {
     task = over.task;

@@ -1,4 +1,5 @@
--- What is at the ends that processes hold: links and channels with messages as long as who holds the end knows.
+-- What is at the ends that processes hold: links and channels with messages of the length that the holder of the end
+-- knows.
 use Rattle.std.proofs.Common.{◌≡◌, ℕ, zero, suc, ◌+◌, ◌-◌, ◌<◌, true, if◌then◌else◌, inl, inr}
 use Rattle.std.proofs.Common.{Option, Some, None, refl, sym, ap, ◌∙◌, subst, arith}
 use Rattle.std.proofs.lemmas.Bool.Decides.{leb_tells}
@@ -131,7 +132,7 @@ module _ (m : Contents) (wf : IsWellFormed m) (w : World) (lawful : IsLawful m w
       on (at_link k few is len) = on_link k few is len
       on (at_channel c here len) = a_channel c here len (word_at p role e c has_role own here)
 
-  -- ---- who waits
+  -- ---- processes that wait
 
   waits_exchanging : (direction : Direction) (c : Condition) (e : Exchange) → WaitsTo direction c e → IsExchanging c e
   waits_exchanging In c e is = inr is
@@ -143,7 +144,7 @@ module _ (m : Contents) (wf : IsWellFormed m) (w : World) (lawful : IsLawful m w
   is_alive In c e is p t here same = living m w h p t (Receiving e) here (same ∙ is) (λ e. cc) (λ e. cc)
   is_alive Out c e is p t here same = living m w h p t (Sending e) here (same ∙ is) (λ e. cc) (λ e. cc)
 
-  -- who waits for a message has no join open
+  -- a process that waits for a message has no join open
   waits_with_none : (direction : Direction) (c : Condition) (e : Exchange) → WaitsTo direction c e → (q : ℕ) (t : Task)
       → slice_get w.tasks q ≡ Some t → t.condition ≡ c → opened_in w.roles q ≡ None
   waits_with_none In c e is q t here same = none_open lawful.starters.openers q t here

@@ -137,7 +137,7 @@ lives_whatever {memory = memory} c quiet before after = lives_on memory c quiet 
     (λ place still. inl refl)
     (λ place awaited over. let no' : true ≡ false = sym awaited ∙ before place in absurd (cc))
 
--- who was roused lives on where it was
+-- a process that was roused lives on where it was
 pub roused_lives : {m : Contents} {h : Holding} {began : Began} {memory : Memory} {t : Task} {due : ℕ}
     → t.condition ≡ Alternating → (l : Lives m h began memory t due)
     → LivesAs m h began memory (record t { condition = Ready }) due l.point.state l.point.act
@@ -221,7 +221,7 @@ abbrev pub row_of : {m : Contents} {w : World} {h : Holds m w} {p : ℕ} {t : Ta
     → Process m w h.began h.dues p t
 row_of {h = h} {p = p} {t = t} r = h.table.each p t r.here
 
--- who is not over is alive
+-- a process that is not over is alive
 pub living : (m : Contents) (w : World) (h : Holds m w) (p : ℕ) (t : Task) (c : Condition)
     → slice_get w.tasks p ≡ Some t → t.condition ≡ c → (c ≡ Stopped → ⊥) → (c ≡ Ended → ⊥) → Living m w h p t
 living m w h p t c here is going unended =
@@ -354,7 +354,7 @@ module _ (m : Contents) (w : World) (h : Holds m w) (out : IsSharedOut m w) (p :
         alternating = λ alternates. still.guards alternates (old.alternating alternates);
       }
 
-  -- who is over for good is so still
+  -- a process that is over for good still is
   gone_after : (q : ℕ) (role : Role) → IsGone w.tasks role q → IsGone after.tasks role q
   gone_after q role gone = (
     gone.0,
@@ -387,7 +387,7 @@ module _ (m : Contents) (w : World) (h : Holds m w) (out : IsSharedOut m w) (p :
           (scope_still m r.lives.point.state.context r.lives.point.state.mode r.lives.point.act.layout still)
           allowed_now.keeps)
 
-  -- who is no opener is not among starts
+  -- a process that is no opener is not among starts
   starts_none : opened_in w.roles p ≡ None → (par : Par) (j : Join) (act : Activation)
       → IsStarter m t r.lives.point par j act → ⊥
   starts_none none par j act starter =
@@ -625,7 +625,7 @@ module _ (m : Contents) (w after : World) (rests : Rests w after) (enabled : (p 
     well = rests.fault ∙ h.well;
   }
 
--- whoever is picked to run
+-- whichever process is picked to run
 pub dispatch_holds : (m : Contents) (pick : ℕ) (w : World) → Holds m w → Holds m (dispatch pick w)
 unfolding dispatch
 dispatch_holds m pick w h = holds_aside m w (record w { queue = picked pick w.queue }) (record {

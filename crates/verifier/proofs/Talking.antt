@@ -45,7 +45,7 @@ pub at_found : (w : World) (address : ℕ) (c : Channel) → slice_get w.channel
 at_found w address c there =
     ap (λ (o : Option (Option Channel)). elim o as (λ o. Option Channel) [ None ↦ None | Some cell ↦ cell ]) there
 
--- who wants something does have a task
+-- a process that wants something has a task
 pub wants_it : (w : World) (q : ℕ) (c : Condition) → condition_of w q ≡ c → (c ≡ Ready → ⊥)
     → (t : Task) × (slice_get w.tasks q ≡ Some t) × (t.condition ≡ c)
 wants_it w q c is waits = on (slice_get w.tasks q) refl is
@@ -72,7 +72,7 @@ module _ (m : Contents) (wf : IsWellFormed m) (w : World) (lawful : IsLawful m w
       (subst (λ (g : Holding). has_end g (record { address = e.channel; direction = direction }) ≡ true)
       (holds_own w.roles p (row_of r).role (row_of r).has_role unopened) talks.end))
 
-  -- who waits is another one
+  -- a process that waits is another one
   pub another : (q : ℕ) (u : Task) (c : Condition) → slice_get w.tasks q ≡ Some u → u.condition ≡ c → (c ≡ Ready → ⊥)
       → p ≢ q
   another q u c here is waits same =
@@ -143,7 +143,7 @@ module _ (m : Contents) (wf : IsWellFormed m) (w : World) (lawful : IsLawful m w
     | inr t ↦ t.1 same
   ]
 
-  -- who waits at the cell of a channel
+  -- the process that waits at the cell of a channel
   waiter : (e : Exchange) (c : Channel) (q : ℕ) → channel_at w e.channel ≡ Some c → c.waiting ≡ Some q
       → WaitsAt w.tasks q (cell_of e.channel)
   waiter e c q at waiting = lawful.cells (cell_of e.channel) c q (channel_there w e.channel c at) waiting
