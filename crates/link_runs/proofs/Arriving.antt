@@ -33,7 +33,7 @@ use Rattle.link_runs.specs.Wanting.{is_running, asks}
 use Rattle.link_runs.specs.Awaiting.{needed_by, needed_in, needed_of, keepable, awaited_at, awaited_on, awaited}
 use Rattle.link_runs.specs.Awaiting.{ArrivalsComeToAnEnd}
 
--- ---- who is made ready
+-- ---- the process that is made ready
 
 picked_runs : (running : Option ℕ) (first : ℕ) (rest : List ℕ)
     → is_some (picked 0 (record { running = running; ready = first ∷ rest })).running ≡ true
@@ -78,7 +78,7 @@ fewer before after link falls =
     sums b a Two p q r s t = omega (arith, p, q, r, s, t)
     sums b a Three p q r s t = omega (arith, p, q, r, s, t)
 
--- the same after the ready list was asked for who runs
+-- the same after the ready list was asked for the process that runs
 dispatched : (before after : World) (k : ℕ) → Falls before after k → Falls before (dispatch 0 after) k
 unfolding dispatch
 dispatched before after k falls = record { others = falls.others; this = falls.this }

@@ -81,7 +81,7 @@ steps_task m p task w is =
       | Some byte ↦ steps_byte m p task byte w is
     ]
 
--- who runs is there
+-- the process that runs is there
 process_there : (w : World) (p : ℕ) → w.queue.running ≡ Some p → slice_get w.tasks p ≡ None
     → Line w.tasks w.queue → w.queue.running ≡ None
 process_there w p running absent line =
