@@ -22,7 +22,7 @@ use Rattle.states.specs.State.{is_word, is_about, said_of, entry_fact}
 use Rattle.states.specs.Rows.{rise_from, LoopFits, IsRowOf}
 use Rattle.states.proofs.RowFacts.{and-parts, and-both, le-yes, lt-yes, le-from, lt-from}
 
--- entries that keep the format are apart
+-- valid entries are apart
 pub entries-apart : (code_len : ℕ) (low : ℤ) (entries : List Entry)
     → InOrder (EntryKeeps code_len) behind_entry low entries → rise_from low entries ≡ true
 entries-apart code_len low [] keeps = refl

@@ -497,7 +497,7 @@ span-word facts first n j leaving less =
     ap (λ (b : Bool). cond b (Alone (left_of leaving (by_itself (facts (first +ℤ pos j))))) (facts (first +ℤ pos j)))
     (in-span first n (first +ℤ pos j) (omega (arith, ints)) (omega (arith, ints)))
 
--- the bounds tell that there is a number
+-- the bounds show that there is a number
 sum-widened : (lo hi : ℤ) (t u sum : Together) → Widened lo hi t u
     → sum_left (Some t) (Widen lo hi) ≡ Some sum → sum ≡ u
 sum-widened lo hi t u sum (no_number tl th ul uh numbers lone) is =

@@ -31,7 +31,7 @@ module _ {may_use : Contents → ℕ → ℤ → Bool}
   has-room m b h =
       b.room s.context word (own m s.context word (ap (λ (m : Contents). may_use m s.context word) (sym b.is) ∙ h))
 
-  -- so it is handed out exactly where the module lets the context use it
+  -- so it is returned exactly if the module lets the context use it
   handed-out : (may : Bool) (o : Option ℤ) → may ≡ may_use s.module.now s.context word
       → SomeIff o (IsTrue may × FitsSigned w32 word) word → IsUsable may_use s word o
   handed-out may (Some x) asked h = record {
