@@ -133,7 +133,7 @@ itself_means m act k (Count loop) None means = elim means [ ]
 itself_means m act k (Count loop) (Some x) (is_count some most is fits) =
     is_number (omega (arith, ints)) (omega (arith, ints)) fits
 
--- what is handed out of it
+-- what an instruction learns of it
 pub plain_means : (m : Contents) (act : Activation) (k : ℤ) (f : WordFact) (v : Option ℤ) → MeansWord m act k f v
     → Means m act.layout (plain f) v
 plain_means m act k f v means = handed_means (by_itself f) (itself_means m act k f v means)
