@@ -32,7 +32,7 @@ use Rattle.par_rules.proofs.WordTests.{or-none}
 
 -- ---- what reading shows of a word
 
--- what is handed out says what the fact says, of all but a return address
+-- what an instruction learns says what the fact says, of all but a return address
 handed-implies : (fact wanted : Fact) → (wanted ≡ ReturnAddress → ⊥) → implies fact wanted ≡ true
     → implies (handed_out fact) wanted ≡ true
 handed-implies fact Unknown other h = implies-unknown (handed_out fact)

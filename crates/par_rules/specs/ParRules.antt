@@ -167,8 +167,8 @@ ended_par m context (Starting row started) = elim (slice_get m.pars row) [
   | Some par ↦ if started == length par.branches then Some par else None
 ]
 
--- A branch leaves what the label after its PAR says, if there is that label. Who has started the branches compared it
--- before.
+-- A branch leaves what the label after its PAR says, if there is that label. The process that has started the branches
+-- compared it before.
 abbrev pub leaves_agreed : Contents → Par → State → Bool
 leaves_agreed m par s =
     not (is_plain s.mode) || elim (label_at m par.successor) [ None ↦ true | Some t ↦ ends_below m s t ]
