@@ -30,7 +30,7 @@ pub record BranchLabel (m : Contents) (found : Found) : Type 0 where
   pub context : label.context ≡ context_of m found
   pub turns : ℤ → ℕ
 
--- Whoever can start the branch in this memory, after the start the state of the label holds of the branch.
+-- Whatever can start the branch in this memory, after the start the state of the label holds of the branch.
 abbrev pub BeginsAtLabel : {m : Contents} {found : Found} → BranchLabel m found → Activation → Holding → Memory → ℤ → ℕ
     → Type 0
 BeginsAtLabel {m = m} {found = found} b act h memory depth workspace =
