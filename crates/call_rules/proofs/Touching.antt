@@ -173,7 +173,7 @@ is_own c first n usable first_is n_is usable_is holds =
     ∙ (ap (λ (k : ℤ). all_words (rights.may_write_word c.contents c.state.context) k n) first_is
     ∙ ap (all_words (rights.may_write_word c.contents c.state.context) (callee_word c.state c.callee.lo)) n_is))
 
--- the word that is handed out
+-- the word that is returned
 pub handed_word : (usable : Option ℤ) (first w : ℤ) → usable ≡ Some first → IfSome usable (λ k. k ≡ w) → first ≡ w
 handed_word None first w is h = absurd (cc)
 handed_word (Some k) first w is h = let same : k ≡ first = cc in sym same ∙ h
