@@ -56,7 +56,8 @@ closed_is o j par w role t has here =
     }) (ap (on_role o without_join) (on_task_is o (closed_task j par) w t here)
     ∙ on_role_is o without_join (record w { tasks = slice_set w.tasks o (closed_task j par t) }) role has)
 
--- An end that anyone has once a join is over is of no channel of its opener: holders are in order before and after.
+-- An end that any process has once a join is over is of no channel of its opener: holders are in order before and
+-- after.
 pub outlives : (m : Contents) (roles later : List Role) (cells : List (Option Channel)) (o : ℕ)
     → HoldersIn m roles cells → HoldersIn m later (without_channels o cells) → (q : ℕ) (e : End)
     → has_end (own_in later q) e ≡ true → (c : Channel) → slice_get cells (cell_of e.address) ≡ Some (Some c)
@@ -213,7 +214,7 @@ module _ (m : Contents) (d : Decodes m) (wf : IsWellFormed m) (c : IsCertified m
 
     -- ---- lengths
 
-    -- an end that anyone has is of a link or of a channel that is still there
+    -- an end that any process has is of a link or of a channel that is still there
     agrees_now : (q : ℕ) (e : End) (start : Began) → has_end (own_in after.roles q) e ≡ true
         → LengthAgrees m w.channels start e → LengthAgrees m after.channels start e
     agrees_now q e start has (at_link k few is len) = at_link k few is len

@@ -270,7 +270,7 @@ module _ (m : Contents) (w : World) (h : Holds m w) (branches : Branches w.tasks
     branch_ends (joins_other_block x k o j other none up opens at refused) =
         let no' : true ≡ false = sym (right_block o j up opens) ∙ refused in cc
 
-  -- Whoever ends a PAR, as its rule says, passes the tests of the end.
+  -- A process that ends a PAR, as its rule says, passes the tests of the end.
   pub ends_pass : EndsIn row.meets block → {kind : FaultKind}
       → Refused (at_here m p t pick) w (joins block l) kind → ⊥
   ends_pass ends refused = on (tells {block = block} ready row.meets ends)

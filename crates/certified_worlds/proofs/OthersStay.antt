@@ -157,7 +157,7 @@ module _ (m : Contents) (w after : World) (g : Holding) (changes : ChangesOwn g 
       let old = h.table.each q u at in
       meets_apart (apart q old.role differ old.has_role) q old.meets (enabled q u differ at) (ready q u differ at)
 
--- So it is of anyone where no byte has changed.
+-- So it is of any process where no byte has changed.
 pub meets_unchanged : (m : Contents) (w after : World) → after.memory ≡ w.memory → (q : ℕ) {h : Holding} {start : Began}
     {u : Task} {due : ℕ} (old : Meets m h start w.memory u due) → SameEnabled w after q
     → (HasReady w.tasks w.channels w.links.inputs q → HasReady after.tasks after.channels after.links.inputs q)

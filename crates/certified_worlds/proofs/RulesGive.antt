@@ -27,7 +27,7 @@ label_stands after = record {
 }
 
 module _ {x : Here} {s : State} {par : Par} where
-  -- Who has started all branches of a PAR ends it at its block,
+  -- A process that has started all branches of a PAR ends it at its block,
   pub started_all_ends : StartedAll x s par
       → EndsAPar x.m s x.act.layout (channel_address x.act.layout (FrameWord par.block))
   started_all_ends all = has_started all.row par all.mode all.is refl
