@@ -1,5 +1,5 @@
--- Who starts branches does nothing between two starts but go on in the middle of them: no byte changes, and its number
--- alone pays.
+-- A process that starts branches does nothing between two starts but go on in the middle of them: no byte changes, and
+-- its number alone pays.
 use Rattle.std.proofs.Common.{◌≡◌, ℕ, ◌+◌, ◌-◌, ◌≤◌, ◌<◌, ℤ, true, false}
 use Rattle.std.proofs.Common.{length, Some, None, refl, sym, ap, ◌∙◌, arith}
 use Rattle.prefix_decoder.specs.declared.function.Fun.{Fun}

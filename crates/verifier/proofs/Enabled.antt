@@ -115,7 +115,7 @@ module _ (m : Contents) (wf : IsWellFormed m) (w : World) (lawful : IsLawful m w
           (lawful.enabled.at_links k link q here is)
           (subst (λ a. has_end (holding_at w.roles p) (record { address = a; direction = In }) ≡ true) at held)
 
-  -- Whoever waits there, while the process is ready, is a sender.
+  -- A process that waits there, while this one is ready, is a sender.
   pub who_sends : (p address : ℕ) (t : Task)
       → has_end (holding_at w.roles p) (record { address = address; direction = In }) ≡ true
       → slice_get w.tasks p ≡ Some t → t.condition ≡ Ready → (c : Channel) → channel_at w address ≡ Some c → (q : ℕ)

@@ -1,4 +1,4 @@
--- Whoever lives is at a state of its mode, whatever it waits for.
+-- A process that lives is at a state of its mode, whatever it waits for.
 use Rattle.std.proofs.Common.{◌≡◌, ℕ, zero, suc, ◌<◌, Bool, true, false, if◌then◌else◌, [], ◌∷◌, length}
 use Rattle.std.proofs.Common.{Some, refl, ap, arith}
 use Rattle.module_format.specs.Contents.{Contents}

@@ -1,4 +1,4 @@
--- Whoever is roused lives on, with something ready.
+-- A process that is roused lives on, with something ready.
 use Rattle.std.proofs.Common.{◌≡◌, ◌⊎◌, ℕ, ℤ, Bool, inl, inr, List, Option, Some, None, refl, sym, ap, ◌∙◌, arith}
 use Rattle.std.specs.Prelude.{slice_get, slice_set, true}
 use Rattle.module_format.specs.Contents.{Contents}

@@ -45,7 +45,7 @@ shared_out lawful = record {
   calm = lawful.calm;
 }
 
--- Who neither starts branches nor is over has no join open.
+-- A process that neither starts branches nor is over has no join open.
 pub none_open : {tasks : List Task} {roles : List Role} → OpenersStart tasks roles → (p : ℕ) (t : Task)
     → slice_get tasks p ≡ Some t → (t.condition ≡ Ended → ⊥) → (t.mode ≡ modes.Starting → t.condition ≡ Ready → ⊥)
     → opened_in roles p ≡ None

@@ -1,4 +1,4 @@
--- Who starts branches goes on between two starts, and the invariant holds then.
+-- A process that starts branches goes on between two starts, and the invariant holds then.
 use Rattle.std.proofs.Common.{◌≡◌, ℕ, suc, ◌+◌, ◌≤◌, true, false, ℤ, [], ◌∷◌, ◌++◌, length}
 use Rattle.std.proofs.Common.{Option, Some, None, refl, sym, ap, ◌∙◌, subst, arith, drop}
 use Rattle.std.specs.Prelude.{slice_get, slice_set}

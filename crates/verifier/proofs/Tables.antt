@@ -610,7 +610,7 @@ module _ (m : Contents) (w after : World) (rests : Rests w after) (enabled : (p 
             (d.0, d.1, d.2 ∙ c.2, d.3 ∙ c.3);
       }
 
-  -- Who alternates does so still.
+  -- The invariant holds in the world after, as what each process has enabled and what is ready for it stay.
   pub holds_aside : Holds m after
   holds_aside = record {
     dues = h.dues;

@@ -57,7 +57,7 @@ returns-in-Ok-Err-clause-refuses c =
     (spelled (goal.at.returns-in-Ok-Err-clause-refuses c).In-Ok-fetch)
     (judged_as _ (Err c.in-Ok-Err.rule) _ _ c.in-Ok-Err.field-0-is c.in-Ok-Err.ensures.judged))
 
--- how many bytes of the instruction are behind its first
+-- how many bytes of the instruction come after its first
 behind_first : (c : In-Ok-Ok) → c.loop-at.at + c.in-Ok-fetch.instr.len - (c.loop-at.at + 1)
     ≡ c.in-Ok-fetch.instr.len - 1
 behind_first c = let some = c.in-Ok-fetch.ensures.length.0 in omega arith
