@@ -172,7 +172,7 @@ fn chain<'t, 'a>(
     made_of(alloc, operation, rest)
 }
 
-/// An operand of an operator.
+/// An operand: of an operator, or alone.
 #[cycle(expression)]
 #[tactic(auto, unfolding(crate::specs::Reading::term_at, crate::specs::Reading::term_with))]
 fn operand<'t, 'a>(alloc: Global, levels: u32, tokens: &'t [Token<'a>]) -> Read<'t, 'a, Operand<'a>>

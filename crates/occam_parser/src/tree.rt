@@ -263,7 +263,7 @@ pub enum Operation<'a> {
     },
 }
 
-/// An operand of an operator.
+/// An operand: of an operator, or alone.
 #[cycle(expression)]
 #[derive(Drop)]
 pub enum Operand<'a> {
