@@ -111,7 +111,7 @@ abbrev pub begun_with : List Block → ℕ
 begun_with [] = 0
 begun_with (b ∷ bs) = length b.start
 
--- Scopes are left until there are this number of entries, but none that is around the innermost block.
+-- Scopes are left until this number of entries remains, but none that is around the innermost block.
 abbrev pub leave : ℕ → List Block → List Entry → List Entry
 leave count bs es = outermost (max count (begun_with bs)) es
 
