@@ -186,7 +186,7 @@ fn fault_of_one(
     )
 }
 
-/// The number of the rule that is broken, if what has this meaning is not called with `count` actuals.
+/// The number of the rule that a call of what has this meaning with `count` actuals breaks, if it breaks one.
 fn not_called(signatures: &[Signature], found: Option<Meaning>, count: usize) -> Option<u8>
     ensures { IsLowest (IsNotCalled (signatures_of signatures.now) (option_map meaning_of found) count) result }
 {
