@@ -1,4 +1,4 @@
--- What the components of a PAR share is asked component by component, each beside those before it.
+-- What the components of a PAR share is checked component by component, each beside those before it.
 use Rattle.std.proofs.Common.{◌≡◌, ℕ, ◌+◌, ◌<◌, ◌≤◌, Bool, false, List, [], length, map, take, get_or, Option}
 use Rattle.std.proofs.Common.{ℤ, ap, add-one, sym, subst, ◌∙◌, ◌++◌, ◌||◌, ◌⊎◌, inl, inr}
 use Rattle.std.proofs.lemmas.List.{take_all}
@@ -74,7 +74,7 @@ ungrouped A B C D f (inl (inl a)) = inl (inl a)
 ungrouped A B C D f (inl (inr b)) = inr (inl b)
 ungrouped A B C D f (inr h) = elim h.1 [ inl c ↦ inl (inr (h.0, c)) | inr d ↦ inr (inr (h.0, d)) ]
 
--- what is asked of some components or turns, and what they share with each other
+-- what is checked for some components or turns, and what they share with each other
 abbrev pub Apart : ℕ → (UsageFault → Type 0) → (ℕ → Type 0) → UsageFault → Type 0
 Apart line Inside Shared f = Inside f ⊎ At line Shared f
 

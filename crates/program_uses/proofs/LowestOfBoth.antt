@@ -1,4 +1,4 @@
--- The lowest number of rules that are asked one by one.
+-- The lowest number of rules that are checked one by one.
 use Rattle.std.proofs.Common.{◌≡◌, ℕ, min, Bool, true, false, Option, Some, None, inl, inr, refl}
 use Rattle.std.proofs.Common.{arith, subst, sym, ◌⊎◌}
 use Rattle.std.proofs.lemmas.Bool.{cases_lt}

@@ -114,7 +114,7 @@ collects_each a es f items others i done same x =
     collects_at (λ xs. uses_of_components a es (all_of (map f xs)))
     (λ xs. SharesInComponents a es (all_of (map f xs))) (take_all i items done ∙ same) x
 
--- what is asked of a construct as a whole, if it is a block, and what of its parts
+-- what is checked for a construct as a whole, if it is a block, and what for its parts
 abbrev pub BreaksWhole : Around → List Entry → Construct → ℕ → Type 0
 BreaksWhole a es (Act action) n = ⊥
 BreaksWhole a es (Block kind cs) n = BreaksBlock a (block_word kind) es cs n
@@ -125,7 +125,7 @@ SharesInParts a es line (Act action) f = ⊥
 SharesInParts a es line (Block kind cs) f = SharesInComponents a es cs f
 SharesInParts a es line (Replicated r b) f = SharesInBody a es line r b f
 
--- a construct of which nothing is asked as a whole
+-- a construct for which nothing is checked as a whole
 pub collects_whole : (a : Around) (es : List Entry) (line : ℕ) (c d : Construct) {s t : Uses} {o m : Option UsageFault}
     {k l : Known} → c ≡ d → ((n : ℕ) → BreaksWhole a es c n → ⊥)
     → Collects s t o m k l (uses_of_construct a es line c) (SharesInParts a es line c)
@@ -174,7 +174,7 @@ all_turns a k line r (One kind c) sequential turns n one all last x =
     (λ y. SharesInSome a k.entries r (One kind c) y.0 y.1.first y.2)
     (λ i. (one i, all i, (last ∙ ap (λ t. t.count) all) i)) x
 
--- the body of a block whose turns are not asked what they share
+-- the body of a block for whose turns it is not checked what they share
 pub no_turns_apart : (a : Around) (k : Known) (line : ℕ) (r : Replicator) (b : Body) {s t : Uses}
     {o m : Option UsageFault} {l : Known} → ((n : ℕ) → BreaksRepeated a k.entries line r b n → ⊥)
     → Collects s t o m k l (uses_of_body a k.entries line r b) (SharesInTurns a k.entries line r (is_sequence b) b)

@@ -26,12 +26,12 @@ BreakTurns count uses zero n = ⊥
 BreakTurns count uses (suc turn) n =
     BreakTurns count uses turn n ⊎ BreaksSharing count (is_among (in_turns uses turn)) (is_among (uses turn)) n
 
--- what is asked of a block as a whole
+-- what is checked for a block as a whole
 abbrev pub BreaksBlock : {part : Part} → Around → Terminal → List Entry → Components part → ℕ → Type 0
 BreaksBlock a (Mark mark.Par) es cs n = BreakSharing a es cs n
 BreaksBlock a word es cs n = ⊥
 
--- what is asked of the turns of a PAR
+-- what is checked for the turns of a PAR
 abbrev pub BreaksTurns : Terminal → ℕ → (ℕ → List Use) → ℕ → ℕ → Type 0
 BreaksTurns (Mark mark.Par) count uses turns n = BreakTurns count uses turns n
 BreaksTurns word count uses turns n = ⊥
