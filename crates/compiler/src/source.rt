@@ -94,7 +94,7 @@ impl From<GenFault> for CompileFault {
     }
 }
 
-/// The module of the program that a source is. The layout of the whole source is asked first, then its syntax, then the
+/// The module of the program that a source is. The layout of the whole source comes first, then its syntax, then the
 /// rules of usage, and then [`generate`].
 pub fn compile(alloc: Global, source: &[u8]) -> Result<Vec<u8>, CompileFault>
     ensures compiled { IfOk result (λ v. IsCompiled source.now v.items) }
