@@ -1,5 +1,6 @@
 -- Visits of all branches.
-use Rattle.std.proofs.Common.{◌≡◌, ℕ, zero, suc, ◌<◌, Bool, true, false, List, [], ◌∷◌, length, get_or, sym, ap, ◌∙◌, arith}
+use Rattle.std.proofs.Common.{◌≡◌, ℕ, zero, suc, ◌<◌, Bool, true, false, List, [], ◌∷◌, length, get_or, sym, ap, ◌∙◌}
+use Rattle.std.proofs.Common.{arith}
 use Rattle.std.proofs.Common.{refl, subst, inl, inr, ◌+◌, ◌-◌, ◌≤◌, ◌^◌, ℤ, Option, Some, None, cond, ◌&&◌}
 use Rattle.std.specs.Prelude.{◌==◌, Vec, MatchOption, slice_get, is_some, if◌then◌else◌}
 use Rattle.std.specs.List.{list_any}

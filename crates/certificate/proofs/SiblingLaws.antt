@@ -1,7 +1,8 @@
 -- What branches have in common: lists of intervals that rise are gone over together, and the branches of rows keep the
 -- rules.
 use Rattle.std.proofs.Common.{◌≡◌, ℕ, zero, suc, ◌+◌, ◌-◌, ◌<◌, ◌≤◌, ℤ, ◌≤ℤ◌, true, false, List, [], ◌∷◌, length}
-use Rattle.std.proofs.Common.{map, take, get_or, ◌++◌, Option, Some, None, refl, sym, ap, subst, ◌∙◌, arith, w32, FitsSigned}
+use Rattle.std.proofs.Common.{map, take, get_or, ◌++◌, Option, Some, None, refl, sym, ap, subst, ◌∙◌, arith, w32}
+use Rattle.std.proofs.Common.{FitsSigned}
 use Rattle.std.specs.Prelude.{int_lt, int_le, slice_get}
 use Rattle.std.specs.List.{AllByRecursion, list_any}
 use Rattle.std.proofs.Math.Bool.{and-false}

@@ -13,7 +13,8 @@ use Rattle.module_format.specs.Order.{InOrder, least_word}
 use Rattle.module_format.specs.Pars.{IntervalKeeps, behind_interval}
 use Rattle.module_format.proofs.FieldLaws.{int_le-false, int_le-true, int_le-le, int_lt-false}
 use Rattle.certificate.specs.Rights.{is_among}
-use Rattle.certificate.specs.Words.{all_words, is_within, beyond_interval, BeginBy, BeginsFrom, from_begin, BeginInOrder}
+use Rattle.certificate.specs.Words.{all_words, is_within, beyond_interval, BeginBy, BeginsFrom, from_begin}
+use Rattle.certificate.specs.Words.{BeginInOrder}
 use Rattle.certificate.specs.Words.{IsAdded}
 
 -- ---- intervals by their first words

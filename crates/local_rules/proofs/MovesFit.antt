@@ -48,7 +48,8 @@ use Rattle.rulings.proofs.Reaching.{region_place, natural, place_at, region_at}
 use Rattle.rulings.proofs.Combining.{FitsIf, unknown_means, on_rule_test, uses_fits, in_bounds_fits}
 use Rattle.rulings.proofs.Combining.{holds_fits, goes_on_fits, in_plain_rule, beside_plain_rule, in_plain_step}
 use Rattle.rulings.proofs.Combining.{after_stack, settles_fits, reads_bytes_fits, writes_bytes_fits, counts_fits}
-use Rattle.rulings.proofs.BlocksMove.{all_held, source_read, read_at, written_at, regions_apart, AreDefined, Room, Moved}
+use Rattle.rulings.proofs.BlocksMove.{all_held, source_read, read_at, written_at, regions_apart, AreDefined, Room}
+use Rattle.rulings.proofs.BlocksMove.{Moved}
 use Rattle.rulings.proofs.BlocksMove.{meet_tells, defined_of}
 use Rattle.rulings.proofs.BlocksMove.{written_room, unknown_into_frame, numbers_into_frame, numbers_into_parameter}
 use Rattle.rulings.proofs.PointerFacts.{constant_is, exact_is}

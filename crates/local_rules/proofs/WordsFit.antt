@@ -54,7 +54,8 @@ use Rattle.local_rules.proofs.Results.{numbers_fit, shift_computed, shift_holds,
 use Rattle.local_rules.proofs.Sources.{result_comes, constant_comes}
 use Rattle.local_rules.proofs.NarrowedWords.{narrowed_means, narrowed_dues}
 use Rattle.rulings.proofs.Dues.{changed_dues}
-use Rattle.rulings.proofs.Combining.{stays_by, stacked, going_on_fits, still_rule_fits, still_step_fits, FitsIf, unknown_means}
+use Rattle.rulings.proofs.Combining.{stays_by, stacked, going_on_fits, still_rule_fits, still_step_fits, FitsIf}
+use Rattle.rulings.proofs.Combining.{unknown_means}
 use Rattle.rulings.proofs.Combining.{paid, below_not, on_rule_test, on_step_test, uses_value, uses_fits}
 use Rattle.rulings.proofs.Combining.{in_bounds_fits, holds_fits, writes_word_fits, reads_word_fits, reads_fits}
 use Rattle.rulings.proofs.Combining.{goes_on_fits, write_step, label_fits, on_label, in_plain_rule, beside_plain_rule}

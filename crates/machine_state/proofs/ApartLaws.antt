@@ -53,7 +53,8 @@ use Rattle.machine_state.specs.ChannelLaws.{HaveTheirWaiters}
 use Rattle.prefix_decoder.specs.Functions.{nibble}
 use Rattle.prefix_decoder.specs.Operand.{with_nibble}
 use Rattle.machine_state.proofs.Lines.{got_other, got_either, got_within, set_either}
-use Rattle.machine_state.proofs.MovesLeaveAlone.{wake_only, rouse_only, on_task_only, chooses, on_role_is, roles_of_equal}
+use Rattle.machine_state.proofs.MovesLeaveAlone.{wake_only, rouse_only, on_task_only, chooses, on_role_is}
+use Rattle.machine_state.proofs.MovesLeaveAlone.{roles_of_equal}
 use Rattle.machine_state.proofs.Changes as change
 use Rattle.machine_state.proofs.Changes.{Roused, rouses}
 use Rattle.machine_state.proofs.Combining.{and_true}

@@ -43,7 +43,8 @@ use Rattle.prefix_decoder.specs.Operand.{with_nibble}
 use Rattle.machine_state.proofs.SpanLaws.{or_true}
 use Rattle.machine_state.proofs.Lines.{got_set, got_other}
 use Rattle.machine_state.proofs.MovesLeaveAlone.{OnlyRoles, wake_only, rouse_only, on_task_only, on_task_is, chooses}
-use Rattle.machine_state.proofs.MovesLeaveAlone.{on_role_only, on_role_is, tasks_of_equal, roles_of_equal, without, is_last}
+use Rattle.machine_state.proofs.MovesLeaveAlone.{on_role_only, on_role_is, tasks_of_equal, roles_of_equal, without}
+use Rattle.machine_state.proofs.MovesLeaveAlone.{is_last}
 use Rattle.machine_state.proofs.MovesLeaveAlone.{with_opened, member_gone, joined_either}
 use Rattle.machine_state.proofs.Among.{filter_keeps, none_among}
 use Rattle.machine_state.specs.Ownership.{IsAmong}

@@ -46,7 +46,8 @@ use Rattle.rulings.proofs.Combining.{in_plain_rule, beside_plain_rule, in_plain_
 use Rattle.rulings.proofs.Combining.{MaySchedule, Scheduled, unscheduled, scheduled, scheduling, scheduled_changes}
 use Rattle.rulings.proofs.Combining.{unscheduled_owed, unscheduled_context, unscheduled_mode, rule_schedules_fits}
 use Rattle.rulings.proofs.Combining.{step_schedules_fits}
-use Rattle.rulings.proofs.BlocksMove.{all_held, source_read, read_at, written_at, written_read, IsReadAt, defined_of, Room}
+use Rattle.rulings.proofs.BlocksMove.{all_held, source_read, read_at, written_at, written_read, IsReadAt, defined_of}
+use Rattle.rulings.proofs.BlocksMove.{Room}
 use Rattle.rulings.proofs.BlocksMove.{written_room, copied-inside, length-copied, Moved}
 use Rattle.rulings.proofs.BufferPlaces.{message_place_is, of_message_tells, of_message, beside_message, IsOff}
 use Rattle.rulings.proofs.BufferPlaces.{off_scheduling, off_stays, unscheduled_agree, beside_scheduling}

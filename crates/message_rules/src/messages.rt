@@ -9,7 +9,8 @@ ghost use Rattle.rulings.specs.Pointers.{are_near};
 ghost use Rattle.rulings.specs.Telling.{Admits, Advances};
 ghost use Rattle.rulings.specs.Places.{site_of};
 ghost use Rattle.states.specs.State.{is_word};
-ghost use Rattle.message_rules.specs.MessageRules.{is_message, word_before, ends_before, begins_behind, is_off_scheduling, received};
+ghost use Rattle.message_rules.specs.MessageRules.{is_message, word_before, ends_before, begins_behind};
+ghost use Rattle.message_rules.specs.MessageRules.{is_off_scheduling, received};
 ghost use Rattle.message_rules.specs.MessageRules.{exchanges, takes, receives, receives_some, in_rule, gives, sends};
 ghost use Rattle.message_rules.specs.MessageRules.{sends_some, out_rule, message_rule};
 

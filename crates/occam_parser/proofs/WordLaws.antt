@@ -1,5 +1,6 @@
 -- The literals of a tree are those of the lines on which it is written.
-use Rattle.std.proofs.Common.{◌≡◌, ℕ, ◌+◌, Bool, true, false, List, [], ◌∷◌, ◌++◌, Option, Some, None, refl, sym, ap, ◌∙◌}
+use Rattle.std.proofs.Common.{◌≡◌, ℕ, ◌+◌, Bool, true, false, List, [], ◌∷◌, ◌++◌, Option, Some, None, refl, sym, ap}
+use Rattle.std.proofs.Common.{◌∙◌}
 use Rattle.std.specs.Prelude.{◌&&◌}
 use Rattle.std.specs.List.{list_all}
 use Rattle.std.proofs.lemmas.List.Folds.{list_all-append}
@@ -33,7 +34,8 @@ use Rattle.occam_parser.specs.Lines.{Constants, Variables, Channels, Action, Ski
 use Rattle.occam_parser.specs.Lines.{Instance, Guard, Receives, Skips, Formal, in_brackets, written_place, separated}
 use Rattle.occam_parser.specs.Lines.{after_commas, written_name, written_value, written_names}
 use Rattle.occam_parser.specs.Lines.{channel_words, written_declaration, written_action, written_replicator}
-use Rattle.occam_parser.specs.Lines.{written_guard, written_formal, written_condition, formal_words, value_word, size_of}
+use Rattle.occam_parser.specs.Lines.{written_guard, written_formal, written_condition, formal_words, value_word}
+use Rattle.occam_parser.specs.Lines.{size_of}
 use Rattle.occam_parser.specs.Lines.{block_word}
 use Rattle.occam_parser.specs.Blocks.{Row, row_of, rows_of, Process, Declared, Does, Construct, Act, Block, Replicated}
 use Rattle.occam_parser.specs.Blocks.{Body, One, Components, Part, NoComponent, Further, Component, Plain, Chosen}

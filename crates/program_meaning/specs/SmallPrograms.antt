@@ -13,7 +13,8 @@ use Rattle.occam_parser.specs.declared.tree.PairOperator.TheVariants as pair
 use Rattle.occam_parser.specs.Expressions.{Expression, Alone, Prefixed, Paired, Chained, Two, Term, Number, Byte, Named}
 use Rattle.occam_parser.specs.Expressions.{Truth, Element, Bracketed, Converted}
 use Rattle.occam_parser.specs.Lines.{Place, Variables, Channels, Action, Assign, Input, Output, Formal, Skip}
-use Rattle.occam_parser.specs.Blocks.{Process, Declared, Does, Act, Processes, Choices, Components, NoComponent, Further}
+use Rattle.occam_parser.specs.Blocks.{Process, Declared, Does, Act, Processes, Choices, Components, NoComponent}
+use Rattle.occam_parser.specs.Blocks.{Further}
 use Rattle.occam_parser.specs.Blocks.{Plain, Chosen, ProgramItem, GlobalProcedure}
 use Rattle.occam_parser.specs.Constructs.{in_seq, in_if, repeated_seq}
 

@@ -12,7 +12,8 @@ ghost use Rattle.program_uses.specs.ParRules.{BreaksSharing};
 ghost use Rattle.program_uses.specs.Processes.{Collects, uses_of, uses_of_construct, uses_of_body, uses_of_components};
 ghost use Rattle.program_uses.specs.Processes.{uses_of_component, uses_of_one};
 ghost use Rattle.program_uses.specs.Sets.{has, is_among};
-ghost use Rattle.program_uses.specs.Sharing.{Shares, SharesInConstruct, SharesInBody, SharesInTurns, SharesInComponents};
+ghost use Rattle.program_uses.specs.Sharing.{Shares, SharesInConstruct, SharesInBody, SharesInTurns};
+ghost use Rattle.program_uses.specs.Sharing.{SharesInComponents};
 ghost use Rattle.program_uses.specs.Sharing.{SharesInComponent, SharesInOne, uses_apart, SharesApart};
 ghost use Rattle.program_uses.specs.Telling.{At};
 

@@ -11,7 +11,8 @@ use Rattle.scalar_ranges.specs.Moves.{ends_with, end_of, next}
 use Rattle.scalar_ranges.specs.Changes.{Slot, Branching, Tracked, entry_in, start_in, end_in, undone}
 use Rattle.scalar_ranges.specs.Changes.{before, seen, ends_seen, begin_with, known_in, block_in, blocks_in, numbers_of}
 use Rattle.scalar_ranges.specs.Changes.{AreListed, AreUpTo, without, is_marked, is_recent, AreMarked, IsSettled}
-use Rattle.scalar_ranges.specs.Changes.{AreSettled, AreTracked, noted, with_new, with_end, with_restart, put, begun_block}
+use Rattle.scalar_ranges.specs.Changes.{AreSettled, AreTracked, noted, with_new, with_end, with_restart, put}
+use Rattle.scalar_ranges.specs.Changes.{begun_block}
 use Rattle.scalar_ranges.specs.Changes.{begun, joined, restarted, each, joined_by, turned_slots, turned_block, next_in}
 use Rattle.scalar_ranges.specs.Changes.{Follows}
 use Rattle.scalar_ranges.proofs.Hulls.{meaning_again, meaning_itself}

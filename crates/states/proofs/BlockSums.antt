@@ -1,6 +1,7 @@
 -- What is known of the words of blocks together, as it is kept.
 use Rattle.std.proofs.Common.{◌≡◌, ◌≢◌, ℕ, zero, suc, ◌+◌, ◌-◌, ◌*◌, ◌/◌, ◌%◌, ◌<◌, ◌≤◌, ℤ, pos, ◌+ℤ◌, ◌≤ℤ◌}
-use Rattle.std.proofs.Common.{Bool, true, false, ◌&&◌, cond, eqb, List, [], length, set, Option, Some, None, refl, sym, ap}
+use Rattle.std.proofs.Common.{Bool, true, false, ◌&&◌, cond, eqb, List, [], length, set, Option, Some, None, refl, sym}
+use Rattle.std.proofs.Common.{ap}
 use Rattle.std.proofs.Common.{◌∙◌, arith, inl, inr}
 use Rattle.std.specs.Prelude.{IfSome}
 use Rattle.std.specs.Int.{int_min, int_max}

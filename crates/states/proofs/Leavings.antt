@@ -1,6 +1,7 @@
 -- Blocks of words that were left in some way.
 use Rattle.std.proofs.Common.{◌≡◌, ◌≢◌, ℕ, zero, suc, ◌+◌, ◌*◌, ◌/◌, ◌%◌, ◌<◌, ℤ, pos, negsuc, ◌+ℤ◌, ◌-ℤ◌}
-use Rattle.std.proofs.Common.{Bool, true, false, ◌&&◌, cond, eqb, nat_abs, List, [], length, get_or, Option, Some, None, refl, sym, ap, ◌∙◌, subst}
+use Rattle.std.proofs.Common.{Bool, true, false, ◌&&◌, cond, eqb, nat_abs, List, [], length, get_or, Option, Some, None}
+use Rattle.std.proofs.Common.{refl, sym, ap, ◌∙◌, subst}
 use Rattle.std.proofs.Common.{arith, inl, inr}
 use std.Path.{fun_ext}
 use Rattle.std.specs.Int.{int_min, int_max}
@@ -25,7 +26,8 @@ use Rattle.states.specs.State.{Facts, by_itself, is_alone, handed_out, entry_fac
 use Rattle.states.specs.Lookup.{fact_of_index, facts_over}
 use Rattle.states.specs.Frames.{with_alone, with_span}
 use Rattle.states.specs.Spans.{is_in_span, left_of, widened, of_none, with_plain, with_one, together}
-use Rattle.states.specs.Blocks.{block_words, no_block, block_at, first_of, left_by, left_after, leaving_at, facts_left, AreSummed}
+use Rattle.states.specs.Blocks.{block_words, no_block, block_at, first_of, left_by, left_after, leaving_at, facts_left}
+use Rattle.states.specs.Blocks.{AreSummed}
 use Rattle.states.specs.Blocks.{is_number, is_unbounded, sum_left}
 use Rattle.module_format.specs.Order.{least_word, greatest_word}
 use Rattle.states.proofs.RowFacts.{and-both}

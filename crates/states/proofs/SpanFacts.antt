@@ -21,7 +21,8 @@ use Rattle.states.specs.State.{State, Facts, by_itself, is_word, is_silent, is_p
 use Rattle.states.specs.declared.frame.Frame.{Frame}
 use Rattle.states.specs.declared.state.State.{State as InMemory}
 use Rattle.states.specs.Views.{CanWriteSpan}
-use Rattle.states.specs.Frames.{frame_facts, with_alone, with_span, is_loop_word, parted, HasRoom, SameRoom, HasRoomForSpan}
+use Rattle.states.specs.Frames.{frame_facts, with_alone, with_span, is_loop_word, parted, HasRoom, SameRoom}
+use Rattle.states.specs.Frames.{HasRoomForSpan}
 use Rattle.certificate.specs.Words.{all_words}
 use Rattle.states.specs.Spans.{is_in_span, left_of, on_span, of_none, with_one, with_silent, together, after_change}
 use Rattle.states.proofs.RowFacts.{le-yes, le-no, lt-yes, lt-no, and-both, and-parts}

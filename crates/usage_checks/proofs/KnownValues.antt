@@ -1,6 +1,7 @@
 -- What breaks no rule has a type and a range, and a value where a constant is wanted.
 use Rattle.std.proofs.Common.{◌≡◌, ℕ, ℤ, pos, negsuc, ◌≤◌, Bool, true, false, cond, List, [], ◌∷◌, length, Option, Some}
-use Rattle.std.proofs.Common.{None, Result, Ok, Err, inl, inr, refl, sym, ap, subst, arith, ◌∙◌, ◌⊎◌, ◌<◌, bytes_eq, nat_eq, nat_lt}
+use Rattle.std.proofs.Common.{None, Result, Ok, Err, inl, inr, refl, sym, ap, subst, arith, ◌∙◌, ◌⊎◌, ◌<◌, bytes_eq}
+use Rattle.std.proofs.Common.{nat_eq, nat_lt}
 use Rattle.std.proofs.lemmas.Bool.Decides.{nat_tests}
 use Rattle.std.proofs.lemmas.Int.{ints}
 use Rattle.std.specs.Prelude.{option_and_then, int_le, unsigned_abs}

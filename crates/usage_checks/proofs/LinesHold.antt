@@ -1,5 +1,6 @@
 -- What follows of a line that breaks no rule, where names are whole.
-use Rattle.std.proofs.Common.{◌≡◌, ℕ, zero, suc, ◌+◌, ◌<◌, ◌≤◌, ℤ, pos, negsuc, Bool, true, false, cond, ◌&&◌, List, [], ◌∷◌}
+use Rattle.std.proofs.Common.{◌≡◌, ℕ, zero, suc, ◌+◌, ◌<◌, ◌≤◌, ℤ, pos, negsuc, Bool, true, false, cond, ◌&&◌, List, []}
+use Rattle.std.proofs.Common.{◌∷◌}
 use Rattle.std.proofs.Common.{length, Option, Some, None, Result, Ok, Err, inl, inr, refl, sym, ap, subst, arith, ◌∙◌}
 use Rattle.std.proofs.Common.{nat_eq, nat_lt, option_map}
 use Rattle.std.specs.Prelude.{fold, int_le, int_lt, is_some, unwrap_or}
@@ -13,7 +14,8 @@ use Rattle.occam_parser.specs.declared.tree.ValueType.TheVariants as value_type
 use Rattle.occam_parser.specs.Expressions.{Expression}
 use Rattle.occam_parser.specs.OneOrMore.{OneOrMore, as_list}
 use Rattle.occam_parser.specs.Lines.{Place, Replicator, Value, Scalar, Table, Bytes, Declaration, Constants, Variables}
-use Rattle.occam_parser.specs.Lines.{Channels, Action, Skip, Stop, Assign, Input, Output, Instance, Guard, Receives, Skips}
+use Rattle.occam_parser.specs.Lines.{Channels, Action, Skip, Stop, Assign, Input, Output, Instance, Guard, Receives}
+use Rattle.occam_parser.specs.Lines.{Skips}
 use Rattle.occam_parser.specs.Lines.{Formal}
 use Rattle.scalar_ranges.specs.declared.bounds.TheConstants.{OUT_OF_RANGE, OUTSIDE}
 use Rattle.scalar_ranges.specs.declared.types.ExprType.{ExprType}

@@ -1,5 +1,6 @@
 -- The lists that were made where a procedure begins serve in each part of it to which the walk comes.
-use Rattle.std.proofs.Common.{◌≡◌, ℕ, ◌<◌, true, List, [], ◌∷◌, length, map, take, get_or, Bool, Option, Some, None, refl}
+use Rattle.std.proofs.Common.{◌≡◌, ℕ, ◌<◌, true, List, [], ◌∷◌, length, map, take, get_or, Bool, Option, Some, None}
+use Rattle.std.proofs.Common.{refl}
 use Rattle.std.proofs.Common.{sym, ap, subst, ◌∙◌, option_and_then}
 use Rattle.occam_layout.specs.declared.mark.Mark.TheVariants as mark
 use Rattle.occam_parser.specs.Terminals.{Terminal, Mark}

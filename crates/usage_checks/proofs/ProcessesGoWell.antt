@@ -76,7 +76,8 @@ use Rattle.usage_checks.specs.Whole.{is_whole}
 use Rattle.usage_checks.proofs.LinesHold.{declared_whole}
 use Rattle.usage_checks.proofs.OutlinesStay.{shaped, kind_fits}
 use Rattle.usage_checks.proofs.PlacesHold.{places_hold, index_word}
-use Rattle.usage_checks.proofs.ActionsGoWell.{both_true, fit_has, IsOwn, IsOfMain, of_main_alike, of_main_more, action_well}
+use Rattle.usage_checks.proofs.ActionsGoWell.{both_true, fit_has, IsOwn, IsOfMain, of_main_alike, of_main_more}
+use Rattle.usage_checks.proofs.ActionsGoWell.{action_well}
 use Rattle.usage_checks.proofs.ChoicesGoWell.{well_at, left_well, FoundIn, Chooses, picked, passed, by_truth}
 use Rattle.usage_checks.proofs.ChoicesGoWell.{same_option, choice_step, first_well}
 use Rattle.usage_checks.proofs.RangesStay.{Covers, covers_itself, declared_long, Low, remains_low}

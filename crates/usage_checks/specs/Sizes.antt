@@ -5,7 +5,8 @@ use Rattle.occam_parser.specs.Expressions.{Expression, Alone, Prefixed, Paired, 
 use Rattle.occam_parser.specs.Expressions.{Named, Element, Bracketed, Converted}
 use Rattle.occam_parser.specs.OneOrMore.{as_list}
 use Rattle.occam_parser.specs.Lines.{Place, Replicator, Value, Scalar, Table, Bytes, Declaration, Constants, Variables}
-use Rattle.occam_parser.specs.Lines.{Channels, Action, Skip, Stop, Assign, Input, Output, Instance, Guard, Receives, Skips}
+use Rattle.occam_parser.specs.Lines.{Channels, Action, Skip, Stop, Assign, Input, Output, Instance, Guard, Receives}
+use Rattle.occam_parser.specs.Lines.{Skips}
 use Rattle.occam_parser.specs.Lines.{Formal, ProcHead, block_word}
 use Rattle.occam_parser.specs.Blocks.{Process, Declared, Does, Construct, Act, Block, Replicated, Body, One, Part}
 use Rattle.occam_parser.specs.Blocks.{Components, NoComponent, Further, Component, Plain, Chosen, Guarded}

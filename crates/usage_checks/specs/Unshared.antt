@@ -2,7 +2,8 @@
 -- of them if the program breaks no rule: the components of PARs share nothing.
 use Rattle.std.specs.Prelude.{◌≡◌, ℕ, ◌<◌, List, length, ◌⊎◌}
 use Rattle.occam_parser.specs.Lines.{Declaration, Replicator}
-use Rattle.occam_parser.specs.Blocks.{Process, Declared, Does, Construct, Act, Block, Replicated, Body, Part, Components}
+use Rattle.occam_parser.specs.Blocks.{Process, Declared, Does, Construct, Act, Block, Replicated, Body, Part}
+use Rattle.occam_parser.specs.Blocks.{Components}
 use Rattle.occam_parser.specs.Blocks.{NoComponent, Further, Component, Procedure, ProgramItem, GlobalProcedure}
 use Rattle.scalar_ranges.specs.Entries.{Entry}
 use Rattle.program_uses.specs.declared.indices.Turns.{Turns}

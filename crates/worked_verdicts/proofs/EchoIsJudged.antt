@@ -4,7 +4,8 @@ use Rattle.module_format.specs.Contexts.{context_at}
 use Rattle.machine_state.specs.Instructions.{op_of, instruction_of}
 use Rattle.states.specs.State.{written}
 use Rattle.states.specs.Spans.{after_change}
-use Rattle.rulings.specs.Rulings.{outside_alternation, outside_starts, uses, writes_word, schedules, pays, goes_on, wants}
+use Rattle.rulings.specs.Rulings.{outside_alternation, outside_starts, uses, writes_word, schedules, pays, goes_on}
+use Rattle.rulings.specs.Rulings.{wants}
 use Rattle.rulings.specs.Rulings.{settles, in_bounds}
 use Rattle.rulings.specs.Pointers.{near, pointer_of, constant_of, reads_bytes, byte_read, writes_bytes, takes_any}
 use Rattle.rulings.specs.Pointers.{leaves_words}

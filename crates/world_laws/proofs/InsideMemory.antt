@@ -27,7 +27,8 @@ use Rattle.machine_state.specs.World.{root_holding, constants_start}
 use Rattle.machine_state.specs.Writing.{Delivery, StepWrites}
 use Rattle.machine_state.proofs.EveryWorld.{every_world}
 use Rattle.machine_state.proofs.Lines.{set_either, got_either}
-use Rattle.machine_state.proofs.MovesLeaveAlone.{on_task_only, wake_only, rouse_only, chooses, joined_either, with_opened}
+use Rattle.machine_state.proofs.MovesLeaveAlone.{on_task_only, wake_only, rouse_only, chooses, joined_either}
+use Rattle.machine_state.proofs.MovesLeaveAlone.{with_opened}
 use Rattle.machine_state.proofs.MovesLeaveAlone.{without, member_gone}
 use Rattle.machine_state.proofs.Roles.{told_of}
 use Rattle.machine_state.proofs.SpanLaws.{among, or_true, runs_tell, covers_tells}

@@ -40,7 +40,8 @@ use Rattle.machine_state.proofs.EvenWords.{even_local, even_base, even_place, ne
 use Rattle.machine_state.proofs.EveryWorld.{every_world}
 use Rattle.machine_state.proofs.Holders.{kept_is_free}
 use Rattle.machine_state.proofs.Lines.{set_either, got_either}
-use Rattle.machine_state.proofs.MovesLeaveAlone.{on_role_only, on_task_only, wake_only, rouse_only, chooses, joined_either}
+use Rattle.machine_state.proofs.MovesLeaveAlone.{on_role_only, on_task_only, wake_only, rouse_only, chooses}
+use Rattle.machine_state.proofs.MovesLeaveAlone.{joined_either}
 use Rattle.machine_state.proofs.MovesLeaveAlone.{with_opened, without, member_gone, OnlyRoles}
 use Rattle.machine_state.proofs.Owners.{owner_same, made_owner, Made, row_addresses, taken_owner}
 use Rattle.machine_state.proofs.Roles.{told_of, field_at, field_same}

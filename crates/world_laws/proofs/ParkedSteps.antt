@@ -44,7 +44,8 @@ use Rattle.machine_state.proofs.Claims.{only_one, written_is_read}
 use Rattle.machine_state.proofs.Combining.{and_true}
 use Rattle.machine_state.proofs.Lines.{set_either, got_either}
 use Rattle.machine_state.proofs.Modes.{Fits}
-use Rattle.machine_state.proofs.MovesLeaveAlone.{wake_only, rouse_only, on_role_only, joined_either, member_gone, with_opened}
+use Rattle.machine_state.proofs.MovesLeaveAlone.{wake_only, rouse_only, on_role_only, joined_either, member_gone}
+use Rattle.machine_state.proofs.MovesLeaveAlone.{with_opened}
 use Rattle.machine_state.proofs.MovesLeaveAlone.{without, OnlyRoles}
 use Rattle.machine_state.proofs.Reading.{byte_at-with_byte_other}
 use Rattle.machine_state.proofs.Roles.{field_last}

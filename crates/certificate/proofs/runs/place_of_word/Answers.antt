@@ -1,4 +1,5 @@
-use Rattle.std.proofs.Common.{◌≡◌, ℤ, ℕ, false, true, Option, Some, None, List, MatchOption, slice_get, rules, w32, FitsSigned}
+use Rattle.std.proofs.Common.{◌≡◌, ℤ, ℕ, false, true, Option, Some, None, List, MatchOption, slice_get, rules, w32}
+use Rattle.std.proofs.Common.{FitsSigned}
 use Rattle.std.proofs.lemmas.Int.{to_z-of_z}
 use Rattle.module_format.specs.declared.rows.Direction.{Direction}
 use Rattle.module_format.specs.declared.rows.EndRow.{EndRow}

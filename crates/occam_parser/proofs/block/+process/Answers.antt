@@ -10,7 +10,8 @@ use Rattle.occam_parser.proofs.Answering.{passed_on}
 use Rattle.occam_parser.proofs.Turns.{block_ends}
 use Rattle.occam_parser.proofs.Levelled.{process_none, action_reads, block_reads}
 use Rattle.occam_parser.proofs.SeenBlocks.{view-Action, started}
-use Rattle.occam_parser.proofs.ReadIntoTrees.{read_as_found, made_tells, made_within, turn_begins, turn_goes_on, turn_fails}
+use Rattle.occam_parser.proofs.ReadIntoTrees.{read_as_found, made_tells, made_within, turn_begins, turn_goes_on}
+use Rattle.occam_parser.proofs.ReadIntoTrees.{turn_fails}
 use Rattle.occam_parser.proofs.ReadIntoTrees.{turn_less, only_tells, only_within}
 use Rattle.occam_parser.proofs.block.+process.Goals as goal
 
