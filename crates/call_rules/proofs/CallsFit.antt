@@ -473,7 +473,7 @@ module _ (x : Here) where
           (omega (arith, ints)) in
           settled (passing x.m s) (passing_is x.m s t0 t1 t2 t3) own numbers pointers beside
           (record { held = (and-parts _ _ held).0; once = (and-parts _ _ held).1; lengths = lengths })
-            t0 t1 t2 t3)))))))))
+          t0 t1 t2 t3)))))))))
         where
           settled : (z : State) → z ≡ all_passed s → frame_is_own (call_in to f some is found entry z) ≡ true
               → list_all (rule.numbers_fit (call_in to f some is found entry z)) f.procedure.parameters ≡ true

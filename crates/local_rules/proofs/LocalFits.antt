@@ -57,7 +57,7 @@ module _ (x : Here) (wf : IsWellFormed x.m) (s : State) (l : Local) (a : Within 
         in_plain_step x s a.same_mode _ _ (in_plain_rule x s a.same_mode _ _ (beside_plain_rule x s a.same_mode _ _
         (schedules_fits x s l _ _ a same changes
         (λ s' memory b same' c e. pays_fits x s' _ _ (omega (arith, e, n))
-          (λ left next. it_ends a.same_mode.step c (omega arith))))))
+        (λ left next. it_ends a.same_mode.step c (omega arith))))))
 
     operation_fits : (op : Op) → FitsIf x (table.local_operation_rule (rule_site x) op s)
         (step.operation_step (step_site x) op l)

@@ -316,7 +316,7 @@ module _ (x : Here) where
       → Within ArePlain x.m x.h x.mode (with_turns turns x.act) s l → s.context ≡ x.context → Changes x l.memory
       → ((n : ℕ) → n < 3 → rights.may_write_word x.m s.context (s.depth +ℤ negsuc n) ≡ true)
       → ((memory : Memory) → Within ArePlain x.m x.h x.mode (with_turns turns x.act) (taken s)
-        (record l { memory = memory })
+      (record l { memory = memory })
       → Changes x memory → FitsIf x r (o (record l { memory = memory })))
       → FitsIf x r (step.schedules (step_site x) l o)
   unfolding step.schedules written
@@ -535,7 +535,7 @@ module _ (x : Here) (wf : IsWellFormed x.m) (s : State) (l : Local) (a : Within 
       (wf.labels begins.at t e)
       (label_after x.m x.h x.mode turning after t _ wf begins.at e g.1
       (whole_after (after_stack (record x { act = turning }) {number = number + block.turning.weight}
-        b unknown_registers)))
+      b unknown_registers)))
       (sym g.1.context ∙ same) c (omega (arith, less, turned, left)))
       (λ u. absurd (below_not begins.at (length x.m.code) (wf.labels begins.at t e) u))
 

@@ -196,7 +196,7 @@ module _ (x : Here) (wf : IsWellFormed x.m) (s : State) (l : Local) (a : Within 
         on true false true defined allowed wide may room = absurd (cc)
         on true false false defined allowed wide may room =
             numbers_into_parameter a l.memory source k some bytes target_lo (defined refl)
-              (target_region - 2) room may wide
+            (target_region - 2) room may wide
         on false false constants defined allowed wide may room = absurd (cc)
 
     -- the two blocks have no place in common
@@ -266,7 +266,7 @@ module _ (x : Here) (wf : IsWellFormed x.m) (s : State) (l : Local) (a : Within 
             (copying (place_of (step.address w)) (place_of (step.address u)) k)
         copies read write apart allowed =
             let source = source_read wf a source_region source_lo k some source_lo (source_lo +ℤ pos k)
-              (omega (arith, ints))
+            (omega (arith, ints))
             (omega (arith, ints)) read in
             let room = written_room a k some target_lo target_lo end (omega (arith, ints)) (omega (arith, ints))
             target_region write in
@@ -278,11 +278,11 @@ module _ (x : Here) (wf : IsWellFormed x.m) (s : State) (l : Local) (a : Within 
             let own = all_held (may_write x.h) room.place k room.own in
             let new : Memory = copied l.memory source.place room.place k l.memory in
             subst (λ (p : ℕ). FitsIf x (move.clears (rule_site x)
-              (filled (filling.are_numbers s from (pos k)) to end s))
+            (filled (filling.are_numbers s from (pos k)) to end s))
             (copying p (place_of (step.address u)) k))
             (sym (address_is from w source_means refl source.place source.is source.small))
             (subst (λ (q : ℕ). FitsIf x (move.clears (rule_site x)
-              (filled (filling.are_numbers s from (pos k)) to end s))
+            (filled (filling.are_numbers s from (pos k)) to end s))
             (copying source.place q k))
             (sym (address_is to u target_means refl room.place room.is room.small))
             (holds_fits x _ NotOwn _ _

@@ -626,7 +626,7 @@ module _ (x : Here) (s : State) (l : Local) (a : Within ArePlain x.m x.h x.mode 
       in_plain_step x s a.same_mode _ _ (stored_fits (may_store_word x.m s.context) _ _ (λ v u q means other stores.
       settles_fits x (words_behind (pos 4 *ℤ e) q) _ _ (λ p is.
       writes_bytes_fits x s p.region p.lo (p.hi +ℤ pos 4) _ _ (λ may.
-        stnl_word e v u q p is fits means other stores may))))
+      stnl_word e v u q p is fits means other stores may))))
 
   -- ---- sb
 

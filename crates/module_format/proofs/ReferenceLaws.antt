@@ -52,10 +52,10 @@ entry_fits context at e =
     (cond (int_lt context.hi (end_of e)) (Err (fault faults.Range at))
     (fact_references context.parameters (at + 8) e.fact)) (λ low.
     has_unless (int_lt context.hi (end_of e)) (fault faults.Range at)
-        (fact_references context.parameters (at + 8) e.fact)
+    (fact_references context.parameters (at + 8) e.fact)
     (λ high.
     has_weaker (fact_references context.parameters (at + 8) e.fact) (fact_fits context.parameters (at + 8) e.fact)
-        (λ u h.
+    (λ u h.
     record { low = int_lt-false _ _ low; high = int_lt-false _ _ high; fact = h })))
 
 entry_passes : (context : Context) (at : ℕ) (e : Entry) → EntryFits context e → entry_references context at e ≡ passes
@@ -94,7 +94,7 @@ row_fits context at row =
     has_then _ _ (fact_fits context.parameters at_c row.stack.c) (λ w c.
     has_weaker (list_references (entry_references context) entry_bytes at_es row.entries)
     (list_fits (entry_references context) entry_bytes (EntryFits context) (entry_fits context) at_es row.entries)
-        (λ x es.
+    (λ x es.
     record { a = a; b = b; c = c; entries = es }))))
 
 row_passes : (context : Context) (at : ℕ) (row : Label) → RowFits row context → row_references context at row ≡ passes
@@ -104,7 +104,7 @@ row_passes context at row h =
     (step _ (fact_passes context.parameters _ row.stack.b h.b)
     (step _ (fact_passes context.parameters _ row.stack.c h.c)
     (list_passes (entry_references context) entry_bytes (EntryFits context)
-        (entry_passes context) _ row.entries h.entries)))
+    (entry_passes context) _ row.entries h.entries)))
 
 in_fits : (o : Option Context) (at : ℕ) (row : Label)
     → Has (references_in o at row) (λ _. MatchOption o ⊥ (RowFits row))
@@ -165,7 +165,7 @@ module _ (parameters : List Parameter) where
       (λ _. AllByRecursion (λ (e : EndRow). IsTrue (names_end parameters e.kind)) es)
   ends_fit at es =
       list_fits (end_references parameters) end_bytes (λ e. IsTrue (names_end parameters e.kind))
-          (end_fits parameters) at es
+      (end_fits parameters) at es
 
   ends_pass : (at : ℕ) (es : List EndRow) → AllByRecursion (λ (e : EndRow). IsTrue (names_end parameters e.kind)) es
       → list_references (end_references parameters) end_bytes at es ≡ passes
@@ -181,7 +181,7 @@ module _ (parameters : List Parameter) where
       has_then _ _ (numbers_fit at_written b.written_parameters) (λ u written.
       has_then _ _ (numbers_fit at_read b.read_parameters) (λ v read.
       has_weaker (list_references (end_references parameters) end_bytes at_ends b.ends) (ends_fit at_ends b.ends)
-          (λ w ends.
+      (λ w ends.
       record { written = written; read = read; ends = ends })))
 
   branch_passes : (at : ℕ) (b : Branch) → BranchFits parameters b → branch_references parameters at b ≡ passes

@@ -25,7 +25,7 @@ use crate::limits::{
     MAX_TABLES,
 };
 use crate::listed::{Code, Constants, Labelled};
-use crate::reading::{rows_references, max_code};
+use crate::reading::{max_code, rows_references};
 use crate::row_owners::row_owners;
 use crate::rows::{LabelRow, ProcedureRow};
 use crate::tables::{Tables, Version};

@@ -38,12 +38,12 @@ pub(crate) use facts::{
 };
 pub use header::max_code;
 pub(crate) use labels::read_label_offset;
-pub use references::rows_references;
 pub use pars::first_entry;
 pub(crate) use procedures::{
     read_frame_end, read_frame_start, read_parameter_kind, read_parameter_word, read_parameters,
     read_procedure_entry,
 };
+pub use references::rows_references;
 use std::alloc::Global;
 pub(crate) use table_rows::{read_table_end, read_table_start, words_lie_within};
 

@@ -190,7 +190,7 @@ module _ (m : Contents) (n : ℕ) (workspace : ℤ) (facts : Facts) where
       ∙ plain-constant (facts (entry.word +ℤ pos 1)) (pos count) second_alone in
       rw is
       (ap (λ (b : Bool). if b && holds_constant (view (entry.word +ℤ pos 1)) (pos count)
-        then weight * (count - 1) else 0)
+      then weight * (count - 1) else 0)
       first
       ∙ ap (λ (b : Bool). if holds_constant (facts entry.word) base && b then weight * (count - 1) else 0) second)
 

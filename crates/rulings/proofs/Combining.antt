@@ -121,7 +121,7 @@ pub record MaySchedule (m : Contents) (context : ℕ) (depth : ℤ) : Type 0 whe
 abbrev pub unscheduled : State → State
 unscheduled s =
     written (s.depth +ℤ negsuc 2) Unknown (written (s.depth +ℤ negsuc 1) Unknown
-      (written (s.depth +ℤ negsuc 0) Unknown s))
+    (written (s.depth +ℤ negsuc 0) Unknown s))
 
 -- memory in which they are undefined
 abbrev pub scheduled : Local → Memory
@@ -458,12 +458,12 @@ module _ (x : Here) where
       places : pos (place_of (scheduling_word l.registers.workspace 0))
           ≡ place_in x.act.layout.origin (s.depth +ℤ negsuc 0)
           → pos (place_of (scheduling_word l.registers.workspace 1))
-            ≡ place_in x.act.layout.origin (s.depth +ℤ negsuc 1)
+          ≡ place_in x.act.layout.origin (s.depth +ℤ negsuc 1)
           → pos (place_of (scheduling_word l.registers.workspace 2))
-            ≡ place_in x.act.layout.origin (s.depth +ℤ negsuc 2)
+          ≡ place_in x.act.layout.origin (s.depth +ℤ negsuc 2)
           → (n : ℕ) → n < 3
           → pos (place_of (scheduling_word l.registers.workspace n))
-            ≡ place_in x.act.layout.origin (s.depth +ℤ negsuc n)
+          ≡ place_in x.act.layout.origin (s.depth +ℤ negsuc n)
       places a b c zero less = a
       places a b c (suc zero) less = b
       places a b c (suc (suc zero)) less = c

@@ -121,8 +121,8 @@ which {m} {h} {mode} {act} {s} {l} a = on_mode s.mode mode refl refl a.same_mode
     on_mode p q is at both_plain = in_plain_mode (within (ap is_starting is) (record { rule = is; step = at }) a)
     on_mode p q is at both_enabling =
         in_alternation (λ e. cc) (within (ap is_starting is)
-          (record { modes = a.same_mode; still = ap is_starting is }) a)
+        (record { modes = a.same_mode; still = ap is_starting is }) a)
     on_mode p q is at both_disabling =
         in_alternation (λ e. cc) (within (ap is_starting is)
-          (record { modes = a.same_mode; still = ap is_starting is }) a)
+        (record { modes = a.same_mode; still = ap is_starting is }) a)
     on_mode p q is at both_starting = among_starts (ap is_starting is)

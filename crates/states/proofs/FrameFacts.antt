@@ -130,7 +130,7 @@ parted-word w j (Count loop) =
 -- a word is written once the words are parted that can be in a loop with it
 pub parts-write : (w : ℤ) (fact : Fact) (facts : Facts)
     → with_alone w fact (parted words.Count (w +ℤ pos 1) (parted words.Index (w -ℤ pos 1) facts))
-      ≡ with_fact w fact facts
+    ≡ with_fact w fact facts
 parts-write w fact facts = fun_ext (λ j. elim (word-cases j w) [
   | inl h ↦ rw h.0 refl
   | inr h ↦ rw h (parted-word w j (facts j))

@@ -262,7 +262,7 @@ word-settled lo word blocks facts new index leaving fact said word_is left said_
 pub block-settled : (lo : ℤ) (blocks others : List Block) (facts : Facts) (number : ℕ) (block : Block)
     → block.left ≡ None → IsSet blocks number block others
     → ((j : ℕ) → j < block_words → facts (first_of lo number +ℤ pos j)
-        ≡ facts_left lo blocks facts (first_of lo number +ℤ pos j))
+    ≡ facts_left lo blocks facts (first_of lo number +ℤ pos j))
     → facts_left lo others facts ≡ facts_left lo blocks facts
 unfolding facts_left
 block-settled lo blocks others facts number block none kept settled = fun_ext (λ k. elim (in-block lo number k) [
@@ -471,7 +471,7 @@ widened-more : (lo hi : ℤ) (said : Fact) (t u : Together) (alone : Bool) → W
     (with_plain (handed_out (widened lo hi said)) (record u { are_alone = u.are_alone && true }))
 widened-more lo hi (Number a b) t u alone (no_number tl th ul uh numbers lone) =
     a_number (omega (arith, ints, clamps, tl, ul)) (omega (arith, ints, clamps, th, uh)) numbers
-      (and-yes u.are_alone ∙ lone)
+    (and-yes u.are_alone ∙ lone)
 widened-more lo hi (Number a b) t u alone (a_number ul uh numbers lone) =
     a_number (omega (arith, ints, clamps, ul)) (omega (arith, ints, clamps, uh)) numbers (and-yes u.are_alone ∙ lone)
 widened-more lo hi Unknown t u alone w = widened-other lo hi t u alone w
@@ -506,7 +506,7 @@ sum-widened lo hi t u sum (no_number tl th ul uh numbers lone) is =
     let unbounded = and-both _ _ (is_word-same t.lo greatest_word tl) (is_word-same t.hi least_word th) in
     let clash : None ≡ Some sum =
     sym (ap (λ (b : Bool). cond b None (Some
-      (record t { lo = int_min t.lo lo; hi = int_max t.hi hi; are_alone = true })))
+    (record t { lo = int_min t.lo lo; hi = int_max t.hi hi; are_alone = true })))
     unbounded) ∙ is in
     absurd (cc)
 sum-widened lo hi t u sum (a_number ul uh numbers lone) is = on (is_unbounded t) is

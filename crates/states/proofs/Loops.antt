@@ -110,7 +110,7 @@ room-known frame k fact is known =
 
     on_word : (z : ℤ) → k -ℤ frame.lo ≡ z
         → is_silent (unwrap_or (option_map Alone (fact_of_index frame.overlay.written.items z))
-            (entry_fact frame.row.now k))
+        (entry_fact frame.row.now k))
         ≡ false → HasRoom frame k
     on_word (pos index) at h = on_index index at (lookup frame.overlay.written.items index) refl h
     on_word (negsuc n) at h = of_row h

@@ -60,7 +60,7 @@ not-above first count k high = and-no _ _ (lt-no k (first +ℤ pos count) high)
 
 on-word : (first : ℤ) (n : ℕ) (leaving : Leaving) (facts : Facts) (j : ℤ)
     → cond (is_word j (first +ℤ pos n))
-        (Alone (left_of leaving (by_itself (with_span first n leaving facts (first +ℤ pos n)))))
+    (Alone (left_of leaving (by_itself (with_span first n leaving facts (first +ℤ pos n)))))
     (with_span first n leaving facts j)
     ≡ with_span first (n + 1) leaving facts j
 on-word first n leaving facts j = by_lt_z j (first +ℤ pos n)
@@ -89,7 +89,7 @@ pub leave-more : (first word : ℤ) (n m : ℕ) (leaving : Leaving)
     → said ≡ by_itself here → left ≡ left_of leaving said → new ≡ with_alone word left before
     → new ≡ with_span first m leaving facts
 leave-more first word n m leaving facts before new here said left
-      word_is m_is before_is here_is said_is left_is new_is =
+    word_is m_is before_is here_is said_is left_is new_is =
     let left_there : left ≡ left_of leaving (by_itself (with_span first n leaving facts (first +ℤ pos n))) =
     left_is ∙ ap (left_of leaving) (said_is ∙ ap by_itself (here_is ∙ (ap (λ (f : Facts). f word) before_is
     ∙ ap (with_span first n leaving facts) word_is))) in
@@ -97,7 +97,7 @@ leave-more first word n m leaving facts before new here said left
     ∙ (ap (λ (w : ℤ). with_alone w left before) word_is
     ∙ (ap (λ (x : Fact). with_alone (first +ℤ pos n) x before) left_there
     ∙ (ap (with_alone (first +ℤ pos n) (left_of leaving (by_itself (with_span first n leaving facts (first +ℤ pos n)))))
-      before_is
+    before_is
     ∙ (fun_ext (λ j. on-word first n leaving facts j)
     ∙ ap (λ (k : ℕ). with_span first k leaving facts) (sym m_is)))))
 
@@ -167,7 +167,7 @@ inside first count j facts low high =
 
 pub parts-leave : (first : ℤ) (count : ℕ) (leaving : Leaving) (facts : Facts) → 0 < count
     → with_span first count leaving (parted words.Count (first +ℤ pos count)
-      (parted words.Index (first -ℤ pos 1) facts))
+    (parted words.Index (first -ℤ pos 1) facts))
     ≡ changed (on_span first count leaving) facts
 parts-leave first count leaving facts some = fun_ext (λ j. elim (lies-by first count j) [
   | below l e ↦ rw e (beside first count j (facts j) some e)

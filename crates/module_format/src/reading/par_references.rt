@@ -60,7 +60,11 @@ impl<'p> References<ContextParameters<'p>> for u16 {
     ghost naming = { naming (λ n. n) u16_bytes (λ parameters. parameter_references parameters.0.now) };
 
     #[tactic(auto, unfolding(crate::specs::References::parameter_references, crate::specs::Spelling::u16_bytes))]
-    fn references(&self, parameters: &ContextParameters<'p>, at: usize) -> Result<usize, FormatFault> {
+    fn references(
+        &self,
+        parameters: &ContextParameters<'p>,
+        at: usize,
+    ) -> Result<usize, FormatFault> {
         if !parameters.has_region(*self) {
             return Err(not_there(at));
         }
@@ -72,7 +76,11 @@ impl<'p> References<ContextParameters<'p>> for EndRow {
     ghost naming = { naming (λ e. e) end_bytes (λ parameters. end_references parameters.0.now) };
 
     #[tactic(auto, using(crate::proofs::Sizes::end_size), unfolding(crate::specs::References::end_references))]
-    fn references(&self, parameters: &ContextParameters<'p>, at: usize) -> Result<usize, FormatFault> {
+    fn references(
+        &self,
+        parameters: &ContextParameters<'p>,
+        at: usize,
+    ) -> Result<usize, FormatFault> {
         if !parameters.has_end(self.kind) {
             return Err(not_there(at + TAG_SIZE));
         }
@@ -84,7 +92,11 @@ impl<'p> References<ContextParameters<'p>> for BranchRow {
     ghost naming = { naming branch_of branch_bytes (λ parameters. branch_references parameters.0.now) };
 
     #[tactic(auto, using(crate::proofs::Sizes::branch_size), unfolding(crate::specs::References::branch_references, crate::specs::Reading::and_then))]
-    fn references(&self, parameters: &ContextParameters<'p>, at: usize) -> Result<usize, FormatFault> {
+    fn references(
+        &self,
+        parameters: &ContextParameters<'p>,
+        at: usize,
+    ) -> Result<usize, FormatFault> {
         let written = at
             + BRANCH_HEAD_SIZE
             + INTERVAL_SIZE * self.writes.len()

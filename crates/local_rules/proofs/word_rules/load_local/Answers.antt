@@ -31,4 +31,4 @@ returns-clause-ruling c =
 pub returns-clause-belongs : goal.returns-clause-belongs
 returns-clause-belongs c =
     c.goes_on.ensures.belongs c.args.place.now.module.now
-      (c.push.ensures.belongs c.args.place.now.module.now c.requires)
+    (c.push.ensures.belongs c.args.place.now.module.now c.requires)

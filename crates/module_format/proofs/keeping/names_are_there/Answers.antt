@@ -14,4 +14,4 @@ pub returns : goal.returns
 returns c =
     rw c.is_ok.ensures.value
     (names_is c.rows_references.result (contents_of c.args.tables.now) 0
-        (rw c.of_rows.ensures at c.rows_references.ensures))
+    (rw c.of_rows.ensures at c.rows_references.ensures))

@@ -11,7 +11,7 @@ returns-then-not-keeps-clause-cut c =
     let last = c.end_of-end.ensures.value in
     let all = c.if-run-end.false in
     loop-skipped c.args.side c.args.entry.now c.args.pieces.now.items c.args.intervals.now
-      c.run_from-run.result.rest.now
+    c.run_from-run.result.rest.now
     (λ k l. c.run_from-run.ensures.later k (omega (arith, ints, first)))
     (λ k l h. c.run_from-run.ensures.alike k (omega (arith, ints, first)) (omega (arith, ints, last, all))
     ∙ c.if-run.false)

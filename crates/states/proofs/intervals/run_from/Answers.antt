@@ -12,7 +12,7 @@ returns-then-word-from-clause-alike c =
     rw (to_z-of_z w64 c.min.result fits)
     (λ k l h. sym (c.loop-first.invariant.later k (omega (arith, ints)))
     ∙ outside c.loop-first.rest.now c.in-Some.first.now c.in-Some.later.now (search rules)
-      c.loop-first.invariant.order k
+    c.loop-first.invariant.order k
     (omega (arith, ints, clamps, value, first)))
 
 pub returns-then-word-from-clause-some : goal.returns-then-word-from-clause-some

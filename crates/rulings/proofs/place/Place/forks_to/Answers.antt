@@ -8,7 +8,7 @@ use Rattle.rulings.proofs.place.Place.forks_to.Goals as goal
 pub cost_below-requires : goal.cost_below-requires
 cost_below-requires c =
     (c.label_rows_are_sound.ensures.at_offsets c.args.self.now.module.now c.args.to
-      (label_of c.in-Some.row.now) c.requires c.in-Some.ensures).apart
+    (label_of c.in-Some.row.now) c.requires c.in-Some.ensures).apart
 
 pub returns-in_err-cost_below-in-Some : goal.returns-in_err-cost_below-in-Some
 returns-in_err-cost_below-in-Some c =

@@ -44,7 +44,7 @@ returns-then-over-gt0-clause-walks c = λ row walk.
     rw (take_rest c.args.rest.now over)
     (walks-over (entry_fact c.args.self.now.row.now) (frame_facts c.args.self.now) row
     c.without_ended-base.result.now over c.args.rest.now c.args.paid
-      c.first_over_count-over.ensures.few c.first_over_count-over.ensures.over
+    c.first_over_count-over.ensures.few c.first_over_count-over.ensures.over
     (begun after row walk))
 
 pub returns-then-entered-gt0-clause-apart : goal.returns-then-entered-gt0-clause-apart

@@ -221,7 +221,7 @@ weigh_replicated-returns-else-is_sequence t c =
     let inside = total (measures_in_turns signatures es r b) in
     let turns = c.weigh_turns.ensures in
     let over =
-        c.end.ensures.over ∙ ap (λ o. option_or o (end_at line c.weigh_turns.new.self.sum)) c.count.ensures.over in
+    c.end.ensures.over ∙ ap (λ o. option_or o (end_at line c.weigh_turns.new.self.sum)) c.count.ensures.over in
     record {
       weight = weighs_as (body_of_other b signatures es line r (sym c.is_sequence.ensures ∙ c.if-is_sequence.false))
           (sums_end line (size + inside)
