@@ -26,7 +26,7 @@ pub(crate) fn not_there(offset: usize) -> FormatFault
 }
 
 /// An item of a list, whose references are checked in a context.
-pub(crate) trait Late<C>: Drop {
+pub(crate) trait References<C>: Drop {
     /// Whether what the item at an offset names is there.
     ghost naming: { Naming C Self };
 
