@@ -1,6 +1,8 @@
 -- What a machine does that is driven event by event, and that no event brings to a fault.
 use Rattle.std.specs.Prelude.{◌≡◌, ℕ, ◌≤◌, true, false, List, None, Ok}
 use Rattle.module_format.specs.Contents.{Contents}
+use Rattle.machine_state.specs.declared.event.Effect.{Effect as LentEffect}
+use Rattle.machine_state.specs.declared.event.Effect.TheVariants as effects
 use Rattle.machine_state.specs.declared.event.Event.{Event}
 use Rattle.machine_state.specs.declared.link.Link.{Link}
 use Rattle.machine_state.specs.World.{World}
@@ -61,6 +63,17 @@ reported reactions.Kept last = kept
 reported reactions.Busy last = busy
 reported reactions.Acknowledged last = acknowledged
 reported reactions.Ignored last = ignored
+
+-- what an effect reports
+abbrev pub shown : LentEffect → Effect
+shown effects.Ran = ran
+shown effects.Idle = idle
+shown (effects.Emitted link bytes) = emitted link bytes.now
+shown effects.Taken = taken
+shown effects.Kept = kept
+shown effects.Busy = busy
+shown effects.Acknowledged = acknowledged
+shown effects.Ignored = ignored
 
 -- The event happened, and this reports what it did.
 pub record HasReacted (m : Contents) (w : World) (e : Event) (reaction : Reaction) (last : List ℕ)

@@ -6,26 +6,13 @@ use Rattle.std.specs.Io.BufRead.{Rests}
 use mir.Syntax.{named}
 use Rattle.machine_state.specs.declared.event.Event.{Event}
 use Rattle.machine_state.specs.declared.event.Effect.{Effect as LentEffect}
-use Rattle.machine_state.specs.declared.event.Effect.TheVariants.{Ran, Idle, Emitted, Taken, Kept, Busy, Acknowledged}
-use Rattle.machine_state.specs.declared.event.Effect.TheVariants.{Ignored}
 use Rattle.machine_state.specs.World.{World}
-use Rattle.machine_state.specs.Happens.{Effect, ran, idle, emitted, taken, kept, busy, acknowledged, ignored, Turn}
-use Rattle.machine_state.specs.Happens.{turn}
+use Rattle.machine_state.specs.Happens.{Turn, turn}
+pub use Rattle.link_runs.specs.Driving.{shown}
 use Rattle.traffic.specs.declared.stop.Stop.{Stop}
 use Rattle.traffic.specs.declared.stop.Stop.TheVariants.{Fault, Memory}
 use Rattle.machine.specs.contracts.checked.Checked.{the_row}
 use Rattle.machine.specs.Asking.{Execution}
-
--- what an effect reports
-abbrev pub shown : LentEffect → Effect
-shown Ran = ran
-shown Idle = idle
-shown (Emitted link bytes) = emitted link bytes.now
-shown Taken = taken
-shown Kept = kept
-shown Busy = busy
-shown Acknowledged = acknowledged
-shown Ignored = ignored
 
 -- The result reports the answer of this turn, unless memory ran out.
 abbrev pub Tells : Result LentEffect Stop → Turn → Type 0

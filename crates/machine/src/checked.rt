@@ -13,6 +13,7 @@ ghost use Rattle.machine_state.specs.Memory.{place_of};
 ghost use Rattle.machine_state.specs.World.{loaded};
 ghost use Rattle.machine_state.specs.Happens.{turn};
 ghost use Rattle.machine.specs.Applying.{Applies, IsDefined, effect_of};
+ghost use Rattle.link_runs.specs.Driving.{shown};
 ghost use Rattle.link_runs.specs.Wanting.{is_running, wants};
 
 pub(crate) use act::Act;
@@ -40,7 +41,7 @@ impl<'a> Model for Checked<'a> {
 
 impl<'a> Checked<'a> {
     ghost use Rattle.std.specs.Borrow.{sem};
-    ghost use Rattle.machine.specs.Lending.{Tells, Rested, shown};
+    ghost use Rattle.machine.specs.Lending.{Tells, Rested};
 
     /// The machine of a module that is loaded: its root is about to run the first byte of the code.
     pub fn load(alloc: Global, module: &'a Module<'a>) -> Result<Checked<'a>, AllocError>
