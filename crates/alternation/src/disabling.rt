@@ -37,6 +37,7 @@ pub fn wait<S: Store>(
         let l = without_selection_word (scheduled registers w.memory) in
         waited (here_in m here.now) l w ≡ answered ran (counted traffic.new.world) }
     ensures goes_on { result ≡ is_ready_in here.now.task.mode }
+    ensures holder { traffic.new.holder ≡ traffic.old.holder }
     ensures holding { traffic.new.holding ≡ traffic.old.holding }
 {
     traffic.clear_scheduling_words(registers);

@@ -124,6 +124,7 @@ impl<S: Store> Traffic<S, ListQueue> {
     /// The process gives way, and another may run.
     pub fn give_way(&mut self, here: &Here)
         ensures world { self.new.world ≡ dispatch here.now.pick (leave self.old.world) }
+        ensures holder { self.new.holder ≡ self.old.holder }
         ensures holding { self.new.holding ≡ self.old.holding }
     {
         self.leave();

@@ -66,6 +66,7 @@ impl<S: Store> Traffic<S, ListQueue> {
             let memory = copied w.memory (place_of source.address) (place_of to.address) source.length w.memory in
             let there = put_after message.now message.now.here.task.condition (record w { memory = memory }) in
             self.new.world ≡ wake other (with_channel source.channel (record channel { waiting = None }) there) }
+        ensures holder { self.new.holder ≡ self.old.holder }
         ensures holding { self.new.holding ≡ self.old.holding }
     {
         self.copy(source.address, to.address, source.length);
@@ -100,6 +101,7 @@ impl<S: Store> Traffic<S, ListQueue> {
         ensures waits { let channel = channel_at self.old.world message.now.exchange.channel in
             OnMemory result (IsTrue (is_awaited channel)) }
         ensures room { OnMemory result (self.old.room ≡ 0) }
+        ensures holder { self.new.holder ≡ self.old.holder }
         ensures holding { self.new.holding ≡ self.old.holding }
     {
         let here = &message.here;
@@ -146,6 +148,7 @@ impl<S: Store> Traffic<S, ListQueue> {
         ensures wanted { let channel = channel_at self.old.world message.now.exchange.channel in
             OnMemory result (IsTrue (is_wanted channel)) }
         ensures room { OnMemory result (self.old.room ≡ 0) }
+        ensures holder { self.new.holder ≡ self.old.holder }
         ensures holding { self.new.holding ≡ self.old.holding }
     {
         let here = &message.here;

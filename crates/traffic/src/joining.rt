@@ -11,7 +11,7 @@ ghost use Rattle.machine_state.specs.Roles.{without_member, without_join, withou
 ghost use Rattle.machine_state.specs.Roles.{with_join, with_branch, branch_role};
 ghost use Rattle.machine_state.specs.Progressing.{progress_view};
 ghost use Rattle.machine_state.specs.Views.{holding_view, join_view};
-ghost use Rattle.traffic.specs.Moment.{IsSteady};
+ghost use Rattle.traffic.specs.Moment.{IsSteady, HoldsAs};
 ghost use Rattle.traffic.specs.Starting.{with_process};
 
 use crate::removing::remove_all;
@@ -133,6 +133,7 @@ impl Traffic<TaggedStore, ListQueue> {
             let role = branch_role process (holding_view branch.own) in
             MatchResult result (λ _. self.new.world ≡ with_process branch.task role there) (λ _. self.new.world ≡ w) }
         ensures room { self.new.room ≡ self.old.room }
+        ensures holding { MatchResult result (λ _. HoldsAs self.old.holder self.new) (λ _. self.new ≡ self.old) }
     {
         self.count_next()?;
         self.reserve_cells(process, channels.len())?;
@@ -161,6 +162,7 @@ impl Traffic<TaggedStore, ListQueue> {
             let role = branch_role process (holding_view branch.own) in
             MatchResult result (λ _. self.new.world ≡ with_process branch.task role there) (λ _. self.new.world ≡ w) }
         ensures room { self.new.room ≡ self.old.room }
+        ensures holding { MatchResult result (λ _. HoldsAs self.old.holder self.new) (λ _. self.new ≡ self.old) }
     {
         self.count_next()?;
         self.tasks.reserve(1)?;
@@ -183,21 +185,27 @@ impl Traffic<TaggedStore, ListQueue> {
 
     /// A process leaves the join that another has open.
     pub fn leave_join(&mut self, opener: u64, process: u64)
-        ensures { self.new.world ≡ on_role opener (without_member process) self.old.world }
+        ensures world { self.new.world ≡ on_role opener (without_member process) self.old.world }
+        ensures room { self.new.room ≡ self.old.room }
+        ensures holding { HoldsAs self.old.holder self.new }
     {
         self.cpu.store.leave_join(opener, process);
     }
 
     /// The join that the process has open is over.
     pub fn close_join(&mut self, opener: u64)
-        ensures { self.new.world ≡ on_role opener without_join self.old.world }
+        ensures world { self.new.world ≡ on_role opener without_join self.old.world }
+        ensures room { self.new.room ≡ self.old.room }
+        ensures holding { HoldsAs self.old.holder self.new }
     {
         self.cpu.store.close_join(opener);
     }
 
     /// Nothing is the process's own any more.
     pub fn give_back(&mut self, process: u64)
-        ensures { self.new.world ≡ on_role process without_own self.old.world }
+        ensures world { self.new.world ≡ on_role process without_own self.old.world }
+        ensures room { self.new.room ≡ self.old.room }
+        ensures holding { HoldsAs self.old.holder self.new }
     {
         self.cpu.store.give_back(process);
     }

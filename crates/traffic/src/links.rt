@@ -27,6 +27,7 @@ impl<S: Store> Traffic<S, ListQueue> {
     pub(crate) fn rouse(&mut self, enabled: Option<u64>)
         requires { IfSome enabled (λ _. 0 < self.old.room) }
         ensures world { self.new.world ≡ rouse enabled self.old.world }
+        ensures holder { self.new.holder ≡ self.old.holder }
         ensures holding { self.new.holding ≡ self.old.holding }
     {
         let Some(process) = enabled else {
@@ -47,7 +48,9 @@ impl<S: Store> Traffic<S, ListQueue> {
     /// becomes ready.
     fn fill(&mut self, process: u64, link: Link, byte: u8, input: InputLink)
         requires { 0 < self.old.room }
-        ensures { self.new.world ≡ fill process (link_index link) byte input self.old.world }
+        ensures world { self.new.world ≡ fill process (link_index link) byte input self.old.world }
+        ensures holder { self.new.holder ≡ self.old.holder }
+        ensures holding { self.new.holding ≡ self.old.holding }
     {
         let Some(task) = self.task(process) else {
             return;
@@ -82,6 +85,8 @@ impl<S: Store> Traffic<S, ListQueue> {
             IsTurn effect_of self.old.world self.new.world result turn }
         ensures err { OnErr result (IsTrue (may_wake (slice_get self.old.world.links.inputs (link_index link)))) }
         ensures room { OnErr result (self.old.room ≡ 0) }
+        ensures holder { self.new.holder ≡ self.old.holder }
+        ensures holding { self.new.holding ≡ self.old.holding }
     {
         let input = self.input(link);
         if let Some(process) = input.waiting {
@@ -115,6 +120,8 @@ impl<S: Store> Traffic<S, ListQueue> {
             IsTurn acknowledged_if self.old.world self.new.world result turn }
         ensures err { OnErr result (IsTrue (has_sender (slice_get self.old.world.links.outputs (link_index link)))) }
         ensures room { OnErr result (self.old.room ≡ 0) }
+        ensures holder { self.new.holder ≡ self.old.holder }
+        ensures holding { self.new.holding ≡ self.old.holding }
     {
         let Some(process) = self.output(link).waiting else {
             return Ok(false);

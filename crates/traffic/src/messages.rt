@@ -76,6 +76,7 @@ impl<S: Store> Traffic<S, ListQueue> {
             OnMemory result (IsOk turn.answer) }
         ensures wakes { OnMemory result (IsTrue (receiving_may_wake message.now.exchange self.old.world)) }
         ensures room { OnMemory result (self.old.room ≡ 0) }
+        ensures holder { self.new.holder ≡ self.old.holder }
         ensures holding { self.new.holding ≡ self.old.holding }
     {
         match input_link(message.exchange.channel) {
@@ -97,6 +98,7 @@ impl<S: Store> Traffic<S, ListQueue> {
             OnMemory result (IsOk turn.answer) }
         ensures wakes { OnMemory result (IsTrue (sending_may_wake message.now.exchange self.old.world)) }
         ensures room { OnMemory result (self.old.room ≡ 0) }
+        ensures holder { self.new.holder ≡ self.old.holder }
         ensures holding { self.new.holding ≡ self.old.holding }
     {
         if let Some(link) = output_link(message.exchange.channel) {

@@ -23,6 +23,7 @@ impl<S: Store> Traffic<S, ListQueue> {
             let waits = record input { waiting = Some message.now.here.process } in
             self.new.world ≡ dispatch message.now.here.pick
             (leave (with_input (link_index link) waits (put_after message.now condition self.old.world))) }
+        ensures holder { self.new.holder ≡ self.old.holder }
         ensures holding { self.new.holding ≡ self.old.holding }
     {
         let exchange = message.exchange;
@@ -52,6 +53,7 @@ impl<S: Store> Traffic<S, ListQueue> {
             let turn = turn_for (λ h. sent_outside h (link_index link)) (contents_of tables.now) message.now
             self.old.world in
             Settles self.old.world self.new.world (emitted link bytes) result turn }
+        ensures holder { self.new.holder ≡ self.old.holder }
         ensures holding { self.new.holding ≡ self.old.holding }
     {
         let here = &message.here;
@@ -90,6 +92,7 @@ impl<S: Store> Traffic<S, ListQueue> {
             Settles self.old.world self.new.world ran result turn }
         ensures goes_on { let input = slice_get self.old.world.links.inputs (link_index link) in
             IfOk result (λ goes_on. goes_on ≡ is_complete input message.now.exchange) }
+        ensures holder { self.new.holder ≡ self.old.holder }
         ensures holding { self.new.holding ≡ self.old.holding }
     {
         let here = &message.here;

@@ -19,6 +19,7 @@ impl<S: Store> Traffic<S, ListQueue> {
             self.entry result (with_cpu S.cells S.holding S.roles self.old)) }
         ensures memory { S.cells result.now.store ≡ self.old.world.memory }
         ensures roles { (S.roles result.now.store).table ≡ self.old.world.roles }
+        ensures holder { (S.roles result.now.store).holder ≡ self.old.holder }
         ensures holding { S.holding result.now.store ≡ self.old.holding }
     {
         &mut self.cpu
@@ -30,7 +31,10 @@ impl Traffic<TaggedStore, ListQueue> {
 
     /// From now on this process's holding counts.
     pub fn select(&mut self, process: u64)
-        ensures { self.new ≡ record self.old { holding = holding_at self.old.world.roles process } }
+        ensures { self.new ≡ record self.old {
+          holder = process;
+          holding = holding_at self.old.world.roles process;
+        } }
     {
         self.cpu.store.select(process);
     }

@@ -8,7 +8,7 @@ ghost use Rattle.machine_state.specs.Moves.{with_input, with_output, cell_of, ch
 ghost use Rattle.machine_state.specs.Alternations.{has_enabled};
 ghost use Rattle.machine_state.specs.LocalStep.{holds_scheduling_words, without_scheduling_words, copied};
 ghost use Rattle.machine_state.specs.Memory.{data_start, place_of, with_byte};
-ghost use Rattle.traffic.specs.Moment.{IsSteady, WaitsForMore};
+ghost use Rattle.traffic.specs.Moment.{IsSteady, WaitsForMore, HoldsAs};
 
 use crate::counts::{are_still_all, count_of, enabler_of, hand_over};
 use crate::enabled::{any_channel, any_input};
@@ -78,6 +78,7 @@ impl<S: Store, Q: ReadyQueue<S>> Model for Traffic<S, Q> {
         fault = None;
       };
       room = Q.room t.ready;
+      holder = (S.roles t.cpu.store).holder;
       holding = S.holding t.cpu.store;
     } };
 
@@ -132,6 +133,7 @@ impl<S: Store> Traffic<S, ListQueue> {
     /// Reserves capacity for one more ready process. If memory runs out, there was none, and nothing changed.
     pub fn reserve(&mut self) -> Result<(), AllocError>
         ensures world { self.new.world ≡ self.old.world }
+        ensures holder { self.new.holder ≡ self.old.holder }
         ensures holding { self.new.holding ≡ self.old.holding }
         ensures ok { OnOk result (0 < self.new.room) }
         ensures err { OnErr result (self.old.room ≡ 0) }
@@ -143,6 +145,7 @@ impl<S: Store> Traffic<S, ListQueue> {
     pub fn enqueue(&mut self, process: u64)
         requires { 0 < self.old.room }
         ensures world { self.new.world ≡ enqueue process self.old.world }
+        ensures holder { self.new.holder ≡ self.old.holder }
         ensures holding { self.new.holding ≡ self.old.holding }
     {
         self.ready.push_back(&mut self.cpu.store, process);
@@ -152,6 +155,7 @@ impl<S: Store> Traffic<S, ListQueue> {
     pub fn wake(&mut self, process: u64)
         requires { 0 < self.old.room }
         ensures world { self.new.world ≡ wake process self.old.world }
+        ensures holder { self.new.holder ≡ self.old.holder }
         ensures holding { self.new.holding ≡ self.old.holding }
     {
         self.set_condition(process, Condition::Ready);
@@ -162,6 +166,7 @@ impl<S: Store> Traffic<S, ListQueue> {
     #[tactic(auto, unfolding(machine_state::specs::Moves::dispatch))]
     pub fn dispatch(&mut self, pick: u64)
         ensures world { self.new.world ≡ dispatch pick self.old.world }
+        ensures holder { self.new.holder ≡ self.old.holder }
         ensures holding { self.new.holding ≡ self.old.holding }
     {
         if self.running.is_none() && !ReadyQueue::<S>::is_empty(&self.ready) {
@@ -314,7 +319,8 @@ impl Traffic<TaggedStore, ListQueue> {
         requires memory { IsLoadable (contents_of tables.now) }
         requires workspace { data_start + 4 * tables.now.base < 2 ^ 32 }
         requires start { data_start + 4 * tables.now.data_words < 2 ^ 32 }
-        ensures { IfOk result (λ t. t.world ≡ loaded (contents_of tables.now)) }
+        ensures world { IfOk result (λ t. t.world ≡ loaded (contents_of tables.now)) }
+        ensures holding { IfOk result (λ t. HoldsAs 0 t) }
     {
         let root = Task::root(tables);
         let cpu = Cpu {

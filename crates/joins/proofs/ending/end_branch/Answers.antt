@@ -25,7 +25,8 @@ returns c = λ join opened same.
     let here : c.args.seen.block ≡ ending.block = c.if-seen-ending.false in
     let test : (join.block == ending.block) ≡ true =
     ap (λ (o : Open). o.block == ending.block) (sym same) ∙ eq-eqb c.args.seen.block ending.block here in
-    let given : c.give_back.new.self.world ≡ on_role p without_own c.end.new.traffic.world = c.give_back.ensures in
+    let given : c.give_back.new.self.world ≡ on_role p without_own c.end.new.traffic.world =
+    c.give_back.ensures.world in
     let there : opened_by c.give_back.new.self.world c.args.opener ≡ Some join =
     ap (λ (v : World). opened_by v c.args.opener) given
     ∙ (still_open c.end.new.traffic.world p c.args.opener

@@ -7,6 +7,6 @@ use Rattle.joins.proofs.ending.leave.Goals as goal
 pub returns-then-seen : goal.returns-then-seen
 returns-then-seen c = λ m join par opened same next.
     closes (here_in m c.args.here.now) c.args.traffic.now.world c.args.opener join par c.leave_join.new.self.world
-    c.close.new.traffic.world opened c.leave_join.ensures
+    c.close.new.traffic.world opened c.leave_join.ensures.world
     (sym (ap (λ (o : Open). o.is_last) same) ∙ c.if-seen.true)
     (c.close.ensures join par (ap (λ (o : Open). o.block) same) next)
