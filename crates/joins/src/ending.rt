@@ -1,12 +1,13 @@
 //! `endp`: a member of a join ends, and with the last one the join is over.
 
 ghost use Rattle.std.specs.Prelude.{◌≡◌, ◌==◌, ◌&&◌, ◌+◌, ◌<◌, ◌^◌, Some, None, length, slice_get, MatchOption};
+ghost use Rattle.std.specs.Prelude.{MatchResult};
 ghost use Rattle.module_format.specs.Contents.{Contents, Par, contents_of, par_of};
 ghost use Rattle.machine_state.specs.World.{Join};
 ghost use Rattle.machine_state.specs.Turn.{ran};
 ghost use Rattle.machine_state.specs.Joins.{closed, joined, ended, own_end, branch_end, join_turn};
 ghost use Rattle.machine_state.specs.JoinLookups.{opened_by};
-ghost use Rattle.traffic.specs.Moment.{IsSteady};
+ghost use Rattle.traffic.specs.Moment.{IsSteady, HoldsAs, HoldsAlike};
 ghost use Rattle.traffic.specs.Settling.{here_in, Settles};
 ghost use Rattle.machine_state.specs.Asking.{untouched};
 ghost use Rattle.joins.specs.Summary.{summary};
@@ -28,8 +29,9 @@ struct Ending<'a, 't> {
 
 /// The process that has opened the join goes on at once after the PAR, with the block as its workspace.
 fn close(traffic: &mut Processes, opener: u64, block: u32, successor: u32)
-    ensures { (join : Join) (par : Par) → block ≡ join.block → successor ≡ par.successor →
+    ensures world { (join : Join) (par : Par) → block ≡ join.block → successor ≡ par.successor →
         traffic.new.world ≡ closed opener join par traffic.old.world }
+    ensures holding { HoldsAs traffic.old.holder traffic.new }
 {
     let registers = Registers {
         workspace: block,
@@ -53,9 +55,10 @@ fn close(traffic: &mut Processes, opener: u64, block: u32, successor: u32)
 
 /// The process is no member any more. If it was the last one, the join is over; if not, another process may run.
 fn leave(traffic: &mut Processes, here: &Here, opener: u64, seen: Open, successor: u32)
-    ensures { (m : Contents) (join : Join) (par : Par) → opened_by traffic.old.world opener ≡ Some join →
+    ensures world { (m : Contents) (join : Join) (par : Par) → opened_by traffic.old.world opener ≡ Some join →
         seen ≡ summary here.now.process join → successor ≡ par.successor →
         traffic.new.world ≡ joined (here_in m here.now) opener join par traffic.old.world }
+    ensures holding { HoldsAs traffic.old.holder traffic.new }
 {
     traffic.leave_join(opener, here.process);
     if seen.is_last {
@@ -68,8 +71,9 @@ fn leave(traffic: &mut Processes, here: &Here, opener: u64, seen: Open, successo
 /// The process has ended.
 fn end(traffic: &mut Processes, here: &Here, registers: Registers)
     requires { here.now.task.registers.at + 1 < 2 ^ 32 }
-    ensures { (m : Contents) → let w = traffic.old.world in
+    ensures world { (m : Contents) → let w = traffic.old.world in
         traffic.new.world ≡ ended (here_in m here.now) (untouched registers w.memory) w }
+    ensures holding { HoldsAlike traffic.old traffic.new }
 {
     let next = here.next();
     traffic.put_in(here, next, registers, Mode::Plain, Condition::Ended);
@@ -93,11 +97,13 @@ fn is_whole(seen: Open, par: &ParRow, block: u32) -> bool
 /// The end of the process that has started the branches: all of them.
 fn end_opener(traffic: &mut Processes, ending: &Ending, seen: Open) -> Result<(), Fault>
     requires { ending.now.here.now.task.registers.at + 1 < 2 ^ 32 }
-    ensures { (join : Join) → let h = here_in (contents_of ending.now.tables.now) ending.now.here.now in
+    ensures settles { (join : Join) → let h = here_in (contents_of ending.now.tables.now) ending.now.here.now in
         let w = traffic.old.world in
         let l = untouched ending.now.registers w.memory in
         opened_by w h.process ≡ Some join → seen ≡ summary h.process join →
         Settles w traffic.new.world ran result (own_end h join ending.now.block l w) }
+    ensures holding { MatchResult result (λ _. HoldsAs traffic.old.holder traffic.new)
+        (λ _. HoldsAlike traffic.old traffic.new) }
 {
     let here = ending.here;
     let Some(par) = row_at(ending.tables, seen.row) else {
@@ -119,11 +125,13 @@ fn end_branch(
     seen: Open,
 ) -> Result<(), Fault>
     requires { ending.now.here.now.task.registers.at + 1 < 2 ^ 32 }
-    ensures { (join : Join) → let h = here_in (contents_of ending.now.tables.now) ending.now.here.now in
+    ensures settles { (join : Join) → let h = here_in (contents_of ending.now.tables.now) ending.now.here.now in
         let w = traffic.old.world in
         let l = untouched ending.now.registers w.memory in
         opened_by w opener ≡ Some join → seen ≡ summary h.process join →
         Settles w traffic.new.world ran result (branch_end h opener join ending.now.block l w) }
+    ensures holding { MatchResult result (λ _. HoldsAs traffic.old.holder traffic.new)
+        (λ _. HoldsAlike traffic.old traffic.new) }
 {
     let here = ending.here;
     let Some(par) = row_at(ending.tables, seen.row) else {
@@ -150,9 +158,11 @@ pub fn join(
     registers: Registers,
 ) -> Result<(), Fault>
     requires { here.now.task.registers.at + 1 < 2 ^ 32 }
-    ensures { let h = here_in (contents_of tables.now) here.now in
+    ensures settles { let h = here_in (contents_of tables.now) here.now in
         let w = traffic.old.world in
         Settles w traffic.new.world ran result (join_turn h block (untouched registers w.memory) w) }
+    ensures holding { MatchResult result (λ _. HoldsAs traffic.old.holder traffic.new)
+        (λ _. HoldsAlike traffic.old traffic.new) }
 {
     let ending = Ending {
         tables,

@@ -12,7 +12,7 @@ ghost use Rattle.machine_state.specs.StartPlans.{Plan, later_plan, scheduling_ad
 ghost use Rattle.machine_state.specs.StartPlans.{channel_addresses};
 ghost use Rattle.machine_state.specs.BranchShares.{frame_address};
 ghost use Rattle.machine_state.specs.JoinLookups.{opened_by};
-ghost use Rattle.traffic.specs.Moment.{IsSteady};
+ghost use Rattle.traffic.specs.Moment.{IsSteady, HoldsAs, HoldsAlike};
 ghost use Rattle.traffic.specs.Settling.{here_in};
 ghost use Rattle.joins.specs.Finding.{found_view};
 ghost use Rattle.joins.specs.Gifts.{IsGift, IsFirstGift};
@@ -61,9 +61,11 @@ fn starter(here: &Here, registers: Registers) -> Task
 /// The branch is there, and is ready after all that are. What scheduling takes of its words is undefined.
 fn enter(traffic: &mut Processes, workspace: u32, process: u64)
     requires { 0 < traffic.old.room }
-    ensures { let w = traffic.old.world in
+    ensures world { let w = traffic.old.world in
         let memory = without_words (scheduling_addresses workspace) w.memory in
         traffic.new.world ≡ enqueue process (record w { memory = memory }) }
+    ensures holder { traffic.new.holder ≡ traffic.old.holder }
+    ensures holding { traffic.new.holding ≡ traffic.old.holding }
 {
     traffic.clear_word(local_address(workspace, -1));
     traffic.clear_word(local_address(workspace, -2));
@@ -75,13 +77,15 @@ fn enter(traffic: &mut Processes, workspace: u32, process: u64)
 pub(crate) fn advance(traffic: &mut Processes, start: &Start, gift: Later) -> Result<(), AllocError>
     requires next { start.now.here.now.task.registers.at + 1 < 2 ^ 32 }
     requires task { IsSteady start.now.here.now.task }
-    ensures { (m : Contents) (join : Opened) → let w = traffic.old.world in
+    ensures world { (m : Contents) (join : Opened) → let w = traffic.old.world in
         let f = found_view start.now.found in
         let plan = later_plan m join f.par in
         let h = here_in m start.now.here.now in
         let next = started h plan f start.now.workspace (untouched start.now.registers w.memory) w in
         opened_by w h.process ≡ Some join → IsGift m (length w.memory) plan f.branch gift.to gift.own →
         MatchResult result (λ _. traffic.new.world ≡ next) (λ _. traffic.new.world ≡ w) }
+    ensures holding { MatchResult result (λ _. HoldsAs traffic.old.holder traffic.new)
+        (λ _. HoldsAlike traffic.old traffic.new) }
 {
     traffic.reserve()?;
     let process = traffic.count();
@@ -123,13 +127,15 @@ fn take_block(traffic: &mut Processes, base: u32, par: &ParRow)
 pub(crate) fn open(traffic: &mut Processes, start: &Start, gift: First) -> Result<(), AllocError>
     requires next { start.now.here.now.task.registers.at + 1 < 2 ^ 32 }
     requires task { IsSteady start.now.here.now.task }
-    ensures { (m : Contents) (plan : Plan) → let w = traffic.old.world in
+    ensures world { (m : Contents) (plan : Plan) → let w = traffic.old.world in
         let h = here_in m start.now.here.now in
         let f = found_view start.now.found in
         let there = opened h plan (untouched start.now.registers w.memory) w in
         plan.par ≡ f.par → IsFirstGift m (length w.memory) plan f (length w.tasks) gift.join gift.own →
         MatchResult result (λ _. traffic.new.world ≡ started h plan f start.now.workspace there.0 there.1)
         (λ _. traffic.new.world ≡ w) }
+    ensures holding { MatchResult result (λ _. HoldsAs traffic.old.holder traffic.new)
+        (λ _. HoldsAlike traffic.old traffic.new) }
 {
     traffic.reserve()?;
     let process = traffic.count();

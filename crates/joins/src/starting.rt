@@ -1,12 +1,12 @@
 //! `startp`: a branch starts.
 
-ghost use Rattle.std.specs.Prelude.{◌≡◌, ◌<◌, ◌^◌, ◌+◌, Some, None, IfSome, MatchOption, length};
+ghost use Rattle.std.specs.Prelude.{◌≡◌, ◌<◌, ◌^◌, ◌+◌, Some, None, IfSome, MatchOption, MatchResult, length};
 ghost use Rattle.machine_state.specs.World.{Join as Opened, holding_at};
 ghost use Rattle.machine_state.specs.Turn.{ran};
 ghost use Rattle.machine_state.specs.StartPlans.{first_faults, first_fault, later_plan, no_row_faults};
 ghost use Rattle.machine_state.specs.JoinLookups.{opened_by, found_at};
 ghost use Rattle.machine_state.specs.Joins.{start_turn, first_start_turn, later_start_turn};
-ghost use Rattle.traffic.specs.Moment.{IsSteady};
+ghost use Rattle.traffic.specs.Moment.{IsSteady, HoldsAs, HoldsAlike};
 ghost use Rattle.traffic.specs.Settling.{here_in, SettlesIfRoom};
 ghost use Rattle.machine_state.specs.Faults.{fault_in};
 ghost use Rattle.std.specs.Option.{option_map};
@@ -39,7 +39,7 @@ fn found_in<'m>(module: &'m Module, target: u32) -> Option<Found<'m>>
 /// One more branch of the PAR that the process has open is started, where nothing is wrong and code follows.
 fn start_later(traffic: &mut Processes, start: &Start, gift: Later) -> Result<(), Stop>
     requires { IsSteady start.now.here.now.task }
-    ensures { (join : Opened) → let w = traffic.old.world in
+    ensures settles { (join : Opened) → let w = traffic.old.world in
         let m = start.now.module.now in
         let h = here_in m start.now.here.now in
         let f = found_view start.now.found in
@@ -48,6 +48,8 @@ fn start_later(traffic: &mut Processes, start: &Start, gift: Later) -> Result<()
         opened_by w h.process ≡ Some join → first_fault (later_tests m n join f start.now.workspace) ≡ None →
         IsGift m n (later_plan m join f.par) f.branch gift.to gift.own →
         SettlesIfRoom (λ done. ran) w traffic.new.world result turn }
+    ensures holding { MatchResult result (λ _. HoldsAs traffic.old.holder traffic.new)
+        (λ _. HoldsAlike traffic.old traffic.new) }
 {
     start.check_followed()?;
     advance(traffic, start, gift)?;
@@ -57,7 +59,7 @@ fn start_later(traffic: &mut Processes, start: &Start, gift: Later) -> Result<()
 /// A PAR is open, and its first branch is started, where nothing is wrong and code follows.
 fn start_first(traffic: &mut Processes, start: &Start, gift: First) -> Result<(), Stop>
     requires { IsSteady start.now.here.now.task }
-    ensures { let w = traffic.old.world in
+    ensures settles { let w = traffic.old.world in
         let m = start.now.module.now in
         let h = here_in m start.now.here.now in
         let f = found_view start.now.found in
@@ -67,6 +69,8 @@ fn start_first(traffic: &mut Processes, start: &Start, gift: First) -> Result<()
         first_fault (first_faults m w.memory holding plan f start.now.workspace) ≡ None →
         IsFirstGift m (length w.memory) plan f (length w.tasks) gift.join gift.own →
         SettlesIfRoom (λ done. ran) w traffic.new.world result turn }
+    ensures holding { MatchResult result (λ _. HoldsAs traffic.old.holder traffic.new)
+        (λ _. HoldsAlike traffic.old traffic.new) }
 {
     start.check_followed()?;
     open(traffic, start, gift)?;
@@ -88,11 +92,13 @@ fn start_found(alloc: Global, traffic: &mut Processes, start: &Start) -> Result<
     requires row { start.now.found.row < 2 ^ 32 }
     requires number { start.now.found.number + 1 < 2 ^ 32 }
     requires task { IsSteady start.now.here.now.task }
-    ensures { let h = here_in start.now.module.now start.now.here.now in
+    ensures settles { let h = here_in start.now.module.now start.now.here.now in
         let w = traffic.old.world in
         let f = found_view start.now.found in
         let turn = found_start h f start.now.workspace (untouched start.now.registers w.memory) w in
         SettlesIfRoom (λ done. ran) w traffic.new.world result turn }
+    ensures holding { MatchResult result (λ _. HoldsAs traffic.old.holder traffic.new)
+        (λ _. HoldsAlike traffic.old traffic.new) }
 {
     match join_of(traffic, start.here.process) {
         Some(join) => {
@@ -125,10 +131,12 @@ pub fn start(
     registers: Registers,
 ) -> Result<(), Stop>
     requires { IsSteady here.now.task }
-    ensures { let h = here_in «module».now here.now in
+    ensures settles { let h = here_in «module».now here.now in
         let w = traffic.old.world in
         let turn = start_turn h target workspace (untouched registers w.memory) w in
         SettlesIfRoom (λ done. ran) w traffic.new.world result turn }
+    ensures holding { MatchResult result (λ _. HoldsAs traffic.old.holder traffic.new)
+        (λ _. HoldsAlike traffic.old traffic.new) }
 {
     let Some(found) = found_in(module, target) else {
         let fault = no_branch_fault(alloc, traffic, here, workspace);

@@ -12,8 +12,8 @@ use Rattle.machine_state.specs.Asking.{untouched}
 use Rattle.joins.proofs.Leaving.{branch_done, still_open}
 use Rattle.joins.proofs.ending.end_branch.Goals as goal
 
-pub returns : goal.returns
-returns c = λ join opened same.
+pub returns-clause-settles : goal.returns-clause-settles
+returns-clause-settles c = λ join opened same.
     let ending = c.args.ending.now in
     let m = contents_of ending.tables.now in
     let h = here_in m ending.here.now in
@@ -30,9 +30,9 @@ returns c = λ join opened same.
     let there : opened_by c.give_back.new.self.world c.args.opener ≡ Some join =
     ap (λ (v : World). opened_by v c.args.opener) given
     ∙ (still_open c.end.new.traffic.world p c.args.opener
-    ∙ (ap (λ (v : World). opened_by v c.args.opener) (c.end.ensures m) ∙ opened)) in
+    ∙ (ap (λ (v : World). opened_by v c.args.opener) (c.end.ensures.world m) ∙ opened)) in
     branch_done h w join ending.block (untouched ending.registers w.memory) c.args.opener par
     c.leave.new.traffic.world row test
-    (c.leave.ensures m join par there same refl
+    (c.leave.ensures.world m join par there same refl
     ∙ (ap (λ (v : World). joined h c.args.opener join par v) given
-    ∙ ap (λ (v : World). joined h c.args.opener join par (on_role p without_own v)) (c.end.ensures m)))
+    ∙ ap (λ (v : World). joined h c.args.opener join par (on_role p without_own v)) (c.end.ensures.world m)))

@@ -10,8 +10,8 @@ use Rattle.machine_state.specs.Asking.{untouched}
 use Rattle.joins.proofs.Leaving.{own_done}
 use Rattle.joins.proofs.ending.end_opener.Goals as goal
 
-pub returns : goal.returns
-returns c = λ join opened same.
+pub returns-clause-settles : goal.returns-clause-settles
+returns-clause-settles c = λ join opened same.
     let ending = c.args.ending.now in
     let m = contents_of ending.tables.now in
     let h = here_in m ending.here.now in
@@ -24,6 +24,7 @@ returns c = λ join opened same.
     ap (λ (o : Open). (o.block == ending.block) && (o.started == length par.branches)) (sym same)
     ∙ (sym c.is_whole.ensures ∙ c.if-not-is_whole.false) in
     let there : opened_by c.end.new.traffic.world p ≡ Some join =
-    ap (λ (v : World). opened_by v p) (c.end.ensures m) ∙ opened in
+    ap (λ (v : World). opened_by v p) (c.end.ensures.world m) ∙ opened in
     own_done h w join ending.block (untouched ending.registers w.memory) par c.leave.new.traffic.world row test
-    (c.leave.ensures m join par there same refl ∙ ap (λ (v : World). joined h p join par v) (c.end.ensures m))
+    (c.leave.ensures.world m join par there same refl
+    ∙ ap (λ (v : World). joined h p join par v) (c.end.ensures.world m))

@@ -7,16 +7,16 @@ use Rattle.joins.specs.declared.gifts.Later.{Later}
 use Rattle.joins.proofs.Settled.{by_opened, later_stops, first_stops}
 use Rattle.joins.proofs.starting.start_found.Goals as goal
 
-pub returns-in_err-gift-in-Some : goal.returns-in_err-gift-in-Some
-returns-in_err-gift-in-Some c =
+pub returns-in_err-gift-in-Some-clause-settles : goal.returns-in_err-gift-in-Some-clause-settles
+returns-in_err-gift-in-Some-clause-settles c =
     let start = c.args.start.now in
     let w = c.args.traffic.now.world in
     later_stops start.module.now start.here.now w (found_view start.found) start.workspace
     (untouched start.registers w.memory) (join_view c.in-Some.join.now) Later c.in_err-gift-in-Some.field-0.0
     c.from_residual.result c.in-Some.ensures c.from_residual.ensures.1 c.in_err-gift-in-Some.ensures.finds
 
-pub returns-in_err-gift-in-None : goal.returns-in_err-gift-in-None
-returns-in_err-gift-in-None c =
+pub returns-in_err-gift-in-None-clause-settles : goal.returns-in_err-gift-in-None-clause-settles
+returns-in_err-gift-in-None-clause-settles c =
     let start = c.args.start.now in
     let w = c.args.traffic.now.world in
     first_stops start.module.now start.here.now w (found_view start.found) start.workspace
@@ -24,20 +24,20 @@ returns-in_err-gift-in-None c =
     c.from_residual-in_err-gift-in-None.result c.in-None.ensures c.from_residual-in_err-gift-in-None.ensures.1
     c.in_err-gift-in-None.ensures.finds
 
-pub returns-in_ok-gift-in-Some : goal.returns-in_ok-gift-in-Some
-returns-in_ok-gift-in-Some c =
+pub returns-in_ok-gift-in-Some-clause-settles : goal.returns-in_ok-gift-in-Some-clause-settles
+returns-in_ok-gift-in-Some-clause-settles c =
     let start = c.args.start.now in
     let w = c.args.traffic.now.world in
     let join = join_view c.in-Some.join.now in
     by_opened start.module.now start.here.now w (found_view start.found) start.workspace
     (untouched start.registers w.memory) (Some join) c.start_later.new.traffic.world c.start_later.result
-    c.in-Some.ensures (c.start_later.ensures join c.in-Some.ensures c.in_ok-gift-in-Some.ensures.finds
+    c.in-Some.ensures (c.start_later.ensures.settles join c.in-Some.ensures c.in_ok-gift-in-Some.ensures.finds
     c.in_ok-gift-in-Some.ensures.gift)
 
-pub returns-in_ok-gift-in-None : goal.returns-in_ok-gift-in-None
-returns-in_ok-gift-in-None c =
+pub returns-in_ok-gift-in-None-clause-settles : goal.returns-in_ok-gift-in-None-clause-settles
+returns-in_ok-gift-in-None-clause-settles c =
     let start = c.args.start.now in
     let w = c.args.traffic.now.world in
     by_opened start.module.now start.here.now w (found_view start.found) start.workspace
     (untouched start.registers w.memory) None c.start_first.new.traffic.world c.start_first.result c.in-None.ensures
-    (c.start_first.ensures c.in_ok-gift-in-None.ensures.finds c.in_ok-gift-in-None.ensures.gift)
+    (c.start_first.ensures.settles c.in_ok-gift-in-None.ensures.finds c.in_ok-gift-in-None.ensures.gift)

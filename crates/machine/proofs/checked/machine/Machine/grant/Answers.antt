@@ -123,7 +123,7 @@ returns c =
           let block = w.in-Join.block in
           rw (w.in-Join.is) (settled (λ (h : Here) (m : Memory). join_turn h block (plain m))
           (c.joins_read_no_counters.ensures here block (plain memory)) w.join.new.traffic.world w.join.result
-          w.join.ensures (w.granted-is ∙ w.ran-granted-in-Join.ensures) (ap world_of w.self-inside-is))
+          w.join.ensures.settles (w.granted-is ∙ w.ran-granted-in-Join.ensures) (ap world_of w.self-inside-is))
       | in-End w ↦
           let to = w.in-End.to in
           rw (w.in-End.is) (settled (λ (h : Here) (m : Memory). alternation_ended h to (plain m))
