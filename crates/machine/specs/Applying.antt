@@ -79,11 +79,6 @@ pub record IsPosed (h : Here) (request : Request) (registers : Registers) (m : M
   pub grantable : IsGrantable request (site_of h m.world) registers m.world.memory
   pub holding : m.holding ≡ holding_at m.world.roles h.process
 
--- something is asked of others
-abbrev pub IsAsk : Flow → Type 0
-IsAsk (Ask request) = ⊤
-IsAsk flow = ⊥
-
 -- so is what the instruction asks, if it asks something
 abbrev pub AsksRightly : Here → Flow → Registers → Moment → Type 0
 AsksRightly h (Ask request) registers m = IsPosed h request registers m

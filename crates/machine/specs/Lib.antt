@@ -1,3 +1,4 @@
 pub mod Asking
 pub mod Applying
+pub mod Allocating
 pub mod Lending

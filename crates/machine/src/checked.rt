@@ -12,6 +12,8 @@ ghost use Rattle.machine_state.specs.LocalStep.{are_defined};
 ghost use Rattle.machine_state.specs.Memory.{place_of};
 ghost use Rattle.machine_state.specs.World.{loaded};
 ghost use Rattle.machine_state.specs.Happens.{turn};
+ghost use Rattle.traffic.specs.Settling.{OnMemory};
+ghost use Rattle.machine.specs.Allocating.{may_allocate};
 ghost use Rattle.machine.specs.Applying.{Applies, IsDefined, effect_of};
 ghost use Rattle.link_runs.specs.Driving.{shown};
 ghost use Rattle.link_runs.specs.Wanting.{is_running, wants};
@@ -58,6 +60,7 @@ impl<'a> Checked<'a> {
         ensures applies { let expected = turn self.old.contents self.old.world event in
             Applies self.old.world self.new.world result expected }
         ensures defined { IfOk result (λ act. IsDefined act self.new.world.memory) }
+        ensures memory { OnMemory result (IsTrue (may_allocate self.old.contents self.old.world event)) }
         ensures contents { self.new.contents ≡ self.old.contents }
     {
         if let Some(fault) = self.machine.fault() {
@@ -73,8 +76,12 @@ impl<'a> Checked<'a> {
     /// One event of the machine. At `Ok` it happened, and the effect is what it did. At `Stop::Fault` the
     /// machine is at fault, by this event or since an earlier one, and stays so. At `Stop::Memory` nothing
     /// changed.
+    ///
+    /// Memory runs out only where a process that waits may become ready, where a process may give way, and where a
+    /// branch starts.
     pub fn apply(&mut self, event: Event) -> Result<Effect<'_>, Stop>
         ensures answer { Tells result (turn self.old.contents self.old.world event) }
+        ensures memory { OnMemory result (IsTrue (may_allocate self.old.contents self.old.world event)) }
         ensures* rests { sem 𝓛 (Rested self.entry event result) }
     {
         let act = self.advance(event)?;

@@ -8,7 +8,9 @@ ghost use Rattle.machine_state.specs.Joins.{start_turn};
 ghost use Rattle.machine_state.specs.LocalStep.{are_defined, without_scheduling_words};
 ghost use Rattle.machine_state.specs.Happens.{settled, most_executed};
 ghost use Rattle.traffic.specs.Moment.{IsSteady};
-ghost use Rattle.traffic.specs.Settling.{here_in, turn_for, IsAsked};
+ghost use Rattle.traffic.specs.Delivering.{receiving_may_wake, sending_may_wake};
+ghost use Rattle.traffic.specs.Settling.{here_in, turn_for, IsAsked, OnMemory};
+ghost use Rattle.machine.specs.Allocating.{outcome_may_allocate};
 ghost use Rattle.machine.specs.Applying.{Applies, Grants, IsPosed, ran_by, world_by};
 
 use super::act::Act;
@@ -47,8 +49,9 @@ fn message(here: &Here, exchange: Exchange, registers: Registers) -> Message
 fn receive(processes: &mut Processes, tables: &Tables, message: &Message) -> Result<Act, Stop>
     requires code { length tables.now.code.now < 2 ^ 32 }
     requires message { IsAsked processes.old.holding message.now }
-    ensures { let turn = turn_for received (contents_of tables.now) message.now processes.old.world in
+    ensures grants { let turn = turn_for received (contents_of tables.now) message.now processes.old.world in
         Grants processes.old.world processes.new.world result turn }
+    ensures memory { OnMemory result (IsTrue (receiving_may_wake message.now.exchange processes.old.world)) }
 {
     processes.receive(tables, message)?;
     Ok(Act::Ran)
@@ -60,8 +63,9 @@ fn send(processes: &mut Processes, tables: &Tables, message: &Message) -> Result
     requires message { IsAsked processes.old.holding message.now }
     requires defined { let m = without_scheduling_words processes.old.world.memory message.now.registers.workspace in
         IsTrue (are_defined m message.now.exchange.address message.now.exchange.length) }
-    ensures { let turn = turn_for sent (contents_of tables.now) message.now processes.old.world in
+    ensures grants { let turn = turn_for sent (contents_of tables.now) message.now processes.old.world in
         Grants processes.old.world processes.new.world result turn }
+    ensures memory { OnMemory result (IsTrue (sending_may_wake message.now.exchange processes.old.world)) }
 {
     match processes.send(tables, message)? {
         Delivery::Emitted(link) => Ok(Act::Emitted {
@@ -118,10 +122,13 @@ impl Machine {
         requires next { here.now.task.registers.at + 1 < 2 ^ 32 }
         requires task { IsSteady here.now.task }
         requires posed { IsPosed (here_in «module».now here.now) request registers self.old }
-        ensures { let h = here_in «module».now here.now in
+        ensures applies { let h = here_in «module».now here.now in
             let w = self.old.world in
             let outcome = asked request (local_for request registers w.memory) in
             Applies w self.new.world result (settled h false outcome w) }
+        ensures memory { let w = self.old.world in
+            let outcome = asked request (local_for request registers w.memory) in
+            OnMemory result (IsTrue (outcome_may_allocate outcome w)) }
     {
         messages_read_no_counters();
         enabling_reads_no_counters();

@@ -4,7 +4,8 @@ ghost use Rattle.std.specs.Prelude.{◌≡◌, ◌+◌, ◌*◌, ◌<◌, ◌^�
 ghost use Rattle.module_format.specs.Contents.{contents_of};
 ghost use Rattle.machine_state.specs.Happens.{settled, between, prefix_turn, task_turn, step_turn};
 ghost use Rattle.machine_state.specs.Happens.{most_executed};
-ghost use Rattle.machine.specs.Applying.{Applies, AsksRightly, IsAsk, outcome_of, outcome_at};
+ghost use Rattle.machine.specs.Allocating.{outcome_may_allocate, task_may_allocate, step_may_allocate};
+ghost use Rattle.machine.specs.Applying.{Applies, AsksRightly, outcome_of, outcome_at};
 ghost use Rattle.machine_state.specs.Memory.{data_start};
 ghost use Rattle.machine_state.specs.Faults.{fault_in};
 ghost use Rattle.machine_state.specs.Moves.{counted, faulty, put, leave, enqueue, dispatch, finished_where};
@@ -52,14 +53,15 @@ impl Machine {
         fault
     }
 
-    /// A prefix: its process goes on with this operand, whichever process would run next if it did not.
+    /// A prefix: its process goes on with this operand, whoever would run next if it did not. It allocates nothing.
     fn prefix(&mut self, tables: &Tables, here: &Here, operand: i32) -> Result<Act, Stop>
         requires code { length tables.now.code.now < 2 ^ 32 }
         requires executed { self.old.world.counters.executed < most_executed }
         requires task { IsSteady here.now.task }
         requires operand { IsRegister operand }
-        ensures { let turn = prefix_turn (here_in (contents_of tables.now) here.now) operand self.old.world in
+        ensures applies { let turn = prefix_turn (here_in (contents_of tables.now) here.now) operand self.old.world in
             Applies self.old.world self.new.world result turn }
+        ensures memory { OnMemory result ⊥ }
     {
         if !here.is_followed(tables) {
             return Err(self.fail_in(here, FaultKind::OutsideCode).into());
@@ -150,7 +152,8 @@ impl Machine {
             let outcome = outcome_of flow registers w.memory in
             let turn = settled (here_in step.now.module.now step.now.here) step.now.slice outcome w in
             Applies w self.new.world result turn }
-        ensures memory { OnMemory result (IsAsk flow) }
+        ensures memory { let w = self.old.world in
+            OnMemory result (IsTrue (outcome_may_allocate (outcome_of flow registers w.memory) w)) }
     {
         let here = &step.here;
         match flow {
@@ -169,9 +172,12 @@ impl Machine {
         requires next { step.now.here.task.registers.at + 1 < 2 ^ 32 }
         requires task { IsSteady step.now.here.task }
         requires room { IsTrue step.now.slice → 0 < self.old.room }
-        ensures { let h = here_in step.now.module.now step.now.here in
+        ensures applies { let h = here_in step.now.module.now step.now.here in
             let w = self.old.world in
             Applies w self.new.world result (settled h step.now.slice (outcome_at h fun operand w) w) }
+        ensures memory { let h = here_in step.now.module.now step.now.here in
+            let w = self.old.world in
+            OnMemory result (IsTrue (outcome_may_allocate (outcome_at h fun operand w) w)) }
     {
         match self.perform(step.module.tables(), &step.here, fun, operand) {
             Ok((flow, registers)) => self.settle(step, flow, registers),
@@ -184,8 +190,10 @@ impl Machine {
         requires executed { self.old.world.counters.executed < most_executed }
         requires task { IsSteady step.now.here.task }
         requires room { IsTrue step.now.slice → 0 < self.old.room }
-        ensures { let h = here_in step.now.module.now step.now.here in
+        ensures applies { let h = here_in step.now.module.now step.now.here in
             Applies self.old.world self.new.world result (task_turn h step.now.slice self.old.world) }
+        ensures memory { let h = here_in step.now.module.now step.now.here in
+            OnMemory result (IsTrue (task_may_allocate h self.old.world)) }
     {
         let here = &step.here;
         let tables = step.module.tables();
@@ -204,8 +212,9 @@ impl Machine {
     /// `slice` the process goes to the back of the ready list if it completes a jump; `pick` says which ready process
     /// runs next, counted round the list, if the running one stops running.
     pub(crate) fn step(&mut self, module: &Module<'_>, slice: bool, pick: u64) -> Result<Act, Stop>
-        ensures { let turn = step_turn «module».now slice pick self.old.world in
+        ensures applies { let turn = step_turn «module».now slice pick self.old.world in
             Applies self.old.world self.new.world result turn }
+        ensures memory { OnMemory result (IsTrue (step_may_allocate «module».now slice pick self.old.world)) }
     {
         let Some(process) = self.traffic.running() else {
             return Ok(Act::Idle);

@@ -4,8 +4,8 @@ use Rattle.machine_state.specs.Asking.{scheduled}
 use Rattle.machine.proofs.Granting.{emits_defined}
 use Rattle.machine.proofs.checked.granting.send.Goals as goal
 
-pub returns-in-Emitted : goal.returns-in-Emitted
-returns-in-Emitted c =
+pub returns-in-Emitted-clause-grants : goal.returns-in-Emitted-clause-grants
+returns-in-Emitted-clause-grants c =
     let message = c.args.message.now in
     let w = c.args.processes.now.world in
     let settles = rw c.in-Emitted.is at c.in_ok-link.ensures.settles in (

@@ -25,8 +25,8 @@ use Rattle.machine.proofs.checked.machine.Machine.grant.Goals.{in-EnableSkip, in
 use Rattle.machine.proofs.checked.machine.Machine.grant.Goals.{in-DisableSkip}
 use Rattle.machine.proofs.checked.machine.Machine.grant.Goals.{in-End, in-Start, in-Join}
 
-pub returns : goal.returns
-returns c =
+pub returns-clause-applies : goal.returns-clause-applies
+returns-clause-applies c =
     let inside = c.self.inside in
     let before : World = inside.traffic.world in
     let counters : Counters = record { executed = inside.executed; is_finished = inside.is_finished } in
@@ -60,12 +60,12 @@ returns c =
     elim c.match-request.branch [
       | in-Receive w ↦
           rw (w.in-Receive.is) (message received messages.receptions w.in-Receive.exchange registers w.message.result
-          w.message.ensures w.receive-granted.new.processes.world w.receive-granted.result w.receive-granted.ensures
-          w.granted-is (ap world_of w.self-inside-is))
+          w.message.ensures w.receive-granted.new.processes.world w.receive-granted.result
+          w.receive-granted.ensures.grants w.granted-is (ap world_of w.self-inside-is))
       | in-Send w ↦
           rw (w.in-Send.is) (message sent messages.sendings w.in-Send.exchange registers w.message-in-Send.result
-          w.message-in-Send.ensures w.send-granted.new.processes.world w.send-granted.result w.send-granted.ensures
-          w.granted-is (ap world_of w.self-inside-is))
+          w.message-in-Send.ensures w.send-granted.new.processes.world w.send-granted.result
+          w.send-granted.ensures.grants w.granted-is (ap world_of w.self-inside-is))
       | in-Begin w ↦
           rw (w.in-Begin.is) (granted (λ (h : Here) (m : Memory). begun h (taken m))
           (enabling.begins here (taken memory)) w.begin.new.traffic.world (Ok Ran)
