@@ -4,3 +4,5 @@ pub mod Queueing
 pub mod PlainBytes
 pub mod PlainCopies
 pub mod Waiting
+pub mod DecodedOperations
+pub mod WholeInstructions

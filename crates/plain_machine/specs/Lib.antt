@@ -4,3 +4,5 @@ pub mod PlainStep
 pub mod PlainByte
 pub mod Staying
 pub mod Waiting
+pub mod Decoded
+pub mod PlainRun

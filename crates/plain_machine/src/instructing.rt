@@ -15,7 +15,7 @@ use word_arithmetic::Binary;
 
 /// `adc` and the like: A becomes the result of the operation on A and the operand.
 #[inline(always)]
-fn with_constant(
+pub(crate) fn with_constant(
     bytes: &mut [u8],
     registers: &mut PlainRegisters,
     op: Binary,

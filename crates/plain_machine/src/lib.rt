@@ -4,6 +4,8 @@
 
 mod bytes;
 mod bytewise;
+mod decoded;
+mod decoding;
 mod flow;
 mod input;
 mod instructing;
@@ -12,14 +14,17 @@ mod locals;
 mod loops;
 mod operating;
 mod parking;
+mod performing;
 mod plain_store;
 mod pointers;
 mod registers;
+mod running;
 mod words;
 mod workspace_queue;
 mod workspaces;
 
 pub use bytewise::execute_byte;
+pub use decoding::DecodedCode;
 pub use flow::PlainFlow;
 pub use input::{PlainArrival, PlainInput};
 pub use instructing::instruct;

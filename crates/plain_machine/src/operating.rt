@@ -14,7 +14,7 @@ use word_arithmetic::{Binary, Unary};
 
 /// An operation of two operands: A and B are popped, and the result of B and A is pushed.
 #[inline(always)]
-fn binary(bytes: &mut [u8], registers: &mut PlainRegisters, op: Binary) -> PlainFlow
+pub(crate) fn binary(bytes: &mut [u8], registers: &mut PlainRegisters, op: Binary) -> PlainFlow
     requires { IsOperationSafe (operation.Binary op) (state_of registers.old bytes.old) }
     ensures { let step = plain_operation 0 (operation.Binary op) (state_of registers.old bytes.old) in
         Does step result registers.new bytes.new }
@@ -26,7 +26,7 @@ fn binary(bytes: &mut [u8], registers: &mut PlainRegisters, op: Binary) -> Plain
 
 /// An operation of one operand: A becomes the result of A.
 #[inline(always)]
-fn unary(bytes: &mut [u8], registers: &mut PlainRegisters, op: Unary) -> PlainFlow
+pub(crate) fn unary(bytes: &mut [u8], registers: &mut PlainRegisters, op: Unary) -> PlainFlow
     requires { IsOperationSafe (operation.Unary op) (state_of registers.old bytes.old) }
     ensures { let step = plain_operation 0 (operation.Unary op) (state_of registers.old bytes.old) in
         Does step result registers.new bytes.new }
@@ -38,7 +38,7 @@ fn unary(bytes: &mut [u8], registers: &mut PlainRegisters, op: Unary) -> PlainFl
 
 /// `shl`, `shr`: A and B are popped, and B, shifted by A bits, is pushed.
 #[inline(always)]
-fn shift(bytes: &mut [u8], registers: &mut PlainRegisters, op: Shift) -> PlainFlow
+pub(crate) fn shift(bytes: &mut [u8], registers: &mut PlainRegisters, op: Shift) -> PlainFlow
     requires { IsOperationSafe (operation.Shift op) (state_of registers.old bytes.old) }
     ensures { let step = plain_operation 0 (operation.Shift op) (state_of registers.old bytes.old) in
         Does step result registers.new bytes.new }
@@ -50,7 +50,7 @@ fn shift(bytes: &mut [u8], registers: &mut PlainRegisters, op: Shift) -> PlainFl
 
 /// `lsum`, `ldiff`, `lmul`: A becomes the low word of the result of B, A and C, and B the high one or the carry.
 #[inline(always)]
-fn long(bytes: &mut [u8], registers: &mut PlainRegisters, op: LongOp) -> PlainFlow
+pub(crate) fn long(bytes: &mut [u8], registers: &mut PlainRegisters, op: LongOp) -> PlainFlow
     ensures { let step = plain_operation 0 (operation.Long op) (state_of registers.old bytes.old) in
         Does step result registers.new bytes.new }
 {
@@ -62,7 +62,7 @@ fn long(bytes: &mut [u8], registers: &mut PlainRegisters, op: LongOp) -> PlainFl
 
 /// `bsub`: A and B are popped, and the address B bytes after A is pushed.
 #[inline(always)]
-fn byte_subscript(bytes: &mut [u8], registers: &mut PlainRegisters) -> PlainFlow
+pub(crate) fn byte_subscript(bytes: &mut [u8], registers: &mut PlainRegisters) -> PlainFlow
     ensures { let step = plain_operation 0 operation.ByteSubscript (state_of registers.old bytes.old) in
         Does step result registers.new bytes.new }
 {
@@ -74,7 +74,7 @@ fn byte_subscript(bytes: &mut [u8], registers: &mut PlainRegisters) -> PlainFlow
 
 /// `wsub`: A and B are popped, and the address B words after A is pushed.
 #[inline(always)]
-fn word_subscript(bytes: &mut [u8], registers: &mut PlainRegisters) -> PlainFlow
+pub(crate) fn word_subscript(bytes: &mut [u8], registers: &mut PlainRegisters) -> PlainFlow
     ensures { let step = plain_operation 0 operation.WordSubscript (state_of registers.old bytes.old) in
         Does step result registers.new bytes.new }
 {
@@ -85,7 +85,7 @@ fn word_subscript(bytes: &mut [u8], registers: &mut PlainRegisters) -> PlainFlow
 
 /// `ldpi`: A becomes the address A bytes after the instruction.
 #[inline(always)]
-fn load_pointer_to_instruction(
+pub(crate) fn load_pointer_to_instruction(
     bytes: &mut [u8],
     registers: &mut PlainRegisters,
     code_start: u32,

@@ -7,13 +7,15 @@ ghost use Rattle.machine_state.specs.LocalStep.{address, copied};
 ghost use Rattle.machine_state.specs.Memory.{place_of, scheduling_word, with_byte};
 ghost use Rattle.plain_machine.specs.Plain.{defined};
 ghost use Rattle.plain_machine.specs.PlainByte.{byte_step, operand_after, IsByteSafe};
+ghost use Rattle.plain_machine.specs.PlainRun.{CanRun, HasRun, point_of};
 ghost use Rattle.plain_machine.specs.PlainStep.{state_of, plain_word, plain_code_offset, with_plain_word, Does};
 ghost use Rattle.plain_machine.specs.PlainStep.{HasWord, HasBytes};
 ghost use Rattle.plain_machine.specs.Waiting.{parked};
 
+use crate::decoding::DecodedCode;
 use crate::flow::PlainFlow;
 use crate::registers::PlainRegisters;
-use crate::{bytes, bytewise, parking, words};
+use crate::{bytes, bytewise, parking, running, words};
 use machine_state::{End, LoadStore, Word, place_of};
 use std::alloc::{AllocError, Global};
 use std::marker::Model;
@@ -76,6 +78,24 @@ impl PlainStore {
         ensures register { IsRegister operand.new }
     {
         bytewise::execute_byte(&mut self.bytes, registers, operand, code, code_start)
+    }
+
+    /// Executes instructions of the process that runs, one after the other, up to one that asks something of others, of
+    /// code that begins at this address. `executed` counts their bytes. Nothing is tested.
+    #[inline(always)]
+    pub(crate) fn run(
+        &mut self,
+        registers: &mut PlainRegisters,
+        executed: &mut u64,
+        code: &DecodedCode,
+        code_start: u32,
+    )
+        requires code { length code.now < 2 ^ 32 }
+        requires can { CanRun code_start code.now executed.old (point_of registers.old self.old) }
+        ensures { let from = point_of registers.old self.old in
+            HasRun code_start code.now from executed.old (point_of registers.new self.new) executed.new }
+    {
+        running::run(&mut self.bytes, registers, executed, code, code_start);
     }
 
     /// The process that runs leaves: its word W-1 takes the address where it goes on, of code that begins at this

@@ -1,6 +1,6 @@
 //! Memory, and the ready processes that are kept in it.
 
-ghost use Rattle.std.specs.Prelude.{◌≡◌, ◌<◌, ◌^◌, [], ◌∷◌, ◌++◌, ◌==◌, length, slice_index, Some, IsTrue};
+ghost use Rattle.std.specs.Prelude.{◌≡◌, ℕ, ◌<◌, ◌^◌, [], ◌∷◌, ◌++◌, ◌==◌, length, slice_index, Some, IsTrue};
 ghost use Rattle.std.specs.List.{remove};
 ghost use Rattle.prefix_decoder.specs.Operand.{IsRegister};
 ghost use Rattle.machine_state.specs.Exchanges.{bytes_at};
@@ -11,10 +11,12 @@ ghost use Rattle.process_queue.specs.Picking.{place_of_pick};
 ghost use Rattle.plain_machine.specs.Linked.{keeps_link};
 ghost use Rattle.plain_machine.specs.Plain.{defined};
 ghost use Rattle.plain_machine.specs.PlainByte.{byte_step, operand_after, IsByteSafe};
+ghost use Rattle.plain_machine.specs.PlainRun.{PlainPoint, CanRun, HasRun, RunsTo, point_in};
 ghost use Rattle.plain_machine.specs.PlainStep.{PlainState, leaves, HasWord, HasBytes, plain_word, with_plain_word};
 ghost use Rattle.plain_machine.specs.Waiting.{ReadyMemory, parked, picked, resumed_at};
 ghost use Rattle.plain_machine.specs.Waiting.{CanPushBehind, AllCanResume};
 
+use crate::decoding::DecodedCode;
 use crate::flow::PlainFlow;
 use crate::plain_store::PlainStore;
 use crate::registers::PlainRegisters;
@@ -88,6 +90,28 @@ impl Workspaces {
     {
         self.store
             .execute_byte(registers, operand, code, code_start)
+    }
+
+    /// Executes instructions of the process that runs, one after the other, up to one that asks something of others, of
+    /// code that begins at this address. `executed` counts their bytes. Nothing is tested: however far that goes, the
+    /// next byte is safe, and no link of a ready process has changed.
+    pub fn run(
+        &mut self,
+        registers: &mut PlainRegisters,
+        executed: &mut u64,
+        code: &DecodedCode,
+        code_start: u32,
+    )
+        requires code { length code.now < 2 ^ 32 }
+        requires can { CanRun code_start code.now executed.old (point_in registers.old self.old.memory) }
+        requires links { (n : ℕ) (p : PlainPoint)
+            → RunsTo code_start code.now (point_in registers.old self.old.memory) n p
+            → AgreesOnKept keeps_link self.old.ready self.old.memory p.state.memory }
+        ensures run { let from = point_in registers.old self.old.memory in
+            HasRun code_start code.now from executed.old (point_in registers.new self.new.memory) executed.new }
+        ensures ready { self.new.ready ≡ self.old.ready }
+    {
+        self.store.run(registers, executed, code, code_start);
     }
 
     /// The process with these registers leaves: its word W-1 takes the address where it goes on, of code that begins at
