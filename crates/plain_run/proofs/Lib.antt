@@ -7,3 +7,4 @@ pub mod Exchanging
 pub mod Branching
 pub mod Ending
 pub mod Alternating
+pub mod RunningAlone
