@@ -1,6 +1,7 @@
 //! The code, a byte at a time.
 
 ghost use Rattle.std.specs.Prelude.{◌≡◌, ◌<◌, ◌^◌, length, slice_index};
+ghost use Rattle.prefix_decoder.specs.Functions.{fun_of};
 ghost use Rattle.prefix_decoder.specs.Operand.{IsRegister};
 ghost use Rattle.machine_state.specs.Instructions.{instruction_of};
 ghost use Rattle.plain_machine.specs.PlainByte.{function_step, byte_step, operand_after, IsFunctionSafe, IsByteSafe};
@@ -32,6 +33,30 @@ fn execute(
     }
 }
 
+/// The function with this code, none at the prefixes.
+#[inline(always)]
+fn function_with(code: u8) -> Option<Fun>
+    ensures { result ≡ fun_of code }
+{
+    match code {
+        0x0 => Some(Fun::Jump),
+        0x1 => Some(Fun::LoadLocalPointer),
+        0x3 => Some(Fun::LoadNonLocal),
+        0x4 => Some(Fun::LoadConstant),
+        0x5 => Some(Fun::LoadNonLocalPointer),
+        0x7 => Some(Fun::LoadLocal),
+        0x8 => Some(Fun::AddConstant),
+        0x9 => Some(Fun::Call),
+        0xa => Some(Fun::ConditionalJump),
+        0xb => Some(Fun::AdjustWorkspace),
+        0xc => Some(Fun::EqualsConstant),
+        0xd => Some(Fun::StoreLocal),
+        0xe => Some(Fun::StoreNonLocal),
+        0xf => Some(Fun::Operate),
+        _ => None,
+    }
+}
+
 /// Executes the next byte of the process that runs, of code that begins at this address: a prefix goes to the operand,
 /// and any other byte completes an instruction. `operand` is 0 between two instructions. Nothing is tested.
 #[inline(always)]
@@ -57,7 +82,7 @@ pub fn execute_byte(
     registers.at += 1;
     let whole = with_nibble(*operand, byte);
     let function = byte >> 4;
-    match Fun::from_code(function) {
+    match function_with(function) {
         Some(fun) => {
             *operand = 0;
             execute(bytes, registers, code_start, fun, whole)

@@ -80,8 +80,9 @@ impl PlainStore {
         bytewise::execute_byte(&mut self.bytes, registers, operand, code, code_start)
     }
 
-    /// Executes instructions of the process that runs, one after the other, up to one that asks something of others, of
-    /// code that begins at this address. `executed` counts their bytes. Nothing is tested.
+    /// Executes instructions of the process that runs, one after the other, until one asks something of others, of code
+    /// that begins at this address. `executed` counts their bytes, but not the last one of what asks something. Returns
+    /// what that leaves to be done, and nothing where no instruction is to be read. Nothing is tested.
     #[inline(always)]
     pub(crate) fn run(
         &mut self,
@@ -89,13 +90,13 @@ impl PlainStore {
         executed: &mut u64,
         code: &DecodedCode,
         code_start: u32,
-    )
+    ) -> Option<PlainFlow>
         requires code { length code.now < 2 ^ 32 }
         requires can { CanRun code_start code.now executed.old (point_of registers.old self.old) }
         ensures { let from = point_of registers.old self.old in
-            HasRun code_start code.now from executed.old (point_of registers.new self.new) executed.new }
+            HasRun code_start code.now from executed.old result (state_of registers.new self.new) executed.new }
     {
-        running::run(&mut self.bytes, registers, executed, code, code_start);
+        running::run(&mut self.bytes, registers, executed, code, code_start)
     }
 
     /// The process that runs leaves: its word W-1 takes the address where it goes on, of code that begins at this

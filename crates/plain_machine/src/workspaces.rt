@@ -11,7 +11,7 @@ ghost use Rattle.process_queue.specs.Picking.{place_of_pick};
 ghost use Rattle.plain_machine.specs.Linked.{keeps_link};
 ghost use Rattle.plain_machine.specs.Plain.{defined};
 ghost use Rattle.plain_machine.specs.PlainByte.{byte_step, operand_after, IsByteSafe};
-ghost use Rattle.plain_machine.specs.PlainRun.{PlainPoint, CanRun, HasRun, RunsTo, point_in};
+ghost use Rattle.plain_machine.specs.PlainRun.{PlainPoint, CanRun, HasRun, LinksStay, RunsTo, point_in};
 ghost use Rattle.plain_machine.specs.PlainStep.{PlainState, leaves, HasWord, HasBytes, plain_word, with_plain_word};
 ghost use Rattle.plain_machine.specs.Waiting.{ReadyMemory, parked, picked, resumed_at};
 ghost use Rattle.plain_machine.specs.Waiting.{CanPushBehind, AllCanResume};
@@ -92,8 +92,9 @@ impl Workspaces {
             .execute_byte(registers, operand, code, code_start)
     }
 
-    /// Executes instructions of the process that runs, one after the other, up to one that asks something of others, of
-    /// code that begins at this address. `executed` counts their bytes. Nothing is tested: however far that goes, the
+    /// Executes instructions of the process that runs, one after the other, until one asks something of others, of code
+    /// that begins at this address. `executed` counts their bytes, but not the last one of what asks something. Returns
+    /// what that leaves to be done, and nothing where no instruction is to be read. Nothing is tested: however far that goes, the
     /// next byte is safe, and no link of a ready process has changed.
     pub fn run(
         &mut self,
@@ -101,17 +102,18 @@ impl Workspaces {
         executed: &mut u64,
         code: &DecodedCode,
         code_start: u32,
-    )
+    ) -> Option<PlainFlow>
         requires code { length code.now < 2 ^ 32 }
         requires can { CanRun code_start code.now executed.old (point_in registers.old self.old.memory) }
         requires links { (n : ℕ) (p : PlainPoint)
             → RunsTo code_start code.now (point_in registers.old self.old.memory) n p
-            → AgreesOnKept keeps_link self.old.ready self.old.memory p.state.memory }
+            → LinksStay code_start code.now self.old.ready self.old.memory p }
         ensures run { let from = point_in registers.old self.old.memory in
-            HasRun code_start code.now from executed.old (point_in registers.new self.new.memory) executed.new }
+            let to : PlainState = record { registers = registers.new; memory = self.new.memory } in
+            HasRun code_start code.now from executed.old result to executed.new }
         ensures ready { self.new.ready ≡ self.old.ready }
     {
-        self.store.run(registers, executed, code, code_start);
+        self.store.run(registers, executed, code, code_start)
     }
 
     /// The process with these registers leaves: its word W-1 takes the address where it goes on, of code that begins at
