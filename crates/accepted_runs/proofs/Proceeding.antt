@@ -13,7 +13,7 @@ use Rattle.link_runs.specs.declared.driving.Reaction.{Reaction}
 use Rattle.link_runs.specs.declared.driving.Reaction.TheVariants as reactions
 use Rattle.link_runs.proofs.PlainSteps.{idle_stays, one_more_byte, somebody_runs, answers_as_a_step}
 use Rattle.accepted_runs.specs.Reacting.{progress_by}
-use Rattle.accepted_runs.specs.Running.{PlainExecution, RunsOn, Shows}
+use Rattle.accepted_runs.specs.Running.{PlainExecution, RunsOn, Shows, HasGone, HasGoneOn}
 use Rattle.accepted_runs.proofs.NeverAtFault.{rests}
 
 -- ---- one Step, in one world
@@ -66,20 +66,31 @@ has_run reactions.Ignored last is = absurd (cc)
 
 -- ---- the loop
 
--- From one world, Steps that emit nothing led to this one, with which the machine agrees.
-pub record HasGone (start now : PlainExecution) (w : World) : Type 0 where
-  pub world : World
-  pub shows : Shows now world
-  pub quietly : Quietly start.contents w world
-
--- so they did from each world that the machine agreed with
-pub record HasGoneOn (start now : PlainExecution) : Type 0 where
-  pub same : now.contents ≡ start.contents
-  pub gone : (w : World) → Shows start w → HasGone start now w
-
 pub has_not_gone : (start : PlainExecution) → HasGoneOn start start
 has_not_gone start =
     record { same = refl; gone = λ w shows. record { world = w; shows = shows; quietly = Quietly.at_once } }
+
+quietly_twice : (m : Contents) (first second third : World) → Quietly m first second → Quietly m second third
+    → Quietly m first third
+quietly_twice m first second third before Quietly.at_once = before
+quietly_twice m first second third before (Quietly.goes_on w after runs told) =
+    Quietly.goes_on w (quietly_twice m first second w before after) runs told
+
+-- it has gone on twice
+pub gone_twice : (start now after : PlainExecution) → HasGoneOn start now → HasGoneOn now after
+    → HasGoneOn start after
+gone_twice start now after before on = record {
+  same = on.same ∙ before.same;
+  gone = λ w shows.
+      let x = before.gone w shows in
+      let y = on.gone x.world x.shows in
+      let further = subst (λ (m : Contents). Quietly m x.world y.world) before.same y.quietly in
+      record {
+        world = y.world;
+        shows = y.shows;
+        quietly = quietly_twice start.contents w x.world y.world x.quietly further;
+      };
+}
 
 -- what a Step did, in each world that the machine agreed with
 abbrev pub Steps : PlainExecution → PlainExecution → Reaction → Type 0

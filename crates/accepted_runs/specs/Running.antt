@@ -1,10 +1,10 @@
 -- An accepted module on the plain machine.
-use Rattle.std.specs.Prelude.{ℕ, List}
+use Rattle.std.specs.Prelude.{◌≡◌, ℕ, List}
 use Rattle.module_format.specs.Contents.{Contents}
 use Rattle.module_format.specs.Keeping.{Keeps}
 use Rattle.machine_state.specs.World.{World}
 use Rattle.agreement.specs.Agrees.{PlainMachine, Agrees}
-use Rattle.link_runs.specs.Driving.{IsReached}
+use Rattle.link_runs.specs.Driving.{IsReached, Quietly}
 use Rattle.verifier.specs.Headline.{AreEvents, RunsWell}
 
 -- what the module says, the machine at the moment, and what the last event sent
@@ -31,3 +31,14 @@ Shows r w = AgreesOn r.contents r.machine w
 -- there is such a world
 abbrev pub Runs : Contents → PlainMachine → Type 0
 Runs m machine = (w : World) × AgreesOn m machine w
+
+-- From one world, Steps that emit nothing led to this one, with which the machine agrees.
+pub record HasGone (start now : PlainExecution) (w : World) : Type 0 where
+  pub world : World
+  pub shows : Shows now world
+  pub quietly : Quietly start.contents w world
+
+-- so they did from each world that the machine agreed with
+pub record HasGoneOn (start now : PlainExecution) : Type 0 where
+  pub same : now.contents ≡ start.contents
+  pub gone : (w : World) → Shows start w → HasGone start now w

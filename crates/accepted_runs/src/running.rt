@@ -1,6 +1,6 @@
 //! An accepted module on the plain machine.
 
-ghost use Rattle.std.specs.Prelude.{◌≡◌, Ok, IfOk};
+ghost use Rattle.std.specs.Prelude.{◌≡◌, ◌≤◌, Ok, IfOk};
 ghost use Rattle.machine_state.specs.World.{World, loaded};
 ghost use Rattle.machine_state.specs.Happens.{turn};
 ghost use Rattle.verifier.specs.Headline.{IsEvent};
@@ -8,26 +8,21 @@ ghost use Rattle.link_runs.specs.Driving.{IsShown, HasReacted, reported};
 ghost use Rattle.link_runs.specs.Wanting.{is_running, wants};
 ghost use Rattle.machine.specs.Lending.{shown};
 ghost use Rattle.accepted_runs.specs.Reacting.{is_sent, progress_by};
-ghost use Rattle.accepted_runs.specs.Running.{Shows};
+ghost use Rattle.accepted_runs.specs.Running.{Shows, HasGoneOn};
 
 use link_runs::{Machine, Progress, Reaction};
 use machine_state::{Effect, Event, Link};
-use module_format::Tables;
+use plain_machine::DecodedCode;
 use std::alloc::{AllocError, Global};
 use std::marker::Model;
 use verifier::Verified;
-
-/// No process gives way, and the first one that is ready is next.
-const STEP: Event = Event::Step {
-    slice: false,
-    pick: 0,
-};
 
 /// An accepted module that runs on the plain machine. No event is at fault, and none allocates: all memory is
 /// allocated when the module is loaded.
 #[derive(Drop)]
 pub struct Run<'a> {
     tables: &'a Tables<'a>,
+    code: DecodedCode<'a>,
     machine: plain_run::Machine,
     has_sent: bool,
 }
@@ -45,7 +40,8 @@ impl<'a> Model for Run<'a> {
       last = message_of r.has_sent r.machine;
     } };
 
-    ghost invariant = { λ r. Runs (contents_of r.tables.now) r.machine × HasMessage r.has_sent r.machine };
+    ghost invariant = { λ r. Runs (contents_of r.tables.now) r.machine × HasMessage r.has_sent r.machine
+        × (r.code ≡ (contents_of r.tables.now).code) };
 }
 
 /// Each event is one that can happen: what arrives is a byte.
@@ -85,9 +81,11 @@ impl<'a> Run<'a> {
         ensures shows { IfOk result (λ r. Shows r (loaded verified.now)) }
     {
         let tables = verified.module().tables();
+        let code = DecodedCode::of(alloc, tables.code)?;
         let machine = plain_run::Machine::load(alloc, tables)?;
         Ok(Run {
             tables,
+            code,
             machine,
             has_sent: false,
         })
@@ -101,6 +99,16 @@ impl<'a> Run<'a> {
     {
         can_happen(event);
         let reaction = self.machine.apply(self.tables, event);
+        self.has_sent = has_sent(reaction);
+        reaction
+    }
+
+    /// Steps where no process gives way, and the first that is ready is next: of all but the last one the process that
+    /// runs asks nothing of others.
+    fn go_on(&mut self) -> Reaction
+        ensures { HasGoneAndReacted self.old result self.new }
+    {
+        let reaction = self.machine.go_on(self.tables, &self.code);
         self.has_sent = has_sent(reaction);
         reaction
     }
@@ -190,7 +198,7 @@ impl<'a> Machine for Run<'a> {
 
     fn proceed(&mut self) -> Progress {
         'steps: loop {
-            let reaction = self.advance(STEP);
+            let reaction = self.go_on();
             if let Some(progress) = progress_of(reaction) {
                 return progress;
             }
