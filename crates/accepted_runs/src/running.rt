@@ -4,14 +4,14 @@ ghost use Rattle.std.specs.Prelude.{◌≡◌, ◌≤◌, Ok, IfOk};
 ghost use Rattle.machine_state.specs.World.{World, loaded};
 ghost use Rattle.machine_state.specs.Happens.{turn};
 ghost use Rattle.verifier.specs.Headline.{IsEvent};
-ghost use Rattle.link_runs.specs.Driving.{IsShown, HasReacted, reported};
+ghost use Rattle.link_runs.specs.Driving.{IsShown, HasReacted, reported, shown};
 ghost use Rattle.link_runs.specs.Wanting.{is_running, wants};
-ghost use Rattle.machine.specs.Lending.{shown};
 ghost use Rattle.accepted_runs.specs.Reacting.{is_sent, progress_by};
 ghost use Rattle.accepted_runs.specs.Running.{Shows, HasGoneOn};
 
 use link_runs::{Machine, Progress, Reaction};
 use machine_state::{Effect, Event, Link};
+use module_format::Tables;
 use plain_machine::DecodedCode;
 use std::alloc::{AllocError, Global};
 use std::marker::Model;
