@@ -9,7 +9,8 @@ IN, OUT = 1, 2
 FUNCTIONS = "j ldlp pfix ldnl ldc ldnlp nfix ldl adc call cj ajw eqc stl stnl opr".split()
 OPERATIONS = {"in": 0x07, "out": 0x0B, "ret": 0x20, "mint": 0x42, "alt": 0x43, "altwt": 0x44, "altend": 0x45}
 OPERATIONS |= {"enbs": 0x49, "diss": 0x30, "startp": 0x0D, "endp": 0x03, "ldpi": 0x1B, "stopp": 0x15}
-OPERATIONS |= {"lb": 0x01, "sb": 0x3B, "move": 0x4A, "lend": 0x21, "sum": 0x52}
+OPERATIONS |= {"lb": 0x01, "sb": 0x3B, "move": 0x4A, "lend": 0x21, "sum": 0x52, "diff": 0x04, "mul": 0x53, "gt": 0x09}
+OPERATIONS |= {"bsub": 0x02, "wsub": 0x0A, "and": 0x46, "xor": 0x33, "shr": 0x40, "enbc": 0x48, "disc": 0x2F}
 
 # A branch of a PAR: the block of its code, its workspace, and what it is given. That are the frame words from a first
 # one up to another, which is not included, and ends, each a kind, a number, an element and a direction.
@@ -104,10 +105,10 @@ def row_of(par, offsets):
 
 def module(
     code, data_words=BASE, constants=b"", version=1, procedures=(), labels=(), pars=(), tables=(), lengths=(0,) * 8,
-    budget=None,
+    budget=None, base=BASE, finish=None,
 ):
     """The file of a module which ends at the code's end, and whose budget is the code's length unless one is given."""
-    sizes = (len(code), len(constants), data_words, BASE, budget or len(code), len(code))
+    sizes = (len(code), len(constants), data_words, base, budget or len(code), finish or len(code))
     head = b"TPM%d" % version + struct.pack("<IIIIQI", *sizes)
     counts = struct.pack("<III", len(procedures), len(labels), len(pars))
     if version == 2:
