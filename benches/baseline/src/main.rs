@@ -1,4 +1,19 @@
-//! An ordinary interpreter of the machine, with which the figures compare the product.
+//! An ordinary interpreter of the machine, with which the figures compare the product. It shares nothing with it but
+//! docs/MACHINE.md: plain memory as that page lays it out, one byte of code at a time, first in first out, and each
+//! access tested.
+//!
+//!     rustc --edition 2024 -C opt-level=3 src/main.rs
+//!
+//! Registers are locals of one function, with a `match` on the function's code. These were tried, too, and measured on
+//! the six modules that the figures take:
+//!
+//! - registers in a struct of its own that goes to a function for each byte, which is inlined: as fast;
+//! - all in one struct with its memory in a `Vec`, and methods, which are inlined: the same time to 1.24 times;
+//! - no way of their own for messages of a word, but a call of `memmove`: 1.00 to 1.06 times;
+//! - one unit of code generation: 0.97 to 1.08 times; and with `panic=abort`: 1.2 to 1.3 times.
+//!
+//! Addresses are not tested for being those of words, and no definedness or holding is kept: an ordinary interpreter
+//! would not do so.
 
 mod fault;
 mod machine;
@@ -53,12 +68,17 @@ fn run_with_files(module: &Module, words: &[String]) -> Result<(), Fault> {
         if let Some(link) = link(word, "in") {
             inputs[link] = Some(BufReader::new(File::open(path).map_err(|_| Fault::Failed)?));
         } else if let Some(link) = link(word, "out") {
-            outputs[link] = Some(BufWriter::new(File::create(path).map_err(|_| Fault::Failed)?));
+            outputs[link] = Some(BufWriter::new(
+                File::create(path).map_err(|_| Fault::Failed)?,
+            ));
         } else {
             return Err(Fault::Failed);
         }
     }
-    let is_there: [[bool; 4]; 2] = [inputs.each_ref().map(Option::is_some), outputs.each_ref().map(Option::is_some)];
+    let is_there: [[bool; 4]; 2] = [
+        inputs.each_ref().map(Option::is_some),
+        outputs.each_ref().map(Option::is_some),
+    ];
     let mut ports = Ports::new(inputs, outputs);
     let report = run(module, &mut ports)?;
     ports.flush()?;
@@ -69,7 +89,10 @@ fn run_with_files(module: &Module, words: &[String]) -> Result<(), Fault> {
 fn show(report: &Report, is_there: [[bool; 4]; 2], counts: [[u64; 4]; 2]) {
     let outcome = if report.is_finished { "ended" } else { "idle" };
     println!("{outcome}, {} bytes executed", report.executed);
-    for (way, (there, counts)) in ["in", "out"].into_iter().zip(is_there.into_iter().zip(counts)) {
+    for (way, (there, counts)) in ["in", "out"]
+        .into_iter()
+        .zip(is_there.into_iter().zip(counts))
+    {
         for link in 0..4 {
             if there[link] {
                 println!("{way}{link} {} bytes", counts[link]);
@@ -99,7 +122,10 @@ fn main() -> ExitCode {
     match answer(&words) {
         Ok(()) => ExitCode::SUCCESS,
         Err(fault) => {
-            eprintln!("baseline: {fault:?}; usage: baseline MODULE TIMES, or baseline MODULE [--in0 FILE] [--out0 FILE]..");
+            eprintln!("baseline: {fault:?}");
+            eprintln!(
+                "usage: baseline MODULE TIMES, or baseline MODULE [--in0 FILE] [--out0 FILE].."
+            );
             ExitCode::FAILURE
         }
     }

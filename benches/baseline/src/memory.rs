@@ -54,7 +54,10 @@ pub fn word_address(address: u32, words: i32) -> u32 {
 /// The byte at an address.
 #[inline(always)]
 pub fn load_byte(memory: &[u8], address: u32) -> Result<u8, Fault> {
-    memory.get(place(address)).copied().ok_or(Fault::OutsideMemory)
+    memory
+        .get(place(address))
+        .copied()
+        .ok_or(Fault::OutsideMemory)
 }
 
 /// The byte at an address becomes a value.

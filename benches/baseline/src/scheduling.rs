@@ -230,7 +230,11 @@ impl Scheduler {
     }
 
     /// Nobody is ready: bytes come on the first link where they are wanted, until somebody is. Whether somebody is.
-    pub fn provide<R: Read, W: Write>(&mut self, memory: &mut [u8], ports: &mut Ports<R, W>) -> Result<bool, Fault> {
+    pub fn provide<R: Read, W: Write>(
+        &mut self,
+        memory: &mut [u8],
+        ports: &mut Ports<R, W>,
+    ) -> Result<bool, Fault> {
         for link in 0..self.inputs.len() {
             while self.ready == 0 && self.wants(link) && ports.inputs[link].is_some() {
                 self.arrive(memory, ports, link)?;
@@ -297,7 +301,12 @@ impl Scheduler {
 
     /// `disc` with a true guard: whether something came.
     #[inline(always)]
-    pub fn disable(&mut self, memory: &mut [u8], workspace: u32, channel: u32) -> Result<bool, Fault> {
+    pub fn disable(
+        &mut self,
+        memory: &mut [u8],
+        workspace: u32,
+        channel: u32,
+    ) -> Result<bool, Fault> {
         match way(channel) {
             Some(Way::In(link)) => {
                 self.inputs[link].enabled = None;
@@ -317,7 +326,12 @@ impl Scheduler {
 
 /// A process waits on a channel.
 #[inline(always)]
-fn wait(memory: &mut [u8], (workspace, at): (u32, u32), channel: u32, message: u32) -> Result<(), Fault> {
+fn wait(
+    memory: &mut [u8],
+    (workspace, at): (u32, u32),
+    channel: u32,
+    message: u32,
+) -> Result<(), Fault> {
     store_from(memory, workspace, SAVED, at.cast_signed())?;
     store_from(memory, workspace, MESSAGE, message.cast_signed())?;
     store_from(memory, workspace, STATE, channel.cast_signed())?;

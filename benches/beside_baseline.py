@@ -1,0 +1,182 @@
+"""How fast the product executes code, beside the ordinary interpreter in benches/baseline, in one run.
+
+The modules are those of plain_runs. By `proceed` and `apply` a module's time is the user time of a run that repeats it
+2N times less that of a run that repeats it N times, divided by N, which is chosen so that this difference is 0.3 seconds
+at least. Of the copy of a link, with files, a whole run is taken. All take turns, and of each run the fastest of seven
+is taken.
+"""
+
+import math
+import os
+import shutil
+import subprocess
+import sys
+from collections import namedtuple
+
+import plain_runs
+import programs
+
+BASELINE = os.path.join(os.path.dirname(os.path.abspath(__file__)), "baseline", "src", "main.rs")
+ROUNDS, LEAST_SECONDS = 7, 0.3
+COPY = "link-copy"
+NAMES = [f"plain-{name}" for name in plain_runs.MODULES]
+
+# How many times as fast as the baseline each side is to be at least, and `proceed` in the mean of all modules.
+LEAST = {"proceed": 1.6, "apply": 0.6, "tpm run": 1.0}
+LEAST_MEAN = 1.8
+
+# What runs a module: its name, and the words of the run that repeats a module's file so many times.
+Side = namedtuple("Side", "name words")
+
+
+def compiler():
+    """The path of `rustc`, where there is one."""
+    return shutil.which("rustc") or shutil.which("rustc", path=os.path.expanduser("~/.cargo/bin"))
+
+
+def built(folder):
+    """The baseline, which is compiled into this folder."""
+    program = os.path.join(folder, "baseline")
+    subprocess.run([compiler(), "--edition", "2024", "-C", "opt-level=3", "-o", program, BASELINE], check=True)
+    return program
+
+
+def user_seconds(words):
+    started = subprocess.Popen(words, stdout=subprocess.DEVNULL)
+    _, status, used = os.wait4(started.pid, 0)
+    started.returncode = os.waitstatus_to_exitcode(status)
+    if started.returncode:
+        sys.exit(f"figures: {' '.join(words)} ended with status {started.returncode}")
+    return used.ru_utime
+
+
+def said(words):
+    """What a run prints, if it ends well."""
+    ran = subprocess.run(words, capture_output=True, text=True)
+    return ran.stdout if not ran.returncode else f"status {ran.returncode}: {ran.stdout}{ran.stderr}"
+
+
+def read(path):
+    with open(path, "rb") as file:
+        return file.read()
+
+
+class Module:
+    """A module, as a file in a folder, and what its runs took."""
+
+    def __init__(self, name, folder, baseline):
+        self.name, self.file = name, os.path.join(folder, f"{name}.tpm")
+        self.input = os.path.join(folder, f"{name}.in")
+        self.run = plain_runs.MODULES[name.removeprefix("plain-")]()
+        self.is_copy = self.name.endswith(COPY)
+        with open(self.file, "wb") as file:
+            file.write(self.run.file)
+        with open(self.input, "wb") as file:
+            file.write(plain_runs.copied() if self.is_copy else b"")
+        self.sides = self.all_sides(baseline)
+        self.found = {side.name: ([], []) for side in self.sides}
+
+    def all_sides(self, baseline):
+        if self.is_copy:
+            return [
+                Side("baseline", lambda times: self.with_files([baseline, self.file], "baseline")),
+                Side("tpm run", lambda times: self.with_files([programs.TPM, "run", self.file], "tpm")),
+            ]
+        return [
+            Side("baseline", lambda times: [baseline, self.file, str(times)]),
+            Side("proceed", lambda times: [programs.BENCH, "run", self.file, str(times)]),
+            Side("apply", lambda times: [programs.BENCH, "replay", self.file, str(times)]),
+        ]
+
+    def with_files(self, words, name):
+        """The words of a run with files on link 0."""
+        return [*words, "--in0", self.input, "--out0", f"{self.file}.{name}"]
+
+    def is_right(self, baseline):
+        """Whether the product and the baseline do the same, and as much as they should."""
+        reports = {
+            name: said(self.with_files(words, name))
+            for name, words in (("baseline", [baseline, self.file]), ("tpm", [programs.TPM, "run", self.file]))
+        }
+        wanted = f"ended, {self.run.executed} bytes executed\n"
+        right = reports["baseline"] == reports["tpm"] and reports["tpm"].startswith(wanted)
+        right = right and reports["tpm"].endswith(f"\nout0 {self.run.sent} bytes\n")
+        right = right and read(f"{self.file}.baseline") == read(f"{self.file}.tpm")
+        if not right:
+            print(f"{self.name}: {reports}; expected {wanted}")
+        return right and (self.is_copy or self.has_checksum())
+
+    def has_checksum(self):
+        """Whether each side prints what is worked out from the bytes executed and sent."""
+        wanted = f"{31 * self.run.executed + self.run.sent}\n"
+        answers = {side.name: said(side.words(1)) for side in self.sides}
+        right = all(answer == wanted for answer in answers.values())
+        if not right:
+            print(f"{self.name}: {answers}; expected {wanted}")
+        return right
+
+    def prepare(self):
+        """Finds how often each side repeats the module."""
+        self.times = {}
+        for side in self.sides:
+            times = 1
+            while not self.is_copy and self.difference(side, times) < LEAST_SECONDS:
+                times *= 2
+            self.times[side.name] = times
+
+    def difference(self, side, times):
+        return user_seconds(side.words(2 * times)) - user_seconds(side.words(times))
+
+    def measure(self):
+        """Each side once."""
+        for side in self.sides:
+            more, less = self.found[side.name]
+            times = self.times[side.name]
+            more.append(user_seconds(side.words(times if self.is_copy else 2 * times)))
+            less.append(0 if self.is_copy else user_seconds(side.words(times)))
+
+    def seconds(self, name):
+        more, less = self.found[name]
+        return (min(more) - min(less)) / self.times[name]
+
+    def ratios(self):
+        """How many times as fast as the baseline the other sides are."""
+        return {side.name: self.seconds("baseline") / self.seconds(side.name) for side in self.sides[1:]}
+
+    def show(self):
+        """Prints how fast each side is. Whether one is too slow."""
+        speeds = {side.name: f"{self.run.executed / self.seconds(side.name) / 1e6:,.0f}" for side in self.sides}
+        ratios = self.ratios()
+        beside = [
+            f"{name} {speeds[name]} ({ratio:.2f} times as fast; at least {LEAST[name]} are wanted)"
+            for name, ratio in ratios.items()
+        ]
+        print(f"{self.name}, million bytes of code a second: baseline {speeds['baseline']}, {', '.join(beside)}")
+        return any(ratio < LEAST[name] for name, ratio in ratios.items())
+
+
+def is_mean_low(modules):
+    """Whether `proceed` is too slow in the geometric mean, where all modules were measured."""
+    ratios = [it.ratios()["proceed"] for it in modules if not it.is_copy]
+    if len(ratios) < len(plain_runs.MODULES) - 1:
+        return False
+    mean = math.prod(ratios) ** (1 / len(ratios))
+    print(f"proceed is {mean:.2f} times as fast as the baseline in the mean; at least {LEAST_MEAN} are wanted")
+    return mean < LEAST_MEAN
+
+
+def compare(names, folder):
+    """Measures the modules of these names, and prints the figures. Whether all is as it should be."""
+    if not compiler():
+        print(f"{', '.join(names)}: not measured, since there is no rustc to build the baseline with")
+        return True
+    baseline = built(folder)
+    modules = [Module(name, folder, baseline) for name in names]
+    right = all([it.is_right(baseline) for it in modules])
+    for module in modules:
+        module.prepare()
+    for _ in range(ROUNDS):
+        for module in modules:
+            module.measure()
+    slow = [module.show() for module in modules]
+    return right and not any([*slow, is_mean_low(modules)])
