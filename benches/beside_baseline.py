@@ -1,9 +1,9 @@
 """How fast the product executes code, beside the ordinary interpreter in benches/baseline, in one run.
 
 The modules are those of plain_runs. By `proceed` and `apply` a module's time is the user time of a run that repeats it
-2N times less that of a run that repeats it N times, divided by N, which is chosen so that this difference is 0.3 seconds
-at least. Of the copy of a link, with files, a whole run is taken. All take turns, and of each run the fastest of seven
-is taken.
+2N times less that of a run that repeats it N times, divided by N. So the time to start falls out. N is chosen so that
+the difference is 0.3 seconds at least. Of the copy of a link, with files, a whole run is taken. All take turns, and of
+each run the fastest of seven is taken.
 """
 
 import math

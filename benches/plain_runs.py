@@ -29,13 +29,13 @@ TURNS = {
 PlainRun = namedtuple("PlainRun", "file executed sent")
 
 # A loop: the word of its index, which the count follows, how many turns it has, and its body, which is a list of
-# instructions, as bytes or separated by commas, of loops and of places.
+# pieces: instructions, as bytes or separated by commas, loops, places and calls.
 Loop = namedtuple("Loop", "index turns body")
 
 # A place of the code where a label is, by its name.
 Place = namedtuple("Place", "name")
 
-# The code of a call, and what its procedure costs.
+# Code that calls procedures, and what these cost.
 Called = namedtuple("Called", "code number")
 
 # What is laid out: the code, what it costs at most with all that comes after it, and the labels. Of each the offset,
@@ -162,42 +162,39 @@ def procedure_row(entry, low, number, parameters):
     return struct.pack("<IiiQH", entry, low, 4, number, len(parameters)) + b"".join(parameters)
 
 
+def calling_twice(inner):
+    """A procedure after `inner`, which it calls twice with what it is given."""
+    body = code("ajw -1")
+    for _ in range(2):
+        body += code("ldl 3, ldl 2")
+        body += backwards("call", len(inner.code) + len(body), 0)
+    return laid([Called(body, 2 * inner.number), "ajw 1, ret"], 0)
+
+
 def calls():
     """Two procedures, one of which calls the other twice, with a number and a word to write."""
     added = "ldl 2, ldl 1, ldnl 0, sum, ldl 1, stnl 0"
-    skip = len(code(added))
-    parameters = [struct.pack("<HBIii", 1, WRITTEN_REGION, 4, LEAST, GREATEST), number_parameter(2)]
-    inner = laid([f"ldl 2, cj {skip}, {added}", Place("added"), "ret"], 0)
-    outer, entry = code("ajw -1"), 1
-    while True:
-        inner_at = len(code(f"j {entry}"))
-        outer_at = inner_at + len(inner.code)
-        outer = code("ajw -1")
-        for _ in range(2):
-            outer += code("ldl 3, ldl 2")
-            outer += backwards("call", outer_at + len(outer), inner_at)
-        outer += code("ajw 1, ret")
-        if entry == len(inner.code) + len(outer):
-            break
-        entry = len(inner.code) + len(outer)
-    procedures = code(f"j {entry}") + inner.code + outer
-    turns, before = Loop(0, TURNS["calls"], []), code("ldc 0, stl 2")
-    call = backwards("call", len(procedures + before + loop_start(turns) + code("ldl 0, ldlp 2")), outer_at)
-    outer_number = len(outer) + 2 * inner.number
-    # what a call costs with all below it stands for its bytes
-    turns = turns._replace(body=["ldl 0, ldlp 2", Called(call, outer_number)])
-    root = laid([Place("start"), before, turns, *sending(2, 4)], 0)
-    number = root.number + inner_at
+    skipped = len(code(added))  # where the number is 0
+    inner = laid([f"ldl 2, cj {skipped}, {added}", Place("added"), "ret"], 0)
+    outer = calling_twice(inner)
+    before, loop, given = code("ldc 0, stl 2"), Loop(0, TURNS["calls"], []), code("ldl 0, ldlp 2")
+    call = backwards("call", len(inner.code + outer.code + before + loop_start(loop) + given), len(inner.code))
+    loop = loop._replace(body=[given, Called(call, outer.number)])
+    root = laid([Place(""), before, loop, *sending(2, 4)], 0)
+    over = code(f"j {len(inner.code + outer.code)}")
+    at = [len(over), len(over + inner.code), len(over + inner.code + outer.code)]
     returned = struct.pack("<iIB", 0, 1, RETURN_ADDRESS)
-    labels = [label_row(it, 1, 0, [returned], inner_at) for it in inner.labels]
-    labels += [label_row(it, 0, 0, [any_number(2)] if it.loops else [], len(procedures)) for it in root.labels]
+    labels = [label_row(it, 1, 0, [returned], at[0]) for it in inner.labels]
+    labels += [label_row(it, 0, 0, [any_number(2)] if it.loops else [], at[2]) for it in root.labels]
+    parameters = [struct.pack("<HBIii", 1, WRITTEN_REGION, 4, LEAST, GREATEST), number_parameter(2)]
+    lows = (0, -5)  # the outer one has a word of its own, and the four of its calls
+    procedures = [procedure_row(*it, parameters) for it in zip(at, lows, (inner.number, outer.number))]
+    number = len(over) + root.number
     file = module(
-        procedures + root.code, 12, version=2, labels=in_order(labels), lengths=links_of(4), budget=number, base=9,
-        procedures=[
-            procedure_row(inner_at, 0, inner.number, parameters), procedure_row(outer_at, -5, outer_number, parameters)
-        ],
+        over + inner.code + outer.code + root.code, 12, version=2, procedures=procedures, labels=in_order(labels),
+        lengths=links_of(4), budget=number, base=9,
     )
-    return PlainRun(file, number - 2 * skip, 4)  # where the number is 0, nothing is added
+    return PlainRun(file, number - 2 * skipped, 4)
 
 
 def ended(workspace):
