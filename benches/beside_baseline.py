@@ -34,6 +34,15 @@ def compiler():
     return shutil.which("rustc") or shutil.which("rustc", path=os.path.expanduser("~/.cargo/bin"))
 
 
+def measured(names):
+    """Which of these names are names of modules here. None is if the baseline cannot be built, which is said."""
+    names = [name for name in names if name in NAMES]
+    if names and not compiler():
+        print(f"{', '.join(names)}: not measured, since there is no rustc to build the baseline with")
+        return []
+    return names
+
+
 def built(folder):
     """The baseline, which is compiled into this folder."""
     program = os.path.join(folder, "baseline")
@@ -167,9 +176,6 @@ def is_mean_low(modules):
 
 def compare(names, folder):
     """Measures the modules of these names, and prints the figures. Whether all is as it should be."""
-    if not compiler():
-        print(f"{', '.join(names)}: not measured, since there is no rustc to build the baseline with")
-        return True
     baseline = built(folder)
     modules = [Module(name, folder, baseline) for name in names]
     right = all([it.is_right(baseline) for it in modules])

@@ -7,10 +7,11 @@
 //! Registers are locals of one function, with a `match` on the function's code. These were tried, too, and measured on
 //! the six modules that the figures take:
 //!
-//! - registers in a struct of its own that goes to a function for each byte, which is inlined: as fast;
-//! - all in one struct with its memory in a `Vec`, and methods, which are inlined: the same time to 1.24 times;
+//! - registers in a struct of its own that goes to a function for each byte, which is inlined: 0.97 to 1.07 times as long;
+//! - all in one struct with its memory in a `Vec`, and methods, which are inlined: 1.00 to 1.24 times;
 //! - no way of their own for messages of a word, but a call of `memmove`: 1.00 to 1.06 times;
-//! - one unit of code generation: 0.97 to 1.08 times; and with `panic=abort`: 1.2 to 1.3 times.
+//! - links and scheduling in functions that are not inlined: 0.98 to 1.11 times;
+//! - one unit of code generation: 0.97 to 1.08 times; and with `panic=abort`: 1.25 to 1.35 times.
 //!
 //! Addresses are not tested for being those of words, and no definedness or holding is kept: an ordinary interpreter
 //! would not do so.
