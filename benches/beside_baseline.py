@@ -2,7 +2,7 @@
 
 The modules are those of plain_runs. By `proceed` and `apply` a module's time is the user time of a run that repeats it
 2N times less that of a run that repeats it N times, divided by N. So the time to start falls out. N is chosen so that
-the difference is 0.3 seconds at least. Of the copy of a link, with files, a whole run is taken. All take turns, and of
+the difference is 0.4 seconds at least. Of the copy of a link, with files, a whole run is taken. All take turns, and of
 each run the fastest of seven is taken.
 """
 
@@ -17,7 +17,7 @@ import plain_runs
 import programs
 
 BASELINE = os.path.join(os.path.dirname(os.path.abspath(__file__)), "baseline", "src", "main.rs")
-ROUNDS, LEAST_SECONDS = 7, 0.3
+ROUNDS, LEAST_SECONDS = 7, 0.4
 COPY = "link-copy"
 NAMES = [f"plain-{name}" for name in plain_runs.MODULES]
 

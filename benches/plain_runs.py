@@ -1,5 +1,5 @@
 #!/usr/bin/env python3
-"""Certified modules that run for long, each with work of one kind, and send what they computed on link 0.
+"""Certified modules, each with work of one kind, in a loop, that send what they computed on link 0.
 
 usage: benches/plain_runs.py --write FOLDER
 
@@ -20,9 +20,8 @@ COPIED = 10_000_000  # bytes from link to link
 STAGES = 64
 CHANNEL_PARAMETER, WRITTEN_REGION, VALUE = 3, 2, 0
 RETURN_ADDRESS = 5
-TURNS = {
-    "arithmetic": 70_000, "memory": 1_700, "calls": 60_000, "channels": 100_000, "alternation": 30_000,
-    "pipeline": 2_000,
+TURNS = {  # so that about a million bytes are executed
+    "arithmetic": 25_000, "memory": 600, "calls": 25_000, "channels": 45_000, "alternation": 10_000, "pipeline": 900,
 }
 
 # A module's file, and how many bytes a run of it executes and sends.
