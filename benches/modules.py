@@ -105,10 +105,10 @@ def row_of(par, offsets):
 
 def module(
     code, data_words=BASE, constants=b"", version=1, procedures=(), labels=(), pars=(), tables=(), lengths=(0,) * 8,
-    budget=None, base=BASE, finish=None,
+    budget=None, base=BASE,
 ):
     """The file of a module which ends at the code's end, and whose budget is the code's length unless one is given."""
-    sizes = (len(code), len(constants), data_words, base, budget or len(code), finish or len(code))
+    sizes = (len(code), len(constants), data_words, base, budget or len(code), len(code))
     head = b"TPM%d" % version + struct.pack("<IIIIQI", *sizes)
     counts = struct.pack("<III", len(procedures), len(labels), len(pars))
     if version == 2:
