@@ -54,6 +54,7 @@ fn close(traffic: &mut Processes, opener: u64, block: u32, successor: u32)
 }
 
 /// The process is no member any more. If it was the last one, the join is over; if not, another process may run.
+#[tactic(auto, unfolding(machine_state::specs::Moves::dispatch))]
 fn leave(traffic: &mut Processes, here: &Here, opener: u64, seen: Open, successor: u32)
     ensures world { (m : Contents) (join : Join) (par : Par) → opened_by traffic.old.world opener ≡ Some join →
         seen ≡ summary here.now.process join → successor ≡ par.successor →

@@ -8,7 +8,7 @@ use Rattle.machine_state.specs.declared.event.Event.{Event}
 use Rattle.machine_state.specs.declared.event.Effect.{Effect as LentEffect}
 use Rattle.machine_state.specs.World.{World}
 use Rattle.machine_state.specs.Happens.{Turn, turn}
-pub use Rattle.link_runs.specs.Driving.{shown}
+use Rattle.link_runs.specs.Driving.{shown}
 use Rattle.traffic.specs.declared.stop.Stop.{Stop}
 use Rattle.traffic.specs.declared.stop.Stop.TheVariants.{Fault, Memory}
 use Rattle.machine.specs.contracts.checked.Checked.{the_row}
