@@ -62,6 +62,11 @@ module _ (m : Contents) (machine : PlainMachine) (w : World) (on : AgreesOn m ma
       few = subst (λ (c : Counters). c.executed < most_executed) (sym on.agrees.counters) (below_most m w on.runs);
     }
 
+    -- it happens in that world
+    pub happens_there : world_after m can_happen.events ≡ w
+    unfolding can_happen
+    happens_there = sym on.runs.reached.world
+
     module _ (reaction : Reaction) (after : PlainMachine) (reacts : plain.Reacts m machine e reaction after) where
       done : HasDone m reaction after (turn m w e)
       done = has_done m reaction after (turn m w e)

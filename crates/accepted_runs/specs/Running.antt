@@ -1,10 +1,12 @@
 -- An accepted module on the plain machine.
-use Rattle.std.specs.Prelude.{◌≡◌, ℕ, List}
+use Rattle.std.specs.Prelude.{◌≡◌, ◌≤◌, ℕ, List}
 use Rattle.module_format.specs.Contents.{Contents}
 use Rattle.module_format.specs.Keeping.{Keeps}
 use Rattle.machine_state.specs.World.{World}
 use Rattle.agreement.specs.Agrees.{PlainMachine, Agrees}
-use Rattle.link_runs.specs.Driving.{IsReached, Quietly}
+use Rattle.link_runs.specs.declared.driving.Reaction.{Reaction}
+use Rattle.link_runs.specs.Driving.{IsReached, Quietly, HasReacted}
+use Rattle.link_runs.specs.FirstInFirstOut.{plain_step}
 use Rattle.verifier.specs.Headline.{AreEvents, RunsWell}
 
 -- what the module says, the machine at the moment, and what the last event sent
@@ -42,3 +44,12 @@ pub record HasGone (start now : PlainExecution) (w : World) : Type 0 where
 pub record HasGoneOn (start now : PlainExecution) : Type 0 where
   pub same : now.contents ≡ start.contents
   pub gone : (w : World) → Shows start w → HasGone start now w
+
+-- So it has gone on to some moment, and then a Step did this.
+pub record HasGoneAndReacted (start : PlainExecution) (reaction : Reaction) (after : PlainExecution) : Type 0 where
+  pub now : PlainExecution
+  pub gone : HasGoneOn start now
+  pub more : start.machine.counters.executed ≤ now.machine.counters.executed
+  pub same : after.contents ≡ now.contents
+  pub steps : (w : World) → Shows now w
+      → HasReacted now.contents w plain_step reaction after.last (Shows after)

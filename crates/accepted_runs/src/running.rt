@@ -1,13 +1,13 @@
 //! An accepted module on the plain machine.
 
-ghost use Rattle.std.specs.Prelude.{◌≡◌, ◌≤◌, Ok, IfOk};
+ghost use Rattle.std.specs.Prelude.{◌≡◌, Ok, IfOk};
 ghost use Rattle.machine_state.specs.World.{World, loaded};
 ghost use Rattle.machine_state.specs.Happens.{turn};
 ghost use Rattle.verifier.specs.Headline.{IsEvent};
 ghost use Rattle.link_runs.specs.Driving.{IsShown, HasReacted, reported, shown};
 ghost use Rattle.link_runs.specs.Wanting.{is_running, wants};
 ghost use Rattle.accepted_runs.specs.Reacting.{is_sent, progress_by};
-ghost use Rattle.accepted_runs.specs.Running.{Shows, HasGoneOn};
+ghost use Rattle.accepted_runs.specs.Running.{Shows, HasGoneAndReacted};
 
 use link_runs::{Machine, Progress, Reaction};
 use machine_state::{Effect, Event, Link};
@@ -28,6 +28,7 @@ pub struct Run<'a> {
 }
 
 impl<'a> Model for Run<'a> {
+    ghost use Rattle.std.specs.Prelude.{◌≡◌};
     ghost use Rattle.module_format.specs.Contents.{contents_of};
     ghost use Rattle.accepted_runs.specs.Running.{PlainExecution, Runs};
     ghost use Rattle.accepted_runs.specs.Reacting.{message_of, HasMessage};

@@ -26,6 +26,7 @@ invariant_of-self c =
       subst (λ (b : Bool). HasMessage b after) (sym c.has_sent-self-inside.ensures)
           (happening.has_message m c.self.inside.machine somewhere.0 somewhere.1 c.args.event c.can_happen.ensures reaction
           after c.apply-reaction.ensures),
+      c.self.invariant.2,
     )
 
 pub returns-clause-reacts : goal.returns-clause-reacts

@@ -20,6 +20,7 @@ invariant_of-result c =
             (at_first m keeps well),
       ),
       tt,
+      c.in_ok-code.ensures,
     )
 
 pub returns-clause-shows : goal.returns-clause-shows

@@ -1,5 +1,5 @@
 use Rattle.std.proofs.Common.{◌-◌}
-use Rattle.accepted_runs.proofs.Proceeding.{HasGoneOn}
+use Rattle.accepted_runs.specs.Running.{HasGoneOn}
 use Rattle.accepted_runs.proofs.running.RunMachine.proceed.Given as goal
 
 abbrev pub invariant-steps : goal.invariant-steps
