@@ -109,9 +109,9 @@ impl<'a> Run<'a> {
     fn go_on(&mut self) -> Reaction
         ensures { HasGoneAndReacted self.old result self.new }
     {
-        let reaction = self.machine.go_on(self.tables, &self.code);
-        self.has_sent = has_sent(reaction);
-        reaction
+        let done = self.machine.go_on(self.tables, &self.code);
+        self.has_sent = has_sent(done);
+        done
     }
 
     /// One event, and what it did. In each world that the machine agrees with it is no fault, this is its effect, and

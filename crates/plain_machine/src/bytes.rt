@@ -6,6 +6,9 @@ ghost use Rattle.machine_state.specs.Spans.{all_places};
 ghost use Rattle.machine_state.specs.LocalStep.{copied};
 ghost use Rattle.plain_machine.specs.Plain.{defined};
 
+/// How many bytes a word has.
+const WORD: usize = 4;
+
 /// The byte at a place.
 #[inline(always)]
 #[tactic(auto, using(crate::proofs::PlainBytes::byte_is))]
@@ -70,6 +73,25 @@ pub(crate) fn copy(bytes: &mut [u8], source: usize, target: usize, count: usize)
     }
 }
 
+/// The four bytes from one place on go to another, as they were before. All lie in memory.
+#[inline(always)]
+#[tactic(auto, using(crate::proofs::PlainBytes::sizes), unfolding(machine_state::specs::LocalStep::copied))]
+fn copy_word(bytes: &mut [u8], source: usize, target: usize)
+    requires source { source + 4 ≤ length bytes.old }
+    requires target { target + 4 ≤ length bytes.old }
+    ensures { let before = defined bytes.old in
+        defined bytes.new ≡ copied before source target 4 before }
+{
+    let first = byte_at(bytes, source);
+    let second = byte_at(bytes, source + 1);
+    let third = byte_at(bytes, source + 2);
+    let fourth = byte_at(bytes, source + 3);
+    set_byte(bytes, target, first);
+    set_byte(bytes, target + 1, second);
+    set_byte(bytes, target + 2, third);
+    set_byte(bytes, target + 3, fourth);
+}
+
 /// So many bytes from one place on go to another, as they were before. All lie in memory.
 #[inline(always)]
 pub(crate) fn copy_inside(bytes: &mut [u8], source: usize, target: usize, count: usize)
@@ -78,7 +100,9 @@ pub(crate) fn copy_inside(bytes: &mut [u8], source: usize, target: usize, count:
     ensures { let before = defined bytes.old in
         defined bytes.new ≡ copied before source target count before }
 {
-    if count > 0 {
+    if count == WORD {
+        copy_word(bytes, source, target);
+    } else if count > 0 {
         bytes.copy_within(source..source + count, target);
     }
 }

@@ -96,7 +96,7 @@ impl PlainStore {
         ensures { let from = point_of registers.old self.old in
             HasRun code_start code.now from executed.old result (state_of registers.new self.new) executed.new }
     {
-        running::run(&mut self.bytes, registers, executed, code, code_start)
+        running::execute_instructions(&mut self.bytes, registers, executed, code, code_start)
     }
 
     /// The process that runs leaves: its word W-1 takes the address where it goes on, of code that begins at this

@@ -96,6 +96,7 @@ impl Workspaces {
     /// that begins at this address. `executed` counts their bytes, but not the last one of what asks something. Returns
     /// what that leaves to be done, and nothing where no instruction is to be read. Nothing is tested: however far that goes, the
     /// next byte is safe, and no link of a ready process has changed.
+    #[inline(always)]
     pub fn run(
         &mut self,
         registers: &mut PlainRegisters,
@@ -118,6 +119,7 @@ impl Workspaces {
 
     /// The process with these registers leaves: its word W-1 takes the address where it goes on, of code that begins at
     /// this address. No link of a ready process is there.
+    #[inline(always)]
     pub fn park(&mut self, registers: &PlainRegisters, code_start: u32)
         requires word { HasWord self.old.memory (scheduling_word registers.now.workspace 0) }
         requires links { let after = parked code_start registers.now self.old.memory in
@@ -140,6 +142,7 @@ impl Workspaces {
     }
 
     /// The word at this address, which lies in memory.
+    #[inline(always)]
     pub fn word(&self, address: u32) -> i32
         requires { HasWord self.now.memory address }
         ensures { result ≡ plain_word self.now.memory address }
@@ -148,6 +151,7 @@ impl Workspaces {
     }
 
     /// The word goes to this address, which lies in memory. No link of a ready process is there.
+    #[inline(always)]
     pub fn set_word(&mut self, address: u32, value: i32)
         requires inside { HasWord self.old.memory address }
         requires links { let after = with_plain_word address value self.old.memory in
@@ -160,6 +164,7 @@ impl Workspaces {
 
     /// So many bytes from one address on go to another, as they were before. All lie in memory, and no link of a ready
     /// process is where they go.
+    #[inline(always)]
     pub fn copy(&mut self, source: u32, target: u32, count: u32)
         requires source { HasBytes self.old.memory source count }
         requires target { HasBytes self.old.memory target count }
@@ -182,6 +187,7 @@ impl Workspaces {
     }
 
     /// The process with this workspace is ready, after all that are. Of memory only links change.
+    #[inline(always)]
     pub fn push(&mut self, workspace: u32)
         requires { CanPushBehind (length self.old.memory) self.old.ready workspace }
         ensures ready { self.new.ready ≡ self.old.ready ++ workspace ∷ [] }
@@ -191,6 +197,7 @@ impl Workspaces {
     }
 
     /// Whether no process is ready.
+    #[inline(always)]
     pub fn is_empty(&self) -> bool
         ensures { result ≡ (length self.now.ready == 0) }
     {
@@ -199,6 +206,7 @@ impl Workspaces {
 
     /// The ready process number `pick`, counted round the list, is taken out, and runs where its word W-1 says, in code
     /// that begins at this address. A, B and C are not its own, and stay. Of memory only links change.
+    #[inline(always)]
     pub fn resume_next(&mut self, registers: &mut PlainRegisters, code_start: u32, pick: u64)
         requires filled { 0 < length self.old.ready }
         requires words { AllCanResume (length self.old.memory) self.old.ready }

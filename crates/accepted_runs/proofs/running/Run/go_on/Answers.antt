@@ -8,8 +8,8 @@ use Rattle.accepted_runs.proofs.Happening as happening
 use Rattle.accepted_runs.proofs.RunningAlone.{can_run_alone, comes_alone, has_gone}
 use Rattle.accepted_runs.proofs.running.Run.go_on.Goals as goal
 
-pub go_on-reaction-requires-clause-can : goal.go_on-reaction-requires-clause-can
-go_on-reaction-requires-clause-can c =
+pub go_on-done-requires-clause-can : goal.go_on-done-requires-clause-can
+go_on-done-requires-clause-can c =
     let somewhere = c.self.invariant.0 in
     can_run_alone (contents_of c.self.inside.tables.now) c.self.inside.machine somewhere.0 somewhere.1
 
@@ -17,9 +17,9 @@ pub invariant_of-self : goal.invariant_of-self
 invariant_of-self c =
     let m = contents_of c.self.inside.tables.now in
     let somewhere = c.self.invariant.0 in
-    let x = c.go_on-reaction.ensures in
-    let reaction = c.go_on-reaction.result in
-    let after = c.go_on-reaction.new.self in
+    let x = c.go_on-done.ensures in
+    let reaction = c.go_on-done.result in
+    let after = c.go_on-done.new.self in
     let come = comes_alone m c.self.inside.machine x.between somewhere.0 somewhere.1 x.ran in (
       (
         happens m come.world plain_step,
@@ -33,9 +33,9 @@ invariant_of-self c =
 pub returns : goal.returns
 returns c =
     let m = contents_of c.self.inside.tables.now in
-    let x = c.go_on-reaction.ensures in
-    let reaction = c.go_on-reaction.result in
-    let after = c.go_on-reaction.new.self in
+    let x = c.go_on-done.ensures in
+    let reaction = c.go_on-done.result in
+    let after = c.go_on-done.new.self in
     let last = message_of c.self.inside.has_sent c.self.inside.machine in
     let gone = subst (λ (b : Bool).
     HasGoneAndReacted (record { contents = m; machine = c.self.inside.machine; last = last }) reaction
