@@ -126,6 +126,9 @@ impl WorkspaceQueue {
         ensures holding { S.holding store.new ≡ S.holding store.old }
         ensures roles { S.roles store.new ≡ S.roles store.old }
     {
+        if pick == 0 {
+            return self.take_front(store);
+        }
         let place = pick % self.length;
         if place == 0 {
             return self.take_front(store);

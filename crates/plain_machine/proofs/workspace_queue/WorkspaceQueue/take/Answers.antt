@@ -1,9 +1,30 @@
 use Rattle.std.proofs.Common.{rules, ℕ, ◌-◌, ◌%◌, ◌<◌, ap, ◌∙◌, sym, subst, refl, arith, Some, inl, inr, IsTrue}
+use Rattle.std.proofs.Math.Nat.{zero-mod}
 use Rattle.std.specs.List.{remove}
 use Rattle.machine_state.specs.Holding.{may_write_word}
 use Rattle.plain_machine.specs.Linked.{link_place, follow, linked}
 use Rattle.plain_machine.proofs.Queueing.{at_pick, remove_pick, member_held, without_first, at_place, taken, taken_is}
 use Rattle.plain_machine.proofs.workspace_queue.WorkspaceQueue.take.Goals as goal
+
+pub returns-then-pick-eq0-clause-process : goal.returns-then-pick-eq0-clause-process
+returns-then-pick-eq0-clause-process g c =
+    let cells = g.S.LoadStore.cells c.args.store.now in
+    let front = c.args.self.now.front in
+    let size = c.args.self.now.length in
+    let first = ap (λ (k : ℕ). k % size) c.if-pick-eq0.true ∙ zero-mod size in
+    at_pick cells front size c.args.pick (search rules)
+    ∙ (ap (λ (k : ℕ). Some (follow cells front k)) first
+    ∙ ap (λ (p : ℕ). Some p) (sym c.take_front.ensures.process))
+
+pub returns-then-pick-eq0-clause-waiting : goal.returns-then-pick-eq0-clause-waiting
+returns-then-pick-eq0-clause-waiting g c =
+    let cells = g.S.LoadStore.cells c.args.store.now in
+    let front = c.args.self.now.front in
+    let size = c.args.self.now.length in
+    let first = ap (λ (k : ℕ). k % size) c.if-pick-eq0.true ∙ zero-mod size in
+    rw c.take_front.ensures.queue (without_first cells front size (search rules)
+    ∙ (ap (remove (linked cells front size)) (sym first)
+    ∙ sym (remove_pick cells front size c.args.pick)))
 
 pub returns-then-place-eq0-clause-process : goal.returns-then-place-eq0-clause-process
 returns-then-place-eq0-clause-process g c =
@@ -12,14 +33,14 @@ returns-then-place-eq0-clause-process g c =
     let size = c.args.self.now.length in
     at_pick cells front size c.args.pick (search rules)
     ∙ (ap (λ (k : ℕ). Some (follow cells front k)) c.if-place-eq0.true
-    ∙ ap (λ (p : ℕ). Some p) (sym c.take_front.ensures.process))
+    ∙ ap (λ (p : ℕ). Some p) (sym c.take_front-then-place-eq0.ensures.process))
 
 pub returns-then-place-eq0-clause-waiting : goal.returns-then-place-eq0-clause-waiting
 returns-then-place-eq0-clause-waiting g c =
     let cells = g.S.LoadStore.cells c.args.store.now in
     let front = c.args.self.now.front in
     let size = c.args.self.now.length in
-    rw c.take_front.ensures.queue (without_first cells front size (search rules)
+    rw c.take_front-then-place-eq0.ensures.queue (without_first cells front size (search rules)
     ∙ (ap (remove (linked cells front size)) (sym c.if-place-eq0.true)
     ∙ sym (remove_pick cells front size c.args.pick)))
 
