@@ -1,0 +1,4 @@
+pub mod Files
+pub mod Events
+pub mod Failures
+pub mod Replays
