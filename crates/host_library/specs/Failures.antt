@@ -51,3 +51,10 @@ IsOfEvents is_no_event (NoFile fault) = ⊥
 IsOfEvents is_no_event (Uncertified refusal) = ⊥
 IsOfEvents is_no_event (NoEvent index) = is_no_event index
 IsOfEvents is_no_event Memory = ⊤
+
+-- neither the file nor the module is refused
+abbrev pub IsNoRefusal : HostFailure → Type 0
+IsNoRefusal (NoFile fault) = ⊥
+IsNoRefusal (Uncertified refusal) = ⊥
+IsNoRefusal (NoEvent index) = ⊤
+IsNoRefusal Memory = ⊤

@@ -8,7 +8,7 @@ use Rattle.machine_state.specs.Happens.{world_after, emitted_on}
 use Rattle.accepted_runs.specs.declared.report.Replay.{Replay}
 use Rattle.accepted_runs.specs.Replaying.{out_on}
 use Rattle.host_library.specs.declared.events.HostEvent.{HostEvent}
-use Rattle.host_library.specs.declared.replaying.HostReplay.{HostReplay}
+use Rattle.host_library.specs.declared.replaying.HostReport.{HostReport}
 use Rattle.host_library.specs.Events.{AreEventsOf}
 
 -- a flag as a number
@@ -21,7 +21,7 @@ abbrev pub all_out : List (Vec ℕ) → List ℕ
 all_out out = ((out_on out Zero ++ out_on out One) ++ out_on out Two) ++ out_on out Three
 
 -- A host is told what the replay says, but for the bytes that went out.
-pub record IsToldOf (replay : Replay) (told : HostReplay) : Type 0 where
+pub record IsToldOf (replay : Replay) (told : HostReport) : Type 0 where
   pub executed : told.executed ≡ replay.executed
   pub finished : told.finished ≡ flag_number replay.finished
   pub lengths : told.lengths ≡ length (out_on replay.out Zero) ∷ length (out_on replay.out One)
@@ -33,14 +33,14 @@ all_emitted m events =
     ((emitted_on m Zero events ++ emitted_on m One events) ++ emitted_on m Two events) ++ emitted_on m Three events
 
 -- A host is told of the world after these events, and how many bytes they emit on each link.
-pub record IsTold (m : Contents) (events : List Event) (told : HostReplay) : Type 0 where
+pub record IsTold (m : Contents) (events : List Event) (told : HostReport) : Type 0 where
   pub executed : told.executed ≡ (world_after m events).counters.executed
   pub finished : told.finished ≡ flag_number (world_after m events).counters.is_finished
   pub lengths : told.lengths ≡ length (emitted_on m Zero events) ∷ length (emitted_on m One events)
       ∷ length (emitted_on m Two events) ∷ length (emitted_on m Three events) ∷ []
 
 -- What the host wrote are events. It is told of the run over them, and this holds of all that they emit.
-pub record HasReplayed (m : Contents) (given : List HostEvent) (told : HostReplay) (holds_of : List ℕ → Type 0) :
+pub record HasReplayed (m : Contents) (given : List HostEvent) (told : HostReport) (holds_of : List ℕ → Type 0) :
     Type 0 where
   pub events : List Event
   pub are_events : AreEventsOf given events

@@ -7,6 +7,8 @@ mod failure;
 mod judging;
 mod replaying;
 mod status;
+#[cfg(test)]
+mod tests;
 
 ghost use Rattle.std.specs.Prelude.{◌≡◌, ◌≢◌, ◌≤◌, ◌<◌, length};
 ghost use Rattle.module_format.specs.Contents.{Contents};
@@ -18,7 +20,7 @@ ghost use Rattle.host_library.specs.Replays.{HasReplayed, IsWritten};
 
 use events::HostEvent;
 use judging::budget_of;
-use replaying::{HostReplay, hand_over, run_of};
+use replaying::{HostReport, hand_over, run_of};
 use status::{ACCEPTED, NO_EVENT, NO_MODULE, NOT_CERTIFIED, OUT_OF_MEMORY, TOO_SMALL};
 use std::alloc::Global;
 
@@ -54,7 +56,7 @@ pub extern "C" fn tpm_verify(
     }
 }
 
-/// The run of a certified module over these events, by a status. `ACCEPTED`: what became of it is written to `replay`,
+/// The run of a certified module over these events, by a status. `ACCEPTED`: what became of it is written to `report`,
 /// and what it sent to the beginning of `out`, one link's bytes after the other's. `TOO_SMALL`: the same, but all that
 /// it sent is longer than `out`, and `out` is as before. `NO_EVENT`: the index of the first of the events that is none
 /// is written to `offset`. `NO_MODULE`, `NOT_CERTIFIED` and `OUT_OF_MEMORY`: as of `tpm_verify`. Nothing else is
@@ -65,26 +67,29 @@ pub extern "C" fn tpm_replay(
     bytes: &[u8],
     events: &[HostEvent],
     out: &mut [u8],
-    replay: &mut HostReplay,
+    report: &mut HostReport,
     number: &mut u8,
     offset: &mut usize,
 ) -> u8
     ensures statuses { result ≤ TOO_SMALL }
     ensures accepted { result ≡ ACCEPTED → IsCertifiedFile bytes.now
-        (λ m. HasReplayed m events.now replay.new (IsWritten out.old out.new)) }
+        (λ m. HasReplayed m events.now report.new (IsWritten out.old out.new)) }
     ensures too_small { result ≡ TOO_SMALL → IsCertifiedFile bytes.now
-        (λ m. HasReplayed m events.now replay.new (λ sent. length out.old < length sent)) }
+        (λ m. HasReplayed m events.now report.new (λ sent. length out.old < length sent)) }
     ensures no_event { result ≡ NO_EVENT → IsCertifiedFile bytes.now (λ m. IsNoEvent events.now offset.new) }
     ensures no_module { result ≡ NO_MODULE → IsNoFile bytes.now number.new offset.new }
     ensures not_certified { result ≡ NOT_CERTIFIED → IsRefusedFile bytes.now number.new offset.new }
+    // A certified module is not refused.
+    ensures refuses_no_certified_module { (m : Contents) → Format bytes.now m → IsCertified m
+        → (result ≢ NO_MODULE) × (result ≢ NOT_CERTIFIED) }
     ensures same_out { result ≢ ACCEPTED → out.new ≡ out.old }
-    ensures same_replay { result ≢ ACCEPTED → result ≢ TOO_SMALL → replay.new ≡ replay.old }
+    ensures same_report { result ≢ ACCEPTED → result ≢ TOO_SMALL → report.new ≡ report.old }
     ensures same_number { result ≢ NO_MODULE → result ≢ NOT_CERTIFIED → number.new ≡ number.old }
     ensures same_offset { result ≢ NO_MODULE → result ≢ NOT_CERTIFIED → result ≢ NO_EVENT → offset.new ≡ offset.old }
 {
     match run_of(alloc, bytes, events) {
         Ok(run) => {
-            *replay = run.replay;
+            *report = run.report;
             hand_over(&run.sent, out)
         }
         Err(failure) => failure.tell(number, offset),

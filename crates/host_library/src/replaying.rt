@@ -1,8 +1,11 @@
 //! Replays that a host asks for.
 
-ghost use Rattle.std.specs.Prelude.{◌≡◌, ◌≢◌, ◌⊎◌, ◌<◌, length, IfOk, MatchResult};
+ghost use Rattle.std.specs.Prelude.{◌≡◌, ◌≢◌, ◌⊎◌, ◌<◌, length, IfErr, IfOk, MatchResult};
+ghost use Rattle.module_format.specs.Contents.{Contents};
+ghost use Rattle.module_format.specs.Keeping.{Format};
+ghost use Rattle.certified_worlds.specs.Certified.{IsCertified};
 ghost use Rattle.host_library.specs.Files.{IsCertifiedFile};
-ghost use Rattle.host_library.specs.Failures.{Withholds};
+ghost use Rattle.host_library.specs.Failures.{Withholds, IsNoRefusal};
 ghost use Rattle.host_library.specs.Events.{IsNoEvent};
 ghost use Rattle.host_library.specs.Replays.{all_out, HasReplayed, IsToldOf, IsWritten};
 
@@ -12,12 +15,12 @@ use crate::status::{ACCEPTED, TOO_SMALL};
 use accepted_runs::{Replay, replay};
 use certificate::Module;
 use std::alloc::{AllocError, Global};
-use verifier::verify;
+use verifier::{not_both, verify};
 
 /// What became of a run, as a host reads it.
 #[repr(C)]
 #[derive(Clone, Copy)]
-pub struct HostReplay {
+pub struct HostReport {
     /// How many instruction bytes were executed.
     pub executed: u64,
     /// How many bytes went out on each link, by its number.
@@ -29,16 +32,16 @@ pub struct HostReplay {
 /// A run, and all that went out on its links: one link's bytes after the other's.
 #[derive(Drop)]
 pub struct HostRun {
-    pub replay: HostReplay,
+    pub report: HostReport,
     pub sent: Vec<u8>,
 }
 
 /// What a replay reports.
-fn report(replay: &Replay) -> HostReplay
+fn report_of(replay: &Replay) -> HostReport
     ensures { IsToldOf replay.now result }
 {
     let out = &replay.out;
-    HostReplay {
+    HostReport {
         executed: replay.executed,
         lengths: [out[0].len(), out[1].len(), out[2].len(), out[3].len()],
         finished: u8::from(replay.finished),
@@ -58,21 +61,19 @@ fn joined(alloc: Global, out: &[Vec<u8>; 4]) -> Result<Vec<u8>, AllocError>
 }
 
 /// The run of the module in these bytes over these events, if it is certified and each of them is an event.
-pub fn run_of(
-    alloc: Global,
-    bytes: &[u8],
-    events: &[HostEvent],
-) -> Result<HostRun, HostFailure>
-    ensures { MatchResult result
-        (λ run. IsCertifiedFile bytes.now (λ m. HasReplayed m events.now run.replay (λ sent. run.sent.items ≡ sent)))
+pub fn run_of(alloc: Global, bytes: &[u8], events: &[HostEvent]) -> Result<HostRun, HostFailure>
+    ensures answer { MatchResult result
+        (λ run. IsCertifiedFile bytes.now (λ m. HasReplayed m events.now run.report (λ sent. run.sent.items ≡ sent)))
         (Withholds bytes.now (λ index. IsCertifiedFile bytes.now (λ m. IsNoEvent events.now index))) }
+    ensures certified { (m : Contents) → Format bytes.now m → IsCertified m → IfErr result IsNoRefusal }
 {
+    not_both();
     let module = Module::read(alloc, bytes)?;
     let verified = verify(alloc, &module)?;
     let events = events_of(alloc, events)?;
     let replayed = replay(alloc, &verified, &events)?;
     Ok(HostRun {
-        replay: report(&replayed),
+        report: report_of(&replayed),
         sent: joined(alloc, &replayed.out)?,
     })
 }
