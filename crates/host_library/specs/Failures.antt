@@ -1,5 +1,5 @@
 -- Why a host gets no answer.
-use Rattle.std.specs.Prelude.{◌≡◌, ⊤, ℕ, ◌==◌, if◌then◌else◌, List}
+use Rattle.std.specs.Prelude.{⊤, ℕ, ◌==◌, if◌then◌else◌, List}
 use Rattle.module_format.specs.declared.fault.FormatFault.{FormatFault}
 use Rattle.module_format.specs.declared.fault.TheConstants as file_faults
 use Rattle.states.specs.declared.rule.TheConstants as rules

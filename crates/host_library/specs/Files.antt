@@ -6,12 +6,14 @@ use Rattle.module_format.specs.ReadingFile.{read_contents}
 use Rattle.states.specs.declared.rule.Rule.{Rule}
 use Rattle.states.specs.Numbers.{number_of}
 use Rattle.certified_worlds.specs.Certified.{IsCertified, IsRefused}
+use Rattle.verifier.specs.Headline.{RunsWell}
 
--- The bytes are the file of a certified module of which this holds.
+-- The bytes are the file of a certified module, of which this holds. Whatever events come, it runs well.
 pub record IsCertifiedFile (bytes : List ℕ) (holds_of : Contents → Type 0) : Type 0 where
   pub contents : Contents
   pub format : Format bytes contents
   pub certified : IsCertified contents
+  pub runs_well : RunsWell contents
   pub holds : holds_of contents
 
 -- The bytes are no module file, and this is their first fault.
