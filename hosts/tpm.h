@@ -17,8 +17,8 @@
      that divides its size. A call is not made in a signal handler, or in the forked child of a process with threads.
 
    All memory stays the caller's. A call keeps no pointer and nothing else: what it allocates it frees before it
-   returns, so a program may call from several threads at once, each with memory of its own to write. A module, a list
-   of events and a buffer may be used for any number of calls. A size_t has 64 bits. */
+   returns, and what it does hangs on nothing but what is passed. So a program may call from several threads at once,
+   each with memory of its own to write, and each call reads and judges the module anew. A size_t has 64 bits. */
 
 #ifndef TPM_H
 #define TPM_H
