@@ -17,13 +17,13 @@ link_numbered number =
     if number == 3 then Some Three else None
 
 -- what 0 and 1 say
-abbrev pub flag_of : ℕ → Option Bool
-flag_of number = if number == 0 then Some false else if number == 1 then Some true else None
+abbrev pub flag_numbered : ℕ → Option Bool
+flag_numbered number = if number == 0 then Some false else if number == 1 then Some true else None
 
 -- the event that a host writes so, if it is one
 abbrev pub event_of : HostEvent → Option Event
 event_of e =
-    if e.kind == STEP then option_map (λ slice. Step slice e.pick) (flag_of e.slice) else
+    if e.kind == STEP then option_map (λ slice. Step slice e.pick) (flag_numbered e.slice) else
     if e.kind == ARRIVE then option_map (λ link. Arrive link e.byte) (link_numbered e.link) else
     if e.kind == ACKNOWLEDGE then option_map Acknowledge (link_numbered e.link) else None
 

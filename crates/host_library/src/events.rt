@@ -1,7 +1,7 @@
 //! The events that a host hands over.
 
 ghost use Rattle.std.specs.Prelude.{◌≡◌, MatchResult};
-ghost use Rattle.host_library.specs.Events.{link_numbered, flag_of, AreEventsOf, IsNoEvent};
+ghost use Rattle.host_library.specs.Events.{link_numbered, flag_numbered, AreEventsOf, IsNoEvent};
 ghost use Rattle.host_library.specs.Failures.{IsOfEvents};
 
 use crate::failure::HostFailure;
@@ -45,8 +45,8 @@ fn link_numbered(number: u8) -> Option<Link>
 }
 
 /// What 0 and 1 say.
-fn flag_of(number: u8) -> Option<bool>
-    ensures { result ≡ flag_of number }
+fn flag_numbered(number: u8) -> Option<bool>
+    ensures { result ≡ flag_numbered number }
 {
     match number {
         0 => Some(false),
@@ -64,7 +64,7 @@ impl HostEvent {
     {
         match self.kind {
             STEP => Some(Event::Step {
-                slice: flag_of(self.slice)?,
+                slice: flag_numbered(self.slice)?,
                 pick: self.pick,
             }),
             ARRIVE => Some(Event::Arrive {

@@ -16,7 +16,7 @@ ghost use Rattle.module_format.specs.Keeping.{Format};
 ghost use Rattle.certified_worlds.specs.Certified.{IsCertified};
 ghost use Rattle.host_library.specs.Files.{IsCertifiedFile, IsNoFile, IsRefusedFile};
 ghost use Rattle.host_library.specs.Events.{IsNoEvent};
-ghost use Rattle.host_library.specs.Replays.{HasReplayed, IsWritten};
+ghost use Rattle.host_library.specs.Replays.{HasReplayed, IsHandedOver};
 
 use events::HostEvent;
 use judging::budget_of;
@@ -73,7 +73,7 @@ pub extern "C" fn tpm_replay(
 ) -> u8
     ensures statuses { result ≤ TOO_SMALL }
     ensures accepted { result ≡ ACCEPTED → IsCertifiedFile bytes.now
-        (λ m. HasReplayed m events.now report.new (IsWritten out.old out.new)) }
+        (λ m. HasReplayed m events.now report.new (IsHandedOver out.old out.new)) }
     ensures too_small { result ≡ TOO_SMALL → IsCertifiedFile bytes.now
         (λ m. HasReplayed m events.now report.new (λ sent. length out.old < length sent)) }
     ensures no_event { result ≡ NO_EVENT → IsCertifiedFile bytes.now (λ m. IsNoEvent events.now offset.new) }

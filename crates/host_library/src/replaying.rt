@@ -7,7 +7,7 @@ ghost use Rattle.certified_worlds.specs.Certified.{IsCertified};
 ghost use Rattle.host_library.specs.Files.{IsCertifiedFile};
 ghost use Rattle.host_library.specs.Failures.{Withholds, IsNoRefusal};
 ghost use Rattle.host_library.specs.Events.{IsNoEvent};
-ghost use Rattle.host_library.specs.Replays.{all_out, HasReplayed, IsToldOf, IsWritten};
+ghost use Rattle.host_library.specs.Replays.{all_out, HasReplayed, IsReportOf, IsHandedOver};
 
 use crate::events::{HostEvent, events_of};
 use crate::failure::HostFailure;
@@ -38,7 +38,7 @@ pub struct HostRun {
 
 /// What a replay reports.
 fn report_of(replay: &Replay) -> HostReport
-    ensures { IsToldOf replay.now result }
+    ensures { IsReportOf replay.now result }
 {
     let out = &replay.out;
     HostReport {
@@ -81,7 +81,7 @@ pub fn run_of(alloc: Global, bytes: &[u8], events: &[HostEvent]) -> Result<HostR
 /// Writes what was sent into the caller's buffer, if it is long enough, and gives the status.
 pub fn hand_over(sent: &[u8], out: &mut [u8]) -> u8
     ensures statuses { (result ≡ ACCEPTED) ⊎ (result ≡ TOO_SMALL) }
-    ensures accepted { result ≡ ACCEPTED → IsWritten out.old out.new sent.now }
+    ensures accepted { result ≡ ACCEPTED → IsHandedOver out.old out.new sent.now }
     ensures too_small { result ≡ TOO_SMALL → length out.old < length sent.now }
     ensures same { result ≢ ACCEPTED → out.new ≡ out.old }
 {
