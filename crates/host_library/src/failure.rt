@@ -4,7 +4,7 @@ ghost use Rattle.std.specs.Prelude.{◌≡◌};
 ghost use Rattle.host_library.specs.Failures.{status_of, number_told, offset_told};
 
 use crate::status::{NO_EVENT, NO_MODULE, NOT_CERTIFIED, OUT_OF_MEMORY};
-use certificate::FormatFault;
+use module_format::FormatFault;
 use std::alloc::{AllocError, AllocFailed};
 use verifier::Refusal;
 

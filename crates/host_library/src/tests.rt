@@ -6,7 +6,7 @@ use crate::events::{ACKNOWLEDGE, ARRIVE, HostEvent, STEP};
 use crate::replaying::HostReport;
 use crate::status::{ACCEPTED, NO_EVENT, NO_MODULE, NOT_CERTIFIED, OUT_OF_MEMORY, TOO_SMALL};
 use crate::{tpm_replay, tpm_verify};
-use certificate::{MAGIC, TRUNCATED};
+use module_format::{MAGIC, TRUNCATED};
 use states::BUDGET;
 use std::alloc::Global;
 
