@@ -24,19 +24,22 @@ struct Finding {
     alloc: Global,
     changes: Changes,
     lists: ChangeLists,
+    /// Whether lists are wanted. They take as long as all that is in them, at each construct again.
+    are_listed: bool,
 }
 
 impl Finding {
     ghost use Rattle.program_uses.specs.Finding.{Finds};
 
     /// Nothing.
-    fn new(alloc: Global) -> Finding
+    fn new(alloc: Global, are_listed: bool) -> Finding
         ensures { result.changes.numbers.items ≡ [] }
     {
         Finding {
             alloc,
             changes: Changes::new(alloc),
             lists: ChangeLists::new(alloc),
+            are_listed,
         }
     }
 
@@ -47,6 +50,9 @@ impl Finding {
             (drop first self.old.changes.numbers.items)) }
         ensures keeps { Keeps self.old.lists self.new.lists }
     {
+        if !self.are_listed {
+            return self.lists.add_unlisted(line);
+        }
         let numbers = self.changes.since(self.alloc, first)?;
         self.lists.add(line, numbers)
     }
@@ -189,7 +195,7 @@ pub fn variables_changed<'a>(
         ≡ changed_by (signatures_of signatures.now) (entries_of scope.old) (process_of process.now)) }
     ensures scope { known_of scope.new ≡ known_of scope.old }
 {
-    let mut finding = Finding::new(alloc);
+    let mut finding = Finding::new(alloc, false);
     finding.find(signatures, scope, process);
     finding.changes.all()
 }
@@ -207,7 +213,7 @@ pub fn variables_changed_in<'a>(
         (body_of body.now)) }
     ensures scope { known_of scope.new ≡ known_of scope.old }
 {
-    let mut finding = Finding::new(alloc);
+    let mut finding = Finding::new(alloc, false);
     finding.find_in_body(signatures, scope, replicator, body);
     finding.changes.all()
 }
@@ -223,7 +229,7 @@ pub fn list_changes<'a>(
         (process_of process.now)) }
     ensures scope { known_of scope.new ≡ known_of scope.old }
 {
-    let mut finding = Finding::new(alloc);
+    let mut finding = Finding::new(alloc, true);
     finding.find(signatures, scope, process);
     finding.all_lists()
 }

@@ -1,6 +1,6 @@
 //! The variables that constructs change, listed by the lines on which the constructs begin.
 
-ghost use Rattle.std.specs.Prelude.{◌≡◌, option_map, OnOk};
+ghost use Rattle.std.specs.Prelude.{◌≡◌, ℕ, List, option_map, OnOk};
 ghost use Rattle.std.specs.List.Sorted.{IsStrictlyIncreasing};
 ghost use Rattle.program_uses.specs.Listing.{list_on, SameNumbers, IsListed, Keeps};
 
@@ -18,7 +18,7 @@ fn distinct(mut numbers: Vec<usize>) -> Vec<usize>
 }
 
 /// The numbers of the variables that constructs change, by the line on which each of them begins. A number is in a list
-/// once. A line on which several constructs begin has no list.
+/// once. A line on which several constructs begin has no list, nor has any if no lists are wanted.
 #[derive(Drop)]
 pub struct ChangeLists {
     pub(crate) lists: BTreeMap<u32, Option<Vec<usize>>>,
@@ -53,6 +53,15 @@ impl ChangeLists {
             Some(distinct(numbers))
         };
         self.lists.insert(line, list)?;
+        Ok(())
+    }
+
+    /// A construct begins on this line, of which there is no list.
+    pub(crate) fn add_unlisted(&mut self, line: u32) -> Result<(), AllocError>
+        ensures ok { OnOk result ((numbers : List ℕ) → IsListed self.new line numbers) }
+        ensures keeps { Keeps self.old self.new }
+    {
+        self.lists.insert(line, None)?;
         Ok(())
     }
 }
