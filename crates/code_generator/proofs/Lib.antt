@@ -17,3 +17,4 @@ pub mod SpreadOut
 pub mod TablesRead
 pub mod TurnsWritten
 pub mod WorkedCode
+pub mod WordsForgotten

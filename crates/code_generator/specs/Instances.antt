@@ -79,7 +79,16 @@ all_forgotten hs es t qs i [] rs = rs
 all_forgotten hs es t qs i (e ∷ actuals) rs =
     all_forgotten hs es t qs (suc i) actuals (forgotten (passed_target hs es t (meaning_at i qs) e) rs)
 
--- After the body a BYTE scalar that was passed as a variable has its byte alone again.
+-- nothing is known of the number in a word that is one of these
+abbrev pub unknown_in : (ℕ → Bool) → RowEntry → RowEntry
+unknown_in words r = if words r.word then is_in r.word 1 full else r
+
+-- the words of targets are these and that of one target more
+abbrev pub with_target : Target → (ℕ → Bool) → ℕ → Bool
+with_target (OwnWord type w) words v = nat_eq v w || words v
+with_target other words v = words v
+
+-- Behind the body a BYTE scalar that was passed as a variable has its byte alone again.
 abbrev pub cleaning_code : List Home → List Entry → ℕ → List Parameter → ℕ → List Expression → List Piece
 cleaning_code hs es t qs i [] = []
 cleaning_code hs es t qs i (e ∷ actuals) =

@@ -57,6 +57,8 @@ impl<'a> ProcessWriter<'a> {
             (parameters_of passed.entry) (actuals_of passed.entry)) }
     {
         let spent = self.spent.within(callee.names)?;
+        self.listing.declare_again(&self.scope, callee.names)?;
+        self.listing.pass(passed.actuals.len())?;
         let known = facts_in(self.alloc, &self.scope, &self.frame)?;
         let homes = outermost_homes(self.alloc, &self.frame.homes, callee.names)?;
         let mut scope = outermost(self.alloc, &self.scope, callee.names)?;

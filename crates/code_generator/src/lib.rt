@@ -25,6 +25,7 @@ mod processes;
 mod program;
 mod setting;
 mod targets;
+mod work;
 mod writing;
 mod zeroing;
 

@@ -36,7 +36,7 @@ pub(crate) struct Spent {
 }
 
 /// The sum of two sizes. The error is [`GenFault::Limit`] if it is greater than this.
-fn plus(size: u32, more: u32, greatest: u32) -> Result<u32, GenFault> {
+pub(crate) fn plus(size: u32, more: u32, greatest: u32) -> Result<u32, GenFault> {
     let sum = size.checked_add(more).ok_or(GenFault::Limit)?;
     if sum > greatest {
         return Err(GenFault::Limit);
@@ -45,7 +45,7 @@ fn plus(size: u32, more: u32, greatest: u32) -> Result<u32, GenFault> {
 }
 
 /// A count, as a size. The error is [`GenFault::Limit`] if it is none.
-fn size_of_count(count: usize) -> Result<u32, GenFault> {
+pub(crate) fn size_of_count(count: usize) -> Result<u32, GenFault> {
     u32::try_from(count).map_err(|_| GenFault::Limit)
 }
 

@@ -6,6 +6,7 @@ ghost use Rattle.code_pieces.specs.Pieces.{Direct, TableAddress, operates, loads
 ghost use Rattle.code_pieces.specs.PieceViews.{pieces_of, piece_of};
 
 use crate::noting::Notes;
+use crate::work::Work;
 use code_pieces::Piece;
 use code_pieces::operations::{MINIMUM_INTEGER, REVERSE};
 use module_builder::GenFault;
@@ -21,6 +22,8 @@ pub struct Listing {
     pub(crate) notes: Notes,
     /// How many pieces there are in other listings.
     others: usize,
+    /// What was done beside writing, for other listings too.
+    pub(crate) work: Work,
 }
 
 impl Model for Listing {
@@ -52,6 +55,7 @@ impl Listing {
             pieces: Vec::new(alloc),
             notes: Notes::new(alloc, 0),
             others: 0,
+            work: Work::nothing(),
         }
     }
 
@@ -64,6 +68,7 @@ impl Listing {
             pieces: Vec::new(alloc),
             notes: Notes::new(alloc, first),
             others: before.saturating_add(pieces),
+            work: self.work,
         }
     }
 

@@ -12,7 +12,7 @@ use crate::processes::{ProcessWriter, label_after};
 use crate::setting::word_after;
 use code_pieces::Piece;
 use module_builder::GenFault;
-use occam_parser::Expr;
+use occam_parser::{Expr, Process};
 use program_uses::{add_name, value_as};
 use scalar_ranges::{ExprType, Meaning, Scope};
 
@@ -54,10 +54,17 @@ pub(crate) fn value_or_zero(scope: &Scope, expr: &Expr) -> i32
 }
 
 impl Listing {
-    /// Before the head of a loop: its base and its count, each in its word.
-    fn write_loop_start(&mut self, word: u32, base: i32, count: i32) -> Result<(), GenFault>
+    /// Before the head of a loop of this process: its base and its count, each in its word.
+    fn write_loop_start(
+        &mut self,
+        process: &Process,
+        word: u32,
+        base: i32,
+        count: i32,
+    ) -> Result<(), GenFault>
         ensures { IfOk result (λ _. self.new ≡ self.old ++ loop_start word base count) }
     {
+        self.find(process)?;
         self.constant(base)?;
         self.store(word)?;
         self.constant(count)?;
@@ -79,6 +86,7 @@ impl<'a> ProcessWriter<'a> {
         &mut self,
         turning: Turning<'a>,
         changed: &[usize],
+        process: &Process,
     ) -> Result<(), GenFault>
         ensures { IfOk result (λ _. EntersLoop self.old self.new turning.entry changed.now) }
     {
@@ -86,7 +94,7 @@ impl<'a> ProcessWriter<'a> {
         let behind = label_after(head)?;
         self.label = label_after(behind)?;
         self.listing
-            .write_loop_start(self.frame.top, turning.base, turning.count)?;
+            .write_loop_start(process, self.frame.top, turning.base, turning.count)?;
         self.frame.add_block(head)?;
         self.scope.begin_loop(changed)?;
         add_name(&mut self.scope, turning.name, turning.index)?;
@@ -112,9 +120,14 @@ impl<'a> ProcessWriter<'a> {
     }
 
     /// A loop without turns, whose body changes the variables with these numbers.
-    pub(crate) fn write_no_loop(&mut self, changed: &[usize]) -> Result<(), GenFault>
+    pub(crate) fn write_no_loop(
+        &mut self,
+        changed: &[usize],
+        process: &Process,
+    ) -> Result<(), GenFault>
         ensures { IfOk result (λ _. WritesNoLoop self.old self.new changed.now) }
     {
+        self.listing.find(process)?;
         let is_less_known = has_scalar(&self.scope, changed);
         self.scope.widen(changed);
         if !is_less_known {

@@ -146,9 +146,15 @@ impl<'a> ProcessWriter<'a> {
     }
 
     /// The code of a branch begins, which has its entry at this label.
-    fn begin_branch(&mut self, fork: &Fork, entry: usize) -> Result<Outside, GenFault>
+    fn begin_branch(
+        &mut self,
+        fork: &Fork,
+        entry: usize,
+        process: &Process,
+    ) -> Result<Outside, GenFault>
         ensures { IfOk result (λ outside. EntersBranch self.old self.new outside) }
     {
+        self.listing.find(process)?;
         if fork.is_full() {
             return Err(GenFault::Limit);
         }
@@ -182,6 +188,7 @@ impl<'a> ProcessWriter<'a> {
         self.listing.write_end(context.depth)?;
         let branch = mem::replace(&mut self.context, context);
         let code = mem::replace(&mut self.listing, listing);
+        self.listing.go_on_behind(&code)?;
         self.frame.top = top;
         self.spent.count_notes(code.notes.count())?;
         fork.add(self.alloc, entry, branch, code)
@@ -282,7 +289,7 @@ impl<'a> ProcessWriter<'a> {
         let signatures = around.around.signatures;
         let changed = variables_changed(self.alloc, signatures, &mut self.scope, process)?;
         let entry = self.label;
-        let outside = self.begin_branch(fork, entry)?;
+        let outside = self.begin_branch(fork, entry, process)?;
         self.write(around, process)?;
         self.end_branch(fork, entry, outside)?;
         self.scope.next_component(&changed);

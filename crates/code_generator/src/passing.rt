@@ -1,6 +1,6 @@
 //! What an instance passes. If a function that writes fails, some pieces more may have come.
 
-ghost use Rattle.std.specs.Prelude.{◌≡◌, ◌++◌, IfOk, Some, option_map};
+ghost use Rattle.std.specs.Prelude.{◌≡◌, ◌++◌, ℕ, IfOk, Some, map, option_map};
 ghost use Rattle.occam_parser.specs.Views.{expression_of};
 ghost use Rattle.scalar_ranges.specs.Scopes.{entries_of, meaning_of};
 ghost use Rattle.program_uses.specs.Instances.{place_in};
@@ -9,9 +9,9 @@ ghost use Rattle.code_generator.specs.Actions.{channel_home, element_home};
 ghost use Rattle.code_generator.specs.FrameViews.{frame_seen};
 ghost use Rattle.code_generator.specs.HomeViews.{home_seen};
 ghost use Rattle.code_generator.specs.Instances.{meaning_at, as_passed, passed_home, binding_code, bound};
-ghost use Rattle.code_generator.specs.Instances.{bindings_code, all_bound, passed_target, unknown_at, forgotten};
+ghost use Rattle.code_generator.specs.Instances.{bindings_code, all_bound, passed_target, unknown_in, with_target};
 ghost use Rattle.code_generator.specs.Instances.{all_forgotten, cleaning_code};
-ghost use Rattle.code_generator.specs.PassedViews.{parameters_of, actuals_of};
+ghost use Rattle.code_generator.specs.PassedViews.{parameters_of, actuals_of, is_found};
 ghost use Rattle.code_generator.specs.SettingViews.{entries_in, homes_in};
 ghost use Rattle.code_generator.specs.TargetViews.{target_seen};
 
@@ -28,6 +28,7 @@ use occam_parser::Expr;
 use program_uses::{PlaceRef, Signature, parameter_at, place_in};
 use scalar_ranges::{Meaning, ScalarKind, range_of};
 use std::alloc::Global;
+use std::collections::BTreeSet;
 use word_arithmetic::Range;
 
 /// What an instance passes to the parameters of a procedure.
@@ -170,35 +171,47 @@ fn passed_target<'e, 'a>(
     }
 }
 
-/// What is known of words, but that nothing is known of the number in this one.
-fn unknown_at(word: u32, entry: RowEntry) -> RowEntry
-    ensures { result ≡ unknown_at word entry }
-{
-    if entry.word == word {
-        is_in(word, 1, Range::full())
-    } else {
-        entry
-    }
+/// Words that may be stored into in a procedure.
+#[derive(Drop)]
+struct Words {
+    found: BTreeSet<u32>,
 }
 
-/// What is known of words, but for what may be stored into in a procedure.
-fn forgotten(
-    alloc: Global,
-    target: Target,
-    setting: Setting,
-    entries: Vec<RowEntry>,
-) -> Result<Vec<RowEntry>, GenFault>
-    ensures { IfOk result (λ rs. rs.items ≡ forgotten (target_seen setting.entry target.entry) entries.items) }
-{
-    match target {
-        Target::Word { word, .. } => {
-            let mut known = Vec::new(alloc);
-            for entry in &entries {
-                known.push(unknown_at(word, *entry))?;
+impl Words {
+    /// One word more, if the target is one.
+    fn add(&mut self, setting: Setting, target: Target) -> Result<(), GenFault>
+        ensures { IfOk result (λ _. (word : ℕ) → is_found self.new word
+            ≡ with_target (target_seen setting.entry target.entry) (is_found self.old) word) }
+    {
+        match target {
+            Target::Word { word, .. } => {
+                self.found.insert(word)?;
+                Ok(())
             }
-            Ok(known)
+            Target::Nothing | Target::Known { .. } | Target::Other { .. } => Ok(()),
         }
-        _ => Ok(entries),
+    }
+
+    /// What is known of words, but that nothing is known of the number in one of these.
+    fn forgotten(&self, entry: RowEntry) -> RowEntry
+        ensures { result ≡ unknown_in (is_found self.now) entry }
+    {
+        if self.found.contains(&entry.word) {
+            is_in(entry.word, 1, Range::full())
+        } else {
+            entry
+        }
+    }
+
+    /// The same of all that is known.
+    fn all_forgotten(&self, alloc: Global, entries: &[RowEntry]) -> Result<Vec<RowEntry>, GenFault>
+        ensures { IfOk result (λ rs. rs.items ≡ map (unknown_in (is_found self.now)) entries.now) }
+    {
+        let mut known = Vec::with_capacity(alloc, entries.len())?;
+        for entry in entries {
+            known.push(self.forgotten(*entry))?;
+        }
+        Ok(known)
     }
 }
 
@@ -212,12 +225,16 @@ pub(crate) fn all_forgotten(
     ensures { IfOk result (λ rs. rs.items ≡ all_forgotten (homes_in setting.entry) (entries_in setting.entry)
         setting.entry.top (parameters_of passed.entry) 0 (actuals_of passed.entry) entries.items) }
 {
-    let mut entries = entries;
+    let mut words = Words {
+        found: BTreeSet::new(alloc),
+    };
     for (place, actual) in passed.actuals.iter().enumerate() {
-        let target = passed_target(setting, passed.meaning(place), actual);
-        entries = forgotten(alloc, target, setting, entries)?;
+        words.add(
+            setting,
+            passed_target(setting, passed.meaning(place), actual),
+        )?;
     }
-    Ok(entries)
+    words.all_forgotten(alloc, &entries)
 }
 
 impl Listing {

@@ -198,6 +198,7 @@ impl<'a> ProcessWriter<'a> {
             ≡ self.old.listing ++ row_of label (frame_seen self.old.frame) (known_of self.old.scope) ∷ []) }
         ensures site { IfOk result (λ _. site_of self.new ≡ site_of self.old) }
     {
+        self.listing.look_at(self.frame.homes.len())?;
         let entries = facts_in(self.alloc, &self.scope, &self.frame)?;
         self.say(entries.len())?;
         self.listing.push(Piece::Row { label, entries })
@@ -552,7 +553,7 @@ impl<'a> ProcessWriter<'a> {
     {
         let count = value_or_zero(&self.scope, &replicator.count);
         if count == 0 {
-            return self.write_no_loop(changed);
+            return self.write_no_loop(changed, process);
         }
         let head = self.label;
         let names = self.frame.homes.len();
@@ -565,7 +566,7 @@ impl<'a> ProcessWriter<'a> {
             base: value_or_zero(&self.scope, &replicator.base),
             count,
         };
-        self.enter_loop(turning, changed)?;
+        self.enter_loop(turning, changed, process)?;
         self.write_one(around, process)?;
         self.leave_loop(names, word, head)?;
         Ok(())

@@ -34,6 +34,7 @@ impl Listing {
     pub fn write_expression(&mut self, setting: Setting, expr: &Expr) -> Result<(), GenFault>
         ensures { IfOk result (λ _. self.new ≡ self.old ++ expression_in setting.entry (expression_of expr.now)) }
     {
+        self.read(expr)?;
         match value_of(setting.scope, expr) {
             Some(value) => self.constant(value),
             None => {
