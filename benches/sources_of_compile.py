@@ -243,7 +243,7 @@ def alternations_behind_names(constants, count):
 SOURCES = {
     "ordinary": (ordinary_lines, COMPILED, "32,768 ordinary lines"),
     "sum": (lambda: long_sum(65_000), COMPILED, "a sum of 65,000 variables"),
-    "brackets": (lambda: nested_brackets(250_000), COMPILED, "a sum of 250,000 constants in 60 brackets, 16 times"),
+    "brackets": (lambda: nested_brackets(250_000), TOO_LARGE, "a sum of 250,000 constants in 60 brackets, 16 times"),
     "doubling": (lambda: doubling(60), TOO_LARGE, "60 procedures that call the one before twice each"),
     "calls": (lambda: calls(2_700, 100), COMPILED, "2,700 instances that pass 100 variables"),
     "calls-words": (
@@ -251,10 +251,10 @@ SOURCES = {
         "140 instances that pass 4,000 variables, where 10,000 others have words",
     ),
     "calls-names": (
-        lambda: calls_behind_names(32_000, 250), COMPILED, "250 instances of a procedure that knows 32,000 constants",
+        lambda: calls_behind_names(32_000, 250), TOO_LARGE, "250 instances of a procedure that knows 32,000 constants",
     ),
     "calls-long": (
-        lambda: calls_behind_long_names(80, 10_000, 8_000), COMPILED,
+        lambda: calls_behind_long_names(80, 10_000, 8_000), TOO_LARGE,
         "8,000 instances of a procedure that knows 80 constants with long names",
     ),
     "calls-deep": (
@@ -269,11 +269,11 @@ SOURCES = {
     "said": (lambda: rows_of_many_words(8_190, 510), COMPILED, "8,191 rows about 511 variables"),
     "loops": (lambda: nested_loops(60), COMPILED, "60 loops in one another"),
     "loops-changes": (
-        lambda: changes_in_loops(58, 1_000, 150, 12), COMPILED,
+        lambda: changes_in_loops(58, 1_000, 150, 12), TOO_LARGE,
         "150 instances that pass 1,000 arrays in 58 loops, 12 times",
     ),
     "loops-idle": (
-        lambda: changes_without_turns(20, 12_000, 1_000), COMPILED,
+        lambda: changes_without_turns(20, 12_000, 1_000), TOO_LARGE,
         "12,000 instances that pass 20 arrays in a loop without turns, 1,000 times",
     ),
     "constants": (lambda: constants(32_700), COMPILED, "32,700 constants"),
@@ -283,7 +283,7 @@ SOURCES = {
     "pars": (lambda: pars(1_024), COMPILED, "1,024 PARs"),
     "pars-words": (lambda: pars_behind_words(1_024, 1_000), COMPILED, "the same where 1,000 variables have words"),
     "pars-nested": (lambda: nested_pars(61), COMPILED, "61 PARs in one another"),
-    "pars-rows": (lambda: rows_in_pars(60, 8_000, 500), COMPILED, "8,000 rows about 500 variables in 60 PARs"),
+    "pars-rows": (lambda: rows_in_pars(60, 8_000, 500), TOO_LARGE, "8,000 rows about 500 variables in 60 PARs"),
     "pars-code": (lambda: code_in_pars(60, 40_000), COMPILED, "a sum of 40,000 variables in 60 PARs"),
     "alternations": (lambda: alternations(100), COMPILED, "100 alternations of 64 guards"),
     "alternations-names": (
