@@ -188,7 +188,7 @@ impl<'a> ProcessWriter<'a> {
         self.listing.write_end(context.depth)?;
         let branch = mem::replace(&mut self.context, context);
         let code = mem::replace(&mut self.listing, listing);
-        self.listing.go_on_behind(&code)?;
+        self.listing.go_on_after(&code)?;
         self.frame.top = top;
         self.spent.count_notes(code.notes.count())?;
         fork.add(self.alloc, entry, branch, code)

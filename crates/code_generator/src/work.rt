@@ -51,14 +51,14 @@ impl Work {
         Work { steps: 0 }
     }
 
-    /// So many times so many steps. The error is [`GenFault::Limit`] if they are too many.
+    /// `times` times `steps` steps. The error is [`GenFault::Limit`] if they are too many.
     fn count(&mut self, times: u32, steps: u32) -> Result<(), GenFault> {
         let more = times.checked_mul(steps).ok_or(GenFault::Limit)?;
         self.steps = plus(self.steps, more, GREATEST_WORK)?;
         Ok(())
     }
 
-    /// The outermost names, so many of them, are declared again.
+    /// The first `count` names are declared again.
     fn declare(&mut self, scope: &Scope, count: usize) -> Result<(), GenFault> {
         for number in 0..count {
             if let Some(entry) = scope.entry(number) {
@@ -84,8 +84,8 @@ impl Work {
         self.count(size, FINDING_STEPS)
     }
 
-    /// Declarations are gone over for what is changed behind them.
-    fn find_behind(&mut self, declarations: &[Declaration]) -> Result<(), GenFault> {
+    /// Declarations are gone over for what is changed after them.
+    fn find_after(&mut self, declarations: &[Declaration]) -> Result<(), GenFault> {
         for declaration in declarations {
             self.find_on_line(size_of_declaration(declaration))?;
         }
@@ -96,7 +96,7 @@ impl Work {
     #[cycle(finding)]
     fn find(&mut self, process: &Process) -> Result<(), GenFault> {
         self.count(1, PROCESS_STEPS)?;
-        self.find_behind(&process.declarations)?;
+        self.find_after(&process.declarations)?;
         self.find_in_construct(&process.construct)
     }
 
@@ -163,21 +163,21 @@ impl Listing {
         self.work.count(size_of_condition(expr), READING_STEPS)
     }
 
-    /// The outermost names, so many of them, are declared again.
+    /// The first `count` names are declared again.
     pub(crate) fn declare_again(&mut self, scope: &Scope, count: usize) -> Result<(), GenFault>
         ensures { IfOk result (λ _. self.new ≡ self.old) }
     {
         self.work.declare(scope, count)
     }
 
-    /// So many actuals are passed.
+    /// `actuals` actuals are passed.
     pub(crate) fn pass(&mut self, actuals: usize) -> Result<(), GenFault>
         ensures { IfOk result (λ _. self.new ≡ self.old) }
     {
         self.work.count(size_of_count(actuals)?, PASSING_STEPS)
     }
 
-    /// So many names are looked at for a row.
+    /// `names` names are looked at for a row.
     pub(crate) fn look_at(&mut self, names: usize) -> Result<(), GenFault>
         ensures { IfOk result (λ _. self.new ≡ self.old) }
     {
@@ -192,7 +192,7 @@ impl Listing {
     }
 
     /// The code of a branch was written, whose rows are cut now.
-    pub(crate) fn go_on_behind(&mut self, branch: &Listing) -> Result<(), GenFault>
+    pub(crate) fn go_on_after(&mut self, branch: &Listing) -> Result<(), GenFault>
         ensures { IfOk result (λ _. self.new ≡ self.old) }
     {
         self.work = branch.work;
