@@ -27,7 +27,7 @@ impl From<FormatFault> for HostFailure {
     ghost from_gives = { λ fault failure. failure ≡ failure_of_file fault };
 
     fn from(fault: FormatFault) -> Self {
-        if fault.number == certificate::MEMORY {
+        if fault.number == module_format::MEMORY {
             HostFailure::Memory
         } else {
             HostFailure::NoFile(fault)
