@@ -1,7 +1,16 @@
-use Rattle.host_library.proofs.Refused.{refused}
+use Rattle.std.proofs.Common.{◌≡◌, refl, subst, sym}
+use Rattle.certified_worlds.specs.Certified.{IsCertified}
+use Rattle.host_library.specs.declared.failure.HostFailure.TheVariants.{Memory}
+use Rattle.host_library.proofs.Refused.{refused, only_memory}
 use Rattle.host_library.proofs.judging.budget_of.Goals as goal
 
 pub returns-in_err-verify-clause-answer : goal.returns-in_err-verify-clause-answer
 returns-in_err-verify-clause-answer c =
     refused c.args.bytes.now c.in_ok-module.module (λ _. ⊥) c.in_ok-module.ensures.found _ _
+    c.in_err-verify.ensures.refuses c.from_residual-in_err-verify.result c.from_residual-in_err-verify.ensures.1
+
+pub returns-in_err-verify-clause-certified : goal.returns-in_err-verify-clause-certified
+returns-in_err-verify-clause-certified c m format certified =
+    only_memory (λ failure. failure ≡ Memory) refl c.in_ok-module.module
+    (subst IsCertified (sym (c.in_ok-module.ensures.only m format)) certified) c.not_both.ensures _
     c.in_err-verify.ensures.refuses c.from_residual-in_err-verify.result c.from_residual-in_err-verify.ensures.1
