@@ -1,5 +1,5 @@
 -- What the verifier refuses, as the failure of a call.
-use Rattle.std.proofs.Common.{◌≡◌, inl, inr, ℕ, Bool, true, false, if◌then◌else◌, List, Result, Ok, Err, ⊥}
+use Rattle.std.proofs.Common.{◌≡◌, inl, inr, ℕ, Bool, true, false, if◌then◌else◌, List, Result, Ok, Err}
 use Rattle.std.specs.Prelude.{◌==◌, IfErr, IsErrAnd, MatchResult}
 use Rattle.module_format.specs.Contents.{Contents}
 use Rattle.module_format.specs.Keeping.{Format}
