@@ -2,6 +2,7 @@
 use Rattle.std.specs.Prelude.{◌==◌, ◌&&◌, ◌||◌, not, ℤ, pos, ◌+ℤ◌, int_le, Bool, if◌then◌else◌}
 use Rattle.module_format.specs.Rows.{Fact}
 use Rattle.module_format.specs.Stack.{of_empty}
+use Rattle.machine_state.specs.declared.op.TheConstants.{MOST_MOVED}
 use Rattle.states.specs.declared.rule.Rule.TheVariants as rules
 use Rattle.states.specs.State.{State, unknown, is_word as is_same}
 use Rattle.rulings.specs.declared.pointers.Pointed.{Pointed}
@@ -13,7 +14,7 @@ use Rattle.rulings.specs.Filling.{are_numbers, filled}
 
 -- this number of bytes may be moved at once
 abbrev pub is_movable : ℤ → Bool
-is_movable count = int_le (pos 0) count && int_le count (pos 65536)
+is_movable count = int_le (pos 0) count && int_le count (pos MOST_MOVED)
 
 -- how many bytes are moved, which is a constant, to where B points
 unfoldable pub amount : Site → State → Fact → Fact → (ℤ → Ruling) → Ruling

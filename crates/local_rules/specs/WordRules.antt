@@ -14,6 +14,7 @@ use Rattle.module_format.specs.Rows.{Fact}
 use Rattle.module_format.specs.declared.fact.Fact.TheVariants.{Number}
 use Rattle.module_format.specs.declared.stack.Stack.{Stack}
 use Rattle.module_format.specs.Contexts.{context_at}
+use Rattle.machine_state.specs.declared.op.TheConstants.{MOST_SHIFT}
 use Rattle.machine_state.specs.declared.op.Shift.{Shift}
 use Rattle.machine_state.specs.declared.op.Shift.TheVariants as shifts
 use Rattle.machine_state.specs.declared.op.LongOp.{LongOp}
@@ -92,9 +93,9 @@ unary_result_fact op operand = elim (range_of operand) [
   | Some r ↦ option_map number_in (unary_result_range op r)
 ]
 
--- counts of bits from 0 to 31
+-- counts of bits by which a word may be shifted
 abbrev pub are_shift_counts : Ends → Bool
-are_shift_counts counts = int_le (pos 0) counts.lo && int_le counts.hi (pos 31)
+are_shift_counts counts = int_le (pos 0) counts.lo && int_le counts.hi (pos MOST_SHIFT)
 
 -- the range of a shift; `None` if a count may be out of range
 unfoldable pub shift_range : Shift → Ends → Ends → Option Ends

@@ -2,6 +2,7 @@
 
 ghost use Rattle.std.specs.Prelude.{◌≡◌, ◌≤ℤ◌, ◌<ℤ◌, ◌+ℤ◌, ℤ, pos, true, int_le, IfOk};
 ghost use Rattle.module_format.specs.Contents.{Contents};
+ghost use Rattle.machine_state.specs.declared.op.TheConstants.{MOST_MOVED};
 ghost use Rattle.states.specs.Views.{state_of, BelongsTo, CanWriteSpan};
 ghost use Rattle.rulings.specs.Reach.{word_of_byte, words_touched};
 ghost use Rattle.rulings.specs.Pointers.{are_near};
@@ -11,6 +12,7 @@ ghost use Rattle.rulings.specs.Filling.{are_numbers};
 ghost use Rattle.rulings.specs.Telling.{Gives, Advances};
 ghost use Rattle.rulings.specs.Places.{site_of};
 
+use machine_state::MOST_MOVED;
 use module_format::{Fact, Stack};
 use rulings::combinators::{alone, uses};
 use rulings::filling::{are_numbers, fill};
@@ -19,8 +21,8 @@ use rulings::reading::sum_reached;
 use rulings::{Continuation, Place};
 use states::{Known, Rule, State};
 
-/// How many bytes may be moved at once.
-const MOST_BYTES: i32 = 65_536;
+/// The most bytes that `move` copies at once, as a signed number.
+const MOST_BYTES: i32 = MOST_MOVED as i32;
 
 /// Bytes that go from one place to another: how many, and both places, all of which are known.
 #[derive(Clone, Copy)]
@@ -29,7 +31,7 @@ struct Block {
     from: Pointed,
     to: Pointed,
     ghost counted: { pos 0 ≤ℤ count },
-    ghost few: { count ≤ℤ pos 65536 },
+    ghost few: { count ≤ℤ pos MOST_MOVED },
     ghost source: { are_near from.lo from.hi ≡ true },
     ghost target: { are_near to.lo to.hi ≡ true },
     ghost exact: { to.lo ≡ to.hi },
@@ -40,7 +42,7 @@ struct Block {
 fn amount(place: &Place, state: &State, a: Fact, b: Fact) -> Result<i32, Rule>
     ensures answer { Gives (λ count. count) result (amount (site_of place.now) (state_of state.now) a b) }
     ensures some { IfOk result (λ count. pos 0 ≤ℤ count) }
-    ensures few { IfOk result (λ count. count ≤ℤ pos 65536) }
+    ensures few { IfOk result (λ count. count ≤ℤ pos MOST_MOVED) }
 {
     let count = constant_of(a)?;
     if !is_movable(count) || !place.takes_any(state.context, b) {

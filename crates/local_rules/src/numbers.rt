@@ -10,7 +10,7 @@ ghost use Rattle.local_rules.specs.WordRules.{numbers_have, fact_of_two, result_
 ghost use Rattle.local_rules.specs.WordRules.{long_results, word_and_constant, test_of, greater_source, equal_source};
 ghost use Rattle.local_rules.specs.WordRules.{result_source, constant_source};
 
-use machine_state::{LongOp, Shift};
+use machine_state::{LongOp, MOST_SHIFT, Shift};
 use module_format::{Fact, Stack};
 use states::{Known, Source, WordFact};
 use word_arithmetic::{Binary, Range, Unary};
@@ -109,12 +109,15 @@ pub(crate) fn unary_result_fact(op: Unary, operand: Fact) -> Option<Fact>
     Some(number_in(range))
 }
 
-/// The range of a shift; `None` where a count may be outside 0 to 31.
+/// The most bits by which a word is shifted, as a signed number.
+const MOST_COUNT: i32 = MOST_SHIFT as i32;
+
+/// The range of a shift; `None` where a count may be out of range.
 #[tactic(auto, unfolding(crate::specs::WordRules::shift_range))]
 fn shift_range(op: Shift, range: Range, counts: Range) -> Option<Range>
     ensures { option_map ends_of result ≡ shift_range op (ends_of range) (ends_of counts) }
 {
-    if counts.lo < 0 || 31 < counts.hi {
+    if counts.lo < 0 || MOST_COUNT < counts.hi {
         return None;
     }
     match op {

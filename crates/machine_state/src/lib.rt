@@ -37,7 +37,7 @@ pub use laws::{
 };
 pub use link::{InputLink, Link, OutputLink};
 pub use loading::loaded_bytes;
-pub use op::{LongOp, Op, Shift};
+pub use op::{LongOp, MOST_MOVED, MOST_SHIFT, Op, Shift};
 pub use process::{Channel, Condition, Exchange, Mode, Registers, Task, Word};
 pub use request::Request;
 pub use role::{Join, Role};

@@ -8,6 +8,12 @@ use word_arithmetic::{
     Binary, LongResult, Unary, long_difference, long_product, long_sum, shift_left, shift_right,
 };
 
+/// The most bytes that `move` copies at once.
+pub const MOST_MOVED: u32 = 65_536;
+
+/// The most bits by which a word is shifted.
+pub const MOST_SHIFT: u32 = 31;
+
 /// A shift of B by A.
 #[derive(Clone, Copy, Debug, PartialEq, Eq)]
 pub enum Shift {

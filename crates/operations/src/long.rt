@@ -4,11 +4,8 @@ ghost use Rattle.machine_state.specs.declared.op.Op.TheVariants as operation;
 ghost use Rattle.machine_state.specs.Performing.{PerformsOperation};
 
 use crate::operands::{operand, replace_two};
-use machine_state::{Cpu, FaultKind, Flow, LongOp, Shift, Store};
+use machine_state::{Cpu, FaultKind, Flow, LongOp, MOST_SHIFT, Shift, Store};
 use module_format::Stack;
-
-/// The most bits by which a word is shifted.
-const MOST_SHIFT: u32 = 31;
 
 /// `shl`, `shr`: A and B are popped, and B, shifted by A bits, is pushed.
 pub(crate) fn shift<S: Store>(cpu: &mut Cpu<S>, op: Shift) -> Result<Flow, FaultKind>

@@ -4,11 +4,8 @@ ghost use Rattle.machine_state.specs.declared.op.Op.TheVariants as operation;
 ghost use Rattle.machine_state.specs.Performing.{PerformsOperation};
 
 use crate::operands::operand;
-use machine_state::{Cpu, FaultKind, Flow, Store};
+use machine_state::{Cpu, FaultKind, Flow, MOST_MOVED, Store};
 use module_format::Stack;
-
-/// The most bytes that move at a time.
-const MOST_MOVED: u32 = 65_536;
 
 /// `move`: A bytes go from C to B. The two blocks do not meet, and undefined bytes stay undefined.
 pub(crate) fn move_bytes<S: Store>(cpu: &mut Cpu<S>) -> Result<Flow, FaultKind>
