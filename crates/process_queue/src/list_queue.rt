@@ -31,12 +31,13 @@ impl Model for ListQueue {
 }
 
 impl ListQueue {
-    /// A queue with no process in it.
+    /// A queue with no process in it, and no capacity for one.
     pub fn new(alloc: Global) -> Self
-        ensures { result.processes ≡ [] }
+        ensures processes { result.processes ≡ [] }
+        ensures room { result.room ≡ 0 }
     {
         ListQueue {
-            processes: VecDeque::new(alloc),
+            processes: VecDeque::from_vec(Vec::new(alloc)),
         }
     }
 }

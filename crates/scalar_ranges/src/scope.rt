@@ -1,6 +1,6 @@
 //! What is known of the names in a part of a program.
 
-ghost use Rattle.std.specs.Prelude.{◌≡◌, [], ◌∷◌, option_map, OnOk, OnErr};
+ghost use Rattle.std.specs.Prelude.{◌≡◌, [], ◌∷◌, option_map, OnOk, OnErr, IfErr};
 ghost use Rattle.scalar_ranges.specs.Entries.{meaning_in, number_in, entry_at};
 ghost use Rattle.scalar_ranges.specs.EntryViews.{meaning_of, entry_of};
 ghost use Rattle.scalar_ranges.specs.Naming.{names_from};
@@ -111,10 +111,11 @@ impl<'a> Scope<'a> {
         }
     }
 
-    /// One entry more, the innermost one. If memory runs out, the scope is as it was.
+    /// One entry more, the innermost one. If memory runs out, the scope is as it was, and the entry is handed back.
     pub fn declare(&mut self, entry: Entry<'a>) -> Result<(), AllocFailed<Entry<'a>>>
         ensures ok { OnOk result (entries_of self.new ≡ entry_of entry.entry ∷ entries_of self.old) }
         ensures err { OnErr result (entries_of self.new ≡ entries_of self.old) }
+        ensures back { IfErr result (λ failed. entry_of failed.value ≡ entry_of entry.entry) }
         ensures blocks { blocks_of self.new ≡ blocks_of self.old }
     {
         if self.names.push(entry.name).is_err() {

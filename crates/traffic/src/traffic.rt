@@ -321,6 +321,8 @@ impl Traffic<TaggedStore, ListQueue> {
         requires start { data_start + 4 * tables.now.data_words < 2 ^ 32 }
         ensures world { IfOk result (λ t. t.world ≡ loaded (contents_of tables.now)) }
         ensures holding { IfOk result (λ t. HoldsAs 0 t) }
+        // Nothing can be pushed before capacity is reserved.
+        ensures room { IfOk result (λ t. t.room ≡ 0) }
     {
         let root = Task::root(tables);
         let cpu = Cpu {
