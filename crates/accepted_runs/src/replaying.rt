@@ -14,6 +14,7 @@ use std::alloc::{AllocError, Global};
 use verifier::Verified;
 
 /// The bytes go after what went out on the link.
+#[inline(never)]
 fn put_out(out: &mut [Vec<u8>; 4], link: Link, bytes: &[u8]) -> Result<(), AllocError>
     ensures { OnOk result (GoesOut (Ok (emitted link bytes.now)) out.old out.new) }
 {
@@ -21,6 +22,7 @@ fn put_out(out: &mut [Vec<u8>; 4], link: Link, bytes: &[u8]) -> Result<(), Alloc
 }
 
 /// One event of a machine: what it emits goes after what went out before.
+#[inline(always)]
 fn follow<M: Machine>(
     machine: &mut M,
     event: Event,

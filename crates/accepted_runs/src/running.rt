@@ -93,6 +93,7 @@ impl<'a> Run<'a> {
     }
 
     /// One event, with the message that it sent still in the machine.
+    #[inline(always)]
     fn advance(&mut self, event: Event) -> Reaction
         ensures contents { self.new.contents ≡ self.old.contents }
         ensures reacts { (w : World) → Shows self.old w
@@ -106,6 +107,7 @@ impl<'a> Run<'a> {
 
     /// Steps where no process gives way, and the first that is ready is next: of all but the last one the process that
     /// runs asks nothing of others.
+    #[inline(always)]
     fn go_on(&mut self) -> Reaction
         ensures { HasGoneAndReacted self.old result self.new }
     {
@@ -116,6 +118,7 @@ impl<'a> Run<'a> {
 
     /// One event, and what it did. In each world that the machine agrees with it is no fault, this is its effect, and
     /// the machine agrees with the world after it.
+    #[inline(always)]
     pub fn apply(&mut self, event: Event) -> Effect<'_>
         ensures answer { (w : World) → Shows self.old w
             → (turn self.old.contents w event).answer ≡ Ok (shown result) }
@@ -126,6 +129,7 @@ impl<'a> Run<'a> {
     }
 
     /// What the last event did, as it is reported.
+    #[inline(always)]
     fn effect(&self, reaction: Reaction) -> Effect<'_>
         ensures { shown result ≡ reported reaction self.now.last }
     {
@@ -145,6 +149,7 @@ impl<'a> Run<'a> {
     }
 
     /// The bytes of the message that the last event sent, none if it sent no message.
+    #[inline(always)]
     fn sent(&self) -> &[u8]
         ensures { result.now ≡ self.now.last }
     {
@@ -206,6 +211,7 @@ impl<'a> Machine for Run<'a> {
         }
     }
 
+    #[inline(always)]
     fn react(&mut self, event: Event) -> Reaction {
         self.advance(event)
     }

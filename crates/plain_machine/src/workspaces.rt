@@ -64,6 +64,7 @@ impl Workspaces {
     /// Executes the next byte of the process that runs, of code that begins at this address: a prefix goes to the
     /// operand, and any other byte completes an instruction. `operand` is 0 between two instructions. Nothing is
     /// tested: the byte is safe, and changes no link of a ready process.
+    #[inline(always)]
     pub fn execute_byte(
         &mut self,
         registers: &mut PlainRegisters,

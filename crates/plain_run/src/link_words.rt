@@ -16,7 +16,9 @@ fn link_from(first: u32, address: u32) -> Option<Link>
     requires { first + 12 < 2 ^ 32 }
     ensures { option_map link_index result ≡ link_from first address }
 {
-    if address == first {
+    if address > first + 12 {
+        None
+    } else if address == first {
         Some(Link::Zero)
     } else if address == first + 4 {
         Some(Link::One)
