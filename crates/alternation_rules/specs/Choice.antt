@@ -2,7 +2,6 @@
 use Rattle.std.specs.Prelude.{◌≡◌, ℕ, ◌+◌, ◌-◌, ◌*◌, ℤ, pos, ◌+ℤ◌, false, List, [], ◌∷◌, Some, None}
 use Rattle.module_format.specs.Rows.{Fact}
 use Rattle.module_format.specs.declared.fact.Fact.TheVariants.{Unknown, Number}
-use Rattle.module_format.specs.declared.tables.Version.TheVariants.{One}
 use Rattle.module_format.specs.Contents.{Contents, Label}
 use Rattle.module_format.specs.Stack.{of_empty}
 use Rattle.word_arithmetic.specs.Word.{least_word}
@@ -34,7 +33,6 @@ bare_label offset number = record {
 -- ldc 1; ldc 2; disc; altend; stopp; stopp: of the guard in front of the second distance, the value varies
 abbrev pub choice : Variation → Contents
 choice v = record {
-  version = One;
   code = 0x24 ∷ 0xf3 ∷ 0x24 ∷ 0xf2 ∷ 0x54 ∷ 0x41 ∷ 0x24 ∷ 0xf8 ∷ 0x24 ∷ 0xf2 ∷ 0x55 ∷ 0x41 ∷ 0x24 ∷ 0xf8 ∷ 0x24 ∷ 0xf4
       ∷ 0x24 ∷ 0xf2 ∷ 0x54 ∷ 0x41 ∷ 0x40 ∷ 0x22 ∷ 0xff ∷ 0x24 ∷ 0xf2 ∷ 0x55 ∷ (0x40 + v.guard) ∷ 0x42 ∷ 0x22 ∷ 0xff
       ∷ 0x24 ∷ 0xf5 ∷ 0x21 ∷ 0xf5 ∷ 0x21 ∷ 0xf5 ∷ [];

@@ -152,7 +152,7 @@ module _ (m : Contents) (h : Holding) (mode : machine.Mode) (act : Activation) (
 
   -- ---- the callee's frame
 
-  row : (low : ℕ) × ProcedureKeeps m.version (length m.code) low p
+  row : (low : ℕ) × ProcedureKeeps (length m.code) low p
   row = wf.procedures (context - 1) p is
 
   pub callee_context : context_at m context ≡ Some (procedure_context p)
@@ -199,7 +199,7 @@ module _ (m : Contents) (h : Holding) (mode : machine.Mode) (act : Activation) (
   pub parameter_inside : (j : ℕ) (q : Parameter) → slice_get p.parameters j ≡ Some q
       → (p.lo ≤ℤ pos q.word) × (pos q.word <ℤ p.hi)
   parameter_inside j q found =
-      let keeps = parameter_keeps m.version p.hi 0 p.parameters j q row.1.parameters found in
+      let keeps = parameter_keeps p.hi 0 p.parameters j q row.1.parameters found in
       (omega (arith, ints, row.1.lo_high), keeps.1.inside)
 
   pub given_means : (j : ℕ) (q : Parameter) → slice_get p.parameters j ≡ Some q
@@ -762,11 +762,11 @@ module _ (m : Contents) (h : Holding) (mode : machine.Mode) (act : Activation) (
     pub means : Means m layout (parameter_fact (2 + j) kind) v
     pub linked : LinkedBy kind fact part.region part.first
 
-  kind_kept : (j : ℕ) (q : Parameter) → slice_get p.parameters j ≡ Some q → KindKeeps m.version q.kind
-  kind_kept j q found = (parameter_keeps m.version p.hi 0 p.parameters j q row.1.parameters found).1.kind
+  kind_kept : (j : ℕ) (q : Parameter) → slice_get p.parameters j ≡ Some q → KindKeeps q.kind
+  kind_kept j q found = (parameter_keeps p.hi 0 p.parameters j q row.1.parameters found).1.kind
 
   passed_lent : (j : ℕ) (q : Parameter) → slice_get p.parameters j ≡ Some q → (size : ℕ) (lo hi : ℤ) (w : Bool)
-      → KindKeeps m.version (ReadRegion size lo hi)
+      → KindKeeps (ReadRegion size lo hi)
       → (elim (lent_from size lo hi w (given call q)) as (λ o. Bool) [ None ↦ true | Some l ↦ numbers_suit call l ])
       ≡ true
       → (elim (lent_from size lo hi w (given call q)) as (λ o. Bool) [ None ↦ false | Some l ↦ may_lend call l ]) ≡ true

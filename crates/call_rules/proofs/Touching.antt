@@ -8,7 +8,6 @@ use Rattle.std.proofs.lemmas.Int.{ints}
 use Rattle.module_format.specs.declared.rows.Parameter.{Parameter}
 use Rattle.module_format.specs.declared.rows.ParameterKind.{ParameterKind}
 use Rattle.module_format.specs.declared.rows.ParameterKind.TheVariants.{Value, ReadRegion, WrittenRegion, Channels}
-use Rattle.module_format.specs.declared.tables.Version.{Version}
 use Rattle.module_format.specs.Rows.{Fact, ProcedureRow}
 use Rattle.module_format.specs.declared.fact.Fact.TheVariants.{Unknown, Number}
 use Rattle.module_format.specs.declared.stack.Stack.{Stack}
@@ -82,43 +81,43 @@ option_owned c size lo hi w fact (Some l) some is may =
     let same = ap (λ (x : Lent). x.size) (lent_fact size lo hi w fact l is).1 in
     lent_owned c l (subst (λ (n : ℕ). 4 ≤ n) (sym same) some) may
 
-kind_owned : (c : Calling) (version : Version) (kind : ParameterKind) (fact : WordFact) → KindKeeps version kind
+kind_owned : (c : Calling) (kind : ParameterKind) (fact : WordFact) → KindKeeps kind
     → (elim kind as (λ kind. Bool) [
       | Value lo hi ↦ true
       | Channels count len ends ↦ true
       | _ ↦ elim (lent_to kind fact) [ None ↦ false | Some l ↦ may_lend c l ]
     ]) ≡ true
     → OwnsLent c.contents c.state.context (lent_to kind fact)
-kind_owned c version (Value lo hi) fact keeps may = tt
-kind_owned c version (Channels count len ends) fact keeps may = tt
-kind_owned c version (ReadRegion size lo hi) fact keeps may =
+kind_owned c (Value lo hi) fact keeps may = tt
+kind_owned c (Channels count len ends) fact keeps may = tt
+kind_owned c (ReadRegion size lo hi) fact keeps may =
     option_owned c size lo hi false fact (lent_from size lo hi false fact) keeps.some refl may
-kind_owned c version (WrittenRegion size lo hi) fact keeps may =
+kind_owned c (WrittenRegion size lo hi) fact keeps may =
     option_owned c size lo hi true fact (lent_from size lo hi true fact) keeps.some refl may
 
-parameter_owned : (c : Calling) (version : Version) (word : ℕ) (kind : ParameterKind) → KindKeeps version kind
+parameter_owned : (c : Calling) (word : ℕ) (kind : ParameterKind) → KindKeeps kind
     → pointers_fit c (record { word = word; kind = kind }) ≡ true
     → OwnsLent c.contents c.state.context (lent c (record { word = word; kind = kind }))
 unfolding pointers_fit
-parameter_owned c version word (Value lo hi) keeps may = tt
-parameter_owned c version word (Channels count len ends) keeps may = tt
-parameter_owned c version word (ReadRegion size lo hi) keeps may =
-    kind_owned c version (ReadRegion size lo hi)
+parameter_owned c word (Value lo hi) keeps may = tt
+parameter_owned c word (Channels count len ends) keeps may = tt
+parameter_owned c word (ReadRegion size lo hi) keeps may =
+    kind_owned c (ReadRegion size lo hi)
     (given c (record { word = word; kind = ReadRegion size lo hi })) keeps may
-parameter_owned c version word (WrittenRegion size lo hi) keeps may =
-    kind_owned c version (WrittenRegion size lo hi)
+parameter_owned c word (WrittenRegion size lo hi) keeps may =
+    kind_owned c (WrittenRegion size lo hi)
     (given c (record { word = word; kind = WrittenRegion size lo hi })) keeps
     may
 
 -- where pointers fit, what is lent to be written of the frame are own words
-pub all_owned : (c : Calling) (version : Version) (hi : ℤ) (low : ℕ) (ps : List Parameter)
-    → InOrder (ParameterKeeps version hi) behind_parameter low ps → list_all (pointers_fit c) ps ≡ true
+pub all_owned : (c : Calling) (hi : ℤ) (low : ℕ) (ps : List Parameter)
+    → InOrder (ParameterKeeps hi) behind_parameter low ps → list_all (pointers_fit c) ps ≡ true
     → AllByRecursion (OwnsLent c.contents c.state.context) (map (lent c) ps)
-all_owned c version hi low [] keeps may = tt
-all_owned c version hi low (p ∷ ps) keeps may =
+all_owned c hi low [] keeps may = tt
+all_owned c hi low (p ∷ ps) keeps may =
     let both = and-parts _ _ may in (
-      parameter_owned c version p.word p.kind keeps.0.kind both.0,
-      all_owned c version hi p.word ps keeps.1 both.1,
+      parameter_owned c p.word p.kind keeps.0.kind both.0,
+      all_owned c hi p.word ps keeps.1 both.1,
     )
 
 -- a context's own words can be written
@@ -131,12 +130,12 @@ owned_room m s context first count belongs owns =
 
 -- a row is valid
 pub row_keeps : (m : Contents) → Keeps m → (i : ℕ) (p : Procedure) → slice_get m.procedures i ≡ Some p
-    → (low : ℕ) × ProcedureKeeps m.version (length m.code) low p
-row_keeps m keeps i p is = at-row m.version (length m.code) 0 m.procedures i p keeps.rows.procedures is
+    → (low : ℕ) × ProcedureKeeps (length m.code) low p
+row_keeps m keeps i p is = at-row (length m.code) 0 m.procedures i p keeps.rows.procedures is
 
-pub frame_some : (version : Version) (code low : ℕ) (p : Procedure) → ProcedureKeeps version code low p
+pub frame_some : (code low : ℕ) (p : Procedure) → ProcedureKeeps code low p
     → 1 ≤ frame_size p
-frame_some version code low p keeps =
+frame_some code low p keeps =
     let a = keeps.lo_high in let b = keeps.hi_low in omega (arith, ints, a, b)
 
 -- ---- passing

@@ -22,5 +22,5 @@ mod starting;
 mod starts;
 mod written;
 
-pub use modules::Module;
+pub use modules::{Module, ModuleFile};
 pub use runs::ChannelRun;

@@ -9,12 +9,12 @@ use crate::owned::OwnWords;
 use crate::runs::ChannelRun;
 use module_format::{
     BranchRow, Context, Contexts, FormatFault, Interval, LabelRow, ParRow, Parameter, ProcedureRow,
-    Tables, read, row_at,
+    Tables, Version, read, row_at,
 };
 use std::alloc::{AllocError, Global};
 use std::marker::Model;
 
-/// What a file says, with the file. A `Module` is made by `read` alone, so that each is one that a file
+/// What a file says, with the file. A `Module` is made by reading alone, so that each is one that a file
 /// gave.
 #[derive(Drop)]
 pub struct Module<'a> {
@@ -25,14 +25,59 @@ pub struct Module<'a> {
 
 impl<'a> Model for Module<'a> {
     ghost use Rattle.module_format.specs.Contents.{Contents, contents_of};
-    ghost use Rattle.module_format.specs.Keeping.{Format};
+    ghost use Rattle.module_format.specs.Keeping.{IsFile};
     ghost use Rattle.certificate.specs.Index.{IsIndex};
 
     ghost Value = { Contents };
 
     ghost view = { λ m. contents_of m.tables };
 
-    ghost invariant = { λ m. Format m.bytes.now (contents_of m.tables) × IsIndex (contents_of m.tables) m.index };
+    ghost invariant = { λ m. IsFile m.tables.version m.bytes.now (contents_of m.tables)
+        × IsIndex (contents_of m.tables) m.index };
+}
+
+/// A module with the version of its file, of which nothing that is asked of a module depends.
+#[derive(Drop)]
+pub struct ModuleFile<'a> {
+    /// The version of the file.
+    pub version: Version,
+    /// What the file says.
+    pub module: Module<'a>,
+}
+
+impl<'a> ModuleFile<'a> {
+    ghost use Rattle.std.specs.Prelude.{◌≡◌, ◌≢◌, ◌⊎◌, IfOk, IfErr, MatchResult, Ok, Err};
+    ghost use Rattle.module_format.specs.Contents.{Contents};
+    ghost use Rattle.module_format.specs.Keeping.{IsFile};
+    ghost use Rattle.module_format.specs.Reading.{out_of_memory};
+    ghost use Rattle.module_format.specs.ReadingFile.{read_file};
+    ghost use Rattle.module_format.specs.declared.tables.Version.{Version};
+
+    /// What the bytes say and the version that they say it in, or the first fault in the order of the fields.
+    pub fn read(alloc: Global, bytes: &'a [u8]) -> Result<ModuleFile<'a>, FormatFault>
+        // What is read is what the bytes spell.
+        ensures found { IfOk result (λ file. IsFile file.version bytes.now file.module) }
+        // What the bytes spell is read, unless memory runs out.
+        ensures only { (version : Version) (c : Contents) → IsFile version bytes.now c
+            → MatchResult result (λ file. (file.version ≡ version) × (file.module ≡ c)) (λ f. f ≡ out_of_memory) }
+        // Bytes that are refused spell nothing.
+        ensures refused { IfErr result (λ f. f ≢ out_of_memory → (version : Version) (c : Contents)
+            → IsFile version bytes.now c → ⊥) }
+        // Which fault it is, and where.
+        ensures exact { MatchResult result (λ file. read_file bytes.now ≡ Ok (file.version, file.module))
+            (λ f. (f ≡ out_of_memory) ⊎ (read_file bytes.now ≡ Err f)) }
+    {
+        let (tables, places) = read(alloc, bytes)?;
+        let version = tables.version;
+        let index = Index::new(alloc, &tables, places)?;
+        let mut module = Module {
+            bytes,
+            tables,
+            index,
+        };
+        module.judge_rows(alloc)?;
+        Ok(ModuleFile { version, module })
+    }
 }
 
 impl<'a> Module<'a> {
@@ -53,7 +98,7 @@ impl<'a> Module<'a> {
     ghost use Rattle.module_format.specs.Order.{InOrder, least_word};
     ghost use Rattle.module_format.specs.Pars.{GiftsKeep, ChannelKeeps, behind_channel, IntervalKeeps};
     ghost use Rattle.module_format.specs.Pars.{behind_interval};
-    ghost use Rattle.module_format.specs.Keeping.{Format, Keeps};
+    ghost use Rattle.module_format.specs.Keeping.{FitsVersion, Format, Keeps};
     ghost use Rattle.module_format.specs.Reading.{out_of_memory};
     ghost use Rattle.module_format.specs.ReadingFile.{read_contents};
 
@@ -61,6 +106,7 @@ impl<'a> Module<'a> {
     /// read.
     // A body that always returns out of memory meets these clauses too, since no clause can say that memory is left:
     // tests show that files are read.
+    #[tactic(auto, unfolding(module_format::specs::ReadingFile::read_contents, module_format::specs::Reading::and_then))]
     pub fn read(alloc: Global, bytes: &'a [u8]) -> Result<Module<'a>, FormatFault>
         // What is read is what the bytes spell.
         ensures found { IfOk result (Format bytes.now) }
@@ -72,15 +118,8 @@ impl<'a> Module<'a> {
         ensures exact { MatchResult result (λ m. read_contents bytes.now ≡ Ok m)
             (λ f. (f ≡ out_of_memory) ⊎ (read_contents bytes.now ≡ Err f)) }
     {
-        let (tables, places) = read(alloc, bytes)?;
-        let index = Index::new(alloc, &tables, places)?;
-        let mut module = Module {
-            bytes,
-            tables,
-            index,
-        };
-        module.judge_rows(alloc)?;
-        Ok(module)
+        let file = ModuleFile::read(alloc, bytes)?;
+        Ok(file.module)
     }
 
     /// Judges all branches and PAR rows.
@@ -94,10 +133,11 @@ impl<'a> Module<'a> {
         Ok(())
     }
 
-    /// What the file says. It is valid.
+    /// What the file says. It is valid, and fits its version.
     pub fn tables(&self) -> &Tables<'a>
         ensures contents { contents_of result.now ≡ self.now }
         ensures kept { Keeps self.now }
+        ensures fits { FitsVersion result.now.version self.now }
     {
         &self.tables
     }

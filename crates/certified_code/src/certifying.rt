@@ -1,6 +1,6 @@
 //! The last step from pieces to a module: it is read again, and verified.
 
-ghost use Rattle.std.specs.Prelude.{◌≡◌, ◌≢◌, IfOk, OnOk, Err};
+ghost use Rattle.std.specs.Prelude.{◌≡◌, ◌≢◌, IfOk, IfErr, OnOk, Err};
 ghost use Rattle.code_pieces.specs.PieceViews.{pieces_of};
 ghost use Rattle.code_pieces.specs.Laying.{apart};
 ghost use Rattle.code_pieces.specs.Laid.{AreTooLarge};
@@ -18,7 +18,7 @@ use verifier::verify;
 /// What a file says.
 fn read_again<'a>(alloc: Global, bytes: &'a [u8]) -> Result<Module<'a>, GenFault>
     ensures ok { IfOk result (λ m. (c : Contents) → Format bytes.now c → m ≡ c) }
-    ensures invalid { result ≡ Err GenFault.Invalid → (c : Contents) → Format bytes.now c → ⊥ }
+    ensures invalid { IfErr result (λ fault. fault ≡ GenFault.Invalid → (c : Contents) → Format bytes.now c → ⊥) }
     ensures limit { result ≢ Err GenFault.Limit }
 {
     let fault = match Module::read(alloc, bytes) {
@@ -35,7 +35,7 @@ fn read_again<'a>(alloc: Global, bytes: &'a [u8]) -> Result<Module<'a>, GenFault
 #[tactic(auto, using(crate::proofs::Refusals::breaks_a_rule))]
 fn judge(alloc: Global, module: &Module) -> Result<(), GenFault>
     ensures ok { OnOk result (Certifies «module».now) }
-    ensures invalid { result ≡ Err GenFault.Invalid → BreaksARule «module».now }
+    ensures invalid { IfErr result (λ fault. fault ≡ GenFault.Invalid → BreaksARule «module».now) }
     ensures limit { result ≢ Err GenFault.Limit }
 {
     let refusal = match verify(alloc, module) {
@@ -51,12 +51,13 @@ fn judge(alloc: Global, module: &Module) -> Result<(), GenFault>
 /// Reads a file and verifies it.
 fn certify(alloc: Global, bytes: &[u8]) -> Result<(), GenFault>
     ensures ok { OnOk result (AreCertified bytes.now) }
-    ensures invalid { result ≡ Err GenFault.Invalid → AreRefused bytes.now }
+    ensures invalid { IfErr result (λ fault. fault ≡ GenFault.Invalid → AreRefused bytes.now) }
     ensures limit { result ≢ Err GenFault.Limit }
 {
-    let module = read_again(alloc, bytes)?;
-    judge(alloc, &module)?;
-    Ok(())
+    match read_again(alloc, bytes) {
+        Ok(module) => judge(alloc, &module),
+        Err(fault) => Err(fault),
+    }
 }
 
 /// The module of pieces with `labels` labels, for links that take messages of these lengths: output links 0 to 3

@@ -6,7 +6,8 @@ use Rattle.module_format.specs.declared.rows.ParRow.{ParRow}
 use Rattle.module_format.specs.declared.rows.TableRow.{TableRow}
 use Rattle.module_format.specs.Contents as contents
 use Rattle.module_format.specs.Contents.{Contents, label_with}
-use Rattle.module_format.specs.Keeping.{Format}
+use Rattle.module_format.specs.Keeping.{IsFile}
+use Rattle.module_format.specs.declared.tables.Version.{Version}
 use Rattle.module_format.specs.Stack.{mapped}
 use Rattle.module_builder.specs.declared.item.Label.{Label}
 use Rattle.module_builder.specs.declared.draft.ContextName.{ContextName}
@@ -140,7 +141,6 @@ says_all ps labels links d a laid there =
     pars_numbered all all d a offsets laid.draft.procedures laid.draft.pars there
     ∙ ap (λ (code : Code). map (laid_par number (places code a.lengths)) (rows_in a.pars all)) laid.draft.code in
     λ j. record {
-      version = laid.draft.version j;
       code = spelled (laid.draft.code j) a.lengths;
       constants = laid.draft.constants j;
       data_words = laid.draft.data_words j;
@@ -168,5 +168,8 @@ module_says ps labels links bytes d out file =
     record {
       arrangement = arrangement_of a;
       arranged = arranged ps labels links d a laid file.arranged;
-      format = subst (λ (c : Contents). Format bytes c) (says_all ps labels links d a laid file.contexts) file.format;
+      format = subst (λ (v : Version). IsFile v bytes (laid_module ps labels links (arrangement_of a)))
+          laid.draft.version
+          (subst (λ (c : Contents). IsFile d.version bytes c) (says_all ps labels links d a laid file.contexts)
+          file.format);
     }

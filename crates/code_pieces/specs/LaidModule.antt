@@ -5,7 +5,7 @@ use Rattle.module_format.specs.declared.rows.TableRow.{TableRow}
 use Rattle.module_format.specs.declared.tables.Version.TheVariants.{Two}
 use Rattle.module_format.specs.Contents as contents
 use Rattle.module_format.specs.Contents.{Contents, label_with}
-use Rattle.module_format.specs.Keeping.{Format}
+use Rattle.module_format.specs.Keeping.{IsFile}
 use Rattle.module_builder.specs.declared.draft.ContextName.{ContextName}
 use Rattle.module_builder.specs.declared.draft.ContextName.TheVariants.{Root, Procedure, Branch}
 use Rattle.module_builder.specs.Layouts.{places, IsLeast}
@@ -73,7 +73,6 @@ laid_module ps labels links a =
     let tables = tables_before [] ps in
     let number = context_number (pars_of ps) a.pars in
     record {
-      version = Two;
       code = spelled code a.lengths;
       constants = constants_of tables;
       data_words = BASE + words_taken ps;
@@ -99,8 +98,8 @@ pub record IsArrangement (ps : List Piece) (labels : ℕ) (a : Arrangement) : Ty
       (map (λ (p : Par). first_branch (places (draft_code ps labels) a.lengths) p.branches) (pars_of ps)) a.pars
   pub table_rows : IsOrder (map (λ (row : TableRow). row.start) (table_rows_from 0 (tables_before [] ps))) a.table_rows
 
--- these bytes are the file of what is said of these pieces
+-- these bytes are the file of what is said of these pieces, in version 2
 pub record Says (ps : List Piece) (labels : ℕ) (links : List ℕ) (bytes : List ℕ) : Type 0 where
   pub arrangement : Arrangement
   pub arranged : IsArrangement ps labels arrangement
-  pub format : Format bytes (laid_module ps labels links arrangement)
+  pub format : IsFile Two bytes (laid_module ps labels links arrangement)

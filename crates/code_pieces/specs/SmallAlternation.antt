@@ -3,7 +3,6 @@ use Rattle.std.specs.Prelude.{◌≡◌, ℕ, pos, false, List, [], ◌∷◌, �
 use Rattle.word_arithmetic.specs.Word.{least_word, greatest_word}
 use Rattle.prefix_decoder.specs.declared.function.Fun.TheVariants as fun
 use Rattle.module_format.specs.declared.fact.Fact.TheVariants as facts
-use Rattle.module_format.specs.declared.tables.Version.TheVariants.{Two}
 use Rattle.module_format.specs.Contents.{Contents}
 use Rattle.module_builder.specs.Layouts.{needed}
 use Rattle.code_pieces.specs.declared.operations.TheConstants.{ALTERNATE, ALTERNATION_WAIT, ENABLE_CHANNEL, ENABLE_SKIP}
@@ -53,7 +52,6 @@ link_words = 0 ∷ 0 ∷ 0 ∷ 0 ∷ 4 ∷ 0 ∷ 0 ∷ 0 ∷ []
 
 abbrev pub alternation_module : Contents
 alternation_module = record {
-  version = Two;
   code =
       0x40 ∷ 0xd2 ∷ 0x24 ∷ 0xf3 ∷ 0x24 ∷ 0xf2 ∷ 0x54 ∷ 0x41 ∷ 0x24 ∷ 0xf8 ∷ 0x41 ∷ 0x24 ∷ 0xf9 ∷ 0x24 ∷ 0xf4 ∷ 0x24
       ∷ 0xf2 ∷ 0x54 ∷ 0x41 ∷ 0x40 ∷ 0x22 ∷ 0xff ∷ 0x41 ∷ 0x47 ∷ 0x23 ∷ 0xf0 ∷ 0x24 ∷ 0xf5 ∷ 0x12 ∷ 0x24 ∷ 0xf2 ∷ 0x54

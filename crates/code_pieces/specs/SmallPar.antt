@@ -8,7 +8,6 @@ use Rattle.module_format.specs.declared.rows.EndKind.{EndKind}
 use Rattle.module_format.specs.declared.rows.EndKind.TheVariants.{FrameWord, Link}
 use Rattle.module_format.specs.declared.rows.EndRow.{EndRow}
 use Rattle.module_format.specs.declared.rows.Interval.{Interval}
-use Rattle.module_format.specs.declared.tables.Version.TheVariants.{Two}
 use Rattle.module_format.specs.Rows.{Entry}
 use Rattle.module_format.specs.Contents as contents
 use Rattle.module_format.specs.Contents.{Contents, label_with, branch_with, par_with}
@@ -138,7 +137,6 @@ par_row =
 
 abbrev pub par_module : Contents
 par_module = record {
-  version = Two;
   code = par_bytes;
   constants = [];
   data_words = 19;

@@ -1,5 +1,6 @@
 -- What a program becomes, by the module of its pieces.
 use Rattle.std.proofs.Common.{◌≡◌, ℕ, List, IfSome, refl, sym, subst}
+use Rattle.module_format.specs.declared.tables.Version.TheVariants.{Two}
 use Rattle.occam_parser.specs.Blocks.{ProgramItem}
 use Rattle.code_pieces.specs.Pieces.{Piece, Code}
 use Rattle.code_pieces.specs.Laying.{apart}
@@ -21,8 +22,8 @@ generated items code bytes is made =
       is_module = record {
         contents = laid_module (apart code.pieces) code.labels links says.arrangement;
         format = says.format;
-        certifies = made.certified (laid_module (apart code.pieces) code.labels links says.arrangement) says.format;
-        version = refl;
+        certifies = made.certified (laid_module (apart code.pieces) code.labels links says.arrangement)
+            (record { version = Two; file = says.format });
         lengths = refl;
       };
       is_code = λ other has. subst (λ (c : Code). Says (apart c.pieces) c.labels links bytes)

@@ -13,7 +13,7 @@ use Rattle.usage_checks.specs.ItemRules.{BreaksProgram, BreaksNoRule}
 use Rattle.usage_checks.specs.Telling as usage
 use Rattle.module_format.specs.declared.tables.Version.TheVariants.{Two}
 use Rattle.module_format.specs.Contents.{Contents}
-use Rattle.module_format.specs.Keeping.{Format}
+use Rattle.module_format.specs.Keeping.{IsFile}
 use Rattle.code_pieces.specs.Pieces.{Code}
 use Rattle.code_pieces.specs.Laying.{apart}
 use Rattle.code_pieces.specs.LaidModule.{Says}
@@ -26,9 +26,8 @@ use Rattle.compiler.specs.LinkLengths.{link_lengths}
 -- These bytes are a module of version 2, whose links take the messages of main's. It is certified, so it runs well.
 pub record IsModuleFor (items : List ProgramItem) (bytes : List ℕ) : Type 0 where
   pub contents : Contents
-  pub format : Format bytes contents
+  pub format : IsFile Two bytes contents
   pub certifies : Certifies contents
-  pub version : contents.version ≡ Two
   pub lengths : contents.lengths ≡ link_lengths items
 
 -- If the program has code, these bytes are the module of its pieces.

@@ -1,1 +1,4 @@
 pub mod Refused
+pub mod Unread
+pub mod Replayed
+pub mod Statuses

@@ -5,7 +5,7 @@ ghost use Rattle.module_format.specs.Contents.{Contents};
 ghost use Rattle.module_format.specs.Keeping.{Format};
 ghost use Rattle.certified_worlds.specs.Certified.{IsCertified};
 ghost use Rattle.host_library.specs.Files.{IsCertifiedFile};
-ghost use Rattle.host_library.specs.Failures.{Withholds, IsNoRefusal};
+ghost use Rattle.host_library.specs.Failures.{Withholds, IsOfEvents, IsNoRefusal};
 ghost use Rattle.host_library.specs.Events.{IsNoEvent};
 ghost use Rattle.host_library.specs.Replays.{all_out, HasReplayed, IsReportOf, IsHandedOver};
 
@@ -15,7 +15,7 @@ use crate::status::{ACCEPTED, TOO_SMALL};
 use accepted_runs::{Replay, replay};
 use certificate::Module;
 use std::alloc::{AllocError, Global};
-use verifier::{not_both, verify};
+use verifier::{Verified, not_both, verify};
 
 /// What became of a run, as a host reads it.
 #[repr(C)]
@@ -60,6 +60,24 @@ fn joined(alloc: Global, out: &[Vec<u8>; 4]) -> Result<Vec<u8>, AllocError>
     Ok(bytes)
 }
 
+/// The run of a certified module over these events, if each of them is an event.
+fn replayed_over(
+    alloc: Global,
+    verified: &Verified,
+    events: &[HostEvent],
+) -> Result<HostRun, HostFailure>
+    ensures { MatchResult result
+        (λ run. HasReplayed verified.now events.now run.report (λ sent. run.sent.items ≡ sent))
+        (IsOfEvents (IsNoEvent events.now)) }
+{
+    let events = events_of(alloc, events)?;
+    let replayed = replay(alloc, verified, &events)?;
+    Ok(HostRun {
+        report: report_of(&replayed),
+        sent: joined(alloc, &replayed.out)?,
+    })
+}
+
 /// The run of the module in these bytes over these events, if it is certified and each of them is an event.
 pub fn run_of(alloc: Global, bytes: &[u8], events: &[HostEvent]) -> Result<HostRun, HostFailure>
     ensures answer { MatchResult result
@@ -70,12 +88,7 @@ pub fn run_of(alloc: Global, bytes: &[u8], events: &[HostEvent]) -> Result<HostR
     not_both();
     let module = Module::read(alloc, bytes)?;
     let verified = verify(alloc, &module)?;
-    let events = events_of(alloc, events)?;
-    let replayed = replay(alloc, &verified, &events)?;
-    Ok(HostRun {
-        report: report_of(&replayed),
-        sent: joined(alloc, &replayed.out)?,
-    })
+    replayed_over(alloc, &verified, events)
 }
 
 /// Writes what was sent into the caller's buffer, if it is long enough, and gives the status.

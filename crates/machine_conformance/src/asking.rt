@@ -10,10 +10,12 @@ use crate::modules::{put_fault, read, verdict};
 use crate::running::{replayed, run};
 use crate::setting::Setting;
 use crate::stepping::step;
+use crate::upgrading::{NotUpgraded, put_upgraded, upgraded};
 use crate::words::{Words, question};
 use certificate::Module;
 use conformance::{Answer, Outcome, Statement, Subject, judged};
 use std::alloc::Global;
+use verifier::UpgradeFault;
 
 /// What is asked of a module.
 fn ask_module<'a>(
@@ -34,14 +36,36 @@ fn ask_module<'a>(
     }
 }
 
-/// What is asked of the module that a file is.
-fn ask_file(alloc: Global, setting: &Setting, statement: Statement, out: &mut Answer) -> Outcome {
-    match Module::read(alloc, &setting.file) {
+/// What is asked of the module in these bytes.
+fn ask_bytes_of_module(
+    alloc: Global,
+    bytes: &[u8],
+    setting: &Setting,
+    statement: Statement,
+    out: &mut Answer,
+) -> Outcome {
+    match Module::read(alloc, bytes) {
         Ok(module) => ask_module(alloc, &module, setting, statement, out),
         Err(fault) => {
             put_fault(fault, out);
             Outcome::Differs
         }
+    }
+}
+
+/// What is asked of the module that a file is. A module of version 1 has to answer the same once it is upgraded.
+fn ask_file(alloc: Global, setting: &Setting, statement: Statement, out: &mut Answer) -> Outcome {
+    let outcome = ask_bytes_of_module(alloc, &setting.file, setting, statement, out);
+    if outcome != Outcome::Held {
+        return outcome;
+    }
+    match upgraded(alloc, &setting.file) {
+        Ok(bytes) => {
+            out.clear();
+            ask_bytes_of_module(alloc, &bytes, setting, statement, out)
+        }
+        Err(NotUpgraded::Fault(UpgradeFault::Upgraded)) => Outcome::Held,
+        Err(_) => Outcome::OutOfMemory,
     }
 }
 
@@ -89,6 +113,7 @@ fn ask(alloc: Global, setting: &mut Setting, statement: Statement, out: &mut Ans
         }
         "bytes" | "run_bytes" | "judge_bytes" => return ask_bytes(alloc, setting, statement, out),
         "assemble" | "spell" => return ask_draft(alloc, &setting.file, statement, out),
+        "upgrade" => put_upgraded(alloc, &setting.file, out),
         _ => return ask_file(alloc, setting, statement, out),
     }
     judged(out, statement.rest)

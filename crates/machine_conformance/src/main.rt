@@ -22,6 +22,7 @@ mod pairing;
 mod running;
 mod setting;
 mod stepping;
+mod upgrading;
 mod watching;
 mod words;
 

@@ -7,14 +7,12 @@ use Rattle.std.proofs.lemmas.List.{length-set, length-replicate}
 use Rattle.std.proofs.lemmas.Option.{slice_get_within}
 use Rattle.std.specs.Prelude.{◌==◌, nat_lt, filter, not, slice_set}
 use std.Path.{fun_ext}
-use Rattle.module_format.specs.declared.tables.Version.{Version}
-use Rattle.module_format.specs.declared.tables.Version.TheVariants as versions
 use Rattle.module_format.specs.declared.rows.Direction.TheVariants.{In, Out}
 use Rattle.module_format.specs.Order.{InOrder}
 use Rattle.module_format.specs.Contents.{Contents, Par}
 use Rattle.module_format.specs.Pars.{ParKeeps, behind_par, no_branches}
 use Rattle.module_format.specs.Contexts.{first_branch}
-use Rattle.module_format.specs.Keeping.{Keeps, max_code}
+use Rattle.module_format.specs.Keeping.{Keeps}
 use Rattle.machine_state.specs.declared.event.Event.{Event}
 use Rattle.machine_state.specs.declared.link.InputLink.{InputLink}
 use Rattle.machine_state.specs.declared.holding.End.{End}
@@ -95,10 +93,6 @@ in_order Is next low (y ∷ ys) all zero x here =
     (low, let e : y ≡ x = cc in subst (λ z. Is low z) e all.0)
 in_order Is next low (y ∷ ys) all (suc n) x here = in_order Is next (next low y) ys all.1 n x here
 
-code_is_small : (v : Version) → max_code v ≤ 262143
-code_is_small versions.One = omega arith
-code_is_small versions.Two = omega arith
-
 pub format_is_small : (m : Contents) → Keeps m → IsSmall m
 format_is_small m keeps = record {
   words = (let limit = keeps.sizes.data_limit in omega (arith, limit));
@@ -111,9 +105,8 @@ format_is_small m keeps = record {
         code = (
             let words = keeps.sizes.data_limit in
             let code = keeps.sizes.code_limit in
-            let most = code_is_small m.version in
             let inside = row.successor_in_code in
-            omega (arith, words, code, most, inside));
+            omega (arith, words, code, inside));
         branches = (let limit = row.branch_limit in omega (arith, limit));
       };
 }

@@ -1,7 +1,6 @@
 -- Small modules, and how they end.
 use Rattle.std.specs.Prelude.{◌≡◌, ℕ, ◌+◌, pos, negsuc, true, false, List, [], ◌∷◌, ◌++◌, Some, None, replicate}
 use Rattle.std.specs.Prelude.{slice_set}
-use Rattle.module_format.specs.declared.tables.Version.TheVariants.{One}
 use Rattle.module_format.specs.Contents.{Branch, Par, Contents}
 use Rattle.machine_state.specs.declared.event.Event.{Event}
 use Rattle.machine_state.specs.declared.event.Event.TheVariants.{Step, Arrive, Acknowledge}
@@ -16,7 +15,6 @@ use Rattle.machine_state.specs.Happens.{world_after}
 -- a module of this code alone, with five data words of which the root's workspace is word 3
 abbrev pub of_code : List ℕ → ℕ → Contents
 of_code code finish = record {
-  version = One;
   code = code;
   constants = [];
   data_words = 5;

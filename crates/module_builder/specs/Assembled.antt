@@ -8,7 +8,7 @@ use Rattle.module_format.specs.declared.rows.BranchRow.{BranchRow}
 use Rattle.module_format.specs.declared.rows.ParRow.{ParRow}
 use Rattle.module_format.specs.declared.rows.TableRow.{TableRow}
 use Rattle.module_format.specs.Contents.{Contents}
-use Rattle.module_format.specs.Keeping.{Keeps, Format, max_code}
+use Rattle.module_format.specs.Keeping.{Keeps, FitsVersion, IsFile, max_code}
 use Rattle.module_builder.specs.declared.limits.TheConstants.{MAX_CONTEXTS}
 use Rattle.module_builder.specs.declared.item.Label.{Label}
 use Rattle.module_builder.specs.declared.draft.ContextName.{ContextName}
@@ -109,7 +109,6 @@ pub record ContextsAreThere (d : Draft) (a : Arrangement) : Type 0 where
 -- where labels have these offsets
 abbrev pub tables_with : Draft → Arrangement → List (Option ℕ) → Contents
 tables_with d a offsets = record {
-  version = d.version;
   code = spelled d.code a.lengths;
   constants = d.constants.items;
   data_words = d.data_words;
@@ -139,18 +138,19 @@ pub record IsWithinLimits (d : Draft) (lengths : List ℕ) : Type 0 where
   pub draft : IsWithin d
   pub code : length (spelled d.code lengths) ≤ max_code d.version
 
--- the contexts are there, and the tables are valid
+-- the contexts are there, and the tables are valid and fit the draft's version
 pub record IsValid (d : Draft) (a : Arrangement) : Type 0 where
   pub contexts : ContextsAreThere d a
   pub tables : Keeps (tables_of d a)
+  pub fits : FitsVersion d.version (tables_of d a)
 
--- these bytes are the file of the draft's tables
+-- these bytes are the file of the draft's tables, in its version
 pub record IsAssembled (d : Draft) (bytes : List ℕ) : Type 0 where
   pub arrangement : Arrangement
   pub arranged : IsArranged d arrangement
   pub within : IsWithinLimits d arrangement.lengths
   pub contexts : ContextsAreThere d arrangement
-  pub format : Format bytes (tables_of d arrangement)
+  pub format : IsFile d.version bytes (tables_of d arrangement)
 
 -- the draft's tables are within the limits, and not valid
 pub record IsInvalid (d : Draft) : Type 0 where

@@ -43,8 +43,9 @@ fn tables<'c>(
     requires numbered { IsNumbered draft.now orders.now }
     requires within { IsWithin draft.now }
     requires code { code.now ≡ spelled draft.now.code layout.now.lengths.items }
-    ensures { IfOk result (λ t. contents_of t
+    ensures contents { IfOk result (λ t. contents_of t
         ≡ tables_with draft.now (arrangement_of layout.now orders.now) layout.now.places.items) }
+    ensures version { IfOk result (λ t. t.version ≡ draft.now.version) }
 {
     Ok(Tables {
         version: draft.version,

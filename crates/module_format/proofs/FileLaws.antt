@@ -1,8 +1,8 @@
 -- The laws of reading a file: what is read is the file of what it says, and the file of valid contents is read.
-use Rattle.std.proofs.Common.{◌≡◌, ℕ, ◌+◌, ◌*◌, ◌<◌, ◌≤◌, ◌^◌, Bool, eqb, List, [], ◌++◌, length, Result, Ok, Err, refl}
+use Rattle.std.proofs.Common.{◌≡◌, ℕ, ◌+◌, ◌*◌, ◌<◌, ◌≤◌, ◌^◌, eqb, List, [], ◌∷◌, ◌++◌, length, Result, Ok, Err, refl}
 use Rattle.std.proofs.Common.{sym, ap, ◌∙◌, append_assoc, arith}
 use Rattle.std.specs.Prelude.{None}
-use Rattle.std.specs.List.{flat_map}
+use Rattle.std.specs.List.{flat_map, AllByRecursion}
 use Rattle.std.proofs.lemmas.Bool.{eqb-true}
 use Rattle.std.proofs.lemmas.List.{append-nil, length-append, nil_from_length}
 use Rattle.std.proofs.lemmas.List.Elements.{All-from_recursion}
@@ -11,17 +11,20 @@ use Rattle.module_format.specs.declared.fault.FormatFault.{FormatFault}
 use Rattle.module_format.specs.declared.fault.ReadError.{ReadError}
 use Rattle.module_format.specs.declared.fault.ReadError.TheVariants as errors
 use Rattle.module_format.specs.declared.fault.FormatFaultKind.TheVariants as faults
-use Rattle.module_format.specs.declared.limits.TheConstants.{MAX_BRANCHES}
+use Rattle.module_format.specs.declared.limits.TheConstants.{MAX_BRANCHES, MAX_LONG_CODE}
 use Rattle.module_format.specs.declared.reading.header.Header.{Header}
-use Rattle.module_format.specs.declared.rows.TableRow.{TableRow}
+use Rattle.module_format.specs.declared.rows.Parameter.{Parameter}
+use Rattle.module_format.specs.declared.rows.ParameterKind.{ParameterKind}
+use Rattle.module_format.specs.declared.rows.ParameterKind.TheVariants as kinds
 use Rattle.module_format.specs.declared.tables.Version.{Version}
 use Rattle.module_format.specs.declared.tables.Version.TheVariants as versions
 use Rattle.module_format.specs.Order.{IsBytes}
-use Rattle.module_format.specs.Contents.{Contents}
+use Rattle.module_format.specs.Contents.{Procedure, Contents}
 use Rattle.module_format.specs.Contexts.{branch_count, first_branch, HasFewContexts}
+use Rattle.module_format.specs.Procedures.{KindFits, ProcedureFits}
 use Rattle.module_format.specs.Pars.{ParKeeps, behind_par, no_branches}
-use Rattle.module_format.specs.Keeping.{VersionKeeps, SizesKeep, BoundsKeep, LimitsKeep, RowsKeep, NamesAreThere, Keeps}
-use Rattle.module_format.specs.Keeping.{Format}
+use Rattle.module_format.specs.Keeping.{max_code, SizesKeep, BoundsKeep, LimitsKeep, RowsKeep, NamesAreThere, Keeps}
+use Rattle.module_format.specs.Keeping.{FitsFirst, FitsVersion, IsFile, IsUpgraded, Format}
 use Rattle.module_format.specs.Spelling.{procedure_bytes, label_bytes, par_bytes, table_row_bytes, header_bytes}
 use Rattle.module_format.specs.Spelling.{rows_bytes, file_of}
 use Rattle.module_format.specs.declared.reading.cursor.Cursor.{Cursor}
@@ -29,7 +32,7 @@ use Rattle.module_format.specs.Reading.{Fails, fault, out_of_memory, fault_of, p
 use Rattle.module_format.specs.Taking.{Takes}
 use Rattle.module_format.proofs.TakingLaws.{took_ok}
 use Rattle.module_format.specs.ReadingRows.{table_rows_at}
-use Rattle.module_format.specs.ReadingFile.{sizes_with, header_at, contents_from, ended_at, tables_at, read_contents}
+use Rattle.module_format.specs.ReadingFile.{sizes_with, header_at, contents_from, ended_at, tables_at, read_file}
 use Rattle.module_format.proofs.ReadsInSteps.{Has, has_ok, has_then, has_if, has_at, step, join}
 use Rattle.module_format.proofs.OrderLaws.{each}
 use Rattle.module_format.proofs.FieldLaws.{bytes_take, bytes_again}
@@ -38,8 +41,8 @@ use Rattle.module_format.proofs.ProcedureLaws.{procedures_take, procedures_again
 use Rattle.module_format.proofs.ProcedureLaws.{tables_again as table_rows_again}
 use Rattle.module_format.proofs.ParLaws.{pars_take, pars_again}
 use Rattle.module_format.proofs.ReferenceLaws.{references_fit, references_pass}
-use Rattle.module_format.proofs.HeaderLaws.{sizes_bytes, max_code_small, FlagFits, head_bytes, HeaderFits, header_takes}
-use Rattle.module_format.proofs.HeaderLaws.{header_again}
+use Rattle.module_format.proofs.HeaderLaws.{sizes_bytes, max_code_small, max_code_most, FlagFits, head_bytes}
+use Rattle.module_format.proofs.HeaderLaws.{HeaderFits, header_takes, header_again}
 
 -- ---- the end
 
@@ -69,10 +72,11 @@ pub record IsFrom (h : Header) (c : Contents) : Type 0 where
   pub code_bytes : IsBytes c.code
   pub constant_bytes : IsBytes c.constants
   pub rows : RowsKeep c
+  pub fits : AllByRecursion (ProcedureFits h.version) c.procedures
 
 -- what follows the header, and where its label rows begin
 pub record IsTables (size : ℕ) (h : Header) (bytes : List ℕ) (t : (Contents × ℕ) × List ℕ) : Type 0 where
-  pub parts : bytes ≡ (t.0.0.code ++ t.0.0.constants ++ rows_bytes t.0.0) ++ t.1
+  pub parts : bytes ≡ (t.0.0.code ++ t.0.0.constants ++ rows_bytes h.version t.0.0) ++ t.1
   pub from : IsFrom h t.0.0
   pub inside : length bytes ≤ size → t.0.1 + length (flat_map label_bytes t.0.0.labels) + length
       (flat_map par_bytes t.0.0.pars) ≤ size
@@ -115,6 +119,7 @@ tables_take size h bytes fits =
       code_bytes = h0.keeps.1;
       constant_bytes = h1.keeps.1;
       rows = rows;
+      fits = h2.keeps.2;
     } in
     let procedures = flat_map (procedure_bytes h.version) x2.0 in
     let labels = flat_map label_bytes x3.0 in
@@ -125,9 +130,10 @@ tables_take size h bytes fits =
     let j3 = join (x0.0 ++ x1.0 ++ procedures) labels x3.1 j2 h3.parts in
     let j4 = join (x0.0 ++ x1.0 ++ procedures ++ labels) pars x4.1 j3 h4.parts in
     let j5 = join (x0.0 ++ x1.0 ++ procedures ++ labels ++ pars) table_rows x5.1 j4 h5.parts in
-    let regrouped : x0.0 ++ x1.0 ++ procedures ++ labels ++ pars ++ table_rows ≡ x0.0 ++ x1.0 ++ rows_bytes c =
-    simp append_assoc in
-    let parts : bytes ≡ (x0.0 ++ x1.0 ++ rows_bytes c) ++ x5.1 = j5 ∙ ap (λ (t : List ℕ). t ++ x5.1) regrouped in
+    let regrouped : x0.0 ++ x1.0 ++ procedures ++ labels ++ pars ++ table_rows ≡ x0.0 ++ x1.0
+    ++ rows_bytes h.version c = simp append_assoc in
+    let parts : bytes ≡ (x0.0 ++ x1.0 ++ rows_bytes h.version c) ++ x5.1 =
+    j5 ∙ ap (λ (t : List ℕ). t ++ x5.1) regrouped in
     has_ok ((c, place size x2.1), x5.1) (record {
       parts = parts;
       from = from;
@@ -146,20 +152,43 @@ few_contexts c l r =
 
 -- ---- what is read is the file of what it says
 
-version_keeps : (version : Version) (flag : Bool) (rows : List TableRow) {count : ℕ} → length rows ≡ count
-    → FlagFits version flag count → VersionKeeps version flag rows
-version_keeps versions.One flag rows e h = (h.0, nil_from_length rows (e ∙ h.1))
-version_keeps versions.Two flag rows e h = tt
+-- the parts of what a version asks of contents
+record PartsFit (version : Version) (c : Contents) : Type 0 where
+  code : length c.code ≤ max_code version
+  flag : FlagFits version c.has_long_operations (length c.table_rows)
+  ranges : AllByRecursion (ProcedureFits version) c.procedures
 
-flag_fits : (version : Version) (flag : Bool) (rows : List TableRow) → VersionKeeps version flag rows
-    → FlagFits version flag (length rows)
-flag_fits versions.One flag rows h = (h.0, ap length h.1)
-flag_fits versions.Two flag rows h = tt
+parts_fit : (version : Version) (c : Contents) → PartsFit version c → FitsVersion version c
+parts_fit versions.One c h = record {
+  code = h.code;
+  flag = h.flag.0;
+  ranges = h.ranges;
+  table_rows = nil_from_length c.table_rows h.flag.1;
+}
+parts_fit versions.Two c h = tt
+
+-- version 2 can say each range
+kind_fits : (kind : ParameterKind) → KindFits versions.Two kind
+kind_fits (kinds.Value lo hi) = tt
+kind_fits (kinds.ReadRegion size lo hi) = tt
+kind_fits (kinds.WrittenRegion size lo hi) = tt
+kind_fits (kinds.Channels count len ends) = tt
+
+parameters_fit : (ps : List Parameter) → AllByRecursion (λ (p : Parameter). KindFits versions.Two p.kind) ps
+parameters_fit [] = tt
+parameters_fit (p ∷ ps) = (kind_fits p.kind, parameters_fit ps)
+
+procedures_fit : (rows : List Procedure) → AllByRecursion (ProcedureFits versions.Two) rows
+procedures_fit [] = tt
+procedures_fit (row ∷ rows) = (parameters_fit row.parameters, procedures_fit rows)
+
+fit_parts : (version : Version) (c : Contents) → Keeps c → FitsVersion version c → PartsFit version c
+fit_parts versions.One c k h =
+    record { code = h.code; flag = (h.flag, ap length h.table_rows); ranges = h.ranges }
+fit_parts versions.Two c k h =
+    record { code = k.sizes.code_limit; flag = tt; ranges = procedures_fit c.procedures }
 
 module _ (h : Header) (c : Contents) (f : HeaderFits h) (e : IsFrom h c) where
-  abbrev version_is : c.version ≡ h.version
-  version_is = ap (λ (d : Contents). d.version) e.made
-
   -- the numbers of rows are within their limits
   pub limits_keep : LimitsKeep c
   limits_keep = record {
@@ -175,7 +204,7 @@ module _ (h : Header) (c : Contents) (f : HeaderFits h) (e : IsFrom h c) where
       let base : c.base ≡ h.sizes.base = ap (λ (d : Contents). d.base) e.made in
       record {
         has_code = rw e.code f.sizes.code.0;
-        code_limit = rw (e.code, version_is) f.sizes.code.1;
+        code_limit = let most = f.sizes.code.1 in rw e.code (omega (arith, max_code_most h.version, most));
         constants_limit = rw e.constants f.sizes.constants;
         has_data = rw words f.sizes.words.0;
         data_limit = rw words f.sizes.words.1;
@@ -195,21 +224,22 @@ module _ (h : Header) (c : Contents) (f : HeaderFits h) (e : IsFrom h c) where
       }
 
   all_keeps : NamesAreThere c → Keeps c
-  all_keeps there =
+  all_keeps there = record {
+    sizes = sizes_keep;
+    bounds = bounds_keep;
+    limits = limits_keep;
+    code_bytes = e.code_bytes;
+    constant_bytes = e.constant_bytes;
+    rows = e.rows;
+    names = there;
+  }
+
+  fits_version : FitsVersion h.version c
+  fits_version =
       let flag : c.has_long_operations ≡ h.counts.has_long_operations =
       ap (λ (d : Contents). d.has_long_operations) e.made in
-      record {
-        version =
-            rw (version_is, flag)
-            (version_keeps h.version h.counts.has_long_operations c.table_rows e.table_rows f.counts.flag);
-        sizes = sizes_keep;
-        bounds = bounds_keep;
-        limits = limits_keep;
-        code_bytes = e.code_bytes;
-        constant_bytes = e.constant_bytes;
-        rows = e.rows;
-        names = there;
-      }
+      parts_fit h.version c
+      (record { code = rw e.code f.sizes.code.1; flag = rw (flag, e.table_rows) f.counts.flag; ranges = e.fits })
 
 -- rows that were read lie in the file, are few and keep their rules
 pub rows_ready : (bytes : List ℕ) → IsBytes bytes → {h : Header × List ℕ} {t : (Contents × ℕ) × List ℕ}
@@ -237,10 +267,10 @@ rows_taken bytes fits front behind last {h} {t} at_front whole head rows still =
     let f = took_ok header_at front.failure bytes h behind.failure behind.rest.now g.0 took_first in
     rows_ready bytes fits f.1 g.1
 
--- the header of these contents
-header_of : Contents → Header
-header_of c = record {
-  version = c.version;
+-- the header of these contents in a version
+header_of : Version → Contents → Header
+header_of version c = record {
+  version = version;
   sizes = sizes_with (length c.code) (length c.constants) c.data_words c.base c.budget c.finish;
   lengths = c.lengths;
   counts = record {
@@ -252,45 +282,52 @@ header_of c = record {
   };
 }
 
-header_is : (h : Header) (c : Contents) → IsFrom h c → header_of c ≡ h
+header_is : (h : Header) (c : Contents) → IsFrom h c → header_of h.version c ≡ h
 unfolding header_of
 header_is h c e =
-    let same : header_of (contents_from h c.code c.constants c.procedures c.labels c.pars c.table_rows) ≡ h =
+    let same : header_of h.version (contents_from h c.code c.constants c.procedures c.labels c.pars c.table_rows) ≡ h =
     rw (e.code, e.constants, e.procedures, e.labels, e.pars, e.table_rows) refl in
-    ap header_of e.made ∙ same
+    ap (header_of h.version) e.made ∙ same
 
-file_regrouped : (c : Contents) → file_of c ≡ head_bytes (header_of c) ++ (c.code ++ c.constants ++ rows_bytes c)
+file_regrouped : (version : Version) (c : Contents)
+    → file_of version c ≡ head_bytes (header_of version c) ++ (c.code ++ c.constants ++ rows_bytes version c)
 unfolding header_of file_of header_bytes sizes_bytes head_bytes
-file_regrouped c = simp append_assoc
+file_regrouped version c = simp append_assoc
 
-pub read_finds : (bytes : List ℕ) → IsBytes bytes → Has (read_contents bytes) (Format bytes)
-unfolding read_contents
+pub read_finds : (bytes : List ℕ) → IsBytes bytes
+    → Has (read_file bytes) (λ (file : Version × Contents). IsFile file.0 bytes file.1)
+unfolding read_file
 read_finds bytes fits =
     let size = length bytes in
     has_then _ _ (header_takes bytes fits) (λ h f.
     has_then _ _ (tables_take size h.0 h.1 f.rest_fits) (λ t g.
     let c = t.0.0 in
-    ended_takes size t.0.1 c t.1 (λ there none.
-    let body = c.code ++ c.constants ++ rows_bytes c in
+    let version = h.0.version in
+    has_then _ _ (ended_takes size t.0.1 c t.1 {Q = λ d. IsFile version bytes d} (λ there none.
+    let body = c.code ++ c.constants ++ rows_bytes version c in
     let j1 : bytes ≡ (head_bytes h.0 ++ body) ++ t.1 = join (head_bytes h.0) body t.1 f.parts g.parts in
     let j2 : bytes ≡ head_bytes h.0 ++ body =
     j1 ∙ ap (λ (r : List ℕ). (head_bytes h.0 ++ body) ++ r) none ∙ append-nil (head_bytes h.0 ++ body) in
-    let spelled : bytes ≡ file_of c =
-    j2 ∙ ap (λ (x : Header). head_bytes x ++ body) (sym (header_is h.0 c g.from)) ∙ sym (file_regrouped c) in
-    let whole : Format bytes c = record { spelled = spelled; keeps = all_keeps h.0 c f.keeps g.from there } in
-    whole)))
+    let spelled : bytes ≡ file_of version c =
+    j2 ∙ ap (λ (x : Header). head_bytes x ++ body) (sym (header_is h.0 c g.from)) ∙ sym (file_regrouped version c) in
+    let whole : IsFile version bytes c = record {
+      spelled = spelled;
+      keeps = all_keeps h.0 c f.keeps g.from there;
+      fits = fits_version h.0 c f.keeps g.from;
+    } in
+    whole)) (λ d file. has_ok (version, d) file)))
 
 -- ---- the file of valid contents is read
 
-header_fits : (c : Contents) → Keeps c → HeaderFits (header_of c)
+header_fits : (version : Version) (c : Contents) → Keeps c → PartsFit version c → HeaderFits (header_of version c)
 unfolding header_of
-header_fits c k =
+header_fits version c k told =
     let h = k.sizes in
     let g = k.bounds in
     let l = k.limits in
     record {
       sizes = record {
-        code = (h.has_code, h.code_limit);
+        code = (h.has_code, told.code);
         constants = h.constants_limit;
         words = (h.has_data, h.data_limit);
         base = h.base;
@@ -303,12 +340,12 @@ header_fits c k =
         labels = l.labels;
         pars = l.pars;
         table_rows = l.table_rows;
-        flag = flag_fits c.version c.has_long_operations c.table_rows k.version;
+        flag = told.flag;
       };
     }
 
-read_body : (size : ℕ) (c : Contents) → Keeps c
-    → tables_at size (header_of c) (c.code ++ c.constants ++ rows_bytes c)
+read_body : (size : ℕ) (version : Version) (c : Contents) → Keeps c → PartsFit version c
+    → tables_at size (header_of version c) (c.code ++ c.constants ++ rows_bytes version c)
     ≡ Ok (
       (
         c,
@@ -318,57 +355,80 @@ read_body : (size : ℕ) (c : Contents) → Keeps c
       [],
     )
 unfolding tables_at header_of rows_bytes
-read_body size c k =
+read_body size version c k told =
     let code_len = length c.code in
     let t4 = flat_map table_row_bytes c.table_rows in
     let t3 = flat_map par_bytes c.pars ++ t4 in
     let t2 = flat_map label_bytes c.labels ++ t3 in
-    let t1 = flat_map (procedure_bytes c.version) c.procedures ++ t2 in
+    let t1 = flat_map (procedure_bytes version) c.procedures ++ t2 in
     let t0 = c.constants ++ t1 in
-    let regrouped : c.code ++ c.constants ++ rows_bytes c ≡ c.code ++ t0 = simp append_assoc in
-    let small : code_len < 2 ^ 32 = let a = k.sizes.code_limit in omega (arith, max_code_small c.version) in
+    let regrouped : c.code ++ c.constants ++ rows_bytes version c ≡ c.code ++ t0 = simp append_assoc in
+    let small : code_len < 2 ^ 32 = let a = k.sizes.code_limit in omega arith in
     let constants_small : length c.constants < 2 ^ 32 = let a = k.sizes.constants_limit in omega arith in
     let table_rows : table_rows_at size c.constants (length c.table_rows) t4 ≡ Ok (c.table_rows, []) =
     ap (table_rows_at size c.constants (length c.table_rows)) (sym (append-nil t4))
     ∙ table_rows_again size c.constants constants_small c.table_rows [] k.rows.table_rows in
-    ap (tables_at size (header_of c)) regrouped
+    ap (tables_at size (header_of version c)) regrouped
     ∙ step _ (bytes_again size c.code t0)
     (step _ (bytes_again size c.constants t1)
-    (step _ (procedures_again size c.version code_len small c.procedures t2 k.rows.procedures)
+    (step _ (procedures_again size version code_len small c.procedures t2 k.rows.procedures told.ranges)
     (step _ (labels_again size code_len c.procedures small c.labels t3 k.rows.labels)
     (step _ (pars_again size (1 + length c.procedures) code_len small c.pars t4 k.rows.pars)
     (step _ table_rows refl)))))
 
-pub read_again : (c : Contents) → Keeps c → read_contents (file_of c) ≡ Ok c
-unfolding read_contents
-read_again c k =
-    let size = length (file_of c) in
-    let body = c.code ++ c.constants ++ rows_bytes c in
-    step _ (ap header_at (file_regrouped c) ∙ header_again (header_of c) body (header_fits c k))
-    (step _ (read_body size c k) (ended_again size _ c k.names))
+pub read_again : (version : Version) (c : Contents) → Keeps c → FitsVersion version c
+    → read_file (file_of version c) ≡ Ok (version, c)
+unfolding read_file header_of
+read_again version c k h =
+    let told = fit_parts version c k h in
+    let size = length (file_of version c) in
+    let body = c.code ++ c.constants ++ rows_bytes version c in
+    step _
+    (ap header_at (file_regrouped version c) ∙ header_again (header_of version c) body (header_fits version c k told))
+    (step _ (read_body size version c k told) (step _ (ended_again size _ c k.names) refl))
 
 -- ---- no second partner
 
-abbrev given : Contents → Result Contents FormatFault
-given c = Ok c
+abbrev given : Version → Contents → Result (Version × Contents) FormatFault
+given version c = Ok (version, c)
 
-ok_same : {c d : Contents} → given c ≡ given d → c ≡ d
-ok_same e = cc
+ok_same : {v w : Version} {c d : Contents} → given v c ≡ given w d → (v ≡ w) × (c ≡ d)
+ok_same {v = v} {w = w} {c = c} {d = d} e =
+    let same : (v, c) ≡ (w, d) = cc in
+    (ap (λ (p : Version × Contents). p.0) same, ap (λ (p : Version × Contents). p.1) same)
+
+pub file_read : (version : Version) (bytes : List ℕ) (c : Contents) → IsFile version bytes c
+    → read_file bytes ≡ Ok (version, c)
+file_read version bytes c f = ap read_file f.spelled ∙ read_again version c f.keeps f.fits
+
+pub one_file : (bytes : List ℕ) (v w : Version) (c d : Contents) → IsFile v bytes c → IsFile w bytes d
+    → (v ≡ w) × (c ≡ d)
+one_file bytes v w c d f g = ok_same (sym (file_read v bytes c f) ∙ file_read w bytes d g)
 
 pub one_contents : (bytes : List ℕ) (c d : Contents) → Format bytes c → Format bytes d → c ≡ d
-one_contents bytes c d f g =
-    let a : read_contents bytes ≡ Ok c = ap read_contents f.spelled ∙ read_again c f.keeps in
-    let b : read_contents bytes ≡ Ok d = ap read_contents g.spelled ∙ read_again d g.keeps in
-    ok_same (sym a ∙ b)
+one_contents bytes c d f g = (one_file bytes f.version g.version c d f.file g.file).1
 
 -- what spells contents isn't refused
-pub not_refused : (bytes : List ℕ) (c : Contents) (f : FormatFault) → Format bytes c → read_contents bytes ≡ Err f → ⊥
-not_refused bytes c f g e =
-    let a : read_contents bytes ≡ Ok c = ap read_contents g.spelled ∙ read_again c g.keeps in
-    cc
+pub not_refused : (version : Version) (bytes : List ℕ) (c : Contents) (f : FormatFault) → IsFile version bytes c
+    → read_file bytes ≡ Err f → ⊥
+not_refused version bytes c f g e = let a = file_read version bytes c g in absurd cc
 
 -- a reader of what spells contents fails only if memory runs out
-pub only_memory : (bytes : List ℕ) (c : Contents) (e : ReadError) → Format bytes c → Fails e (read_contents bytes)
-    → fault_of e ≡ out_of_memory
-only_memory bytes c errors.Memory g h = refl
-only_memory bytes c (errors.Fault f) g h = absurd (not_refused bytes c f g h)
+pub only_memory : (version : Version) (bytes : List ℕ) (c : Contents) (e : ReadError) → IsFile version bytes c
+    → Fails e (read_file bytes) → fault_of e ≡ out_of_memory
+only_memory version bytes c errors.Memory g h = refl
+only_memory version bytes c (errors.Fault f) g h = absurd (not_refused version bytes c f g h)
+
+-- ---- upgraded files
+
+pub upgraded : (old : List ℕ) (c : Contents) → IsFile versions.One old c → IsUpgraded old (file_of versions.Two c)
+upgraded old c f = record {
+  contents = c;
+  before = f;
+  after = record { spelled = refl; keeps = f.keeps; fits = tt };
+}
+
+pub upgraded_same : (old new : List ℕ) (c d : Contents) → IsUpgraded old new → Format old c → Format new d → c ≡ d
+upgraded_same old new c d u f g =
+    let first : c ≡ u.contents = one_contents old c u.contents f (record { version = versions.One; file = u.before }) in
+    first ∙ one_contents new u.contents d (record { version = versions.Two; file = u.after }) g

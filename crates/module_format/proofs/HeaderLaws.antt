@@ -9,6 +9,7 @@ use Rattle.std.proofs.lemmas.Slice.Eq.{starts_is}
 use Rattle.module_format.specs.declared.fault.FormatFaultKind.TheVariants as faults
 use Rattle.module_format.specs.declared.limits.TheConstants.{MAX_CONSTANTS, MAX_DATA_WORDS, MAX_BUDGET, MAX_MESSAGE}
 use Rattle.module_format.specs.declared.limits.TheConstants.{MAX_PROCEDURES, MAX_LABELS, MAX_PARS, MAX_TABLES}
+use Rattle.module_format.specs.declared.limits.TheConstants.{MAX_LONG_CODE}
 use Rattle.module_format.specs.declared.tables.Version.{Version}
 use Rattle.module_format.specs.declared.tables.Version.TheVariants as versions
 use Rattle.module_format.specs.declared.reading.header.Sizes.{Sizes}
@@ -65,6 +66,10 @@ pub record SizesFit (version : Version) (s : Sizes) : Type 0 where
 pub max_code_small : (version : Version) → max_code version < 2 ^ 32
 max_code_small versions.One = omega arith
 max_code_small versions.Two = omega arith
+
+pub max_code_most : (version : Version) → max_code version ≤ MAX_LONG_CODE
+max_code_most versions.One = omega arith
+max_code_most versions.Two = omega arith
 
 module _ (size : ℕ) (version : Version) where
   sizes_take : (bytes : List ℕ) → IsBytes bytes

@@ -1,13 +1,15 @@
 -- Testing whether tables are valid.
 use Rattle.std.proofs.Common.{◌≡◌, ℕ, ◌<◌, ◌≤◌, length, drop, Bool, true, false, ◌↔◌, List, [], ◌∷◌, refl, sym, arith}
-use Rattle.std.proofs.Common.{eqb, ◌+◌, ◌^◌, Result, Ok, Err}
+use Rattle.std.proofs.Common.{map, eqb, ◌+◌, ◌^◌, Result, Ok, Err}
 use Rattle.std.specs.Prelude.{IsTrue, not, is_ok}
-use Rattle.std.specs.List.{list_any, flat_map}
-use Rattle.module_format.specs.Contents.{Procedure, Contents}
+use Rattle.std.specs.List.{list_any, flat_map, AllByRecursion}
+use Rattle.module_format.specs.Contents.{Procedure, procedure_of, Contents}
 use Rattle.module_format.specs.Facts.{IsLabelOffset}
 use Rattle.std.specs.Int.{w32, cast_signed}
 use Rattle.byteorder.specs.Endian.{little_number}
-use Rattle.module_format.specs.Procedures.{words_of}
+use Rattle.module_format.specs.Procedures.{ProcedureFits, words_of}
+use Rattle.module_format.specs.Rows.{ProcedureRow}
+use Rattle.module_format.specs.declared.tables.Version.TheVariants as versions
 use Rattle.module_format.specs.declared.fault.FormatFault.{FormatFault}
 use Rattle.module_format.specs.Keeping.{LimitsKeep, RowsKeep, NamesAreThere}
 use Rattle.module_format.specs.Spelling.{label_bytes, par_bytes}
@@ -26,6 +28,17 @@ offset_is code_len procedures low offset true rises inside e =
     (λ t. absurd cc, λ h. absurd (let n = none_begins procedures offset h.no_entry in cc))
 offset_is code_len procedures low offset false rises inside e =
     (λ _. record { rises = rises; in_code = inside; no_entry = no_entry procedures offset (sym e) }, λ _. refl)
+
+-- ---- what version 1 asks besides
+
+-- of rows in memory and of what they say
+pub procedures_fit : (rows : List ProcedureRow)
+    → AllByRecursion (λ (row : ProcedureRow). ProcedureFits versions.One (procedure_of row)) rows
+    ↔ AllByRecursion (ProcedureFits versions.One) (map procedure_of rows)
+procedures_fit [] = (λ _. tt, λ _. tt)
+procedures_fit (row ∷ rows) =
+    let others = procedures_fit rows in
+    (λ h. (h.0, others.0 h.1), λ h. (h.0, others.1 h.1))
 
 -- ---- the words of the constants
 

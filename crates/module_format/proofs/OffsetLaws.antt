@@ -9,7 +9,6 @@ use Rattle.std.proofs.lemmas.Bool.{cases_lt, ltb-true, ltb-false}
 use Rattle.std.proofs.lemmas.Bool.Decides.{nat_tests}
 use Rattle.std.proofs.Math.Bool.{or-true}
 use Rattle.module_format.specs.Rows.{ProcedureRow}
-use Rattle.module_format.specs.declared.tables.Version.{Version}
 use Rattle.module_format.specs.Contents.{procedure_of}
 use Rattle.module_format.specs.Order.{InOrder}
 use Rattle.module_format.specs.Procedures.{ProcedureKeeps, behind_procedure}
@@ -59,17 +58,17 @@ module _ {X : Type 0} (offset : X → ℕ) where
 -- ---- procedure rows
 
 -- the procedure rows of a module rise
-procedures_rise : (version : Version) (code_len low : ℕ) (rows : List ProcedureRow)
-    → InOrder (ProcedureKeeps version code_len) behind_procedure low (map procedure_of rows)
+procedures_rise : (code_len low : ℕ) (rows : List ProcedureRow)
+    → InOrder (ProcedureKeeps code_len) behind_procedure low (map procedure_of rows)
     → Rise (λ row. row.entry) low rows
-procedures_rise version code_len low [] keeps = tt
-procedures_rise version code_len low (row ∷ rows) keeps =
-    (keeps.0.rises, procedures_rise version code_len row.entry rows keeps.1)
+procedures_rise code_len low [] keeps = tt
+procedures_rise code_len low (row ∷ rows) keeps =
+    (keeps.0.rises, procedures_rise code_len row.entry rows keeps.1)
 
-pub rows_rise : (version : Version) (code_len : ℕ) (rows : List ProcedureRow)
-    → InOrder (ProcedureKeeps version code_len) behind_procedure 0 (map procedure_of rows) → EntriesRise rows
-rows_rise version code_len rows keeps =
-    non_decreasing (λ row. row.entry) 0 rows (procedures_rise version code_len 0 rows keeps)
+pub rows_rise : (code_len : ℕ) (rows : List ProcedureRow)
+    → InOrder (ProcedureKeeps code_len) behind_procedure 0 (map procedure_of rows) → EntriesRise rows
+rows_rise code_len rows keeps =
+    non_decreasing (λ row. row.entry) 0 rows (procedures_rise code_len 0 rows keeps)
 
 -- no procedure begins where none is found
 not_entered : (rows : List ProcedureRow) (at : ℕ) → IsNowhere (λ row. row.entry) rows at

@@ -46,6 +46,18 @@ pub each : {A S : Type 0} (K : S → A → Type 0) (next : S → A → S) (P : A
 each K next P one low [] h = tt
 each K next P one low (x ∷ xs) h = (one low x h.0, each K next P one (next low x) xs h.1)
 
+-- what holds of each item besides what it keeps, apart and together
+module _ {A S : Type 0} (K : S → A → Type 0) (P : A → Type 0) (next : S → A → S) where
+  pub parted : (low : S) (xs : List A) → InOrder (λ low x. K low x × P x) next low xs
+      → InOrder K next low xs × AllByRecursion P xs
+  parted low [] h = (tt, tt)
+  parted low (x ∷ xs) h = let more = parted (next low x) xs h.1 in ((h.0.0, more.0), (h.0.1, more.1))
+
+  pub joined : (low : S) (xs : List A) → InOrder K next low xs → AllByRecursion P xs
+      → InOrder (λ low x. K low x × P x) next low xs
+  joined low [] h g = tt
+  joined low (x ∷ xs) h g = ((h.0, g.0), joined (next low x) xs h.1 g.1)
+
 -- what all leave, and then one more
 pub behind_last : {A S : Type 0} (next : S → A → S) (low : S) (xs : List A) (x : A)
     → behind_all next low (xs ++ x ∷ []) ≡ next (behind_all next low xs) x

@@ -18,9 +18,9 @@ use Rattle.module_format.specs.declared.tables.Version.{Version}
 use Rattle.module_format.specs.declared.tables.Version.TheVariants as versions
 use Rattle.module_format.specs.Contents.{Procedure}
 use Rattle.module_format.specs.Order.{IsBytes, InOrder, IsInterval, least_word, greatest_word, is_multiple_of_four}
-use Rattle.module_format.specs.Procedures.{RangeKeeps, IsRegion, AreChannels, KindKeeps, ParameterKeeps}
-use Rattle.module_format.specs.Procedures.{behind_parameter, ProcedureKeeps, behind_procedure, words_of, IsWithin}
-use Rattle.module_format.specs.Procedures.{TableKeeps, behind_table}
+use Rattle.module_format.specs.Procedures.{IsRegion, AreChannels, KindKeeps, ParameterKeeps, behind_parameter}
+use Rattle.module_format.specs.Procedures.{ProcedureKeeps, behind_procedure, RangeFits, KindFits, ProcedureFits}
+use Rattle.module_format.specs.Procedures.{words_of, IsWithin, TableKeeps, behind_table}
 use Rattle.module_format.specs.Spelling.{u16_bytes, u32_bytes, u64_bytes, i32_bytes, range_bytes, kind_bytes}
 use Rattle.module_format.specs.Spelling.{parameter_bytes, procedure_bytes, table_row_bytes}
 use Rattle.module_format.specs.Reading.{and_then, fault, place, tested, byte_at, int_at, interval_at, list_at}
@@ -37,26 +37,43 @@ use Rattle.module_format.proofs.FieldLaws.{limited_again, u32_takes, u32_again, 
 use Rattle.module_format.proofs.FieldLaws.{in_code_takes, in_code_again, int_takes, int_again, interval_takes}
 use Rattle.module_format.proofs.FieldLaws.{interval_again, byte_takes, int_le-true, int_le-le, int_lt-true}
 use Rattle.module_format.proofs.FieldLaws.{int_lt-holds}
+use Rattle.module_format.proofs.OrderLaws.{parted, joined}
 use Rattle.module_format.proofs.RowLaws.{span_takes, span_again}
 
 -- tests
 
 -- ---- kinds of parameters
 
+-- kinds, parameters and procedure rows that keep their rules, and that a version can say
+abbrev KindIn : Version → ParameterKind → Type 0
+KindIn version kind = KindKeeps kind × KindFits version kind
+
+abbrev ParameterIn : Version → ℤ → ℕ → Parameter → Type 0
+ParameterIn version hi low p = ParameterKeeps hi low p × KindFits version p.kind
+
+abbrev ProcedureIn : Version → ℕ → ℕ → Procedure → Type 0
+ProcedureIn version code_len low row = ProcedureKeeps code_len low row × ProcedureFits version row
+
+full_interval : IsInterval least_word greatest_word
+full_interval = record { lo_fits = omega (arith, ints); hi_fits = omega (arith, ints); ordered = omega (arith, ints) }
+
 module _ (size : ℕ) where
   words_range_takes : (version : Version) (bytes : List ℕ) → IsBytes bytes
       → Has (words_range_at size version bytes)
-      (Spelled bytes (λ r. range_bytes version r.0 r.1) (λ r. RangeKeeps version r.0 r.1))
+      (Spelled bytes (λ r. range_bytes version r.0 r.1) (λ r. IsInterval r.0 r.1 × RangeFits version r.0 r.1))
   unfolding words_range_at
   words_range_takes versions.One bytes fits =
-      has_ok ((least_word, greatest_word), bytes) (record { parts = refl; rest_fits = fits; keeps = (refl, refl) })
-  words_range_takes versions.Two bytes fits = interval_takes size bytes fits
+      has_ok ((least_word, greatest_word), bytes)
+      (record { parts = refl; rest_fits = fits; keeps = (full_interval, (refl, refl)) })
+  words_range_takes versions.Two bytes fits =
+      has_weaker (interval_at size bytes) (interval_takes size bytes fits) (λ r h.
+      record { parts = h.parts; rest_fits = h.rest_fits; keeps = (h.keeps, tt) })
 
-  words_range_again : (version : Version) (lo hi : ℤ) (rest : List ℕ) → RangeKeeps version lo hi
+  words_range_again : (version : Version) (lo hi : ℤ) (rest : List ℕ) → IsInterval lo hi → RangeFits version lo hi
       → words_range_at size version (range_bytes version lo hi ++ rest) ≡ Ok ((lo, hi), rest)
   unfolding words_range_at
-  words_range_again versions.One lo hi rest h = rw (h.0, h.1) refl
-  words_range_again versions.Two lo hi rest h =
+  words_range_again versions.One lo hi rest h told = rw (told.0, told.1) refl
+  words_range_again versions.Two lo hi rest h told =
       ap (interval_at size) (append_assoc (i32_bytes lo) (i32_bytes hi) rest) ∙ interval_again size lo hi rest h
 
   -- a count of bytes that is one of whole words
@@ -79,24 +96,27 @@ module _ (size : ℕ) where
   region_takes : (version : Version) (kind : ℕ → ℤ → ℤ → ParameterKind) (tag n : ℕ) (bytes : List ℕ)
       → ((bytes : ℕ) (lo hi : ℤ) → kind_bytes version (kind bytes lo hi) ≡ n ∷
       (u32_bytes bytes ++ range_bytes version lo hi))
-      → ((bytes : ℕ) (lo hi : ℤ) → IsRegion version bytes lo hi → KindKeeps version (kind bytes lo hi))
+      → ((bytes : ℕ) (lo hi : ℤ) → IsRegion bytes lo hi → KindKeeps (kind bytes lo hi))
+      → ((bytes : ℕ) (lo hi : ℤ) → RangeFits version lo hi → KindFits version (kind bytes lo hi))
       → IsBytes bytes → tag ≡ n → Has (region_at size version kind bytes)
-      (Spelled (tag ∷ bytes) (kind_bytes version) (KindKeeps version))
+      (Spelled (tag ∷ bytes) (kind_bytes version) (KindIn version))
   unfolding region_at
-  region_takes version kind tag n bytes spelled kept fits e =
+  region_takes version kind tag n bytes spelled kept told fits e =
       field (tag_taken e fits) (region_size_takes _) (λ region h t.
       field t (words_range_takes version _) (λ range g u.
-      all_taken (regroup (sym (spelled region.0 range.0.0 range.0.1)) u) (kept region.0 range.0.0 range.0.1
-      (record { size_fits = h.0; some = h.1; words = h.2; range = g }))))
+      all_taken (regroup (sym (spelled region.0 range.0.0 range.0.1)) u) (
+        kept region.0 range.0.0 range.0.1 (record { size_fits = h.0; some = h.1; words = h.2; range = g.0 }),
+        told region.0 range.0.0 range.0.1 g.1,
+      )))
 
   region_again : (version : Version) (kind : ℕ → ℤ → ℤ → ParameterKind) (n : ℕ) (lo hi : ℤ) (rest : List ℕ)
-      → IsRegion version n lo hi → region_at size version kind ((u32_bytes n ++ range_bytes version lo hi) ++ rest) ≡ Ok
-      (kind n lo hi, rest)
+      → IsRegion n lo hi → RangeFits version lo hi
+      → region_at size version kind ((u32_bytes n ++ range_bytes version lo hi) ++ rest) ≡ Ok (kind n lo hi, rest)
   unfolding region_at
-  region_again version kind n lo hi rest h =
+  region_again version kind n lo hi rest h told =
       ap (region_at size version kind) (append_assoc (u32_bytes n) (range_bytes version lo hi) rest)
       ∙ step _ (region_size_again n (range_bytes version lo hi ++ rest) h.size_fits h.some h.words)
-      (step _ (words_range_again version lo hi rest h.range) refl)
+      (step _ (words_range_again version lo hi rest h.range told) refl)
 
   ends_take : (bytes : List ℕ) → IsBytes bytes
       → Has (ends_at size bytes) (Spelled bytes (λ ends. ends.0 ∷ []) (λ ends. (1 ≤ ends.0) × (ends.0 ≤ 3)))
@@ -114,14 +134,16 @@ module _ (size : ℕ) where
   ends_again ends rest some few = step _ (tested_again _ _ _ _ refl (rw (le-leb _ _ some, le-leb _ _ few) refl)) refl
 
   channels_take : (version : Version) (tag : ℕ) (bytes : List ℕ) → IsBytes bytes → tag ≡ 3
-      → Has (channels_at size bytes) (Spelled (tag ∷ bytes) (kind_bytes version) (KindKeeps version))
+      → Has (channels_at size bytes) (Spelled (tag ∷ bytes) (kind_bytes version) (KindIn version))
   unfolding channels_at
   channels_take version tag bytes fits e =
       field (tag_taken e fits) (span_takes size _) (λ count h t.
       field t (positive_takes size MAX_MESSAGE _) (λ len g u.
       field u (ends_take _) (λ ends k v.
-      all_taken v
-      (record { count_fits = h.0; some = h.1; has_length = g.0; limit = g.1; has_end = k.0; no_more = k.1 }))))
+      all_taken v (
+        record { count_fits = h.0; some = h.1; has_length = g.0; limit = g.1; has_end = k.0; no_more = k.1 },
+        tt,
+      ))))
 
   channels_again : (count len : ℕ) (ends : Ends) (rest : List ℕ) → AreChannels count len ends.0
       → channels_at size ((u32_bytes count ++ u32_bytes len ++ ends.0 ∷ []) ++ rest)
@@ -137,10 +159,10 @@ module _ (size : ℕ) where
       (step _ (ends_again ends rest h.has_end h.no_more) refl))
 
   value_takes : (version : Version) (tag : ℕ) (bytes : List ℕ) → IsBytes bytes → tag ≡ 0
-      → Has (value_at size bytes) (Spelled (tag ∷ bytes) (kind_bytes version) (KindKeeps version))
+      → Has (value_at size bytes) (Spelled (tag ∷ bytes) (kind_bytes version) (KindIn version))
   unfolding value_at
   value_takes version tag bytes fits e =
-      field (tag_taken e fits) (interval_takes size _) (λ range h t. all_taken t h)
+      field (tag_taken e fits) (interval_takes size _) (λ range h t. all_taken t (h, tt))
 
   value_again : (lo hi : ℤ) (rest : List ℕ) → IsInterval lo hi
       → value_at size ((i32_bytes lo ++ i32_bytes hi) ++ rest) ≡ Ok (kinds.Value lo hi, rest)
@@ -149,7 +171,7 @@ module _ (size : ℕ) where
       (interval_again size lo hi rest h) refl
 
   kind_takes : (version : Version) (bytes : List ℕ) → IsBytes bytes
-      → Has (kind_at size version bytes) (Spelled bytes (kind_bytes version) (KindKeeps version))
+      → Has (kind_at size version bytes) (Spelled bytes (kind_bytes version) (KindIn version))
   unfolding kind_at byte_at and_then
   kind_takes version [] fits = has_err (fault faults.Truncated size)
   kind_takes version (tag ∷ bytes) fits =
@@ -162,21 +184,24 @@ module _ (size : ℕ) where
       (λ none. value_takes version tag bytes behind (eqb-true _ _ none)) (λ _.
       has_cond (eqb tag 1) read (cond (eqb tag 2) written (cond (eqb tag 3) (channels_at size bytes) (Err wrong)))
       (λ one.
-      region_takes version kinds.ReadRegion tag 1 bytes (λ n lo hi. refl) (λ n lo hi h. h) behind (eqb-true _ _ one))
+      region_takes version kinds.ReadRegion tag 1 bytes (λ n lo hi. refl) (λ n lo hi h. h) (λ n lo hi h. h) behind
+      (eqb-true _ _ one))
       (λ _.
       has_cond (eqb tag 2) written (cond (eqb tag 3) (channels_at size bytes) (Err wrong)) (λ two.
-      region_takes version kinds.WrittenRegion tag 2 bytes (λ n lo hi. refl) (λ n lo hi h. h) behind (eqb-true _ _ two))
+      region_takes version kinds.WrittenRegion tag 2 bytes (λ n lo hi. refl) (λ n lo hi h. h) (λ n lo hi h. h) behind
+      (eqb-true _ _ two))
       (λ _.
       has_if (eqb tag 3) wrong (channels_at size bytes)
       (λ three. channels_take version tag bytes behind (eqb-true _ _ three)))))
 
-  kind_again : (version : Version) (kind : ParameterKind) (rest : List ℕ) → KindKeeps version kind
+  kind_again : (version : Version) (kind : ParameterKind) (rest : List ℕ) → KindIn version kind
       → kind_at size version (kind_bytes version kind ++ rest) ≡ Ok (kind, rest)
   unfolding kind_at byte_at and_then
-  kind_again version (kinds.Value lo hi) rest h = value_again lo hi rest h
-  kind_again version (kinds.ReadRegion n lo hi) rest h = region_again version kinds.ReadRegion n lo hi rest h
-  kind_again version (kinds.WrittenRegion n lo hi) rest h = region_again version kinds.WrittenRegion n lo hi rest h
-  kind_again version (kinds.Channels count len ends) rest h = channels_again count len ends rest h
+  kind_again version (kinds.Value lo hi) rest h = value_again lo hi rest h.0
+  kind_again version (kinds.ReadRegion n lo hi) rest h = region_again version kinds.ReadRegion n lo hi rest h.0 h.1
+  kind_again version (kinds.WrittenRegion n lo hi) rest h =
+      region_again version kinds.WrittenRegion n lo hi rest h.0 h.1
+  kind_again version (kinds.Channels count len ends) rest h = channels_again count len ends rest h.0
 
 -- ---- parameters
 
@@ -192,17 +217,17 @@ module _ (size : ℕ) (version : Version) (hi : ℤ) where
 
   parameter_takes : (low : ℕ) (bytes : List ℕ) → IsBytes bytes
       → Has (parameter_at size version hi low bytes)
-      (Spelled bytes (parameter_bytes version) (ParameterKeeps version hi low))
+      (Spelled bytes (parameter_bytes version) (ParameterIn version hi low))
   unfolding parameter_at parameter_bytes
   parameter_takes low bytes fits =
       field (nothing_taken fits) (parameter_word_takes low _) (λ word h t.
       field t (kind_takes size version _) (λ kind g u.
-      all_taken u (record { rises = h.0; inside = h.1; kind = g })))
+      all_taken u (record { rises = h.0; inside = h.1; kind = g.0 }, g.1)))
 
   parameters_take : (bytes : List ℕ) → IsBytes bytes
       → Has (parameters_at size version hi bytes)
       (Spelled bytes (λ ps. u16_bytes (length ps) ++ flat_map (parameter_bytes version) ps)
-      (λ ps. (length ps ≤ MAX_PARAMETERS) × InOrder (ParameterKeeps version hi) behind_parameter 0 ps))
+      (λ ps. (length ps ≤ MAX_PARAMETERS) × InOrder (ParameterIn version hi) behind_parameter 0 ps))
   unfolding parameters_at
   parameters_take bytes fits =
       has_then _ _ (limited_takes size 2 u16_bytes (2 ^ 16) wide16 MAX_PARAMETERS bytes fits) (λ count h.
@@ -224,16 +249,16 @@ module _ (size : ℕ) (version : Version) (hi : ℤ) where
         (rw (le-leb _ _ some, int_lt-holds _ _ inside) refl) in
         tested_again _ _ _ _ within (lt-ltb _ _ rises)
 
-    parameter_again : (low : ℕ) (p : Parameter) (rest : List ℕ) → ParameterKeeps version hi low p
+    parameter_again : (low : ℕ) (p : Parameter) (rest : List ℕ) → ParameterIn version hi low p
         → parameter_at size version hi low (parameter_bytes version p ++ rest) ≡ Ok (p, rest)
     unfolding parameter_at parameter_bytes
     parameter_again low p rest h =
         ap (parameter_at size version hi low) (append_assoc (u16_bytes p.word) (kind_bytes version p.kind) rest)
-        ∙ step _ (parameter_word_again low p.word (kind_bytes version p.kind ++ rest) h.rises h.inside)
-        (step _ (kind_again size version p.kind rest h.kind) refl)
+        ∙ step _ (parameter_word_again low p.word (kind_bytes version p.kind ++ rest) h.0.rises h.0.inside)
+        (step _ (kind_again size version p.kind rest (h.0.kind, h.1)) refl)
 
     parameters_again : (ps : List Parameter) (rest : List ℕ) → length ps ≤ MAX_PARAMETERS
-        → InOrder (ParameterKeeps version hi) behind_parameter 0 ps
+        → InOrder (ParameterIn version hi) behind_parameter 0 ps
         → parameters_at size version hi (u16_bytes (length ps) ++ (flat_map (parameter_bytes version) ps ++ rest))
         ≡ Ok (ps, rest)
     unfolding parameters_at
@@ -278,7 +303,7 @@ module _ (size : ℕ) where
 module _ (size : ℕ) (version : Version) (code_len : ℕ) where
   procedure_takes : (low : ℕ) (bytes : List ℕ) → IsBytes bytes
       → Has (procedure_row_at size version code_len low bytes)
-      (Spelled bytes (procedure_bytes version) (ProcedureKeeps version code_len low))
+      (Spelled bytes (procedure_bytes version) (ProcedureIn version code_len low))
   unfolding procedure_row_at frame_start_at frame_end_at procedure_bytes
   procedure_takes low bytes fits =
       field (nothing_taken fits) (rising_takes size code_len low _) (λ entry h0 t0.
@@ -286,30 +311,44 @@ module _ (size : ℕ) (version : Version) (code_len : ℕ) where
       field t1 (bounded_takes size (pos 4) (pos 16384) _) (λ hi h2 t2.
       field t2 (number_takes size 8 u64_bytes (2 ^ 64) wide64 _) (λ number h3 t3.
       field t3 (parameters_take size version hi.0 _) (λ ps h4 t4.
-      all_taken (regroup (simp append_assoc) t4) (record {
-        rises = h0.0;
-        in_code = h0.1;
-        lo_low = h1.0;
-        lo_high = h1.1;
-        hi_low = h2.0;
-        hi_high = h2.1;
-        number_fits = h3;
-        few = h4.0;
-        parameters = h4.1;
-      }))))))
+      let both =
+      parted (ParameterKeeps hi.0) (λ (p : Parameter). KindFits version p.kind) behind_parameter 0 ps.0 h4.1 in
+      all_taken (regroup (simp append_assoc) t4) (
+        record {
+          rises = h0.0;
+          in_code = h0.1;
+          lo_low = h1.0;
+          lo_high = h1.1;
+          hi_low = h2.0;
+          hi_high = h2.1;
+          number_fits = h3;
+          few = h4.0;
+          parameters = both.0;
+        },
+        both.1,
+      ))))))
 
   pub procedures_take : (count : ℕ) (bytes : List ℕ) → IsBytes bytes
       → Has (procedure_rows_at size version code_len count bytes)
       (Spelled bytes (flat_map (procedure_bytes version))
-      (λ rows. (length rows ≡ count) × InOrder (ProcedureKeeps version code_len) behind_procedure 0 rows))
+      (λ rows. (length rows ≡ count) × InOrder (ProcedureKeeps code_len) behind_procedure 0 rows
+      × AllByRecursion (ProcedureFits version) rows))
   unfolding procedure_rows_at
-  procedures_take count bytes fits = list_takes procedure_takes count 0 bytes fits
+  procedures_take count bytes fits =
+      has_weaker (procedure_rows_at size version code_len count bytes) (list_takes procedure_takes count 0 bytes fits)
+      (λ rows h.
+      let both = parted (ProcedureKeeps code_len) (ProcedureFits version) behind_procedure 0 rows.0 h.keeps.1 in
+      record { parts = h.parts; rest_fits = h.rest_fits; keeps = (h.keeps.0, both.0, both.1) })
 
   module _ (small : code_len < 2 ^ 32) where
-    procedure_again : (low : ℕ) (row : Procedure) (rest : List ℕ) → ProcedureKeeps version code_len low row
+    procedure_again : (low : ℕ) (row : Procedure) (rest : List ℕ) → ProcedureIn version code_len low row
         → procedure_row_at size version code_len low (procedure_bytes version row ++ rest) ≡ Ok (row, rest)
     unfolding procedure_row_at frame_start_at frame_end_at procedure_bytes
-    procedure_again low row rest h =
+    procedure_again low row rest both =
+        let h = both.0 in
+        let parameters =
+        joined (ParameterKeeps row.hi) (λ (p : Parameter). KindFits version p.kind) behind_parameter 0 row.parameters
+        h.parameters both.1 in
         let tail4 = u16_bytes (length row.parameters) ++ (flat_map (parameter_bytes version) row.parameters ++ rest) in
         let tail3 = u64_bytes row.number ++ tail4 in
         let tail2 = i32_bytes row.hi ++ tail3 in
@@ -323,14 +362,16 @@ module _ (size : ℕ) (version : Version) (code_len : ℕ) where
         (step _ (bounded_again size (negsuc 16383) (pos 0) row.lo tail2 lo_fits h.lo_low h.lo_high)
         (step _ (bounded_again size (pos 4) (pos 16384) row.hi tail3 hi_fits h.hi_low h.hi_high)
         (step _ (number_again size 8 u64_bytes (2 ^ 64) wide64 row.number tail4 h.number_fits)
-        (step _ (parameters_again size version row.hi h.hi_high row.parameters rest h.few h.parameters) refl))))
+        (step _ (parameters_again size version row.hi h.hi_high row.parameters rest h.few parameters) refl))))
 
     pub procedures_again : (rows : List Procedure) (rest : List ℕ)
-        → InOrder (ProcedureKeeps version code_len) behind_procedure 0 rows
+        → InOrder (ProcedureKeeps code_len) behind_procedure 0 rows → AllByRecursion (ProcedureFits version) rows
         → procedure_rows_at size version code_len (length rows) (flat_map (procedure_bytes version) rows ++ rest)
         ≡ Ok (rows, rest)
     unfolding procedure_rows_at
-    procedures_again rows rest h = list_again _ _ _ procedure_again rows 0 rest h
+    procedures_again rows rest h told =
+        list_again _ _ _ procedure_again rows 0 rest
+        (joined (ProcedureKeeps code_len) (ProcedureFits version) behind_procedure 0 rows h told)
 
 -- ---- table rows
 

@@ -50,7 +50,7 @@ nothing_asked (x ∷ xs) = (tt, nothing_asked xs)
 pub procedures_writable : (c : Contents) → RowsKeep c
     → AllByRecursion (λ (row : Procedure). length row.parameters < 2 ^ 16) c.procedures
 procedures_writable c k =
-    each (ProcedureKeeps c.version (length c.code)) behind_procedure (λ row. length row.parameters < 2 ^ 16)
+    each (ProcedureKeeps (length c.code)) behind_procedure (λ row. length row.parameters < 2 ^ 16)
     (λ low row h. omega (arith, h.few)) 0 c.procedures k.procedures
 
 pub labels_writable : (c : Contents) → RowsKeep c

@@ -14,7 +14,6 @@ use Rattle.module_format.specs.Rows.{LabelRow}
 use Rattle.module_format.specs.Rows.{BranchRow}
 use Rattle.module_format.specs.declared.rows.BranchCounts.{BranchCounts}
 use Rattle.module_format.specs.Rows.{ParRow}
-use Rattle.module_format.specs.declared.tables.Version.{Version}
 use Rattle.module_format.specs.declared.tables.Tables.{Tables}
 
 -- a procedure: its entry, its frame words from lo up to hi, its number and its parameters
@@ -72,7 +71,6 @@ pub record Par : Type 0 where
 
 -- what a module file says
 pub record Contents : Type 0 where
-  pub version : Version
   pub code : List ℕ
   pub constants : List ℕ
   pub data_words : ℕ
@@ -136,7 +134,6 @@ par_of row =
 -- what tables in memory say
 abbrev pub contents_of : Tables → Contents
 contents_of t = record {
-  version = t.version;
   code = t.code.now;
   constants = t.constants.now;
   data_words = t.data_words;

@@ -11,7 +11,6 @@ use Rattle.module_format.specs.declared.rows.ParameterKind.TheVariants as kinds
 use Rattle.module_format.specs.declared.rows.EndKind.{EndKind}
 use Rattle.module_format.specs.declared.rows.EndKind.TheVariants as ends
 use Rattle.module_format.specs.declared.rows.EndRow.{EndRow}
-use Rattle.module_format.specs.declared.rows.TableRow.{TableRow}
 use Rattle.module_format.specs.declared.tables.Version.{Version}
 use Rattle.module_format.specs.declared.tables.Version.TheVariants as versions
 use Rattle.module_format.specs.declared.limits.TheConstants.{MAX_CODE, MAX_LONG_CODE, MAX_CONSTANTS, MAX_DATA_WORDS}
@@ -20,7 +19,7 @@ use Rattle.module_format.specs.declared.limits.TheConstants.{MAX_PARS, MAX_TABLE
 use Rattle.module_format.specs.Order.{IsBytes, InOrder}
 use Rattle.module_format.specs.Contents.{Label, Branch, Par, Contents}
 use Rattle.module_format.specs.Facts.{LabelKeeps, behind_label, end_of}
-use Rattle.module_format.specs.Procedures.{ProcedureKeeps, behind_procedure, TableKeeps, behind_table}
+use Rattle.module_format.specs.Procedures.{ProcedureKeeps, behind_procedure, ProcedureFits, TableKeeps, behind_table}
 use Rattle.module_format.specs.Pars.{ParKeeps, behind_par, no_branches}
 use Rattle.module_format.specs.Spelling.{file_of}
 use Rattle.module_format.specs.declared.contexts.Context.{Context}
@@ -90,11 +89,6 @@ ParFits contents row = AllByRecursion (BranchFits (parameters_at contents row.co
 
 -- ---- the whole
 
--- version 1 has neither long operations nor table rows
-abbrev pub VersionKeeps : Version → Bool → List TableRow → Type 0
-VersionKeeps versions.One flag rows = (flag ≡ false) × (rows ≡ [])
-VersionKeeps versions.Two flag rows = ⊤
-
 -- bytes of code
 abbrev pub max_code : Version → ℕ
 max_code versions.One = MAX_CODE
@@ -103,7 +97,7 @@ max_code versions.Two = MAX_LONG_CODE
 -- the numbers of the code, the constants and the data area
 pub record SizesKeep (c : Contents) : Type 0 where
   pub has_code : 1 ≤ length c.code
-  pub code_limit : length c.code ≤ max_code c.version
+  pub code_limit : length c.code ≤ MAX_LONG_CODE
   pub constants_limit : length c.constants ≤ MAX_CONSTANTS
   pub has_data : 1 ≤ c.data_words
   pub data_limit : c.data_words ≤ MAX_DATA_WORDS
@@ -125,7 +119,7 @@ pub record LimitsKeep (c : Contents) : Type 0 where
 
 -- the rows, each by itself
 pub record RowsKeep (c : Contents) : Type 0 where
-  pub procedures : InOrder (ProcedureKeeps c.version (length c.code)) behind_procedure 0 c.procedures
+  pub procedures : InOrder (ProcedureKeeps (length c.code)) behind_procedure 0 c.procedures
   pub labels : InOrder (LabelKeeps (length c.code) c.procedures) behind_label 0 c.labels
   pub pars : InOrder (ParKeeps (first_branch c) (length c.code)) behind_par no_branches c.pars
   pub table_rows : InOrder (TableKeeps c.constants) behind_table 0 c.table_rows
@@ -135,9 +129,8 @@ pub record NamesAreThere (c : Contents) : Type 0 where
   pub labels : AllByRecursion (LabelFits c) c.labels
   pub pars : AllByRecursion (ParFits c) c.pars
 
--- contents that keep the rules of the format
+-- contents that keep the rules of the format, which are those of version 2
 pub record Keeps (c : Contents) : Type 0 where
-  pub version : VersionKeeps c.version c.has_long_operations c.table_rows
   pub sizes : SizesKeep c
   pub bounds : BoundsKeep c
   pub limits : LimitsKeep c
@@ -146,7 +139,31 @@ pub record Keeps (c : Contents) : Type 0 where
   pub rows : RowsKeep c
   pub names : NamesAreThere c
 
--- This file is the one spelling of these contents, which are valid.
-pub record Format (bytes : List ℕ) (c : Contents) : Type 0 where
-  pub spelled : bytes ≡ file_of c
+-- What version 1 asks besides: it has less code, no long operations, no ranges of regions and no table rows.
+pub record FitsFirst (c : Contents) : Type 0 where
+  pub code : length c.code ≤ MAX_CODE
+  pub flag : c.has_long_operations ≡ false
+  pub ranges : AllByRecursion (ProcedureFits versions.One) c.procedures
+  pub table_rows : c.table_rows ≡ []
+
+-- valid contents that a version can say
+abbrev pub FitsVersion : Version → Contents → Type 0
+FitsVersion versions.One c = FitsFirst c
+FitsVersion versions.Two c = ⊤
+
+-- This file is the one spelling of these contents in a version. They are valid, and fit the version.
+pub record IsFile (version : Version) (bytes : List ℕ) (c : Contents) : Type 0 where
+  pub spelled : bytes ≡ file_of version c
   pub keeps : Keeps c
+  pub fits : FitsVersion version c
+
+-- The first file is of version 1, and the second is that of the same contents in version 2.
+pub record IsUpgraded (old new : List ℕ) : Type 0 where
+  pub contents : Contents
+  pub before : IsFile versions.One old contents
+  pub after : IsFile versions.Two new contents
+
+-- This file is one of these contents, in one of the versions.
+pub record Format (bytes : List ℕ) (c : Contents) : Type 0 where
+  pub version : Version
+  pub file : IsFile version bytes c

@@ -1,5 +1,5 @@
 -- The rules of procedure rows and table rows, each by itself.
-use Rattle.std.specs.Prelude.{◌≡◌, ◌^◌, ◌<◌, ◌≤◌, ℕ, nat_le, ℤ, pos, negsuc, ◌≤ℤ◌, ◌<ℤ◌, int_le, ◌-◌, Bool, ◌&&◌}
+use Rattle.std.specs.Prelude.{◌≡◌, ⊤, ◌^◌, ◌<◌, ◌≤◌, ℕ, nat_le, ℤ, pos, negsuc, ◌≤ℤ◌, ◌<ℤ◌, int_le, ◌-◌, Bool, ◌&&◌}
 use Rattle.std.specs.Prelude.{IsTrue, List, [], ◌∷◌, length, take, drop}
 use Rattle.std.specs.List.{AllByRecursion}
 use Rattle.std.specs.Int.{w32, cast_signed}
@@ -14,21 +14,16 @@ use Rattle.module_format.specs.declared.limits.TheConstants.{MAX_PARAMETERS, MAX
 use Rattle.module_format.specs.Order.{InOrder, IsInterval, least_word, greatest_word, is_multiple_of_four}
 use Rattle.module_format.specs.Contents.{Procedure}
 
--- the range of a region's words: version 1 has none but the whole word
-abbrev pub RangeKeeps : Version → ℤ → ℤ → Type 0
-RangeKeeps versions.One lo hi = (lo ≡ least_word) × (hi ≡ greatest_word)
-RangeKeeps versions.Two lo hi = IsInterval lo hi
-
 -- a region may have `bytes` bytes: whole words, one at least
 abbrev pub is_region_size : ℕ → Bool
 is_region_size bytes = nat_le 4 bytes && is_multiple_of_four bytes
 
--- a region of words
-pub record IsRegion (version : Version) (size : ℕ) (lo hi : ℤ) : Type 0 where
+-- a region of words from lo to hi
+pub record IsRegion (size : ℕ) (lo hi : ℤ) : Type 0 where
   pub size_fits : size < 2 ^ 32
   pub some : 4 ≤ size
   pub words : IsTrue (is_multiple_of_four size)
-  pub range : RangeKeeps version lo hi
+  pub range : IsInterval lo hi
 
 -- one end or both
 abbrev pub are_ends : ℕ → Bool
@@ -43,17 +38,17 @@ pub record AreChannels (count len ends : ℕ) : Type 0 where
   pub has_end : 1 ≤ ends
   pub no_more : ends ≤ 3
 
-abbrev pub KindKeeps : Version → ParameterKind → Type 0
-KindKeeps version (kinds.Value lo hi) = IsInterval lo hi
-KindKeeps version (kinds.ReadRegion size lo hi) = IsRegion version size lo hi
-KindKeeps version (kinds.WrittenRegion size lo hi) = IsRegion version size lo hi
-KindKeeps version (kinds.Channels count len ends) = AreChannels count len ends.0
+abbrev pub KindKeeps : ParameterKind → Type 0
+KindKeeps (kinds.Value lo hi) = IsInterval lo hi
+KindKeeps (kinds.ReadRegion size lo hi) = IsRegion size lo hi
+KindKeeps (kinds.WrittenRegion size lo hi) = IsRegion size lo hi
+KindKeeps (kinds.Channels count len ends) = AreChannels count len ends.0
 
 -- a parameter of a procedure whose frame ends at word `hi`, after one in word `low`
-pub record ParameterKeeps (version : Version) (hi : ℤ) (low : ℕ) (p : Parameter) : Type 0 where
+pub record ParameterKeeps (hi : ℤ) (low : ℕ) (p : Parameter) : Type 0 where
   pub rises : low < p.word
   pub inside : pos p.word <ℤ hi
-  pub kind : KindKeeps version p.kind
+  pub kind : KindKeeps p.kind
 
 -- a parameter leaves its word
 abbrev pub behind_parameter : ℕ → Parameter → ℕ
@@ -67,7 +62,7 @@ abbrev pub is_frame_end : ℤ → Bool
 is_frame_end hi = int_le (pos 4) hi && int_le hi (pos 16384)
 
 -- a procedure row of a module with code of this length, after a row with its entry at `low`
-pub record ProcedureKeeps (version : Version) (code_len low : ℕ) (row : Procedure) : Type 0 where
+pub record ProcedureKeeps (code_len low : ℕ) (row : Procedure) : Type 0 where
   pub rises : low < row.entry
   pub in_code : row.entry < code_len
   pub lo_low : negsuc 16383 ≤ℤ row.lo
@@ -76,7 +71,22 @@ pub record ProcedureKeeps (version : Version) (code_len low : ℕ) (row : Proced
   pub hi_high : row.hi ≤ℤ pos 16384
   pub number_fits : row.number < 2 ^ 64
   pub few : length row.parameters ≤ MAX_PARAMETERS
-  pub parameters : InOrder (ParameterKeeps version row.hi) behind_parameter 0 row.parameters
+  pub parameters : InOrder (ParameterKeeps row.hi) behind_parameter 0 row.parameters
+
+-- the range that a version can say of a region's words: version 1 has none but the whole word
+abbrev pub RangeFits : Version → ℤ → ℤ → Type 0
+RangeFits versions.One lo hi = (lo ≡ least_word) × (hi ≡ greatest_word)
+RangeFits versions.Two lo hi = ⊤
+
+abbrev pub KindFits : Version → ParameterKind → Type 0
+KindFits version (kinds.Value lo hi) = ⊤
+KindFits version (kinds.ReadRegion size lo hi) = RangeFits version lo hi
+KindFits version (kinds.WrittenRegion size lo hi) = RangeFits version lo hi
+KindFits version (kinds.Channels count len ends) = ⊤
+
+-- the regions of a procedure's parameters
+abbrev pub ProcedureFits : Version → Procedure → Type 0
+ProcedureFits version row = AllByRecursion (λ (p : Parameter). KindFits version p.kind) row.parameters
 
 -- a procedure row leaves its entry
 abbrev pub behind_procedure : ℕ → Procedure → ℕ

@@ -108,7 +108,6 @@ header_at bytes = do
 -- what the header says, with the code, the constants and the rows
 abbrev pub contents_from : Header → List ℕ → List ℕ → List Procedure → List Label → List Par → List TableRow → Contents
 contents_from h code constants procedures labels pars table_rows = record {
-  version = h.version;
   code = code;
   constants = constants;
   data_words = h.sizes.data_words;
@@ -146,9 +145,16 @@ pub record IsReady (at : ℕ) (c : Contents) : Type 0 where
   pub limits : LimitsKeep c
   pub rows : RowsKeep c
 
+-- the version of a file and what it says, or its first fault
+unfoldable pub read_file : List ℕ → Result (Version × Contents) FormatFault
+read_file bytes = do
+  h ← header_at bytes
+  t ← tables_at (length bytes) h.0 h.1
+  c ← ended_at (length bytes) t.0.1 t.0.0 t.1
+  Ok (h.0.version, c)
+
 -- what a file says, or its first fault
 unfoldable pub read_contents : List ℕ → Result Contents FormatFault
 read_contents bytes = do
-  h ← header_at bytes
-  t ← tables_at (length bytes) h.0 h.1
-  ended_at (length bytes) t.0.1 t.0.0 t.1
+  file ← read_file bytes
+  Ok file.1

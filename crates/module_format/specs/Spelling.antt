@@ -165,13 +165,13 @@ header_bytes c =
     ++ u32_bytes (length c.procedures) ++ u32_bytes (length c.labels) ++ u32_bytes (length c.pars)
 
 -- the rows, which follow the code and the constants
-unfoldable pub rows_bytes : Contents → List ℕ
-rows_bytes c =
-    flat_map (procedure_bytes c.version) c.procedures ++ flat_map label_bytes c.labels ++ flat_map par_bytes c.pars
+unfoldable pub rows_bytes : Version → Contents → List ℕ
+rows_bytes version c =
+    flat_map (procedure_bytes version) c.procedures ++ flat_map label_bytes c.labels ++ flat_map par_bytes c.pars
     ++ flat_map table_row_bytes c.table_rows
 
--- the file of these contents
-unfoldable pub file_of : Contents → List ℕ
-file_of c =
-    magic_of c.version ++ header_bytes c ++ flag_bytes c.version c.has_long_operations (length c.table_rows)
-    ++ c.code ++ c.constants ++ rows_bytes c
+-- the file of these contents in a version
+unfoldable pub file_of : Version → Contents → List ℕ
+file_of version c =
+    magic_of version ++ header_bytes c ++ flag_bytes version c.has_long_operations (length c.table_rows)
+    ++ c.code ++ c.constants ++ rows_bytes version c

@@ -1,9 +1,10 @@
-//! Whether tables are valid: they keep the rules of the format.
+//! Whether tables are valid: they keep the rules of the format, and fit their version.
 
 mod labels;
 mod list;
 mod pars;
 mod procedures;
+mod versions;
 
 ghost use Rattle.std.specs.Prelude.{◌≡◌, ◌↔◌, ◌≤◌, IsTrue, map, length};
 ghost use Rattle.std.specs.List.{AllByRecursion};
@@ -11,8 +12,8 @@ ghost use Rattle.module_format.specs.Contents.{contents_of, label_of, procedure_
 ghost use Rattle.module_format.specs.Facts.{LabelKeeps, behind_label};
 ghost use Rattle.module_format.specs.Offsets.{EntriesRise};
 ghost use Rattle.module_format.specs.Order.{InOrder, IsBytes};
-ghost use Rattle.module_format.specs.Keeping.{VersionKeeps, SizesKeep, BoundsKeep, LimitsKeep, RowsKeep, NamesAreThere};
-ghost use Rattle.module_format.specs.Keeping.{Keeps};
+ghost use Rattle.module_format.specs.Keeping.{SizesKeep, BoundsKeep, LimitsKeep, RowsKeep, NamesAreThere, Keeps};
+ghost use Rattle.module_format.specs.Keeping.{FitsVersion};
 
 use crate::contexts::Contexts;
 pub(crate) use crate::keeping::labels::{facts_keep, offset_keeps, word_keeps};
@@ -20,15 +21,16 @@ pub(crate) use crate::keeping::list::all_keep;
 pub(crate) use crate::keeping::pars::end_kind_keeps;
 use crate::keeping::pars::pars_keep;
 pub(crate) use crate::keeping::procedures::kind_keeps;
+use crate::keeping::versions::fits_version;
 use crate::limits::{
-    MAX_BUDGET, MAX_CONSTANTS, MAX_DATA_WORDS, MAX_LABELS, MAX_MESSAGE, MAX_PARS, MAX_PROCEDURES,
-    MAX_TABLES,
+    MAX_BUDGET, MAX_CONSTANTS, MAX_DATA_WORDS, MAX_LABELS, MAX_LONG_CODE, MAX_MESSAGE, MAX_PARS,
+    MAX_PROCEDURES, MAX_TABLES,
 };
 use crate::listed::{Code, Constants, Labelled};
-use crate::reading::{max_code, rows_references};
+use crate::reading::rows_references;
 use crate::row_owners::row_owners;
 use crate::rows::{LabelRow, ProcedureRow};
-use crate::tables::{Tables, Version};
+use crate::tables::Tables;
 
 /// Whether there are no more bytes than a limit.
 fn is_within(bytes: &[u8], limit: u32) -> bool
@@ -38,24 +40,13 @@ fn is_within(bytes: &[u8], limit: u32) -> bool
     bytes.len() <= limit as usize
 }
 
-/// Version 1 has neither long operations nor table rows.
-fn version_keeps(tables: &Tables) -> bool
-    ensures { IsTrue result ↔ VersionKeeps tables.now.version tables.now.has_long_operations
-        tables.now.table_rows.items }
-{
-    match tables.version {
-        Version::One => !tables.has_long_operations && tables.table_rows.is_empty(),
-        Version::Two => true,
-    }
-}
-
 /// The numbers of the code, the constants and the data area.
 fn sizes_keep(tables: &Tables) -> bool
     ensures sizes { IsTrue result ↔ SizesKeep (contents_of tables.now) }
     ensures code { IsBytes (contents_of tables.now).code }
     ensures constants { IsBytes (contents_of tables.now).constants }
 {
-    let code_fits = is_within(tables.code, max_code(tables.version));
+    let code_fits = is_within(tables.code, MAX_LONG_CODE);
     let constants_fit = is_within(tables.constants, MAX_CONSTANTS);
     code_fits
         && constants_fit
@@ -131,14 +122,20 @@ fn names_are_there(tables: &Tables) -> bool
     rows_references(&Contexts::of_rows(tables, &owners), 0).is_ok()
 }
 
-/// Whether tables are valid: they keep the rules of the format.
-pub fn keeps(tables: &Tables) -> bool
+/// The rules of the format.
+fn rules_keep(tables: &Tables) -> bool
     ensures { IsTrue result ↔ Keeps (contents_of tables.now) }
 {
-    version_keeps(tables)
-        && sizes_keep(tables)
+    sizes_keep(tables)
         && bounds_keep(tables)
         && limits_keep(tables)
         && rows_keep(tables)
         && names_are_there(tables)
+}
+
+/// Whether tables are valid: they keep the rules of the format, and fit their version.
+pub fn keeps(tables: &Tables) -> bool
+    ensures { IsTrue result ↔ Keeps (contents_of tables.now) × FitsVersion tables.now.version (contents_of tables.now) }
+{
+    fits_version(tables) && rules_keep(tables)
 }

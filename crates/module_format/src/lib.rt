@@ -24,7 +24,10 @@ mod writing;
 pub use contexts::{Context, Contexts};
 pub use fact::{Fact, Step};
 pub use fault::{FormatFault, LEFT_OVER, LIMIT, MAGIC, MEMORY, ORDER, RANGE, TRUNCATED};
-pub use laws::{one_contents_one_file, one_file_one_contents, reading_again, reading_finds};
+pub use laws::{
+    one_contents_one_file, one_file_one_contents, reading_again, reading_finds, upgraded_is_valid,
+    upgraded_says_the_same,
+};
 pub use limits::{
     MAX_BRANCHES, MAX_BUDGET, MAX_CODE, MAX_CONSTANTS, MAX_DATA_WORDS, MAX_LABELS, MAX_LONG_CODE,
     MAX_MESSAGE, MAX_PARAMETERS, MAX_PARS, MAX_PROCEDURES, MAX_TABLES,
@@ -38,4 +41,4 @@ pub use rows::{
 };
 pub use stack::Stack;
 pub use tables::{Tables, Version};
-pub use writing::write;
+pub use writing::{write, write_as};

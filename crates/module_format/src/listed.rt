@@ -135,7 +135,7 @@ impl Listed<Frame> for Parameter {
 
     ghost listing = { listed (λ frame size. parameter_at size frame.version frame.hi) behind_parameter };
 
-    ghost Keeps = { λ frame. ParameterKeeps frame.version frame.hi };
+    ghost Keeps = { λ frame. ParameterKeeps frame.hi };
 
     #[tactic(auto, unfolding(crate::specs::ReadingRows::parameter_at, crate::specs::Reading::and_then))]
     fn read(frame: &Frame, low: u16, from: &mut Cursor<'_>) -> Parameter {
@@ -145,7 +145,7 @@ impl Listed<Frame> for Parameter {
     }
 
     fn keeps(&self, frame: &Frame, low: u16) -> bool {
-        low < self.word && i32::from(self.word) < frame.hi && kind_keeps(frame.version, &self.kind)
+        low < self.word && i32::from(self.word) < frame.hi && kind_keeps(&self.kind)
     }
 
     fn after(&self) -> u16 {
@@ -167,7 +167,7 @@ impl Listed<Code> for ProcedureRow {
     ghost listing = { listed_as procedure_of
         (λ code size. procedure_row_at size code.version code.len) behind_procedure };
 
-    ghost Keeps = { λ code. ProcedureKeeps code.version code.len };
+    ghost Keeps = { λ code. ProcedureKeeps code.len };
 
     #[tactic(auto, unfolding(crate::specs::ReadingRows::procedure_row_at, crate::specs::Reading::and_then))]
     fn read(code: &Code, low: u32, from: &mut Cursor<'_>) -> ProcedureRow {

@@ -20,9 +20,10 @@ ghost use Rattle.std.specs.Prelude.{◌≡◌, ◌≢◌, ◌⊎◌, IfOk, IfErr
 ghost use Rattle.module_format.specs.Contents.{Contents, contents_of};
 ghost use Rattle.module_format.specs.Contexts.{branch_count};
 ghost use Rattle.module_format.specs.Places.{ArePlaces};
-ghost use Rattle.module_format.specs.Keeping.{Format};
+ghost use Rattle.module_format.specs.Keeping.{IsFile};
 ghost use Rattle.module_format.specs.Reading.{out_of_memory};
-ghost use Rattle.module_format.specs.ReadingFile.{read_contents};
+ghost use Rattle.module_format.specs.ReadingFile.{read_file};
+ghost use Rattle.module_format.specs.declared.tables.Version.{Version};
 
 use crate::fault::FormatFault;
 use crate::places::Place;
@@ -51,15 +52,16 @@ pub(crate) use table_rows::{read_table_end, read_table_start, words_lie_within};
 /// checked once all rows are read.
 pub fn read(alloc: Global, bytes: &[u8]) -> Result<(Tables<'_>, Vec<Place>), FormatFault>
     // What is read is what the bytes spell.
-    ensures found { IfOk result (λ x. Format bytes.now (contents_of x.0)) }
+    ensures found { IfOk result (λ x. IsFile x.0.version bytes.now (contents_of x.0)) }
     // What the bytes spell is read, unless memory runs out.
-    ensures only { (c : Contents) → Format bytes.now c → MatchResult result (λ x. contents_of x.0 ≡ c)
-        (λ f. f ≡ out_of_memory) }
+    ensures only { (version : Version) (c : Contents) → IsFile version bytes.now c
+        → MatchResult result (λ x. (x.0.version ≡ version) × (contents_of x.0 ≡ c)) (λ f. f ≡ out_of_memory) }
     // Bytes that are refused spell nothing.
-    ensures refused { IfErr result (λ f. f ≢ out_of_memory → (c : Contents) → Format bytes.now c → ⊥) }
+    ensures refused { IfErr result (λ f. f ≢ out_of_memory → (version : Version) (c : Contents)
+        → IsFile version bytes.now c → ⊥) }
     // Which fault it is, and where.
-    ensures exact { MatchResult result (λ x. read_contents bytes.now ≡ Ok (contents_of x.0))
-        (λ f. (f ≡ out_of_memory) ⊎ (read_contents bytes.now ≡ Err f)) }
+    ensures exact { MatchResult result (λ x. read_file bytes.now ≡ Ok (x.0.version, contents_of x.0))
+        (λ f. (f ≡ out_of_memory) ⊎ (read_file bytes.now ≡ Err f)) }
     ensures places { IfOk result (λ x. ArePlaces (contents_of x.0) (branch_count (contents_of x.0).pars) x.1.items) }
 {
     let (tables, places) = tables_of(alloc, bytes)?;

@@ -14,8 +14,8 @@ pub enum Version {
     Two,
 }
 
-/// What a module file says. Both versions have the same tables: in version 1 each region parameter has
-/// the full range of a word, there are no table rows and no long operations.
+/// What a module file says, and its version. Both versions have the same tables: in version 1 each region parameter
+/// has the full range of a word, there are no table rows and no long operations.
 #[derive(Drop)]
 pub struct Tables<'a> {
     /// The version of the file.
@@ -58,12 +58,13 @@ impl Tables<'_> {
     ghost use Rattle.std.specs.Prelude.{◌≡◌, ◌↔◌, IsTrue};
     ghost use Rattle.module_format.specs.Contents.{contents_of};
     ghost use Rattle.module_format.specs.Contexts.{first_branch};
-    ghost use Rattle.module_format.specs.Keeping.{Keeps};
+    ghost use Rattle.module_format.specs.Keeping.{FitsVersion, Keeps};
 
-    /// Whether the tables are valid: they keep the rules of the format. Exactly the valid tables have a file. It
-    /// allocates nothing, and takes linear time, except for binary searches, such as that of a context in the PAR rows.
+    /// Whether the tables are valid: they keep the rules of the format, and fit their version. Exactly the valid tables
+    /// have a file. It allocates nothing, and takes linear time, except for binary searches, such as that of a context
+    /// in the PAR rows.
     pub fn keeps(&self) -> bool
-        ensures { IsTrue result ↔ Keeps (contents_of self.now) }
+        ensures { IsTrue result ↔ Keeps (contents_of self.now) × FitsVersion self.now.version (contents_of self.now) }
     {
         keeping::keeps(self)
     }

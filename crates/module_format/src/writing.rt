@@ -9,7 +9,7 @@ mod writer;
 
 ghost use Rattle.std.specs.Prelude.{◌≡◌, ◌++◌, IfOk, length};
 ghost use Rattle.module_format.specs.Contents.{contents_of};
-ghost use Rattle.module_format.specs.Keeping.{Keeps};
+ghost use Rattle.module_format.specs.Keeping.{FitsVersion, Keeps};
 ghost use Rattle.module_format.specs.Spelling.{u32_bytes, u64_bytes, magic_of, flag_bytes, header_bytes, rows_bytes};
 ghost use Rattle.module_format.specs.Spelling.{file_of};
 ghost use Rattle.module_format.specs.Writable.{Writes};
@@ -58,22 +58,22 @@ fn put_counts(out: &mut Writer, tables: &Tables)
 
 /// What is before the code in both versions, after the magic.
 #[tactic(auto, unfolding(crate::specs::Spelling::header_bytes))]
-fn put_header(out: &mut Writer, tables: &Tables)
+fn put_header(out: &mut Writer, version: Version, tables: &Tables)
     requires { Keeps (contents_of tables.now) }
     ensures { Writes out.old (header_bytes (contents_of tables.now)) out.new }
 {
     put_sizes(out, tables);
-    put_all(out, tables.version, &tables.lengths);
+    put_all(out, version, &tables.lengths);
     put_counts(out, tables);
 }
 
 /// The flag and the number of table rows, which version 1 doesn't have.
-fn put_extension(out: &mut Writer, tables: &Tables)
+fn put_extension(out: &mut Writer, version: Version, tables: &Tables)
     requires { Keeps (contents_of tables.now) }
-    ensures { Writes out.old (flag_bytes tables.now.version tables.now.has_long_operations
+    ensures { Writes out.old (flag_bytes version tables.now.has_long_operations
         (length tables.now.table_rows.items)) out.new }
 {
-    match tables.version {
+    match version {
         Version::One => {}
         Version::Two => {
             out.u32(u32::from(tables.has_long_operations));
@@ -84,28 +84,38 @@ fn put_extension(out: &mut Writer, tables: &Tables)
 
 /// The rows, which follow the code and the constants.
 #[tactic(auto, unfolding(crate::specs::Spelling::rows_bytes))]
-fn put_rows(out: &mut Writer, tables: &Tables)
+fn put_rows(out: &mut Writer, version: Version, tables: &Tables)
     requires { Keeps (contents_of tables.now) }
-    ensures { Writes out.old (rows_bytes (contents_of tables.now)) out.new }
+    ensures { Writes out.old (rows_bytes version (contents_of tables.now)) out.new }
 {
-    put_all(out, tables.version, &tables.procedures);
-    put_all(out, tables.version, &tables.labels);
-    put_all(out, tables.version, &tables.pars);
-    put_all(out, tables.version, &tables.table_rows);
+    put_all(out, version, &tables.procedures);
+    put_all(out, version, &tables.labels);
+    put_all(out, version, &tables.pars);
+    put_all(out, version, &tables.table_rows);
 }
 
 /// The one file of valid tables.
-#[tactic(auto, unfolding(crate::specs::Spelling::file_of))]
 pub fn write(alloc: Global, tables: &Tables) -> Result<Vec<u8>, AllocError>
-    requires { Keeps (contents_of tables.now) }
-    ensures { IfOk result (λ bytes. bytes.items ≡ file_of (contents_of tables.now)) }
+    requires valid { Keeps (contents_of tables.now) }
+    requires fits { FitsVersion tables.now.version (contents_of tables.now) }
+    ensures { IfOk result (λ bytes. bytes.items ≡ file_of tables.now.version (contents_of tables.now)) }
+{
+    write_as(alloc, tables.version, tables)
+}
+
+/// The one file of valid tables in a version, whatever their own is.
+#[tactic(auto, unfolding(crate::specs::Spelling::file_of))]
+pub fn write_as(alloc: Global, version: Version, tables: &Tables) -> Result<Vec<u8>, AllocError>
+    requires valid { Keeps (contents_of tables.now) }
+    requires fits { FitsVersion version (contents_of tables.now) }
+    ensures { IfOk result (λ bytes. bytes.items ≡ file_of version (contents_of tables.now)) }
 {
     let mut out = Writer::new(alloc);
-    put_magic(&mut out, tables.version);
-    put_header(&mut out, tables);
-    put_extension(&mut out, tables);
+    put_magic(&mut out, version);
+    put_header(&mut out, version, tables);
+    put_extension(&mut out, version, tables);
     out.slice(tables.code);
     out.slice(tables.constants);
-    put_rows(&mut out, tables);
+    put_rows(&mut out, version, tables);
     out.finish()
 }

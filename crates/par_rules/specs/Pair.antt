@@ -4,7 +4,6 @@ use Rattle.module_format.specs.Rows.{Fact, Entry}
 use Rattle.module_format.specs.declared.fact.Fact.TheVariants.{Unknown, Number, Pointer, CodeAddress}
 use Rattle.module_format.specs.declared.fact.Step.TheVariants.{Word}
 use Rattle.module_format.specs.declared.rows.Interval.{Interval}
-use Rattle.module_format.specs.declared.tables.Version.TheVariants.{One}
 use Rattle.module_format.specs.Contents.{Contents, Label, Branch}
 use Rattle.module_format.specs.Stack.{of_empty}
 use Rattle.states.specs.declared.rule.Rule.TheVariants as rules
@@ -70,7 +69,6 @@ pub record Variation : Type 0 where
 -- ldc 1; stl 8; ldlp 6; endp; from 21 on ldc 2; stl 12; ldlp 9; endp; from 25 on stopp
 abbrev pub pair : Variation → Contents
 pair v = record {
-  version = One;
   code = 0x43 ∷ 0xd1 ∷ 0x21 ∷ 0x43 ∷ 0x21 ∷ 0xfb ∷ 0xd0 ∷ 0x46 ∷ 0x60 ∷ 0x1a ∷ 0xfd ∷ 0x46 ∷ 0x60 ∷ 0x17 ∷ 0xfd ∷ 0x10
       ∷ 0xf3 ∷ 0x41 ∷ 0xd8 ∷ 0x16 ∷ 0xf3 ∷ 0x42 ∷ 0xdc ∷ 0x19 ∷ 0xf3 ∷ 0x21 ∷ 0xf5 ∷ [];
   constants = [];

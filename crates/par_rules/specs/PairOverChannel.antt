@@ -7,7 +7,6 @@ use Rattle.module_format.specs.declared.rows.Direction.{Direction}
 use Rattle.module_format.specs.declared.rows.Direction.TheVariants.{In, Out}
 use Rattle.module_format.specs.declared.rows.EndKind.TheVariants.{FrameWord}
 use Rattle.module_format.specs.declared.rows.Interval.{Interval}
-use Rattle.module_format.specs.declared.tables.Version.TheVariants.{One}
 use Rattle.module_format.specs.Contents.{Contents, Label, Branch}
 use Rattle.states.specs.declared.rule.Rule.TheVariants as rules
 use Rattle.states.specs.State.{written, root_state, label_state}
@@ -35,7 +34,6 @@ receiver_label = label_at_offset 28 2 (negsuc 8) 6 []
 -- endp; from 34 on stopp
 abbrev pub sending : Variation → Contents
 sending v = record {
-  version = One;
   code = 0x24 ∷ 0xf2 ∷ 0xd2 ∷ 0x43 ∷ 0xd1 ∷ 0x21 ∷ 0x49 ∷ 0x21 ∷ 0xfb ∷ 0xd0 ∷ 0x46 ∷ 0x60 ∷ 0x1a ∷ 0xfd ∷ 0x4a ∷ 0x60
       ∷ 0x17 ∷ 0xfd ∷ 0x10 ∷ 0xf3 ∷ 0x45 ∷ 0xda ∷ 0x1a ∷ 0x18 ∷ 0x44 ∷ 0xfb ∷ 0x16 ∷ 0xf3 ∷ 0x1c ∷ 0x1b ∷ 0x44 ∷ 0xf7
       ∷ 0x19 ∷ 0xf3 ∷ 0x21 ∷ 0xf5 ∷ [];

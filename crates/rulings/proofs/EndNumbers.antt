@@ -32,7 +32,6 @@ use Rattle.certificate.proofs.RightLaws.{found_kept}
 use Rattle.states.proofs.RowFacts.{and-parts, and-both}
 use Rattle.states.proofs.Procedures.{at-row}
 use Rattle.rulings.specs.Channels.{message_length, IsNumbered}
-use Rattle.module_format.specs.declared.tables.Version.{Version}
 use Rattle.rulings.proofs.Words.{same_word_by}
 
 abbrev end : EndKind → Direction → EndRow
@@ -48,13 +47,13 @@ is_less : (m n : ℕ) → m < n → nat_lt m n ≡ true
 is_less m n h = elim (leb_tells (suc m) n) [ inl e ↦ e.0 | inr e ↦ absurd (omega (arith, e.1)) ]
 
 -- each parameter is valid
-pub parameter_keeps : (version : Version) (hi : ℤ) (low : ℕ) (ps : List Parameter) (j : ℕ) (q : Parameter)
-    → InOrder (ParameterKeeps version hi) behind_parameter low ps → slice_get ps j ≡ Some q
-    → (before : ℕ) × ParameterKeeps version hi before q
-parameter_keeps version hi low [] j q keeps h = absurd (cc)
-parameter_keeps version hi low (p ∷ ps) zero q keeps h =
-    let same : p ≡ q = cc in (low, subst (λ (x : Parameter). ParameterKeeps version hi low x) same keeps.0)
-parameter_keeps version hi low (p ∷ ps) (suc j) q keeps h = parameter_keeps version hi p.word ps j q keeps.1 h
+pub parameter_keeps : (hi : ℤ) (low : ℕ) (ps : List Parameter) (j : ℕ) (q : Parameter)
+    → InOrder (ParameterKeeps hi) behind_parameter low ps → slice_get ps j ≡ Some q
+    → (before : ℕ) × ParameterKeeps hi before q
+parameter_keeps hi low [] j q keeps h = absurd (cc)
+parameter_keeps hi low (p ∷ ps) zero q keeps h =
+    let same : p ≡ q = cc in (low, subst (λ (x : Parameter). ParameterKeeps hi low x) same keeps.0)
+parameter_keeps hi low (p ∷ ps) (suc j) q keeps h = parameter_keeps hi p.word ps j q keeps.1 h
 
 -- ---- ends that a row lists
 
@@ -123,7 +122,7 @@ of_links lengths (ends.Link l) Out eight h =
 -- ---- parameters
 
 own_kind : (m : Contents) → Keeps m → (k j : ℕ) (p : Parameter) → slice_get (own_parameters m k) j ≡ Some p
-    → KindKeeps m.version p.kind
+    → KindKeeps p.kind
 own_kind m keeps k j p h = elim (cases_Bool (k == 0)) [
   | inl t ↦
       let none : slice_get [] j ≡ Some p = sym (ap (λ (b : Bool). slice_get (cond b [] rest) j) t) ∙ h in
@@ -134,29 +133,29 @@ own_kind m keeps k j p h = elim (cases_Bool (k == 0)) [
     rest : List Parameter
     rest = elim (slice_get m.procedures (k - 1)) [ None ↦ [] | Some q ↦ q.parameters ]
 
-    no_item : slice_get [] j ≡ Some p → KindKeeps m.version p.kind
+    no_item : slice_get [] j ≡ Some p → KindKeeps p.kind
     no_item none = absurd (cc)
 
     on_row : (o : Option Procedure) → slice_get m.procedures (k - 1) ≡ o
         → slice_get (elim o as (λ o. List Parameter) [ None ↦ [] | Some q ↦ q.parameters ]) j ≡ Some p
-        → KindKeeps m.version p.kind
+        → KindKeeps p.kind
     on_row None e g = no_item g
     on_row (Some q) e g =
-        let row = at-row m.version (length m.code) 0 m.procedures (k - 1) q keeps.rows.procedures e in
-        (parameter_keeps m.version q.hi 0 q.parameters j p row.1.parameters g).1.kind
+        let row = at-row (length m.code) 0 m.procedures (k - 1) q keeps.rows.procedures e in
+        (parameter_keeps q.hi 0 q.parameters j p row.1.parameters g).1.kind
 
 -- the kind of each parameter of a context's procedure is valid
 pub parameter_kind : (m : Contents) → Keeps m → (n j : ℕ) (p : Parameter) → slice_get (parameters_at m n) j ≡ Some p
-    → KindKeeps m.version p.kind
+    → KindKeeps p.kind
 unfolding parameters_at
 parameter_kind m keeps n j p h = on_test (nat_lt n (first_branch m + branch_count m.pars)) h
   where
     on_test : (b : Bool) → slice_get (cond b (own_parameters m (owner (first_branch m) m.pars n)) []) j ≡ Some p
-        → KindKeeps m.version p.kind
+        → KindKeeps p.kind
     on_test true g = own_kind m keeps (owner (first_branch m) m.pars n) j p g
     on_test false g = absurd (cc)
 
-of_element : (m : Contents) (kind : ParameterKind) (a : ℕ) (d : Direction) → KindKeeps m.version kind
+of_element : (m : Contents) (kind : ParameterKind) (a : ℕ) (d : Direction) → KindKeeps kind
     → gives_element kind a d ≡ true → a < 2 ^ 32
 of_element m (Value lo hi) a d keeps h = absurd (cc)
 of_element m (ReadRegion size lo hi) a d keeps h = absurd (cc)

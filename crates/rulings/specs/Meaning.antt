@@ -273,7 +273,7 @@ pub record IsWellFormed (m : Contents) : Type 0 where
   pub rows : (at : ℕ) (t : Label) → label_at m at ≡ Some t → IsRowOf m t
   pub pairs : (at : ℕ) (t : Label) → label_at m at ≡ Some t → ArePairs t.entries
   pub procedures : (n : ℕ) (p : Procedure) → slice_get m.procedures n ≡ Some p
-      → (low : ℕ) × ProcedureKeeps m.version (length m.code) low p
+      → (low : ℕ) × ProcedureKeeps (length m.code) low p
   pub entries : (at : ℕ) (e : Entered) → procedure_at m at ≡ Some e → label_at m at ≡ None
   pub eight : length m.lengths ≡ 8
   pub frames : (n : ℕ) (k : ℤ) → rights.has_word (context_at m n) k ≡ true

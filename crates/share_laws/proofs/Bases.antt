@@ -33,7 +33,7 @@ procedure_around : (m : Contents) → Keeps m → (n : ℕ) (o : Option Procedur
 procedure_around m k n None is context h = absurd (cc)
 procedure_around m k n (Some p) is context h =
     let same : procedure_context p ≡ context = cc in
-    let row = (at-row m.version (length m.code) 0 m.procedures n p k.rows.procedures is).1 in
+    let row = (at-row (length m.code) 0 m.procedures n p k.rows.procedures is).1 in
     let lo = row.lo_high in
     let hi = row.hi_low in
     subst (λ (c : Context). IsAround c.lo c.hi) same (record { low = lo; high = omega (arith, ints, hi) })

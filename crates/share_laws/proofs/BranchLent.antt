@@ -6,7 +6,6 @@ use Rattle.std.specs.Prelude.{slice_get, option_map, IsTrue, ◌%◌}
 use Rattle.module_format.specs.declared.rows.Parameter.{Parameter}
 use Rattle.module_format.specs.declared.rows.ParameterKind.{ParameterKind}
 use Rattle.module_format.specs.declared.rows.ParameterKind.TheVariants.{Value, ReadRegion, WrittenRegion, Channels}
-use Rattle.module_format.specs.declared.tables.Version.{Version}
 use Rattle.module_format.specs.Contents.{Contents, Par, Branch}
 use Rattle.module_format.specs.Contexts.{parameters_at}
 use Rattle.module_format.specs.Keeping.{Keeps}
@@ -77,14 +76,14 @@ quarter : (size : ℕ) → IsTrue (is_multiple_of_four size) → size ≡ 4 * (s
 quarter size whole = let none : size % 4 ≡ 0 = eqb-true (size % 4) 0 whole in omega (arith, none)
 
 -- of a kind that names a region, or none
-whole_kind : (version : Version) (kind : ParameterKind) (size : ℕ) → KindKeeps version kind → region_size kind ≡ size
+whole_kind : (kind : ParameterKind) (size : ℕ) → KindKeeps kind → region_size kind ≡ size
     → size ≡ 4 * (size / 4)
-whole_kind version (Value lo hi) size keeps is = omega (arith, is)
-whole_kind version (ReadRegion n lo hi) size keeps is =
+whole_kind (Value lo hi) size keeps is = omega (arith, is)
+whole_kind (ReadRegion n lo hi) size keeps is =
     quarter size (subst (λ k. IsTrue (is_multiple_of_four k)) is keeps.words)
-whole_kind version (WrittenRegion n lo hi) size keeps is =
+whole_kind (WrittenRegion n lo hi) size keeps is =
     quarter size (subst (λ k. IsTrue (is_multiple_of_four k)) is keeps.words)
-whole_kind version (Channels count len ends) size keeps is = omega (arith, is)
+whole_kind (Channels count len ends) size keeps is = omega (arith, is)
 
 module _ (m : Contents) (found : Found) (layout other : Layout) (keeps : Keeps m) (is : IsBranch m found)
     (left : IsLeft m found) (alike : LieAlike layout other) where
@@ -170,7 +169,7 @@ module _ (m : Contents) (found : Found) (layout other : Layout) (keeps : Keeps m
       whole : (raw : Parameter) (size : ℕ) → slice_get (parameters_at m found.par.context) j ≡ Some raw
           → region_size raw.kind ≡ size → size ≡ 4 * (size / 4)
       whole raw size here long =
-          whole_kind m.version raw.kind size (parameter_kind m keeps found.par.context j raw here) long
+          whole_kind raw.kind size (parameter_kind m keeps found.par.context j raw here) long
 
       of_kind : (kind : ParameterKind) → p.kind ≡ kind → Part m opener branch (pos 0) kind (other.starts j)
           → Part m opener branch (pos 0) p.kind (other.starts j)

@@ -16,7 +16,6 @@ use Rattle.module_format.specs.declared.rows.Interval.{Interval}
 use Rattle.module_format.specs.declared.rows.Parameter.{Parameter}
 use Rattle.module_format.specs.declared.rows.ParameterKind.{ParameterKind}
 use Rattle.module_format.specs.declared.rows.ParameterKind.TheVariants.{Value, ReadRegion, WrittenRegion, Channels}
-use Rattle.module_format.specs.declared.tables.Version.{Version}
 use Rattle.module_format.specs.Contents.{Contents}
 use Rattle.module_format.specs.Contexts.{parameters_at}
 use Rattle.module_format.specs.Keeping.{is_region}
@@ -186,12 +185,12 @@ among_listed xs e among = any_among (is_same_end e) xs e among
 -- ---- regions
 
 -- a region has a byte at least
-some_bytes : (version : Version) (kind : ParameterKind) → KindKeeps version kind → is_region kind ≡ true
+some_bytes : (kind : ParameterKind) → KindKeeps kind → is_region kind ≡ true
     → 1 ≤ region_size kind
-some_bytes version (Value lo hi) keeps region = absurd (cc)
-some_bytes version (ReadRegion size lo hi) keeps region = let some = keeps.some in omega (arith, some)
-some_bytes version (WrittenRegion size lo hi) keeps region = let some = keeps.some in omega (arith, some)
-some_bytes version (Channels count len ends) keeps region = absurd (cc)
+some_bytes (Value lo hi) keeps region = absurd (cc)
+some_bytes (ReadRegion size lo hi) keeps region = let some = keeps.some in omega (arith, some)
+some_bytes (WrittenRegion size lo hi) keeps region = let some = keeps.some in omega (arith, some)
+some_bytes (Channels count len ends) keeps region = absurd (cc)
 
 -- so has its stretch
 region_some : (parameters : List Parameter) (addresses : List (Option ℕ)) (j : ℕ) (s : Stretch)
@@ -252,7 +251,7 @@ module _ (m : Contents) (found : Found) (layout : Layout) (base : ℕ) (addresse
   bytes_of : (j : ℕ) (p : Parameter) → slice_get (parameters_at m found.par.context) j ≡ Some p
       → is_region p.kind ≡ true → 1 ≤ region_size p.kind
   bytes_of j p there region =
-      some_bytes m.version p.kind (parameter_kind m s.keeps found.par.context j p there) region
+      some_bytes p.kind (parameter_kind m s.keeps found.par.context j p there) region
 
   -- each stretch to write has a place in memory
   written_some : (t : Stretch) → IsAmong t gift.writes → IsSome t

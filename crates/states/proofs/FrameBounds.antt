@@ -27,7 +27,7 @@ procedure-small : (m : Contents) → Keeps m → (n : ℕ) (o : Option Procedure
 procedure-small m k n None is context h = absurd (cc)
 procedure-small m k n (Some p) is context h =
     let same : procedure_context p ≡ context = cc in
-    let row = (at-row m.version (length m.code) 0 m.procedures n p k.rows.procedures is).1 in
+    let row = (at-row (length m.code) 0 m.procedures n p k.rows.procedures is).1 in
     subst (λ (c : Context). IsSmallFrame c) same (record { low = row.lo_low; high = row.hi_high })
 
 own-small : (m : Contents) → Keeps m → (n : ℕ) (context : Context) → own_context m n ≡ Some context

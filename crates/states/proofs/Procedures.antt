@@ -12,7 +12,6 @@ use Rattle.std.proofs.lemmas.Int.{ints}
 use Rattle.module_format.specs.declared.fact.Fact.TheVariants.{ReturnAddress}
 use Rattle.module_format.specs.Rows.{Fact}
 use Rattle.module_format.specs.declared.rows.Parameter.{Parameter}
-use Rattle.module_format.specs.declared.tables.Version.{Version}
 use Rattle.module_format.specs.Contents.{Contents, Procedure, Par}
 use Rattle.module_format.specs.Contexts.{context_at, owner, branch_count, procedure_context}
 use Rattle.certificate.specs.Rights.{has_word}
@@ -51,20 +50,20 @@ procedure-at m n p some is =
 -- ---- the words of parameters
 
 -- a row is valid, wherever it is
-pub at-row : (version : Version) (code_len low : ℕ) (rows : List Procedure) (i : ℕ) (p : Procedure)
-    → InOrder (ProcedureKeeps version code_len) behind_procedure low rows → slice_get rows i ≡ Some p
-    → (l : ℕ) × ProcedureKeeps version code_len l p
-at-row version code_len low [] i p all h = absurd (cc)
-at-row version code_len low (row ∷ rows) zero p all h =
+pub at-row : (code_len low : ℕ) (rows : List Procedure) (i : ℕ) (p : Procedure)
+    → InOrder (ProcedureKeeps code_len) behind_procedure low rows → slice_get rows i ≡ Some p
+    → (l : ℕ) × ProcedureKeeps code_len l p
+at-row code_len low [] i p all h = absurd (cc)
+at-row code_len low (row ∷ rows) zero p all h =
     let same : row ≡ p = cc in
-    (low, subst (λ (r : Procedure). ProcedureKeeps version code_len low r) same all.0)
-at-row version code_len low (row ∷ rows) (suc i) p all h = at-row version code_len row.entry rows i p all.1 h
+    (low, subst (λ (r : Procedure). ProcedureKeeps code_len low r) same all.0)
+at-row code_len low (row ∷ rows) (suc i) p all h = at-row code_len row.entry rows i p all.1 h
 
-parameter-inside : (version : Version) (hi : ℤ) (low : ℕ) (ps : List Parameter) (i : ℕ) (d : Parameter)
-    → InOrder (ParameterKeeps version hi) behind_parameter low ps → i < length ps → pos (get_or ps i d).word <ℤ hi
-parameter-inside version hi low [] i d all h = absurd (omega arith)
-parameter-inside version hi low (q ∷ ps) zero d all h = all.0.inside
-parameter-inside version hi low (q ∷ ps) (suc i) d all h = parameter-inside version hi q.word ps i d all.1 (omega arith)
+parameter-inside : (hi : ℤ) (low : ℕ) (ps : List Parameter) (i : ℕ) (d : Parameter)
+    → InOrder (ParameterKeeps hi) behind_parameter low ps → i < length ps → pos (get_or ps i d).word <ℤ hi
+parameter-inside hi low [] i d all h = absurd (omega arith)
+parameter-inside hi low (q ∷ ps) zero d all h = all.0.inside
+parameter-inside hi low (q ∷ ps) (suc i) d all h = parameter-inside hi q.word ps i d all.1 (omega arith)
 
 -- a word from 0 on that lies in the procedure's frame can be written
 word-room : (m : Contents) (s : InMemory) (n : ℕ) (p : Procedure) (word : ℕ) → BelongsTo m s
@@ -85,12 +84,12 @@ pub begins : (m : Contents) (s : InMemory) (n : ℕ) (p : Procedure) → Keeps m
     → slice_get m.procedures (n - 1) ≡ Some p → Begins s p
 begins m s n p k b some is =
     let context = procedure-at m n p some is in
-    let row = (at-row m.version (length m.code) 0 m.procedures (n - 1) p k.rows.procedures is).1 in
+    let row = (at-row (length m.code) 0 m.procedures (n - 1) p k.rows.procedures is).1 in
     record {
       first = word-room m s n p 0 b context row.lo_high (let h = row.hi_low in omega (arith, ints));
       each = record {
         each = λ i h d. word-room m s n p (get_or p.parameters i d).word b context row.lo_high
-            (parameter-inside m.version p.hi 0 p.parameters i d row.parameters h);
+            (parameter-inside p.hi 0 p.parameters i d row.parameters h);
       };
       few = row.few;
     }

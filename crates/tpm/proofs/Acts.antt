@@ -9,7 +9,8 @@ use Rattle.tpm.specs.declared.report.Failure.TheVariants as failures
 use Rattle.tpm.specs.CommandLine.{Asked, path_of, line_of}
 use Rattle.tpm.specs.Texts.{status_of}
 use Rattle.tpm.specs.Acting.{Acts, Performs, Reads, Hinders, IsStopped, IsUntold, malformed, uncertified}
-use Rattle.tpm.specs.Acting.{uncompiled, told, refused, unread, stopped, unwritten, starved_by_file, starved_by_text}
+use Rattle.tpm.specs.Acting.{uncompiled, not_upgraded, told, refused, unread, stopped, unwritten, starved_by_file}
+use Rattle.tpm.specs.Acting.{starved_by_text}
 
 module _ {F R W : Type 0} (opens : F → Text → Result R FileFault → F → Type 0)
     (creates : F → Text → Result W FileFault → F → Type 0) (closes : F → W → Bool → F → Type 0)
@@ -81,6 +82,8 @@ module _ {F R W : Type 0} (opens : F → Text → Result R FileFault → F → T
       refused asked line (read_so (λ bytes next why. (uncertified refusal why.0, why.1)) performed.0) performed.1 is
   acts_failed (failures.Uncompiled fault) status is line performed =
       refused asked line (read_so (λ bytes next why. (uncompiled fault why.0, why.1)) performed.0) performed.1 is
+  acts_failed (failures.NotUpgraded fault) status is line performed =
+      refused asked line (read_so (λ bytes next why. (not_upgraded fault why.0, why.1)) performed.0) performed.1 is
   acts_failed (failures.Unread path) status is line performed =
       unread_at path status is line performed.1 performed.0
   acts_failed (failures.Uncreated path) status is line performed =

@@ -23,6 +23,7 @@ module _ {F R W : Type 0} (opens : F → Text → Result R FileFault → F → T
   hindered (failures.Malformed fault) why = hinders (failures.Malformed fault) why
   hindered (failures.Uncertified refusal) why = hinders (failures.Uncertified refusal) why
   hindered (failures.Uncompiled fault) why = hinders (failures.Uncompiled fault) why
+  hindered (failures.NotUpgraded fault) why = hinders (failures.NotUpgraded fault) why
   hindered (failures.Unread path) why = inr (hinders (failures.Unread path) why)
   hindered (failures.Uncreated path) why = hinders (failures.Uncreated path) why
   hindered (failures.ReadFailed link) why = hinders (failures.ReadFailed link) why

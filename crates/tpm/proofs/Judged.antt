@@ -1,4 +1,5 @@
--- What is reported about a compiled source, and about a module file whose run was asked for, or why nothing is.
+-- What is reported about a compiled source, an upgraded module, and a module file whose run was asked for, or why
+-- nothing is.
 use Rattle.std.proofs.Common.{ℕ, Bool, List, Option, Result, Ok, Err, MatchResult, ◌⊎◌, inl, inr, refl}
 use Rattle.clap.specs.Walk.{Text}
 use Rattle.module_format.specs.Contents.{Contents}
@@ -7,8 +8,9 @@ use Rattle.link_runs.specs.ByLink.{ByLink}
 use Rattle.tpm.specs.declared.files.FileFault.{FileFault}
 use Rattle.tpm.specs.declared.report.Failure.{Failure}
 use Rattle.tpm.specs.declared.report.Failure.TheVariants as failures
-use Rattle.tpm.specs.CommandLine.{compiles, runs}
+use Rattle.tpm.specs.CommandLine.{compiles, upgrades, runs}
 use Rattle.tpm.specs.Compiling.{HasCompiled, WithholdsModule}
+use Rattle.tpm.specs.Upgrading.{HasUpgraded, WithholdsUpgrade}
 use Rattle.tpm.specs.Acting.{StopsIn, IsDone, WithholdsRun, HasRun, IsTold}
 use Rattle.tpm.specs.Acting.{IsHindered}
 
@@ -23,6 +25,7 @@ module _ {F R W : Type 0} (opens : F → Text → Result R FileFault → F → T
   module_withheld bytes source out before after (failures.Malformed fault) why = absurd why.writes
   module_withheld bytes source out before after (failures.Uncertified refusal) why = absurd why.writes
   module_withheld bytes source out before after (failures.Uncompiled fault) why = why
+  module_withheld bytes source out before after (failures.NotUpgraded fault) why = absurd why.writes
   module_withheld bytes source out before after (failures.Unread missing) why = why
   module_withheld bytes source out before after (failures.Uncreated missing) why = why
   module_withheld bytes source out before after (failures.ReadFailed link) why = why
@@ -44,6 +47,35 @@ module _ {F R W : Type 0} (opens : F → Text → Result R FileFault → F → T
   module_judged text_of bytes source out before after (Err failure) why =
       module_withheld bytes source out before after failure why
 
+  upgrade_withheld : (bytes : List ℕ) (old new : Text) (before after : F) (failure : Failure)
+      → WithholdsUpgrade creates closes written bytes new before after failure
+      → IsHindered opens creates closes left read_failed written write_failed bytes (upgrades old new) before after
+      failure
+  upgrade_withheld bytes old new before after (failures.Malformed fault) why = why
+  upgrade_withheld bytes old new before after (failures.Uncertified refusal) why = absurd why.writes
+  upgrade_withheld bytes old new before after (failures.Uncompiled fault) why = absurd why.writes
+  upgrade_withheld bytes old new before after (failures.NotUpgraded fault) why = why
+  upgrade_withheld bytes old new before after (failures.Unread missing) why = why
+  upgrade_withheld bytes old new before after (failures.Uncreated missing) why = why
+  upgrade_withheld bytes old new before after (failures.ReadFailed link) why = why
+  upgrade_withheld bytes old new before after (failures.WriteFailed link) why = why
+  upgrade_withheld bytes old new before after failures.Unwritten why = absurd why.writes
+  upgrade_withheld bytes old new before after failures.Memory why = why
+
+  -- the answer that upgrading a module gives
+  pub upgrade_judged : {S : Type 0} (text_of : S → Text) (bytes : List ℕ) (old new : Text) (before after : F)
+      (result : Result S Failure)
+      → MatchResult result
+      (λ text. HasUpgraded creates closes written bytes new before after (text_of text))
+      (WithholdsUpgrade creates closes written bytes new before after)
+      → MatchResult result
+      (λ text. IsTold opens creates closes left read_failed written write_failed bytes (upgrades old new) before
+      after (text_of text))
+      (IsHindered opens creates closes left read_failed written write_failed bytes (upgrades old new) before after)
+  upgrade_judged text_of bytes old new before after (Ok text) has = has
+  upgrade_judged text_of bytes old new before after (Err failure) why =
+      upgrade_withheld bytes old new before after failure why
+
   module _ (bytes : List ℕ) (m : Contents) (format : Format bytes m) where
     -- what a run came to
     run_told : (path : Text) (inputs outputs : ByLink (Option Text)) (before after : F) (text : Text)
@@ -61,6 +93,7 @@ module _ {F R W : Type 0} (opens : F → Text → Result R FileFault → F → T
     run_withheld path inputs outputs before after (failures.Uncertified refusal) why =
         (record { wanted = refl; contents = m; format = format; reported = why.0 }, why.1)
     run_withheld path inputs outputs before after (failures.Uncompiled fault) why = absurd why
+    run_withheld path inputs outputs before after (failures.NotUpgraded fault) why = absurd why
     run_withheld path inputs outputs before after (failures.Unread missing) why =
         record { contents = m; format = format; certified = λ _. why.0; holds = why.1 }
     run_withheld path inputs outputs before after (failures.Uncreated missing) why =

@@ -7,3 +7,4 @@ pub mod FilesRun
 pub mod SubcommandsHavePaths
 pub mod ListingLines
 pub mod Beginnings
+pub mod UnreadFiles

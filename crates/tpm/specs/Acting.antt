@@ -1,12 +1,10 @@
 -- What the program reports, and when: our own choice.
-use Rattle.std.specs.Prelude.{◌≡◌, ◌≢◌, ◌⊎◌, ⊤, ℕ, Bool, true, List, take, Option, Some, None, Result, Ok, Err}
+use Rattle.std.specs.Prelude.{◌≡◌, ◌⊎◌, ⊤, ℕ, Bool, true, List, take, Option, Some, None, Result, Ok, Err}
 use Rattle.std.specs.Io.KnownBytes.{Appends}
 use Rattle.clap.specs.Walk.{Text}
 use Rattle.module_format.specs.declared.fault.FormatFault.{FormatFault}
 use Rattle.module_format.specs.Contents.{Contents}
 use Rattle.module_format.specs.Keeping.{Format}
-use Rattle.module_format.specs.Reading.{out_of_memory}
-use Rattle.module_format.specs.ReadingFile.{read_contents}
 use Rattle.link_runs.specs.ByLink.{ByLink}
 use Rattle.link_runner.specs.declared.report.Report.{Report as RunReport}
 use Rattle.verifier.specs.declared.Refusal.{Refusal}
@@ -14,14 +12,17 @@ use Rattle.certified_worlds.specs.Certified.{IsCertified}
 use Rattle.compiler.specs.declared.source.CompileFault.{CompileFault}
 use Rattle.compiler.specs.Compiled.{IsRefusedFor}
 use Rattle.verifier.specs.Reports.{Reports}
+use Rattle.verifier.specs.declared.upgrading.UpgradeFault.{UpgradeFault}
 use Rattle.tpm.specs.declared.files.FileFault.{FileFault}
 use Rattle.tpm.specs.declared.files.FileFault.TheVariants as file_faults
 use Rattle.tpm.specs.declared.report.Report.TheVariants.{Accepted}
 use Rattle.tpm.specs.declared.report.Failure.{Failure}
 use Rattle.tpm.specs.declared.report.Failure.TheVariants as failures
 use Rattle.tpm.specs.declared.report.TheConstants.{DONE, REFUSED, MISUSED, FAILED, STARVED}
-use Rattle.tpm.specs.CommandLine.{Asked, compiles, verifies, runs, lists, path_of, wants_verdict, line_of}
+use Rattle.tpm.specs.CommandLine.{Asked, compiles, upgrades, verifies, runs, lists, path_of, wants_verdict, line_of}
 use Rattle.tpm.specs.Compiling.{CompilesAndWrites, HasCompiled}
+use Rattle.tpm.specs.Malformed.{IsMalformed}
+use Rattle.tpm.specs.Upgrading.{HasUpgraded, IsRefusedUpgrade, UpgradesAndWrites}
 use Rattle.tpm.specs.FilesOnLinks.{RunsTo}
 use Rattle.tpm.specs.Texts.{report_line, run_text, status_of}
 use Rattle.tpm.specs.Listing.{listing}
@@ -38,6 +39,7 @@ abbrev pub WithholdsVerdict : Contents → Failure → Type 0
 WithholdsVerdict m (failures.Malformed fault) = ⊥
 WithholdsVerdict m (failures.Uncertified refusal) = Reports m refusal
 WithholdsVerdict m (failures.Uncompiled fault) = ⊥
+WithholdsVerdict m (failures.NotUpgraded fault) = ⊥
 WithholdsVerdict m (failures.Unread path) = ⊥
 WithholdsVerdict m (failures.Uncreated path) = ⊥
 WithholdsVerdict m (failures.ReadFailed link) = ⊥
@@ -52,11 +54,6 @@ pub record IsJudged (bytes : List ℕ) (asked : Asked) (holds_of : Contents → 
   pub certified : wants_verdict asked ≡ true → IsCertified contents
   pub holds : holds_of contents
 
--- Unless memory ran out, the bytes are no module file, and this is their first fault.
-pub record IsMalformed (bytes : List ℕ) (fault : FormatFault) : Type 0 where
-  pub first : (fault ≡ out_of_memory) ⊎ (read_contents bytes ≡ Err fault)
-  pub none : fault ≢ out_of_memory → (m : Contents) → Format bytes m → ⊥
-
 -- The module's verdict is wanted. The bytes are its file, and unless memory ran out it breaks this rule there and none
 -- before.
 pub record IsUncertified (bytes : List ℕ) (asked : Asked) (refusal : Refusal) : Type 0 where
@@ -70,11 +67,17 @@ abbrev pub IsUncompiled : List ℕ → Asked → CompileFault → Type 0
 IsUncompiled bytes (compiles source out) fault = IsRefusedFor bytes fault
 IsUncompiled bytes asked fault = ⊥
 
--- The reader, the verifier or the compiler refuses the bytes.
+-- A module in version 2 is asked for, and there is none for this reason.
+abbrev pub IsNotUpgraded : List ℕ → Asked → UpgradeFault → Type 0
+IsNotUpgraded bytes (upgrades old new) fault = IsRefusedUpgrade bytes fault
+IsNotUpgraded bytes asked fault = ⊥
+
+-- The reader, the verifier, the compiler or the upgrade refuses the bytes.
 pub data IsRefusedBy (bytes : List ℕ) (asked : Asked) : Type 0 where
   malformed : (fault : FormatFault) → IsMalformed bytes fault → IsRefusedBy bytes asked
   uncertified : (refusal : Refusal) → IsUncertified bytes asked refusal → IsRefusedBy bytes asked
   uncompiled : (fault : CompileFault) → IsUncompiled bytes asked fault → IsRefusedBy bytes asked
+  not_upgraded : (fault : UpgradeFault) → IsNotUpgraded bytes asked fault → IsRefusedBy bytes asked
 
 -- ---- standard output
 
@@ -110,6 +113,7 @@ module _ {F R W : Type 0} (opens : F → Text → Result R FileFault → F → T
   -- what is reported about a module, and what was done with the files
   abbrev pub TellsOf : Contents → Asked → F → F → Text → Type 0
   TellsOf m (compiles source out) before after text = ⊥
+  TellsOf m (upgrades old new) before after text = ⊥
   TellsOf m (verifies path) before after text = IsAccepted m text × (after ≡ before)
   TellsOf m (runs path inputs outputs) before after text = HasRun m inputs outputs before after text
   TellsOf m (lists path) before after text = (text ≡ listing m) × (after ≡ before)
@@ -117,6 +121,7 @@ module _ {F R W : Type 0} (opens : F → Text → Result R FileFault → F → T
   -- a file of a link or a link failed, or memory ran out for them
   abbrev pub StopsIn : Contents → Asked → F → F → Failure → Type 0
   StopsIn m (compiles source out) before after failure = ⊥
+  StopsIn m (upgrades old new) before after failure = ⊥
   StopsIn m (verifies path) before after failure = ⊥
   StopsIn m (runs path inputs outputs) before after failure = RunOf m inputs outputs before after (Err failure)
   StopsIn m (lists path) before after failure = ⊥
@@ -124,6 +129,7 @@ module _ {F R W : Type 0} (opens : F → Text → Result R FileFault → F → T
   -- what is asked for was done, but is not reported
   abbrev pub IsDone : Contents → Asked → F → F → Type 0
   IsDone m (compiles source out) before after = ⊥
+  IsDone m (upgrades old new) before after = ⊥
   IsDone m (verifies path) before after = after ≡ before
   IsDone m (runs path inputs outputs) before after =
       (report : RunReport) × RunOf m inputs outputs before after (Ok report)
@@ -134,6 +140,7 @@ module _ {F R W : Type 0} (opens : F → Text → Result R FileFault → F → T
   WithholdsRun m asked before after (failures.Malformed fault) = ⊥
   WithholdsRun m asked before after (failures.Uncertified refusal) = Reports m refusal × (after ≡ before)
   WithholdsRun m asked before after (failures.Uncompiled fault) = ⊥
+  WithholdsRun m asked before after (failures.NotUpgraded fault) = ⊥
   WithholdsRun m asked before after failures.Unwritten = ⊥
   WithholdsRun m asked before after failures.Memory =
       IsCertified m × (StopsIn m asked before after failures.Memory ⊎ IsDone m asked before after)
@@ -148,19 +155,24 @@ module _ {F R W : Type 0} (opens : F → Text → Result R FileFault → F → T
   -- what is reported about a source or a module
   abbrev pub IsTold : List ℕ → Asked → F → F → Text → Type 0
   IsTold bytes (compiles source out) before after text = HasCompiled creates closes written bytes out before after text
+  IsTold bytes (upgrades old new) before after text = HasUpgraded creates closes written bytes new before after text
   IsTold bytes asked before after text = IsToldOfModule bytes asked before after text
 
-  -- The bytes are a source whose module was not written, or the file of a module, and what is asked for stopped by this
-  -- failure.
+  -- The bytes are a source or a module whose new file was not written, or the file of a module, and what is asked for
+  -- stopped by this failure.
   abbrev pub IsStopped : List ℕ → Asked → F → F → Failure → Type 0
   IsStopped bytes (compiles source out) before after failure =
       CompilesAndWrites creates closes written bytes out before after (Err failure)
+  IsStopped bytes (upgrades old new) before after failure =
+      UpgradesAndWrites creates closes written bytes new before after (Err failure)
   IsStopped bytes asked before after failure = IsJudged bytes asked (λ m. StopsIn m asked before after failure)
 
   -- what is asked for was done with the bytes, but is not reported
   abbrev pub IsUntold : List ℕ → Asked → F → F → Type 0
   IsUntold bytes (compiles source out) before after =
       (u : ⊤) × CompilesAndWrites creates closes written bytes out before after (Ok u)
+  IsUntold bytes (upgrades old new) before after =
+      (u : ⊤) × UpgradesAndWrites creates closes written bytes new before after (Ok u)
   IsUntold bytes asked before after = IsJudged bytes asked (λ m. IsDone m asked before after)
 
   -- why nothing is reported about the source or the module in the bytes
@@ -170,6 +182,8 @@ module _ {F R W : Type 0} (opens : F → Text → Result R FileFault → F → T
       IsUncertified bytes asked refusal × (after ≡ before)
   IsHindered bytes asked before after (failures.Uncompiled fault) =
       IsUncompiled bytes asked fault × (after ≡ before)
+  IsHindered bytes asked before after (failures.NotUpgraded fault) =
+      IsNotUpgraded bytes asked fault × (after ≡ before)
   IsHindered bytes asked before after failures.Unwritten = ⊥
   IsHindered bytes asked before after failures.Memory =
       IsStopped bytes asked before after failures.Memory ⊎ IsUntold bytes asked before after
@@ -215,7 +229,7 @@ module _ {F R W : Type 0} (opens : F → Text → Result R FileFault → F → T
       told : (asked : Asked) (text : Text) → line_of words ≡ Some asked
           → Reads asked before (λ bytes next. IsTold bytes asked next after text)
           → Appends out_before out_after text → status ≡ DONE → Acts words before after out_before out_after status
-      -- the reader, the verifier or the compiler refuses the bytes, and no file is created
+      -- the reader, the verifier, the compiler or the upgrade refuses the bytes, and no file is created
       refused : (asked : Asked) → line_of words ≡ Some asked
           → Reads asked before (λ bytes next. IsRefusedBy bytes asked × (after ≡ next))
           → out_after ≡ out_before → status ≡ REFUSED → Acts words before after out_before out_after status

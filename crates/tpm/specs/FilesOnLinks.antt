@@ -43,6 +43,7 @@ module _ {F R W : Type 0} (creates : F → Text → Result W FileFault → F →
   CreatesAndRuns (Err (failures.Malformed fault)) = ⊥
   CreatesAndRuns (Err (failures.Uncertified refusal)) = ⊥
   CreatesAndRuns (Err (failures.Uncompiled fault)) = ⊥
+  CreatesAndRuns (Err (failures.NotUpgraded fault)) = ⊥
   CreatesAndRuns (Err (failures.Unread path)) = ⊥
   CreatesAndRuns (Err (failures.Uncreated path)) = FailsToCreate path.now file_faults.Failed
   CreatesAndRuns (Err (failures.ReadFailed link)) = RunsWithCreated (Err (run_errors.ReadFailed link))
@@ -82,6 +83,7 @@ module _ {F R W : Type 0} (creates : F → Text → Result W FileFault → F →
   RunsOpened (Err (failures.Malformed fault)) = ⊥
   RunsOpened (Err (failures.Uncertified refusal)) = ⊥
   RunsOpened (Err (failures.Uncompiled fault)) = ⊥
+  RunsOpened (Err (failures.NotUpgraded fault)) = ⊥
   RunsOpened (Err (failures.Unread path)) = ⊥
   RunsOpened (Err (failures.Uncreated path)) = Stops (failures.Uncreated path)
   RunsOpened (Err (failures.ReadFailed link)) = Stops (failures.ReadFailed link)
@@ -110,6 +112,7 @@ module _ {F R W : Type 0} (opens : F → Text → Result R FileFault → F → T
   RunsTo (Err (failures.Malformed fault)) = ⊥
   RunsTo (Err (failures.Uncertified refusal)) = ⊥
   RunsTo (Err (failures.Uncompiled fault)) = ⊥
+  RunsTo (Err (failures.NotUpgraded fault)) = ⊥
   RunsTo (Err (failures.Unread path)) = FailsToOpen path.now file_faults.Failed
   RunsTo (Err (failures.Uncreated path)) = OpensAndRuns (Err (failures.Uncreated path))
   RunsTo (Err (failures.ReadFailed link)) = OpensAndRuns (Err (failures.ReadFailed link))

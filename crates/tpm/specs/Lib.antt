@@ -7,4 +7,6 @@ pub mod Listing
 pub mod FilesInOrder
 pub mod FilesOnLinks
 pub mod Compiling
+pub mod Malformed
+pub mod Upgrading
 pub mod Acting

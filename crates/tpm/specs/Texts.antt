@@ -11,15 +11,16 @@ use Rattle.link_runner.specs.declared.report.Outcome.{Outcome}
 use Rattle.link_runner.specs.declared.report.Outcome.TheVariants as outcomes
 use Rattle.link_runner.specs.declared.report.Report.{Report as RunReport}
 use Rattle.tpm.specs.declared.report.Report.{Report}
-use Rattle.tpm.specs.declared.report.Report.TheVariants.{Compiled, Accepted, Ended, Idle}
+use Rattle.tpm.specs.declared.report.Report.TheVariants.{Compiled, Upgraded, Accepted, Ended, Idle}
 use Rattle.tpm.specs.declared.report.Failure.{Failure}
-use Rattle.tpm.specs.declared.report.Failure.TheVariants.{Malformed, Uncertified, Uncompiled, Unread, Uncreated}
-use Rattle.tpm.specs.declared.report.Failure.TheVariants.{ReadFailed, WriteFailed, Unwritten, Memory}
+use Rattle.tpm.specs.declared.report.Failure.TheVariants.{Malformed, Uncertified, Uncompiled, NotUpgraded}
+use Rattle.tpm.specs.declared.report.Failure.TheVariants.{Unread, Uncreated, ReadFailed, WriteFailed, Unwritten, Memory}
 use Rattle.tpm.specs.declared.report.TheConstants.{REFUSED, FAILED, STARVED}
 use Rattle.tpm.specs.Links.{link_name}
 
 abbrev pub report_text : Report → List ℕ
 report_text (Compiled bytes) = codes "compiled " ++ (decimal bytes ++ codes " bytes")
+report_text (Upgraded bytes) = codes "upgraded " ++ (decimal bytes ++ codes " bytes")
 report_text (Accepted budget) = codes "accepted, budget " ++ decimal budget
 report_text (Ended executed) = codes "ended, " ++ (decimal executed ++ codes " bytes executed")
 report_text (Idle executed) = codes "idle, " ++ (decimal executed ++ codes " bytes executed")
@@ -68,6 +69,7 @@ abbrev pub status_of : Failure → ℕ
 status_of (Malformed fault) = REFUSED
 status_of (Uncertified refusal) = REFUSED
 status_of (Uncompiled fault) = REFUSED
+status_of (NotUpgraded fault) = REFUSED
 status_of (Unread path) = FAILED
 status_of (Uncreated path) = FAILED
 status_of (ReadFailed link) = FAILED

@@ -20,6 +20,7 @@ use crate::report::{DONE, Failure, MISUSED, Report, STARVED};
 use crate::run_report::run_report;
 use crate::running::run_with_files;
 use crate::telling::tell;
+use crate::upgrading::upgrade_to_file;
 use certificate::Module;
 use std::alloc::Global;
 use std::io::Write;
@@ -76,6 +77,7 @@ fn judge<'a, F: Files>(
 {
     match line {
         Line::Compile { out, .. } => compile_to_file(alloc, bytes, out, files),
+        Line::Upgrade { out, .. } => upgrade_to_file(alloc, bytes, out, files),
         Line::Verify { .. } => {
             let module = Module::read(alloc, bytes)?;
             verdict(alloc, &module)
@@ -101,7 +103,10 @@ fn read_path<'a>(line: Line<'a>) -> &'a str
 {
     match line {
         Line::Compile { source, .. } => source,
-        Line::Verify { path } | Line::Run { path, .. } | Line::List { path } => path,
+        Line::Upgrade { path, .. }
+        | Line::Verify { path }
+        | Line::Run { path, .. }
+        | Line::List { path } => path,
     }
 }
 

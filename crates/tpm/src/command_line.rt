@@ -7,7 +7,8 @@ ghost use Rattle.clap.specs.declared.builder.command.Command.TheViews.{out-Comma
 ghost use Rattle.clap.specs.Walk.{first_of, rows_of, texts};
 ghost use Rattle.tpm.specs.Links.{paths_of};
 ghost use Rattle.tpm.specs.CommandLine.{asked_of, compile_shape, compiled_by, entered_by, line_of, named, of_module};
-ghost use Rattle.tpm.specs.CommandLine.{paths_given, run_shape, subcommand_shape, tpm, with_links, with_option};
+ghost use Rattle.tpm.specs.CommandLine.{paths_given, run_shape, subcommand_shape, tpm, upgrade_shape, upgraded_by};
+ghost use Rattle.tpm.specs.CommandLine.{with_links, with_option};
 ghost use Rattle.tpm.specs.LineFaults.{IsFaultAt};
 
 use crate::line::{Line, LineFault};
@@ -43,6 +44,23 @@ fn compile_subcommand<'a>(alloc: Global) -> Result<Command<'a>, AllocError>
         .about("Compiles an occam program to a module")
         .arg(source)?
         .arg(out)
+}
+
+/// The subcommand that upgrades a module.
+fn upgrade_subcommand<'a>(alloc: Global) -> Result<Command<'a>, AllocError>
+    ensures shape { IfOk result (λ c. shape_of c ≡ upgrade_shape) }
+    ensures local { IfOk result (λ c. (fields_of c).has_globals ≡ false) }
+{
+    let old = Arg::new(alloc, "OLD")
+        .required(true)
+        .help("The path of a module file of version 1");
+    let new = Arg::new(alloc, "NEW")
+        .required(true)
+        .help("The path of the module file that is written");
+    Command::new(alloc, "upgrade")
+        .about("Writes a module of version 1 as one of version 2")
+        .arg(old)?
+        .arg(new)
 }
 
 /// A command with one more option, which takes the path of a file.
@@ -126,18 +144,27 @@ fn with_compile<'a>(alloc: Global, command: Command<'a>) -> Result<Command<'a>, 
     command.subcommand(compile)
 }
 
+/// A command with one more subcommand, which upgrades a module.
+fn with_upgrade<'a>(alloc: Global, command: Command<'a>) -> Result<Command<'a>, AllocError>
+    ensures { IfOk result (λ c. app_of c ≡ with_subcommand (app_of command.entry) upgrade_shape) }
+{
+    let upgrade = upgrade_subcommand(alloc)?;
+    command.subcommand(upgrade)
+}
+
 /// The program's command.
 fn command<'a>(alloc: Global) -> Result<Command<'a>, AllocError>
     ensures { IfOk result (λ c. app_of c ≡ tpm) }
 {
     let tpm = Command::new(alloc, "tpm")
-        .about("Compiles occam programs, and verifies, runs and lists transputer modules")
+        .about("Compiles occam programs, and verifies, runs, lists and upgrades transputer modules")
         .subcommand_required(true)
         .disable_help_subcommand(true);
     let tpm = with_compile(alloc, tpm)?;
     let tpm = with_subcommand(alloc, tpm, "verify", "Tells whether a module is certified")?;
     let tpm = with_run(alloc, tpm)?;
-    with_subcommand(alloc, tpm, "list", "Lists the instructions of a module")
+    let tpm = with_subcommand(alloc, tpm, "list", "Lists the instructions of a module")?;
+    with_upgrade(alloc, tpm)
 }
 
 /// The path that is given for an option.
@@ -184,6 +211,15 @@ fn compile_line<'a>(given: &ArgMatches<'a>) -> Option<Line<'a>>
     Some(Line::Compile { source, out })
 }
 
+/// The module of the one file, written to the other.
+fn upgrade_line<'a>(given: &ArgMatches<'a>) -> Option<Line<'a>>
+    ensures { option_map asked_of result ≡ upgraded_by (rows_of (found_of given.now)) }
+{
+    let path = path_given(given, "OLD")?;
+    let out = path_given(given, "NEW")?;
+    Some(Line::Upgrade { path, out })
+}
+
 /// What the subcommand of this name asks of a module.
 fn module_line<'a>(name: &str, given: &ArgMatches<'a>) -> Option<Line<'a>>
     ensures { option_map asked_of result ≡ of_module name.now (rows_of (found_of given.now)) }
@@ -198,6 +234,8 @@ fn entered<'a>(name: &str, given: &ArgMatches<'a>) -> Option<Line<'a>>
 {
     if name == "compile" {
         compile_line(given)
+    } else if name == "upgrade" {
+        upgrade_line(given)
     } else {
         module_line(name, given)
     }
@@ -213,7 +251,7 @@ fn asked<'a>(matches: &ArgMatches<'a>) -> Option<Line<'a>>
 }
 
 /// What the words of a command line ask for, of which the first is the program's name: `compile SRC OUT`, `verify MOD`,
-/// `list MOD`, or `run MOD` with the options `--in0 F` to `--in3 F` and `--out0 F` to `--out3 F`.
+/// `list MOD`, `upgrade OLD NEW`, or `run MOD` with the options `--in0 F` to `--in3 F` and `--out0 F` to `--out3 F`.
 pub fn line<'a>(alloc: Global, words: &'a [&'a str]) -> Result<Line<'a>, LineFault>
     ensures asked { IfOk result (λ l. line_of (texts words.entry.now) ≡ Some (asked_of l)) }
     // A body that always reports that memory ran out meets this too, since no clause can say that memory

@@ -11,7 +11,11 @@ use link_runner::write_whole;
 use std::alloc::Global;
 
 /// Creates the file of this path and writes bytes to it. It is closed in any case.
-fn write_file<'a, F: Files>(path: &'a str, bytes: &[u8], files: &mut F) -> Result<(), Failure<'a>>
+pub fn write_file<'a, F: Files>(
+    path: &'a str,
+    bytes: &[u8],
+    files: &mut F,
+) -> Result<(), Failure<'a>>
     ensures { Writes F.creates F.closes (inside F.Writer.written) path.entry.now bytes.now files.old files.new result }
 {
     let mut writer = match files.create(path) {

@@ -16,6 +16,11 @@ pub enum Line<'a> {
         source: &'a str,
         out: &'a str,
     },
+    /// The module in a file of version 1, written to another file in version 2.
+    Upgrade {
+        path: &'a str,
+        out: &'a str,
+    },
     /// Whether the module in the file of this path is certified.
     Verify {
         path: &'a str,

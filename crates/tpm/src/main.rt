@@ -1,4 +1,4 @@
-//! `tpm`: compiles occam programs, and verifies, runs and lists transputer modules.
+//! `tpm`: compiles occam programs, and verifies, runs, lists and upgrades transputer modules.
 #![tactic(auto)]
 
 mod acting;
@@ -14,6 +14,7 @@ mod report;
 mod run_report;
 mod running;
 mod telling;
+mod upgrading;
 mod words;
 
 use acting::act;

@@ -9,7 +9,7 @@ use module_format::FormatFault;
 use std::alloc::AllocError;
 use std::fmt;
 use thiserror::Error;
-use verifier::Refusal;
+use verifier::{Refusal, UpgradeFault};
 
 /// All that was asked for was done.
 pub const DONE: u8 = 0;
@@ -27,6 +27,8 @@ pub const STARVED: u8 = 4;
 pub enum Report {
     /// How many bytes the file of the module has.
     Compiled { bytes: usize },
+    /// How many bytes the file of the module in version 2 has.
+    Upgraded { bytes: usize },
     /// The most bytes that a run executes.
     Accepted { budget: u64 },
     /// The module's end was reached, after this number of bytes.
@@ -41,6 +43,7 @@ impl fmt::Display for Report {
     fn fmt<W: fmt::Write>(&self, f: &mut fmt::Formatter<W>) -> fmt::Result {
         match self {
             Report::Compiled { bytes } => write!(f, "compiled {bytes} bytes"),
+            Report::Upgraded { bytes } => write!(f, "upgraded {bytes} bytes"),
             Report::Accepted { budget } => write!(f, "accepted, budget {budget}"),
             Report::Ended { executed } => write!(f, "ended, {executed} bytes executed"),
             Report::Idle { executed } => write!(f, "idle, {executed} bytes executed"),
@@ -60,6 +63,9 @@ pub enum Failure<'a> {
     /// The source becomes no module.
     #[error("refused {0}")]
     Uncompiled(CompileFault),
+    /// The module is not upgraded.
+    #[error("refused U{}", .0.number())]
+    NotUpgraded(UpgradeFault),
     /// The file of this path was not read or opened.
     #[error("cannot read {0}")]
     Unread(&'a str),
@@ -110,6 +116,16 @@ impl From<CompileFault> for Failure<'_> {
     }
 }
 
+impl From<UpgradeFault> for Failure<'_> {
+    ghost use Rattle.tpm.specs.declared.report.Failure.TheVariants as failures;
+
+    ghost from_gives = { λ fault failure. failure ≡ failures.NotUpgraded fault };
+
+    fn from(fault: UpgradeFault) -> Self {
+        Failure::NotUpgraded(fault)
+    }
+}
+
 impl From<AllocError> for Failure<'_> {
     ghost use Rattle.tpm.specs.declared.report.Failure.TheVariants as failures;
 
@@ -126,7 +142,10 @@ impl Failure<'_> {
         ensures { result ≡ status_of self.now }
     {
         match self {
-            Failure::Malformed(_) | Failure::Uncertified(_) | Failure::Uncompiled(_) => REFUSED,
+            Failure::Malformed(_)
+            | Failure::Uncertified(_)
+            | Failure::Uncompiled(_)
+            | Failure::NotUpgraded(_) => REFUSED,
             Failure::Unread(_)
             | Failure::Uncreated(_)
             | Failure::ReadFailed(_)

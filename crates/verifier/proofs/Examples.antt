@@ -3,7 +3,6 @@ use Rattle.std.proofs.Common.{◌≡◌, ℕ, pos, negsuc, false, List, [], ◌�
 use Rattle.word_arithmetic.specs.Binary.{result_range}
 use Rattle.module_format.specs.declared.fact.Fact.TheVariants.{Unknown}
 use Rattle.module_format.specs.declared.rows.ParameterKind.TheVariants.{Value}
-use Rattle.module_format.specs.declared.tables.Version.TheVariants.{One}
 use Rattle.module_format.specs.Stack.{of_empty}
 use Rattle.module_format.specs.Contents.{Contents}
 use Rattle.module_format.specs.Contexts.{context_at}
@@ -83,7 +82,6 @@ label_cannot_pay = refl
 -- this code, with a procedure at this entry of this number, whose word 1 is a number from 0 to 5
 abbrev uncalled : List ℕ → ℕ → ℕ → Contents
 uncalled code entry number = record {
-  version = One;
   code = code;
   constants = [];
   data_words = 5;

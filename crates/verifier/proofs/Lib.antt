@@ -31,3 +31,4 @@ pub mod ValidContents
 pub mod CertifiedRuns
 pub mod Examples
 pub mod ChoiceIsCertified
+pub mod UpgradedModules

@@ -10,7 +10,6 @@ use Rattle.module_format.specs.Rows.{ProcedureRow}
 use Rattle.module_format.specs.Contents.{Contents, Procedure, label_at, label_of, procedure_of}
 use Rattle.module_format.specs.Facts.{LabelKeeps, behind_label}
 use Rattle.module_format.specs.Procedures.{ProcedureKeeps, behind_procedure}
-use Rattle.module_format.specs.declared.tables.Version.{Version}
 use Rattle.module_format.specs.Keeping.{Keeps}
 use Rattle.module_format.specs.Order.{InOrder}
 use Rattle.certificate.specs.Starts.{procedure_from, procedure_at}
@@ -92,21 +91,21 @@ procedure-below at o context (row ∷ rows) r h =
     from-other context o (procedure_of row) (map procedure_of rows) (λ e. absurd (omega (arith, r.0)))
     ∙ procedure-below (row.entry + 1) o (context + 1) rows r.1 (omega (arith, r.0))
 
-procedures-rise : (version : Version) (code_len low at : ℕ) (rows : List ProcedureRow) → at ≤ low + 1
-    → InOrder (ProcedureKeeps version code_len) behind_procedure low (map procedure_of rows)
+procedures-rise : (code_len low at : ℕ) (rows : List ProcedureRow) → at ≤ low + 1
+    → InOrder (ProcedureKeeps code_len) behind_procedure low (map procedure_of rows)
     → RiseFrom (λ row. row.entry) at rows
-procedures-rise version code_len low at [] h keeps = tt
-procedures-rise version code_len low at (row ∷ rows) h keeps = (
+procedures-rise code_len low at [] h keeps = tt
+procedures-rise code_len low at (row ∷ rows) h keeps = (
   omega (arith, keeps.0.rises),
-  procedures-rise version code_len row.entry (row.entry + 1) rows
+  procedures-rise code_len row.entry (row.entry + 1) rows
       (omega arith) keeps.1,
 )
 
 procedures-first : (m : Contents) (rows : List ProcedureRow) → Keeps m → m.procedures ≡ map procedure_of rows
     → ProceduresLeft m 0 1 rows
 procedures-first m rows keeps is = record {
-  rise = procedures-rise m.version (length m.code) 0 0 rows (omega arith)
-      (subst (λ ps. InOrder (ProcedureKeeps m.version (length m.code)) behind_procedure 0 ps) is keeps.rows.procedures);
+  rise = procedures-rise (length m.code) 0 0 rows (omega arith)
+      (subst (λ ps. InOrder (ProcedureKeeps (length m.code)) behind_procedure 0 ps) is keeps.rows.procedures);
   same = λ o l. ap (λ ps. procedure_from 1 ps o) is;
   behind_root = omega arith;
   rest = is;

@@ -16,9 +16,7 @@ use Rattle.certificate.specs.Starts.{Entered, procedure_from, procedure_at}
 use Rattle.module_format.specs.Contents.{Contents, Procedure, Label, label_at}
 use Rattle.module_format.specs.Order.{InOrder}
 use Rattle.module_format.specs.Facts.{LabelKeeps, behind_label}
-use Rattle.module_format.specs.declared.tables.Version.{Version}
-use Rattle.module_format.specs.declared.tables.Version.TheVariants as versions
-use Rattle.module_format.specs.Keeping.{max_code, Keeps}
+use Rattle.module_format.specs.Keeping.{Keeps}
 use Rattle.states.proofs.LabelRows.{label_row_at}
 use Rattle.rulings.specs.Meaning.{IsWellFormed, farthest_word}
 use Rattle.states.proofs.FrameBounds.{frame-is-small}
@@ -109,10 +107,6 @@ no_label m k at e h = on_label (label_at m at) refl
     on_label (Some t) g = absurd (no_entry m.procedures 1 at e
         (found_apart (length m.code) m.procedures 0 at m.labels t k.rows.labels g) h)
 
-code_is_short : (v : Version) → max_code v ≤ 262143
-code_is_short versions.One = omega arith
-code_is_short versions.Two = omega arith
-
 -- no word of a frame is farther from its word 0 than any is
 frame_words : (m : Contents) → Keeps m → (n : ℕ) (k : ℤ) → has_word (context_at m n) k ≡ true
     → (neg_ℤ (pos farthest_word) ≤ℤ k) × (k <ℤ pos farthest_word)
@@ -132,7 +126,7 @@ frame_words m keeps n k h = on_context (context_at m n) refl h
 pub well_formed : (m : Contents) → Keeps m → IsWellFormed m
 well_formed m k = record {
   some_code = k.sizes.has_code;
-  short_code = omega (arith, k.sizes.code_limit, code_is_short m.version);
+  short_code = omega (arith, k.sizes.code_limit);
   few_words = omega (arith, k.sizes.data_limit);
   few_constants = omega (arith, k.sizes.constants_limit);
   base = k.sizes.base;
@@ -140,7 +134,7 @@ well_formed m k = record {
       found_keeps (length m.code) m.procedures 0 at m.labels t k.rows.labels h in omega (arith, f.0, f.1);
   rows = λ at t h. label_row_at m at t k h;
   pairs = λ at t h. label_pairs m at t k h;
-  procedures = λ n p h. at-row m.version (length m.code) 0 m.procedures n p k.rows.procedures h;
+  procedures = λ n p h. at-row (length m.code) 0 m.procedures n p k.rows.procedures h;
   entries = λ at e h. no_label m k at e h;
   eight = k.bounds.eight;
   frames = frame_words m k;

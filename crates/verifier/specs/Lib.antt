@@ -1,4 +1,5 @@
 pub mod Reports
+pub mod Upgrading
 pub mod Judge
 pub mod Judging
 pub mod Headline

@@ -10,6 +10,7 @@ ghost use Rattle.verifier.specs.Judge.{verdict, refused};
 ghost use Rattle.certified_worlds.specs.Invariant.{Holds};
 ghost use Rattle.verifier.specs.Headline.{AreEvents, RunsWell};
 ghost use Rattle.verifier.specs.SmallAlternation.{AlternationIsJudged};
+ghost use Rattle.verifier.specs.Upgrading.{AreJudgedAlike, RunAlike, OfUpgraded};
 
 /// No module is both certified and refused.
 pub fn not_both()
@@ -41,4 +42,15 @@ pub fn certified_modules_run_well()
 #[tactic(auto, using(crate::proofs::ChoiceIsCertified::alternation_is_judged))]
 pub fn a_small_alternation_is_judged()
     ensures { AlternationIsJudged }
+{}
+
+/// A module and the one that it is upgraded to are both certified, or neither is, and at each offset the same rules are
+/// refused.
+pub fn upgraded_is_certified()
+    ensures { OfUpgraded AreJudgedAlike }
+{}
+
+/// A module and the one that it is upgraded to run alike, whether they are certified or not.
+pub fn upgraded_runs_alike()
+    ensures { OfUpgraded RunAlike }
 {}

@@ -6,12 +6,14 @@ mod laws;
 mod pass;
 mod rows;
 mod stop;
+mod upgrading;
 mod verified;
 
 pub use laws::{
     a_small_alternation_is_judged, certified_modules_run_well, certified_runs_hold_the_invariant,
-    not_both, verdict_is_right,
+    not_both, upgraded_is_certified, upgraded_runs_alike, verdict_is_right,
 };
+pub use upgrading::{UpgradeFault, upgrade};
 pub use verified::{Verified, verify};
 
 /// Why a module is refused.

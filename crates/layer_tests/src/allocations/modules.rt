@@ -1,8 +1,8 @@
-//! Modules are read, written and verified.
+//! Modules are read, written, upgraded and verified.
 
 use super::{counts, may_count};
 use crate::calls::files::{JUMP, ROWS};
-use crate::calls::modules::{Question, ask};
+use crate::calls::modules::{Question, ask, ask_upgraded};
 use crate::calls::straight::ask_straight;
 
 #[test]
@@ -43,6 +43,16 @@ fn write_rows_with_ample_memory(rt: HostRuntime) {
 #[test]
 fn write_rows_out_of_memory(rt: HostRuntime) {
     may_count(&rt, ask(rt.alloc(), &ROWS, Question::Written), 391);
+}
+
+#[test]
+fn upgrade_with_ample_memory(rt: HostRuntime) {
+    counts(&rt, ask_upgraded(rt.alloc(), &JUMP), 130);
+}
+
+#[test]
+fn upgrade_out_of_memory(rt: HostRuntime) {
+    may_count(&rt, ask_upgraded(rt.alloc(), &JUMP), 130);
 }
 
 #[test]

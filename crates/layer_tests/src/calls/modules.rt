@@ -2,12 +2,12 @@
 
 use super::{Answer, refused};
 use accepted_runs::{Replay, replay};
-use certificate::Module;
+use certificate::{Module, ModuleFile};
 use machine::{Checked, Stop};
 use machine_state::Event;
 use module_format::write;
 use std::alloc::Global;
-use verifier::{Verified, verify};
+use verifier::{UpgradeFault, Verified, upgrade, verify};
 
 /// What is asked of a module that is read.
 #[derive(Clone, Copy)]
@@ -91,6 +91,22 @@ fn asked_of(alloc: Global, module: &Module, file: &[u8], question: Question) -> 
         Question::Written => written(alloc, module, file),
         Question::Verified | Question::Replayed(_) => verified(alloc, module, question),
         Question::Executed(events) => loaded(alloc, module, events),
+    }
+}
+
+fn upgraded(alloc: Global, file: &ModuleFile) -> Answer {
+    match upgrade(alloc, file) {
+        Ok(bytes) => Answer::Counts(bytes.len() as u64),
+        Err(UpgradeFault::Upgraded) => Answer::Refused,
+        Err(UpgradeFault::Memory) => Answer::OutOfMemory,
+    }
+}
+
+/// How many bytes a module file has once it is upgraded.
+pub(crate) fn ask_upgraded(alloc: Global, file: &[u8]) -> Answer {
+    match ModuleFile::read(alloc, file) {
+        Ok(file) => upgraded(alloc, &file),
+        Err(fault) => refused(fault.number, module_format::MEMORY),
     }
 }
 

@@ -5,7 +5,7 @@ ghost use Rattle.module_format.specs.Contents.{contents_of};
 ghost use Rattle.module_format.specs.Contexts.{branch_count};
 ghost use Rattle.module_format.specs.Places.{ArePlaces};
 ghost use Rattle.module_format.specs.Reading.{Gives};
-ghost use Rattle.module_format.specs.ReadingFile.{IsReady, tables_at, ended_at, read_contents};
+ghost use Rattle.module_format.specs.ReadingFile.{IsReady, tables_at, ended_at, read_file};
 ghost use Rattle.module_format.specs.Taking.{Takes, Concludes};
 
 use crate::contexts::Contexts;
@@ -25,7 +25,8 @@ use std::alloc::Global;
 /// The code, the constants and the rows, with the offset of the label rows.
 #[tactic(auto, unfolding(crate::specs::ReadingFile::tables_at, crate::specs::Reading::and_then))]
 fn read_tables<'a>(header: &Header, from: &mut Cursor<'a>) -> (Tables<'a>, usize)
-    ensures { Takes (λ size. tables_at size header.now) from.old (contents_of result.0, result.1) from.new }
+    ensures takes { Takes (λ size. tables_at size header.now) from.old (contents_of result.0, result.1) from.new }
+    ensures version { result.0.version ≡ header.now.version }
 {
     let Header {
         version,
@@ -90,9 +91,9 @@ fn conclude(
 }
 
 /// The tables that the bytes spell, all of the bytes, with the places of the branches.
-#[tactic(auto, unfolding(crate::specs::ReadingFile::read_contents, crate::specs::Reading::and_then))]
+#[tactic(auto, unfolding(crate::specs::ReadingFile::read_file, crate::specs::Reading::and_then))]
 pub fn tables_of(alloc: Global, bytes: &[u8]) -> Result<(Tables<'_>, Vec<Place>), ReadError>
-    ensures gives { Gives (λ x. contents_of x.0) result (read_contents bytes.now) }
+    ensures gives { Gives (λ x. (x.0.version, contents_of x.0)) result (read_file bytes.now) }
     ensures places { IfOk result (λ x. ArePlaces (contents_of x.0) (branch_count (contents_of x.0).pars) x.1.items) }
 {
     let mut from = Cursor::new(alloc, bytes);

@@ -6,5 +6,5 @@ pub labels_keep-requires : goal.labels_keep-requires
 labels_keep-requires c =
     let t = c.args.tables.now in
     rw c.deref-then-all_keep.ensures.value
-    (rows_rise t.version (length t.code.now) t.procedures.items
+    (rows_rise (length t.code.now) t.procedures.items
     (rw c.deref.ensures.value at (c.all_keep.ensures.0 c.if-all_keep.true)))

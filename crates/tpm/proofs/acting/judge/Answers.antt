@@ -1,7 +1,7 @@
 use Rattle.std.proofs.Common.{string_bytes}
 use Rattle.tpm.specs.FilesInOrder.{inside}
 use Rattle.tpm.specs.Links.{paths_of}
-use Rattle.tpm.proofs.Judged.{module_judged, run_judged}
+use Rattle.tpm.proofs.Judged.{module_judged, upgrade_judged, run_judged}
 use Rattle.tpm.proofs.acting.judge.Goals as goal
 
 pub returns-in-Compile : goal.returns-in-Compile
@@ -10,6 +10,13 @@ returns-in-Compile g c =
     (inside g.F.Reader.LinkReader.left) (inside g.F.Reader.LinkReader.failed) (inside g.F.Writer.LinkWriter.written)
     (inside g.F.Writer.LinkWriter.failed) string_bytes c.args.bytes.now c.in-Compile.source.now c.in-Compile.out.now _ _
     c.compile_to_file.result c.compile_to_file.ensures)
+
+pub returns-in-Upgrade : goal.returns-in-Upgrade
+returns-in-Upgrade g c =
+    rw c.in-Upgrade.is (upgrade_judged g.F.Files.opens g.F.Files.creates g.F.Files.closes
+    (inside g.F.Reader.LinkReader.left) (inside g.F.Reader.LinkReader.failed) (inside g.F.Writer.LinkWriter.written)
+    (inside g.F.Writer.LinkWriter.failed) string_bytes c.args.bytes.now c.in-Upgrade.path.now c.in-Upgrade.out.now _ _
+    c.upgrade_to_file.result c.upgrade_to_file.ensures)
 
 pub returns-in_ok-module-in-Run : goal.returns-in_ok-module-in-Run
 returns-in_ok-module-in-Run g c =

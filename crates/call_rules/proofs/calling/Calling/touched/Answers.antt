@@ -13,7 +13,7 @@ owns_frame-requires-clause-some c =
     let m = c.args.self.now.place.module.now in
     let row = row_keeps m c.requires.belongs.kept c.requires.row.0 (procedure_of c.args.self.now.callee.now)
     c.requires.row.1 in
-    frame_some m.version (length m.code) row.0 (procedure_of c.args.self.now.callee.now) row.1
+    frame_some (length m.code) row.0 (procedure_of c.args.self.now.callee.now) row.1
 
 pub all_lent-requires : goal.all_lent-requires
 all_lent-requires c =
@@ -27,7 +27,7 @@ returns-clause-touched c =
     let m = c.args.self.now.place.module.now in
     let p = procedure_of c.args.self.now.callee.now in
     let row = row_keeps m c.requires.belongs.kept c.requires.row.0 p c.requires.row.1 in
-    let some = frame_some m.version (length m.code) row.0 p row.1 in
+    let some = frame_some (length m.code) row.0 p row.1 in
     let size = c.frame_size.ensures in
     record {
       first = to_z-of_z w32 c.in_ok-first.first (search rules) ∙ c.in_ok-first.ensures.first;
@@ -36,6 +36,6 @@ returns-clause-touched c =
       lent = c.all_lent.ensures;
       own = subst (λ (all : List (Option Lent)). AllByRecursion (OwnsLent m c.args.self.now.state.now.context) all)
           (sym c.all_lent.ensures)
-          (all_owned (calling_of c.args.self.now) m.version p.hi 0 p.parameters row.1.parameters
+          (all_owned (calling_of c.args.self.now) p.hi 0 p.parameters row.1.parameters
           c.in_ok-passes_all.ensures.pointers);
     }

@@ -8,7 +8,7 @@ pub row_at-requires : goal.row_at-requires
 row_at-requires c =
     let t = c.self.inside.tables in
     rw c.deref.ensures.value
-    (rows_rise t.version (length t.code.now) t.procedures.items c.self.invariant.0.keeps.rows.procedures)
+    (rows_rise (length t.code.now) t.procedures.items c.self.invariant.0.keeps.rows.procedures)
 
 pub returns-in_err-index : goal.returns-in_err-index
 returns-in_err-index c =

@@ -9,5 +9,5 @@ conclude-requires c = λ still.
     let last = c.read_tables-tables in
     let ready =
     rows_taken c.args.bytes.now (λ i. omega (arith, c.type_inv.bytes i)) front.result behind.new.from last.new.from
-    front.ensures.rest front.ensures.size behind.ensures last.ensures still in
+    front.ensures.rest front.ensures.size behind.ensures last.ensures.takes still in
     record { fits = omega (arith, ready.0); limits = ready.1; rows = ready.2 }

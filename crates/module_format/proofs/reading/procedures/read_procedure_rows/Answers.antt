@@ -18,4 +18,4 @@ returns-clause-rise c = λ still.
     took_has (procedure_rows_at from.size code.version code.len c.args.count) from.failure from.rest.now
     (map procedure_of rows) new.failure new.rest.now still
     c.read_list.ensures.took taken in
-    rows_rise code.version code.len rows kept.keeps.1
+    rows_rise code.len rows kept.keeps.1
