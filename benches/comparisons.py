@@ -1,7 +1,7 @@
 """Module files whose states are compared with labels over and over, made to be slow.
 
 Each is code of a procedure with the largest frame, as long as code may be: a label, what changes words, and conditional
-jumps to one label at the end.
+jumps to one label at the end; or many labels, each with such jumps to many labels at the end.
 """
 
 import struct
@@ -11,6 +11,7 @@ from inputs import (
     FRAME_LO,
     GREATEST,
     LEAST,
+    LOAD_CONSTANT,
     MAX_CODE_2,
     STOP_PROCESS,
     each_word,
@@ -21,7 +22,7 @@ from inputs import (
 from modules import FUNCTIONS, code, module, spelled
 
 NUMBER_OF_LABELS = 2**62  # it covers what is paid at any label here
-LOOP = 4
+CODE, LOOP = 3, 4  # kinds of facts
 BLOCK = 64  # the words of a block of the verifier's
 LEFT = range(BLOCK, 2 * BLOCK)  # the words of such a block
 CONTEXT = 1  # the procedure's
@@ -57,6 +58,31 @@ def compared(rows, wanted, test="ldc 0", changes=""):
         label_row(len(start) + len(middle), CONTEXT, 2, wanted),
     ]
     return module(body, version=2, procedures=[procedure], labels=labels)
+
+
+def compared_with_each(rows, wanted, labels, ends, changes=""):
+    """So many labels with these entries, each before jumps to so many others with those that are wanted, which are at
+    the end. Words are changed before the jumps."""
+    jump, last = FUNCTIONS.index("cj"), LOAD_CONSTANT * ends + STOP_PROCESS
+    pieces, distances, distance = [], [], 0
+    for _ in range(labels):
+        for end in reversed(range(ends)):
+            pieces.append(LOAD_CONSTANT + spelled(jump, distance + end))
+            distance += len(pieces[-1])
+        pieces.append(code(changes) if changes else b"")
+        distance += len(pieces[-1])
+        distances.append(distance)
+    start = 2 * STOP_PROCESS
+    body = start + b"".join(reversed(pieces)) + last
+    procedure = struct.pack("<IiiQH", len(STOP_PROCESS), FRAME_LO, FRAME_HI, 2, 0)
+    first = len(start) + distance
+    numbers_of = [NUMBER_OF_LABELS - number * len(body) for number in range(labels)]
+    befores = [
+        label_row(first - distance, CONTEXT, number, rows)
+        for distance, number in zip(reversed(distances), numbers_of)
+    ]
+    afters = [label_row(first + end, CONTEXT, len(last) - end, wanted) for end in range(ends)]
+    return module(body, version=2, procedures=[procedure], labels=befores + afters)
 
 
 def numbers(skipped=()):
@@ -106,11 +132,47 @@ def to_entries_behind_block(words=LEFT):
     return compared(rows, rows, changes=THROUGH_POINTER)
 
 
+def to_entries_between_writes():
+    """To a label with an entry for each word of the frame, one of which is written before each jump."""
+    return compared(numbers(), numbers(), test="ldc 5, stl 3, ldc 0")
+
+
 def to_entries_behind_writes(words):
     """To a label with an entry for each word, of which so many were written before."""
     every = range(FRAME_LO, FRAME_HI)
     step = len(every) // words
     return compared(numbers(), numbers(), changes=written(every[::step][:words]))
+
+
+def to_new_labels_behind_frame():
+    """To 8,000 labels with an entry about all words but the pointer, once a store went through that pointer to any word
+    behind it; four times."""
+    pointer = pointer_to(range(2, FRAME_HI))
+
+    def about_all(low, high):
+        return [number_entry(FRAME_LO, 1 - FRAME_LO, low, high), number_entry(2, FRAME_HI - 2, low, high)]
+
+    return compared_with_each(after([pointer, *about_all(0, 9)]), about_all(LEAST, GREATEST), 4, 8_000, THROUGH_POINTER)
+
+
+def to_large_labels():
+    """From 1,050 labels with an entry about all words to 37 with an entry for each word, in a file of 16 MB."""
+
+    def code_entry(word, span):
+        return struct.pack("<iIBI", word, span, CODE, 0)
+
+    each = [code_entry(word, 1) for word in range(FRAME_LO, FRAME_HI)]
+    return compared_with_each([code_entry(FRAME_LO, FRAME_HI - FRAME_LO)], each, 1_050, 37)
+
+
+def to_entries_between_stores():
+    """To a label with an entry for each word, with a store through a pointer to any word before each jump. What is
+    known of a block's words together is less than what is wanted of each."""
+    words = [word for word in range(FRAME_LO, FRAME_HI) if word != 1]
+    pointer = pointer_to(range(2, FRAME_HI))
+    known = [number_entry(word, 1, 0, 9) if word % 2 else number_entry(word, 1, 100, 110) for word in words]
+    wanted = [number_entry(word, 1, 0, 110) if word % 2 else number_entry(word, 1, 5, 200) for word in words]
+    return compared(after([pointer, *known]), after([pointer, *wanted]), test="ldc 50, ldl 1, stnl 0, ldc 0")
 
 
 # ---- loops
@@ -138,6 +200,18 @@ def to_loops_behind_block(words=LEFT):
     plain = [entry for word in words for entry in each_word(word, word + 1)]
     rows = after([pointer_to(words), *plain, *loops(3, 7, skipped)])
     return compared(rows, rows, changes=THROUGH_POINTER)
+
+
+def to_loops_between_writes():
+    """To a label with a loop for each two words but a block, of which a word is written before each jump."""
+    plain = [entry for word in LEFT for entry in each_word(word, word + 1)]
+    rows = after([*plain, *loops(3, 7, skipped=LEFT)])
+    return compared(rows, rows, test=f"ldc 5, stl {LEFT[0]}, ldc 0")
+
+
+def to_loops_between_entries():
+    """The same, where the words of one loop become the constants with which it begins before each jump."""
+    return compared(loops(3, 7), loops(3, 7), test="ldc 1000, stl 1000, ldc 3, stl 1001, ldc 0")
 
 
 def into_loops():

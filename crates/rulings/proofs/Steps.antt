@@ -8,7 +8,7 @@ use Rattle.states.specs.declared.rule.Rule.TheVariants as rules
 use Rattle.module_format.specs.Contents.{Label, label_at}
 use Rattle.certificate.specs.Rights.{may_write_word, may_read_word}
 use Rattle.states.specs.State.{State, written}
-use Rattle.states.specs.Below.{below}
+use Rattle.states.specs.Below.{below, below_at}
 use Rattle.rulings.specs.declared.continuation.Continuation.{Continuation}
 use Rattle.rulings.specs.Rulings.{forks_to, falls_or_leads, Ruling, Site, leads, breaks, writes_word, reads_word}
 use Rattle.rulings.specs.Rulings.{leads_to}
@@ -47,29 +47,26 @@ leads_forked site to s = on_label (label_at site.contents to)
     on_label None = refl
     on_label (Some t) = on_cost (below s t)
 
-pub forks-on : (site : Site) (to : ℕ) (s here : State) (t : Label) (r : Result ℕ Rule)
-    → label_at site.contents to ≡ Some t → r ≡ below s t
+-- what going on at the offset costs decides
+pub forks-by : (site : Site) (to : ℕ) (s here : State) (r : Result ℕ Rule) → r ≡ below_at site.contents to s
     → forks_to site to s here
     ≡ elim r as (λ r. Ruling) [ Ok cost ↦ falls_or_leads here to | Err broken ↦ breaks broken ]
 unfolding forks_to
-forks-on site to s here t r found is =
-    ap (λ (o : Option Label). elim o as (λ o. Ruling) [
-      | None ↦ breaks rules.Label
-      | Some t ↦ elim (below s t) as
-          (λ r. Ruling) [ Ok cost ↦ falls_or_leads here to | Err broken ↦ breaks broken ]
-    ]) found
+forks-by site to s here r is =
+    on_label (label_at site.contents to)
     ∙ ap (λ (r : Result ℕ Rule). elim r as
     (λ r. Ruling) [ Ok cost ↦ falls_or_leads here to | Err broken ↦ breaks broken ]) (sym is)
-
-pub forks-nowhere : (site : Site) (to : ℕ) (s here : State) → label_at site.contents to ≡ None
-    → forks_to site to s here ≡ breaks rules.Label
-unfolding forks_to
-forks-nowhere site to s here found =
-    ap (λ (o : Option Label). elim o as (λ o. Ruling) [
-      | None ↦ breaks rules.Label
-      | Some t ↦ elim (below s t) as
-          (λ r. Ruling) [ Ok cost ↦ falls_or_leads here to | Err broken ↦ breaks broken ]
-    ]) found
+  where
+    on_label : (o : Option Label)
+        → (elim o as (λ o. Ruling) [
+          | None ↦ breaks rules.Label
+          | Some t ↦ elim (below s t) as
+              (λ r. Ruling) [ Ok cost ↦ falls_or_leads here to | Err broken ↦ breaks broken ]
+        ])
+        ≡ elim (elim o as (λ o. Result ℕ Rule) [ None ↦ Err rules.Label | Some t ↦ below s t ]) as
+        (λ r. Ruling) [ Ok cost ↦ falls_or_leads here to | Err broken ↦ breaks broken ]
+    on_label None = refl
+    on_label (Some t) = refl
 
 -- ---- the words below the workspace
 

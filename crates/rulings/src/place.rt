@@ -3,7 +3,7 @@
 use crate::continuation::Continuation;
 use certificate::Module;
 use module_format::Fact;
-use states::{Rule, State, cost_below, label_rows_are_sound};
+use states::{Rule, State, cost_at};
 
 /// The place of an instruction: its module, its offset and its bytes. The functions of a place are what the rules there
 /// are made of. If a rule is broken, the state is left part of the way.
@@ -17,9 +17,8 @@ pub struct Place<'m, 'a> {
 impl Place<'_, '_> {
     ghost use Rattle.std.specs.Prelude.{◌≡◌, ◌+◌, ℤ, ◌+ℤ◌, IfOk};
     ghost use Rattle.module_format.specs.Contents.{Contents};
-    ghost use Rattle.module_format.specs.Keeping.{Keeps};
     ghost use Rattle.machine_state.specs.LocalStep.{target};
-    ghost use Rattle.states.specs.Views.{state_of, CanWrite, BelongsTo};
+    ghost use Rattle.states.specs.Views.{state_of, CanWrite, BelongsTo, IsLeft};
     ghost use Rattle.rulings.specs.Rulings.{writes_word, reads_word, schedules, pays, goes_on, leads_to, forks_to};
     ghost use Rattle.rulings.specs.Telling.{Admits, Leaves, Advances, Forks};
     ghost use Rattle.rulings.specs.Places.{site_of};
@@ -100,9 +99,10 @@ impl Place<'_, '_> {
 
     /// There is a label at the offset, and the state is at least as strong as the label's.
     #[tactic(auto, using(crate::proofs::Steps::leads_forked))]
-    pub fn leads_to(&self, state: &State, to: u32) -> Result<Continuation, Rule>
-        requires { Keeps self.now.module.now }
-        ensures { Advances result (state_of state.now) (leads_to (site_of self.now) to (state_of state.now)) }
+    pub fn leads_to(&self, state: &mut State, to: u32) -> Result<Continuation, Rule>
+        requires { BelongsTo self.now.module.now state.old }
+        ensures ruling { Advances result (state_of state.new) (leads_to (site_of self.now) to (state_of state.old)) }
+        ensures left { IsLeft state.old state.new }
     {
         self.forks_to(state, to)?;
         Ok(Continuation::Leads { to })
@@ -110,18 +110,12 @@ impl Place<'_, '_> {
 
     /// There is a label at the offset, and the state is at least as strong as the label's. The process goes on there,
     /// or after the instruction in another state.
-    #[tactic(auto, unfolding(crate::specs::Rulings::forks_to))]
-    pub fn forks_to(&self, state: &State, to: u32) -> Result<(), Rule>
-        requires { Keeps self.now.module.now }
-        ensures { Forks result to (forks_to (site_of self.now) to (state_of state.now)) }
+    pub fn forks_to(&self, state: &mut State, to: u32) -> Result<(), Rule>
+        requires { BelongsTo self.now.module.now state.old }
+        ensures forks { Forks result to (forks_to (site_of self.now) to (state_of state.old)) }
+        ensures left { IsLeft state.old state.new }
     {
-        match self.module.label_at(to) {
-            Some(row) => {
-                label_rows_are_sound();
-                cost_below(state, row)?;
-                Ok(())
-            }
-            None => Err(Rule::Label),
-        }
+        cost_at(state, to)?;
+        Ok(())
     }
 }

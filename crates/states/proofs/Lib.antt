@@ -16,3 +16,5 @@ pub mod FrameBounds
 pub mod IntervalWords
 pub mod CutEntries
 pub mod LoopPairs
+pub mod Remembering
+pub mod Hulls

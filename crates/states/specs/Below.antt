@@ -1,6 +1,6 @@
 -- When a state is at least as strong as a label's state: it knows at least as much, and can pay.
 use Rattle.std.specs.Prelude.{ℕ, zero, suc, ◌+◌, ◌-◌, ◌*◌, ℤ, pos, ◌+ℤ◌, int_le, nat_lt, ◌==◌, ◌&&◌, Bool, true, false}
-use Rattle.std.specs.Prelude.{not, if◌then◌else◌, List, sum_by, Result, Ok, Err}
+use Rattle.std.specs.Prelude.{not, if◌then◌else◌, List, sum_by, Result, Ok, Err, Some, None}
 use Rattle.std.specs.List.{list_all}
 use Rattle.module_format.specs.Rows.{Fact}
 use Rattle.module_format.specs.declared.fact.Fact.TheVariants.{Unknown, Number, Pointer, CodeAddress, Loop}
@@ -10,7 +10,7 @@ use Rattle.module_format.specs.declared.fact.Step.TheVariants.{Byte, Word}
 use Rattle.module_format.specs.Rows.{Entry}
 use Rattle.module_format.specs.declared.stack.Stack.{Stack}
 use Rattle.module_format.specs.Stack.{mapped}
-use Rattle.module_format.specs.Contents.{Label}
+use Rattle.module_format.specs.Contents.{Contents, Label, label_at}
 use Rattle.states.specs.declared.rule.Rule.{Rule}
 use Rattle.states.specs.declared.rule.Rule.TheVariants as rules
 use Rattle.states.specs.declared.known.Loop.{Loop as CountedLoop}
@@ -151,3 +151,7 @@ view s = record {
 -- what going on as the label costs, or the rule that is broken: the state cannot pay, or it knows less
 unfoldable pub below : State → Label → Result ℕ Rule
 below s t = compared s.number (view s) t
+
+-- what going on as the label at an offset costs, or the rule that is broken: there is none, or as above
+abbrev pub below_at : Contents → ℕ → State → Result ℕ Rule
+below_at m to s = elim (label_at m to) [ None ↦ Err rules.Label | Some t ↦ below s t ]

@@ -46,10 +46,11 @@ pub record HasRoom (frame : Frame) (k : ℤ) : Type 0 where
   pub low : frame.lo ≤ℤ k
   pub high : k <ℤ (frame.lo +ℤ pos (vec_len frame.overlay.places))
 
--- the same words can be written
+-- the same words can be written, and comparisons with labels of the same module are remembered
 pub record SameRoom (old new : Frame) : Type 0 where
   pub lo : new.lo ≡ old.lo
   pub len : vec_len new.overlay.places ≡ vec_len old.overlay.places
+  pub same : new.remembered.«module».now ≡ old.remembered.«module».now
 
 -- the words of parameters can be written
 pub record HasRoomForAll (frame : Frame) (parameters : List Parameter) : Type 0 where

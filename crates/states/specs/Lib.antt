@@ -8,5 +8,8 @@ pub mod Blocks
 pub mod Frames
 pub mod Comparing
 pub mod Cutting
+pub mod Implied
+pub mod Remembered
+pub mod Remembering
 pub mod Views
 pub mod Room

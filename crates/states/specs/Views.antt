@@ -25,10 +25,12 @@ state_of s = record {
 pub record CanWrite (s : InMemory) (k : ℤ) : Type 0 where
   pub room : HasRoom s.frame k
 
--- The state is one of this valid module: it asks the module, and has capacity for each word of each context.
+-- The state is one of this valid module: it asks the module, remembers comparisons with its labels, and has capacity for
+-- each word of each context.
 pub record BelongsTo (m : Contents) (s : InMemory) : Type 0 where
   pub kept : Keeps m
   pub is : s.module.now ≡ m
+  pub remembers : s.frame.remembered.«module».now ≡ m
   pub room : (n : ℕ) (k : ℤ) → has_word (context_at m n) k ≡ true → CanWrite s k
 
 -- A word is returned exactly if the state's context may use it so. It is returned as the word that it is, and is within

@@ -1,15 +1,16 @@
 //! When a state is at least as strong as a label's state.
 
-ghost use Rattle.std.specs.Prelude.{◌≡◌, ◌≤◌, SomeIff, IfOk, IfSome, Ok};
-ghost use Rattle.module_format.specs.Contents.{label_of};
-ghost use Rattle.states.specs.Below.{view, cost, is_plain, agrees, compared, below};
+ghost use Rattle.std.specs.Prelude.{◌≡◌, ◌≤◌, SomeIff, IfOk, IfSome, Ok, Some};
+ghost use Rattle.module_format.specs.Contents.{Contents, label_of, label_at};
+ghost use Rattle.states.specs.Below.{view, cost, is_plain, agrees, compared, below, below_at};
 ghost use Rattle.states.specs.Comparing.{stands};
 ghost use Rattle.states.specs.Rows.{AreApart};
-ghost use Rattle.states.specs.Views.{state_of};
+ghost use Rattle.states.specs.Views.{state_of, BelongsTo, IsLeft};
 ghost use Rattle.states.specs.Numbers.{reported};
 
 use crate::implication::implies;
 use crate::known::Mode;
+use crate::laws::label_rows_are_sound;
 use crate::rule::{Rule, RuleFault};
 use crate::state::State;
 use module_format::LabelRow;
@@ -96,6 +97,47 @@ pub fn cost_below(state: &State, row: &LabelRow) -> Result<u64, Rule>
 {
     let cost = compare(u128::from(state.number), state, row)?;
     Ok(cost as u64)
+}
+
+/// What it costs to go on as the label at an offset, if a comparison with it is remembered that tells so.
+#[tactic(auto, unfolding(crate::specs::Below::below))]
+fn recalled(state: &mut State, to: u32, row: &LabelRow) -> Option<u64>
+    requires label { label_at state.old.frame.remembered.«module».now to ≡ Some (label_of row.now) }
+    requires apart { AreApart row.now.entries.items }
+    ensures cost { IfSome result (λ cost. below (state_of state.old) (label_of row.now) ≡ Ok cost) }
+    ensures left { IsLeft state.old state.new }
+    ensures same { state.new.frame.remembered.«module».now ≡ state.old.frame.remembered.«module».now }
+{
+    if !stands(state, row) {
+        return None;
+    }
+    let paid = state.frame.recall(to, row)?;
+    let cost = paid.checked_add(row.number)?;
+    if state.number < cost {
+        return None;
+    }
+    Some(cost)
+}
+
+/// What it costs a state to go on as the label at a code offset, as `cost_below` says it. `Rule::Label`: there is none
+/// besides. It is remembered: until the state goes on from another label, only the words in blocks of 64 that were
+/// changed since are asked when it is compared with that label again.
+pub fn cost_at(state: &mut State, to: u32) -> Result<u64, Rule>
+    ensures cost { (m : Contents) → BelongsTo m state.old → result ≡ below_at m to (state_of state.old) }
+    ensures left { IsLeft state.old state.new }
+{
+    let module = state.frame.remembered.module;
+    let _tables = module.tables();
+    let Some(row) = module.label_at(to) else {
+        return Err(Rule::Label);
+    };
+    label_rows_are_sound();
+    if let Some(cost) = recalled(state, to, row) {
+        return Ok(cost);
+    }
+    let cost = cost_below(state, row)?;
+    state.frame.remember(to, row, cost - row.number);
+    Ok(cost)
 }
 
 /// What `cost_below` returns, with the rule as its number.

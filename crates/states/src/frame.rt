@@ -9,6 +9,7 @@ ghost use Rattle.module_format.specs.Contents.{procedure_of};
 ghost use Rattle.module_format.specs.Order.{least_word};
 ghost use Rattle.states.specs.Blocks.{block_words, HaveRoom, HaveRoom-prop, AreSummed, AreSummed-prop, facts_left};
 ghost use Rattle.states.specs.Lookup.{facts_over};
+ghost use Rattle.states.specs.Remembered.{HasTimes, HasTimes-prop, AreRemembered, AreRemembered-prop};
 ghost use Rattle.states.specs.Rows.{AreApart, LoopFits, IsRow};
 ghost use Rattle.states.specs.State.{is_silent, entry_fact, parameter_fact};
 
@@ -16,8 +17,10 @@ use crate::blocks::{Block, Blocks, block_words};
 use crate::implication::{holds_constant, says};
 use crate::known::{LoopWord, WordFact};
 use crate::overlay::Overlay;
+use crate::remembered::Remembered;
 use crate::row::{row_fact, said_of};
 use crate::span::Leaving;
+use certificate::Module;
 use module_format::{Entry, Fact, ParameterKind, ProcedureRow, Step};
 use std::alloc::{AllocError, Global};
 
@@ -30,6 +33,7 @@ pub(crate) struct Frame<'a> {
     pub(crate) overlay: Overlay,
     /// What is kept for blocks of words, so that a span is neither asked nor left word by word.
     pub(crate) by_block: Blocks,
+    pub(crate) remembered: Remembered<'a>,
     ghost apart: { AreApart row.now },
     ghost loops: { ∥ ((k : ℤ) → LoopFits (entry_fact row.now k)) ∥₁ },
     ghost inside: { (k : ℤ) → is_silent (entry_fact row.now k) ≡ false → (lo ≤ℤ k) × (k <ℤ (lo +ℤ pos (vec_len overlay.places))) },
@@ -39,6 +43,12 @@ pub(crate) struct Frame<'a> {
     ghost summed: { AreSummed (facts_left lo by_block.kept.items (facts_over lo row.now overlay.written.items)) lo
         by_block.kept.items } by { AreSummed-prop (facts_left lo by_block.kept.items
             (facts_over lo row.now overlay.written.items)) lo by_block.kept.items },
+    ghost timed: { HasTimes (vec_len overlay.places) (vec_len remembered.times) } by { HasTimes-prop (vec_len overlay.places) (vec_len remembered.times) },
+    ghost compared: { AreRemembered remembered.«module».now
+        (facts_left lo by_block.kept.items (facts_over lo row.now overlay.written.items)) lo
+        remembered.times.items remembered.began remembered.compared.items } by { AreRemembered-prop
+            remembered.«module».now (facts_left lo by_block.kept.items (facts_over lo row.now overlay.written.items)) lo
+            remembered.times.items remembered.began remembered.compared.items },
 }
 
 impl<'a> Frame<'a> {
@@ -50,20 +60,29 @@ impl<'a> Frame<'a> {
     ghost use Rattle.states.specs.Blocks.{block_at, first_of, leaving_at};
     ghost use Rattle.states.specs.Frames.{HasRoomForAll, SameRoom};
 
-    /// The frame of `room` words from `lo` on, of which nothing is known.
-    pub(crate) fn new(alloc: Global, lo: i32, room: usize) -> Result<Self, AllocError>
+    /// The frame of `room` words from `lo` on, of which nothing is known. It remembers comparisons with the labels of a
+    /// module.
+    pub(crate) fn new(
+        alloc: Global,
+        module: &'a Module<'a>,
+        lo: i32,
+        room: usize,
+    ) -> Result<Self, AllocError>
         requires { (lo +ℤ pos room) ≤ℤ pos (2 ^ 31) }
         ensures facts { IfOk result (λ f. frame_facts f ≡ no_facts) }
         ensures room { IfOk result (λ f. (f.lo ≡ lo) × (vec_len f.overlay.places ≡ room)) }
+        ensures same { IfOk result (λ f. f.remembered.«module».now ≡ «module».now) }
     {
         Ok(Frame {
             lo,
             row: &[],
             overlay: Overlay::new(alloc, room)?,
             by_block: Blocks::new(alloc, room / block_words())?,
+            remembered: Remembered::new(alloc, module, room)?,
         })
     }
 
+    /// The same frame again, of which no comparison is remembered.
     pub(crate) fn copy(&self, alloc: Global) -> Result<Self, AllocError>
         ensures facts { IfOk result (λ f. frame_facts f ≡ frame_facts self.now) }
         ensures room { IfOk result (SameRoom self.now) }
@@ -73,6 +92,7 @@ impl<'a> Frame<'a> {
             row: self.row,
             overlay: self.overlay.copy(alloc)?,
             by_block: self.by_block.copy(alloc)?,
+            remembered: Remembered::new(alloc, self.remembered.module, self.overlay.places.len())?,
         })
     }
 
@@ -181,6 +201,7 @@ impl<'a> Frame<'a> {
         self.settle(number);
         self.overlay.set(index, fact);
         self.by_block.forget(number);
+        self.remembered.change(number);
     }
 
     /// If the word is this one of a loop, it is what it says by itself from now on.
@@ -221,6 +242,7 @@ impl<'a> Frame<'a> {
     {
         self.overlay.clear();
         self.by_block.clear();
+        self.remembered.restart();
         self.row = row;
     }
 

@@ -38,7 +38,7 @@ impl Frame<'_> {
     }
 
     /// What is known together of the words of the block that begins at a word, if one does and was summed.
-    fn sum_from(&self, word: i64) -> Option<Together>
+    pub(crate) fn sum_from(&self, word: i64) -> Option<Together>
         ensures { IfSome result (λ sum. sum ≡ together (frame_facts self.now) word block_words) }
     {
         let number = self.block_from(word)?;
@@ -196,6 +196,7 @@ impl Frame<'_> {
             left: Some(leaving.after(left)),
         };
         self.by_block.set(number, block);
+        self.remembered.change(number);
     }
 
     /// The words of the block that begins at a word are left so, and the others what they are.

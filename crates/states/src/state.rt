@@ -158,7 +158,7 @@ impl<'a> State<'a> {
             context: 0,
             depth: 0,
             stack: Stack::of_empty(Known::UNKNOWN),
-            frame: Frame::new(alloc, lo, room)?,
+            frame: Frame::new(alloc, module, lo, room)?,
             module,
             number: tables.budget,
             mode: Mode::Plain,

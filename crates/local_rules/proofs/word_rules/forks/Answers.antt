@@ -15,9 +15,10 @@ returns-clause-ruling c =
     let t = with_a c.of-state.result m in
     let first = left-false s m t c.told_by-narrowing.result c.args.state.now.stack.a.source c.of-state.result refl
     c.told_by-narrowing.ensures.if_false c.narrow.ensures.state c.of-state.ensures refl in
-    let second = left-true s m t (state_of c.narrow-2.new.state) (state_of c.pop.new.self) c.told_by-narrowing.result
+    let second = left-true s m (state_of c.forks_to.new.state) (state_of c.narrow-2.new.state)
+    (state_of c.pop.new.self) c.told_by-narrowing.result
     c.args.state.now.stack.a.source c.of-state.result refl c.told_by-narrowing.ensures.if_true
-    c.narrow.ensures.state refl c.narrow-2.ensures.state c.pop.ensures.state in
+    c.narrow.ensures.state c.forks_to.ensures.left.state c.narrow-2.ensures.state c.pop.ensures.state in
     ap (λ (x : State). forks_to site c.args.to x (where_true s)) (sym first)
     ∙ ap (λ (x : State). forks_to site c.args.to t x) (sym second)
-    ∙ c.in_ok-forks_to.ensures (state_of c.pop.new.self)
+    ∙ c.in_ok-forks_to.ensures.forks (state_of c.pop.new.self)

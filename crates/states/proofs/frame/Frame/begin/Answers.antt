@@ -28,7 +28,11 @@ loop-last-preserved c =
     (let e = c.from.ensures in omega (arith, ints, e)) refl c.parameter_fact.ensures c.place.ensures.facts in
     let same = c.loop-last.invariant.room in
     let placed = c.place.ensures.room in
-    record { front = h.0; facts = h.1; room = record { lo = placed.lo ∙ same.lo; len = placed.len ∙ same.len } }
+    record {
+      front = h.0;
+      facts = h.1;
+      room = record { lo = placed.lo ∙ same.lo; len = placed.len ∙ same.len; same = placed.same ∙ same.same };
+    }
 
 pub returns-clause-facts : goal.returns-clause-facts
 returns-clause-facts c =

@@ -7,6 +7,7 @@ use Rattle.states.specs.Blocks.{block_at, facts_left}
 use Rattle.states.specs.Lookup.{facts_over}
 use Rattle.states.specs.Frames.{frame_facts}
 use Rattle.states.proofs.Leavings.{summed-same}
+use Rattle.states.proofs.Remembering.{remembered-never}
 use Rattle.states.proofs.frame.Frame.copy.Goals as goal
 
 pub invariant_of-result-clause-inside : goal.invariant_of-result-clause-inside
@@ -28,3 +29,7 @@ invariant_of-result-clause-summed c =
     ∙ ap (λ (written : List Written). facts_left frame.lo frame.by_block.kept.items
     (facts_over frame.lo frame.row.now written)) c.in_ok-copy.ensures.written)
     (λ n. ap (λ (blocks : List Block). (block_at blocks n).sum) c.in_ok-copy-2.ensures.kept))
+
+pub invariant_of-result-clause-compared : goal.invariant_of-result-clause-compared
+invariant_of-result-clause-compared c =
+    remembered-never _ _ _ _ _ _ c.in_ok-new.field-0.begun c.in_ok-new.ensures.none

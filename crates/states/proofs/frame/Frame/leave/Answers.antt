@@ -1,4 +1,4 @@
-use Rattle.std.proofs.Common.{arith, refl, to_z, of_z, ◌∙◌}
+use Rattle.std.proofs.Common.{arith, refl, to_z, of_z, ◌∙◌, pos, ◌+ℤ◌}
 use Rattle.std.proofs.lemmas.Int.{ints}
 use Rattle.std.specs.Int.{w32}
 use Rattle.states.specs.Frames.{frame_facts}
@@ -14,5 +14,16 @@ loop-done-preserved c = record {
   room = record {
     lo = c.leave_some-done.ensures.room.lo ∙ c.loop-done.invariant.room.lo;
     len = c.leave_some-done.ensures.room.len ∙ c.loop-done.invariant.room.len;
+    same = c.leave_some-done.ensures.room.same ∙ c.loop-done.invariant.room.same;
   };
 }
+
+pub leave_some-done-requires-clause-room : goal.leave_some-done-requires-clause-room
+leave_some-done-requires-clause-room c =
+    let same = c.loop-done.invariant.room in
+    let lo = same.lo in
+    let len = same.len in
+    let here = c.requires.each (c.args.first +ℤ pos c.loop-done.done) (omega (arith, ints)) (omega (arith, ints)) in
+    let low = here.low in
+    let high = here.high in
+    record { low = omega (arith, ints, lo, low); high = omega (arith, ints, lo, len, high) }

@@ -1,4 +1,4 @@
-use Rattle.std.proofs.Common.{◌≡◌, ap, ◌∙◌, sym, Some}
+use Rattle.std.proofs.Common.{◌≡◌, ap, ◌∙◌, sym, Some, vec_len}
 use Rattle.states.specs.declared.blocks.Block.{Block}
 use Rattle.states.specs.Blocks.{block_words, first_of, left_after, facts_left}
 use Rattle.states.specs.State.{Facts}
@@ -6,6 +6,7 @@ use Rattle.states.specs.Spans.{together}
 use Rattle.states.specs.Frames.{frame_facts, over_facts, with_span}
 use Rattle.states.proofs.BlockSums.{sum-is}
 use Rattle.states.proofs.Leavings.{block-left, summed-left, sum-right}
+use Rattle.states.proofs.Remembering.{block-there, outside-block, remembered-changed}
 use Rattle.states.proofs.frame.Frame.leave_block.Goals as goal
 use Rattle.states.proofs.frame.Frame.leave_block.Goals.{After-set}
 
@@ -25,14 +26,29 @@ left-so c =
 pub invariant_of-self-clause-summed : goal.invariant_of-self-clause-summed
 invariant_of-self-clause-summed c =
     let frame = c.args.self.now in
+    let after = (goal.at.invariant_of-self-clause-summed c).After-set in
     let first = first_of frame.lo c.args.number in
-    summed-left (frame_facts frame) _ frame.lo c.args.number c.args.leaving (kept c) frame.by_block.kept.items
-    c.set.new.self.kept.items frame.summed (left-so c) c.set.ensures.kept
+    summed-left (frame_facts frame) _ frame.lo c.args.number c.args.leaving (kept after) frame.by_block.kept.items
+    c.set.new.self.kept.items frame.summed (left-so after) c.set.ensures.kept
     (λ sum is. sum-right (frame_facts frame) first c.get-sum.result.sum c.args.leaving
     (sum-is (frame_facts frame) frame.lo frame.by_block.kept.items c.args.number c.get-sum.result.sum frame.summed
     (ap (λ (b : Block). b.sum) c.get-sum.ensures))
     sum (sym c.sum_left.ensures ∙ is)
-    ∙ ap (λ (f : Facts). together f first block_words) (sym (left-so c)))
+    ∙ ap (λ (f : Facts). together f first block_words) (sym (left-so after)))
 
 pub returns-clause-facts : goal.returns-clause-facts
 returns-clause-facts c = left-so (goal.at.returns-clause-facts c).After-set
+
+pub change-requires : goal.change-requires
+change-requires c =
+    let frame = c.args.self.now in
+    block-there (vec_len frame.overlay.places) frame.by_block.room (vec_len frame.remembered.times) c.args.number
+    c.requires frame.whole frame.timed
+
+pub invariant_of-self-clause-compared : goal.invariant_of-self-clause-compared
+invariant_of-self-clause-compared c =
+    let frame = c.args.self.now in
+    let after = (goal.at.invariant_of-self-clause-compared c).After-set in
+    remembered-changed (frame_facts frame) _ frame.lo c.args.number frame.remembered c.change.new.self c.change.ensures
+    (outside-block frame.lo c.args.number c.args.leaving (frame_facts frame) _ (left-so after))
+    frame.compared

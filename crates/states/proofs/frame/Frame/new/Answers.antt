@@ -1,6 +1,7 @@
 use Rattle.std.proofs.Common.{[]}
 use Rattle.states.proofs.BlockSums.{none-summed}
 use Rattle.states.proofs.Leavings.{facts-cleared}
+use Rattle.states.proofs.Remembering.{remembered-never}
 use Rattle.states.proofs.frame.Frame.new.Goals as goal
 
 pub invariant_of-result-clause-summed : goal.invariant_of-result-clause-summed
@@ -10,3 +11,7 @@ pub returns-clause-facts : goal.returns-clause-facts
 returns-clause-facts c =
     facts-cleared _ c.in_ok-new-2.field-0.kept.items [] c.in_ok-new.field-0.written.items c.in_ok-new-2.ensures.none
     c.in_ok-new.ensures.empty
+
+pub invariant_of-result-clause-compared : goal.invariant_of-result-clause-compared
+invariant_of-result-clause-compared c =
+    remembered-never _ _ _ _ _ _ c.in_ok-new-3.field-0.begun c.in_ok-new-3.ensures.none

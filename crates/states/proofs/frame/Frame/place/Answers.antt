@@ -1,4 +1,5 @@
-use Rattle.std.proofs.Common.{rules, arith, ◌≡◌, ℕ, ◌/◌, ◌-ℤ◌, pos, ◌+ℤ◌, nat_abs, ap, ◌∙◌}
+use Rattle.std.proofs.Common.{rules, arith, ◌≡◌, ℕ, ◌/◌, ◌-ℤ◌, pos, ◌+ℤ◌, nat_abs, vec_len, ◌<◌}
+use Rattle.std.proofs.Common.{◌<ℤ◌, ◌≤ℤ◌, ◌^◌, subst, sym, ap, ◌∙◌}
 use Rattle.std.proofs.lemmas.Int.{ints}
 use Rattle.states.specs.Blocks.{facts_left}
 use Rattle.states.specs.Frames.{frame_facts, over_facts, with_alone}
@@ -6,6 +7,7 @@ use Rattle.states.specs.Lookup.{facts_over}
 use Rattle.states.proofs.FrameFacts.{facts_over-write, distance}
 use Rattle.states.proofs.BlockSums.{summed-write}
 use Rattle.states.proofs.Leavings.{word-placed}
+use Rattle.states.proofs.Remembering.{time-there, outside-word, remembered-changed}
 use Rattle.states.proofs.frame.Frame.place.Goals as goal
 use Rattle.states.proofs.frame.Frame.place.Goals.{After-forget}
 
@@ -31,12 +33,49 @@ placed c =
 pub invariant_of-self-clause-summed : goal.invariant_of-self-clause-summed
 invariant_of-self-clause-summed c =
     let frame = c.settle.new.self in
+    let after = (goal.at.invariant_of-self-clause-summed c).After-forget in
     let index = c.abs_diff-index.result in
     summed-write (frame_facts frame) _ frame.lo c.args.word index _ c.args.fact frame.by_block.kept.items
-    c.forget.new.self.kept.items frame.summed (placed c) (word-is c)
+    c.forget.new.self.kept.items frame.summed (placed after) (word-is after)
     (ap (λ (n : ℕ). index / n) c.block_words.ensures.value) c.forget.ensures.kept
+
+pub invariant_of-self-clause-inside : goal.invariant_of-self-clause-inside
+invariant_of-self-clause-inside c = λ k known.
+    let frame = c.settle.new.self in
+    let inside = frame.inside k known in
+    (inside.0, subst (λ (n : ℕ). k <ℤ (frame.lo +ℤ pos n)) (sym c.set.ensures.room) inside.1)
+
+pub invariant_of-self-clause-high : goal.invariant_of-self-clause-high
+invariant_of-self-clause-high c =
+    let frame = c.settle.new.self in
+    subst (λ (n : ℕ). (frame.lo +ℤ pos n) ≤ℤ pos (2 ^ 31)) (sym c.set.ensures.room) frame.high
 
 pub returns-clause-facts : goal.returns-clause-facts
 returns-clause-facts c =
     placed (goal.at.returns-clause-facts c).After-forget
     ∙ ap (with_alone c.args.word c.args.fact) c.settle.ensures.facts
+
+pub change-requires : goal.change-requires
+change-requires c =
+    let index = c.abs_diff-index.result in
+    let after = (goal.at.change-requires c).After-forget in
+    let word = word-is after in
+    let high = c.requires.high in
+    let same = c.settle.ensures.room in
+    let lo = same.lo in
+    let len = same.len in
+    let below : index < vec_len c.settle.new.self.overlay.places = omega (arith, ints, word, high, lo, len) in
+    rw (ap (λ (n : ℕ). index / n) c.block_words.ensures.value)
+    (time-there (vec_len c.settle.new.self.overlay.places) (vec_len c.settle.new.self.remembered.times) index below
+    c.settle.new.self.timed)
+
+pub invariant_of-self-clause-compared : goal.invariant_of-self-clause-compared
+invariant_of-self-clause-compared c =
+    let frame = c.settle.new.self in
+    let index = c.abs_diff-index.result in
+    let after = (goal.at.invariant_of-self-clause-compared c).After-forget in
+    remembered-changed (frame_facts frame) _ frame.lo (index / c.block_words.result) frame.remembered c.change.new.self
+    c.change.ensures
+    (outside-word frame.lo c.args.word index (index / c.block_words.result) c.args.fact (frame_facts frame) _
+    (placed after) (word-is after) (sym (ap (λ (n : ℕ). index / n) c.block_words.ensures.value)))
+    frame.compared

@@ -1,5 +1,6 @@
 use Rattle.states.proofs.BlockSums.{none-summed}
 use Rattle.states.proofs.Leavings.{facts-cleared}
+use Rattle.states.proofs.Remembering.{remembered-none}
 use Rattle.states.proofs.frame.Frame.restart.Goals as goal
 
 pub invariant_of-self-clause-loops : goal.invariant_of-self-clause-loops
@@ -12,3 +13,6 @@ pub returns-clause-facts : goal.returns-clause-facts
 returns-clause-facts c =
     facts-cleared c.args.self.now.lo c.clear-2.new.self.kept.items c.args.row.now c.clear.new.self.written.items
     c.clear-2.ensures.none c.clear.ensures.empty
+
+pub invariant_of-self-clause-compared : goal.invariant_of-self-clause-compared
+invariant_of-self-clause-compared c = remembered-none _ _ _ _ _ _ c.restart.ensures.none

@@ -5,6 +5,7 @@ use Rattle.states.specs.Blocks.{block_at, first_of, facts_left}
 use Rattle.states.specs.State.{Facts}
 use Rattle.states.specs.Frames.{frame_facts, over_facts}
 use Rattle.states.proofs.Leavings.{block-settled, summed-same, sums-set}
+use Rattle.states.proofs.Remembering.{remembered-same}
 use Rattle.states.proofs.frame.Frame.settle.Goals as goal
 use Rattle.states.proofs.frame.Frame.settle.Goals.{After-set}
 
@@ -35,3 +36,9 @@ invariant_of-self-clause-summed c =
 pub returns-then-is_some-clause-facts : goal.returns-then-is_some-clause-facts
 returns-then-is_some-clause-facts c =
     same-facts (goal.at.returns-then-is_some-clause-facts c).After-set ∙ c.settle_words.ensures.facts
+
+pub invariant_of-self-clause-compared : goal.invariant_of-self-clause-compared
+invariant_of-self-clause-compared c =
+    let frame = c.settle_words.new.self in
+    remembered-same frame.remembered.«module».now (frame_facts frame) _ frame.lo frame.remembered.times.items
+    frame.remembered.began frame.remembered.compared.items (same-facts c) frame.compared

@@ -11,6 +11,7 @@ use Rattle.states.specs.Frames.{frame_facts, over_facts, with_alone}
 use Rattle.states.proofs.FrameFacts.{facts_over-write}
 use Rattle.states.proofs.BlockSums.{number-of}
 use Rattle.states.proofs.Leavings.{word-settled, settled-more, some-leaving, summed-same}
+use Rattle.states.proofs.Remembering.{remembered-same}
 use Rattle.states.proofs.frame.Frame.settle_words.Goals as goal
 use Rattle.states.proofs.frame.Frame.settle_words.Goals.{After-set}
 
@@ -91,5 +92,12 @@ loop-i-preserved c =
           left.1 (said-is set) c.by_itself-fact.ensures (written-is set) c.loop-i.invariant.facts
           c.loop-i.invariant.settled;
       blocks = c.loop-i.invariant.blocks;
-      room = record { lo = lo; len = c.set.ensures.room ∙ same.len };
+      room = record { lo = lo; len = c.set.ensures.room ∙ same.len; same = same.same };
     }
+
+pub invariant_of-self-clause-compared : goal.invariant_of-self-clause-compared
+invariant_of-self-clause-compared c =
+    let frame = c.loop-i.self in
+    remembered-same frame.remembered.«module».now (frame_facts frame)
+    (facts_left frame.lo frame.by_block.kept.items (new-facts c)) frame.lo frame.remembered.times.items
+    frame.remembered.began frame.remembered.compared.items (same-facts c) frame.compared

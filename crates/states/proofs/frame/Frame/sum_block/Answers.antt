@@ -8,6 +8,7 @@ use Rattle.states.specs.Frames.{frame_facts, over_facts}
 use Rattle.states.specs.Spans.{together}
 use Rattle.states.proofs.BlockSums.{summed-more}
 use Rattle.states.proofs.Leavings.{left-same, lefts-set}
+use Rattle.states.proofs.Remembering.{remembered-same}
 use Rattle.states.proofs.frame.Frame.sum_block.Goals as goal
 use Rattle.states.proofs.frame.Frame.sum_block.Goals.{After-set}
 
@@ -36,3 +37,9 @@ invariant_of-self-clause-summed c =
 pub returns-then-is_none-clause-facts : goal.returns-then-is_none-clause-facts
 returns-then-is_none-clause-facts c =
     same-facts (goal.at.returns-then-is_none-clause-facts c).After-set
+
+pub invariant_of-self-clause-compared : goal.invariant_of-self-clause-compared
+invariant_of-self-clause-compared c =
+    let frame = c.args.self.now in
+    remembered-same frame.remembered.«module».now (frame_facts frame) _ frame.lo frame.remembered.times.items
+    frame.remembered.began frame.remembered.compared.items (same-facts c) frame.compared

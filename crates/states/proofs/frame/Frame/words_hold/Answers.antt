@@ -6,6 +6,7 @@ use Rattle.states.specs.declared.known.WordFact.TheVariants.{Alone}
 use Rattle.states.specs.State.{entry_fact}
 use Rattle.states.specs.Below.{says}
 use Rattle.states.specs.Frames.{frame_facts}
+use Rattle.states.proofs.Comparisons.{ahead-falls}
 use Rattle.states.proofs.Entering.{held-past, held-word}
 use Rattle.states.proofs.frame.Frame.words_hold.Goals as goal
 
@@ -41,3 +42,14 @@ loop-word-preserved c =
           (ap (λ (f : WordFact). says f (Alone entry.fact)) (sym said_at)
           ∙ (sym c.says.ensures ∙ c.if-not-says.false)) refl;
     })
+
+pub loop-word-smaller : goal.loop-word-smaller
+loop-word-smaller c =
+    let passed = c.past_saying-passed.result.word in
+    let ahead = c.past_saying-passed.ensures.ahead in
+    let near = c.end_of-end.ensures.near in
+    let value = c.end_of-end.ensures.value in
+    let fits : SFits w64 passed = search rules in
+    let next_fits : SFits w64 (passed +ℤ pos 1) = search (rules, arith, ints) in
+    rw (to_z-of_z w64 passed fits, to_z-of_z w64 (passed +ℤ pos 1) next_fits)
+    (ahead-falls _ (passed +ℤ pos 1) (omega (arith, ints, ahead)) (omega (arith, ints, near, value)))

@@ -8,6 +8,7 @@ pub returns-clause-belongs : goal.returns-clause-belongs
 returns-clause-belongs c = record {
   kept = c.tables-tables.ensures.kept;
   is = refl;
+  remembers = c.in_ok-new.ensures.same;
   room = λ n k h.
       let bounds =
       covered c.args.module.now

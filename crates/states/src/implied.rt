@@ -1,0 +1,58 @@
+//! Whether one fact says what a row wants of some words.
+
+ghost use Rattle.std.specs.Prelude.{◌≡◌, ℤ, ◌≤ℤ◌, IsTrue, true, None};
+ghost use Rattle.states.specs.Below.{implies};
+ghost use Rattle.states.specs.Comparing.{loop_of};
+ghost use Rattle.states.specs.Implied.{AllImplied};
+ghost use Rattle.states.specs.Rows.{AreApart};
+ghost use Rattle.states.specs.State.{entry_fact};
+
+use crate::implication::implies;
+use crate::row::{end_of, loop_of, start_of};
+use module_format::{Entry, Fact};
+
+/// A row without some of the entries that end at a word or before. It takes a logarithm of steps.
+fn from_word<'a>(row: &'a [Entry], word: i64) -> &'a [Entry]
+    requires { AreApart row.now }
+    ensures apart { AreApart result.now }
+    ensures same { (k : ℤ) → word ≤ℤ k → entry_fact result.now k ≡ entry_fact row.now k }
+{
+    let mut low = 0;
+    let mut size = row.len();
+    while size > 1 {
+        let half = size / 2;
+        if start_of(&row[low + half]) <= word {
+            low += half;
+            size -= half;
+        } else {
+            size = half;
+        }
+    }
+    &row[low..]
+}
+
+/// Whether an entry wants no loop, and a fact says what it wants.
+#[inline(always)]
+fn is_implied(fact: Fact, entry: &Entry) -> bool
+    ensures { IsTrue result → (loop_of entry.now.fact ≡ None) × (implies fact entry.now.fact ≡ true) }
+{
+    loop_of(entry.fact).is_none() && implies(fact, entry.fact)
+}
+
+/// Whether a row wants no loop of the words from `first` up to `end` (not included), and a fact says what it wants.
+pub(crate) fn all_implied(row: &[Entry], first: i64, end: i64, fact: Fact) -> bool
+    requires { AreApart row.now }
+    ensures { IsTrue result → AllImplied (entry_fact row.now) first end fact }
+{
+    let mut rest = from_word(row, first);
+    while let Some((entry, later)) = rest.split_first() {
+        if end <= start_of(entry) {
+            return true;
+        }
+        if first < end_of(entry) && !is_implied(fact, entry) {
+            return false;
+        }
+        rest = later;
+    }
+    true
+}
