@@ -9,7 +9,7 @@ use Rattle.machine_state.specs.World.{World}
 use Rattle.accepted_runs.specs.Running.{PlainExecution, Shows}
 use Rattle.accepted_runs.specs.contracts.running.Run.{the_row}
 
--- The module stays. Where the machine agreed with a world, it agrees with the world after the event.
+-- The module stays. If the machine agreed with a world, it agrees with the world after the event.
 pub record IsAfter (event : Event) (before after : PlainExecution) : Type 0 where
   pub contents : after.contents ≡ before.contents
   pub shows : (w : World) → Shows before w → Shows after (happens before.contents w event)

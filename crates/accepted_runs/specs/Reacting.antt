@@ -22,7 +22,7 @@ abbrev pub is_sent : Reaction → Bool
 is_sent (Emitted link) = true
 is_sent _ = false
 
--- how far a Step that did this goes on by itself; where there is none, the next one follows
+-- how far a Step that did this goes on by itself; if there is none, the next one follows
 abbrev pub progress_by : Reaction → Option Progress
 progress_by Ran = None
 progress_by (Emitted link) = Some (progresses.Emitted link)

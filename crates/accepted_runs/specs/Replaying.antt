@@ -13,7 +13,7 @@ abbrev pub bytes_of : Option (Vec ℕ) → List ℕ
 bytes_of None = []
 bytes_of (Some bytes) = bytes.items
 
--- what went out on a link, where the bytes of each link stand at its number
+-- what went out on a link, where the bytes of each link are at its number
 abbrev pub out_on : List (Vec ℕ) → Link → List ℕ
 out_on out link = bytes_of (slice_get out (link_index link))
 

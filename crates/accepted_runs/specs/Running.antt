@@ -15,7 +15,7 @@ pub record PlainExecution : Type 0 where
   pub machine : PlainMachine
   pub last : List ℕ
 
--- The module keeps the format and runs well, and events that can happen lead to this world.
+-- The module is valid and runs well, and events that can happen lead to this world.
 pub record RunsOn (m : Contents) (w : World) : Type 0 where
   pub keeps : Keeps m
   pub well : ∥ RunsWell m ∥₁

@@ -57,7 +57,7 @@ fn has_sent(reaction: Reaction) -> bool
     matches!(reaction, Reaction::Emitted { .. })
 }
 
-/// How far a Step that did this goes on by itself, or none where the next one follows.
+/// How far a Step that did this goes on by itself, or none if the next one follows.
 fn progress_of(reaction: Reaction) -> Option<Progress>
     ensures { result ≡ progress_by reaction }
 {
@@ -105,8 +105,8 @@ impl<'a> Run<'a> {
         reaction
     }
 
-    /// Steps where no process gives way, and the first that is ready is next: of all but the last one the process that
-    /// runs asks nothing of others.
+    /// Steps in which no process gives way, and the first that is ready is next: of all but the last one the process
+    /// that runs asks nothing of others.
     #[inline(always)]
     fn go_on(&mut self) -> Reaction
         ensures { HasGoneAndReacted self.old result self.new }

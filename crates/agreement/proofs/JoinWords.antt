@@ -1,4 +1,4 @@
--- The word that counts the members of an open join is set, and its record: nobody may write that word.
+-- The word that counts the members of an open join is set, and its record: no process may write that word.
 use Rattle.std.proofs.Common.{◌≡◌, ◌≢◌, ℕ, ◌+◌, ◌*◌, ◌<◌, ◌≤◌, ◌⊎◌, inl, inr, ℤ, pos, true, List, length}
 use Rattle.std.proofs.Common.{FitsSigned, Option, Some, None, refl, ap, ◌∙◌, sym, subst, arith, slice_get}
 use Rattle.std.specs.Int.{w32}
@@ -25,7 +25,7 @@ use Rattle.agreement.proofs.ChannelWords.{word_kept, plain_kept, parked_kept, me
 use Rattle.agreement.proofs.Elsewhere.{Owns}
 use Rattle.agreement.proofs.Leaving.{blank_matches}
 
--- nobody may write the block of an open join
+-- no process may write the block of an open join
 pub nobody_writes_block : (w : World) → AllApart w.roles w.channels → (o : ℕ) (j : Join) → opened_by w o ≡ Some j
     → (q x : ℕ) → place_of j.block ≤ x → x < place_of j.block + 8 → may_write (holding_at w.roles q) x ≡ true → ⊥
 nobody_writes_block w apart o j is_open q x low high =

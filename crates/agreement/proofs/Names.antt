@@ -1,4 +1,4 @@
--- Whom a world names: where their tasks stay, so do the workspaces that a plain machine has of them.
+-- Whom a world names: if their tasks stay, so do the workspaces that a plain machine has of them.
 use Rattle.std.proofs.Common.{◌≡◌, ◌≢◌, ℕ, ◌<◌, ◌⊎◌, List, [], ◌∷◌, map, length, inl, inr}
 use Rattle.std.proofs.Common.{Option, Some, None, refl, ap, ◌∙◌, sym, subst, slice_get}
 use Rattle.std.proofs.lemmas.Option.{slice_get_within}

@@ -90,14 +90,14 @@ module _ (m : Contents) (es : List Event) (p : ℕ) (task : Task) (format : Keep
     abbrev now : Channel
     now = record c { enabled = who }
 
-    -- where a process waits, its word is what it was
+    -- if a process waits, its word is what it was
     pub channel_is_told : (q : ℕ) → c.waiting ≡ Some q
         → Agrees m after (record v { channels = slice_set w.channels k (Some now) })
     channel_is_told q waits = channel_is_kept m v after agrees k c now there
         (ap (λ (o : Option ℕ). word_by tasks o c.enabled) waits
         ∙ sym (ap (λ (o : Option ℕ). word_by tasks o who) waits))
 
-    -- otherwise it names who has enabled it, or nobody
+    -- otherwise it names who has enabled it, or no process
     pub channel_is_named : (a : ℕ) → a < 2 ^ 32 → word_by tasks None who ≡ a → c.waiting ≡ None
         → Agrees m (record after { memory = with_word after.memory (4 * k) (Some (word_of a)) })
         (record v { channels = slice_set w.channels k (Some now) })

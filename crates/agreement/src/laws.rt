@@ -21,7 +21,7 @@ pub fn steps_agree()
     ensures { StepsAgree }
 {}
 
-/// Whatever a module that keeps the format does, the plain machine that agrees goes on to agree where the process that
+/// Whatever a valid module does, the plain machine that agrees goes on to agree if the process that
 /// runs goes on: by a prefix, or by an instruction that asks nothing of others and gives up no turn.
 pub fn going_on_agrees()
     ensures registers { GoingOnAgrees }
@@ -29,7 +29,7 @@ pub fn going_on_agrees()
     ensures instructions { InstructionsAgree }
 {}
 
-/// Whatever a module that keeps the format does, a Step that reports no fault finds a byte on the plain machine that
+/// Whatever a valid module does, a Step that reports no fault finds a byte on the plain machine that
 /// agrees: a prefix, or the last one of an instruction that is safe. It changes no link of a ready process. If the
 /// process that runs goes on, goes to the back of the ready list, stops, receives or sends a message, starts a branch,
 /// ends in a join or has part in an alternation, and the next ready process runs where it leaves, the machine agrees
@@ -41,43 +41,43 @@ pub fn turns_agree()
     ensures { TurnsAgree }
 {}
 
-/// Whatever a module that keeps the format does, the plain machine that agrees goes on to agree by an event that finds
-/// nobody who waits: a Step while no process runs, a byte on a link where nobody does, and an acknowledgement. The byte
-/// is kept, and the process that has enabled the link, if one has, is roused: its alternation is ready from then on,
-/// and if the process waited for that, it is ready too, after all that are.
+/// Whatever a valid module does, the plain machine that agrees goes on to agree by an event that finds no process that
+/// waits: a Step while no process runs, a byte on a link where none does, and an acknowledgement. The byte is kept, and
+/// the process that has enabled the link, if one has, is roused: its alternation is ready from then on, and if the
+/// process waited for that, it is ready too, after all that are.
 pub fn quiet_events_agree()
     ensures steps { IdleStepsAgree }
     ensures arrivals { ArrivalsAgree }
     ensures acknowledgements { AcknowledgementsAgree }
 {}
 
-/// Whatever a module that keeps the format does, the plain machine that agrees may change the words in which its queue
-/// keeps links: those of processes that wait for no message inside, where the world has them undefined.
+/// Whatever a valid module does, the plain machine that agrees may change the words in which its queue
+/// keeps links: those of processes that wait for no message inside, if the world has them undefined.
 pub fn queue_words_may_change()
     ensures { QueueWordsMayChange }
 {}
 
-/// Whatever a module that keeps the format does, any process that is ready may run on the plain machine that agrees:
+/// Whatever a valid module does, any process that is ready may run on the plain machine that agrees:
 /// the words in which it is parked lie in memory, apart from the links of all, which the queue may use.
 pub fn ready_processes_may_run()
     ensures { WhoIsReadyMayRun }
 {}
 
 /// On each link the plain machine that agrees has the byte that the world has, and somebody waits there, or has enabled
-/// it, where somebody does in the world.
+/// it, if one does in the world.
 #[tactic(auto, using(crate::proofs::Links::inputs_are_shown, crate::proofs::Links::outputs_are_shown))]
 pub fn links_are_shown()
     ensures inputs { InputsAreShown }
     ensures outputs { OutputsAreShown }
 {}
 
-/// Whatever a module that keeps the format does, the plain machine that agrees goes on to agree by an acknowledgement
+/// Whatever a valid module does, the plain machine that agrees goes on to agree by an acknowledgement
 /// that a process waits for: the process is ready, after all that are.
 pub fn acknowledged_processes_go_on()
     ensures { AcknowledgedGoOn }
 {}
 
-/// Whatever a module that keeps the format does, the plain machine that agrees goes on to agree by a byte that a
+/// Whatever a valid module does, the plain machine that agrees goes on to agree by a byte that a
 /// process waits for: it goes into the buffer of its message, and with the last one the process is ready, after all
 /// that are.
 pub fn bytes_are_taken()

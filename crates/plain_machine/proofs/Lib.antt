@@ -6,3 +6,4 @@ pub mod PlainCopies
 pub mod Waiting
 pub mod DecodedOperations
 pub mod WholeInstructions
+pub mod FunctionsPerformed

@@ -58,7 +58,7 @@ pub(crate) fn set_word(bytes: &mut [u8], place: usize, value: i32)
     set_byte(bytes, place + 3, fourth);
 }
 
-/// So many bytes from one place on, all of which lie in memory, go to another, as they were before. Outside nothing
+/// `count` bytes from one place on, all of which lie in memory, go to another, as they were before. Outside nothing
 /// changes.
 pub(crate) fn copy(bytes: &mut [u8], source: usize, target: usize, count: usize)
     requires defined { IsTrue (all_places (λ p. is_some (byte_at (defined bytes.old) p)) source count) }
@@ -92,7 +92,7 @@ fn copy_word(bytes: &mut [u8], source: usize, target: usize)
     set_byte(bytes, target + 3, fourth);
 }
 
-/// So many bytes from one place on go to another, as they were before. All lie in memory.
+/// `count` bytes from one place on go to another, as they were before. All lie in memory.
 #[inline(always)]
 pub(crate) fn copy_inside(bytes: &mut [u8], source: usize, target: usize, count: usize)
     requires source { 0 < count → source + count ≤ length bytes.old }

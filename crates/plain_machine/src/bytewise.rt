@@ -7,10 +7,10 @@ ghost use Rattle.machine_state.specs.Instructions.{instruction_of};
 ghost use Rattle.plain_machine.specs.PlainByte.{function_step, byte_step, operand_after, IsFunctionSafe, IsByteSafe};
 ghost use Rattle.plain_machine.specs.PlainStep.{state_of, Does};
 
+use crate::decoded::{DecodedInstruction, DecodedOperation};
 use crate::flow::PlainFlow;
-use crate::instructing::instruct;
+use crate::performing::perform;
 use crate::registers::PlainRegisters;
-use machine_state::Instruction;
 use prefix_decoder::Fun;
 use prefix_decoder::operand::{after_prefix, with_nibble};
 
@@ -27,15 +27,25 @@ fn execute(
     ensures { let s = state_of registers.old bytes.old in
         Does (function_step code_start (instruction_of fun operand) operand s) result registers.new bytes.new }
 {
-    match Instruction::of(fun, operand) {
-        Some(instruction) => instruct(bytes, registers, code_start, instruction, operand),
-        None => unreachable!(),
+    let operation = DecodedOperation::of(fun, operand);
+    let instruction = DecodedInstruction {
+        operation,
+        length: 1,
+        operand,
+    };
+    match perform(bytes, registers, code_start, &instruction) {
+        Some(flow) => flow,
+        None => match operation.asked() {
+            Some(flow) => flow,
+            None => unreachable!(),
+        },
     }
 }
 
 /// The function with this code, none at the prefixes.
 #[inline(always)]
 fn function_with(code: u8) -> Option<Fun>
+    requires { code < 16 }
     ensures { result ≡ fun_of code }
 {
     match code {
@@ -52,8 +62,8 @@ fn function_with(code: u8) -> Option<Fun>
         0xc => Some(Fun::EqualsConstant),
         0xd => Some(Fun::StoreLocal),
         0xe => Some(Fun::StoreNonLocal),
-        0xf => Some(Fun::Operate),
-        _ => None,
+        0x2 | 0x6 => None,
+        _ => Some(Fun::Operate),
     }
 }
 
@@ -82,7 +92,7 @@ pub fn execute_byte(
     registers.at += 1;
     let whole = with_nibble(*operand, byte);
     let function = byte >> 4;
-    match function_with(function) {
+    let flow = match function_with(function) {
         Some(fun) => {
             *operand = 0;
             execute(bytes, registers, code_start, fun, whole)
@@ -91,5 +101,6 @@ pub fn execute_byte(
             *operand = after_prefix(function, whole);
             PlainFlow::Next
         }
-    }
+    };
+    flow
 }

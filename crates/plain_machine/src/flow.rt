@@ -20,15 +20,15 @@ pub enum PlainFlow {
     Join,
     /// An alternation begins.
     Begin,
-    /// Channel B is to be enabled where the guard A holds.
+    /// Channel B is to be enabled if the guard A holds.
     EnableChannel,
-    /// A skip is to be enabled where the guard A holds.
+    /// A skip is to be enabled if the guard A holds.
     EnableSkip,
     /// The process waits until something that it has enabled is ready.
     Wait,
-    /// Channel C is to be disabled where the guard B holds, and may select the distance A.
+    /// Channel C is to be disabled if the guard B holds, and may select the distance A.
     DisableChannel,
-    /// A skip is to be disabled where the guard B holds, and may select the distance A.
+    /// A skip is to be disabled if the guard B holds, and may select the distance A.
     DisableSkip,
     /// The alternation ends, and its process goes on at the distance that is selected.
     End,

@@ -13,7 +13,7 @@ pub struct PlainArrival {
     pub done: u32,
 }
 
-/// The input side of a link, where processes are the addresses of their workspaces.
+/// The input side of a link: processes are the addresses of their workspaces.
 #[derive(Clone, Copy)]
 pub struct PlainInput {
     /// The byte that has come and that no process has taken.

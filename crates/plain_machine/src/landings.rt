@@ -13,7 +13,7 @@ use crate::registers::PlainRegisters;
 use crate::words::{load, store};
 use machine_state::local_address;
 
-/// `cj`: where A is 0, the process goes on at the distance of the operand, and otherwise A is popped.
+/// `cj`: if A is 0, the process goes on at the distance of the operand, and otherwise A is popped.
 #[inline(always)]
 pub(crate) fn conditional_jump(
     bytes: &mut [u8],

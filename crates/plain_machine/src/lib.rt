@@ -1,4 +1,4 @@
-//! What a machine stands on that keeps no records: memory as plain bytes, the queue of ready processes in their
+//! What a machine is built on that keeps no records: memory as plain bytes, the queue of ready processes in their
 //! workspaces, and the instructions on plain words.
 #![tactic(auto)]
 
@@ -8,7 +8,6 @@ mod decoded;
 mod decoding;
 mod flow;
 mod input;
-mod instructing;
 mod landings;
 mod locals;
 mod loops;
@@ -27,7 +26,6 @@ pub use bytewise::execute_byte;
 pub use decoding::DecodedCode;
 pub use flow::PlainFlow;
 pub use input::{PlainArrival, PlainInput};
-pub use instructing::instruct;
 pub use parking::{park, resume};
 pub use plain_store::PlainStore;
 pub use registers::PlainRegisters;

@@ -1,16 +1,31 @@
-//! The operations, which the function `opr` chooses by its operand.
+//! Operations on A, B and C.
 #![tactic(auto, unfolding(crate::specs::PlainStep::plain_step, crate::specs::PlainStep::plain_operation))]
 
-ghost use Rattle.plain_machine.specs.PlainStep.{state_of, plain_operation, Does, IsOperationSafe};
+ghost use Rattle.plain_machine.specs.PlainStep.{state_of, plain_step, plain_operation, Does, IsSafe, IsOperationSafe};
+ghost use Rattle.machine_state.specs.declared.instruction.Instruction.TheVariants as instruction;
 ghost use Rattle.machine_state.specs.declared.op.Op.TheVariants as operation;
 
 use crate::flow::PlainFlow;
-use crate::landings::return_from_call;
-use crate::loops::loop_end;
-use crate::pointers::{load_at, move_bytes, store_at};
 use crate::registers::PlainRegisters;
-use machine_state::{LongOp, Op, Shift, local_address};
+use machine_state::{LongOp, Shift, local_address};
 use word_arithmetic::{Binary, Unary};
+
+/// `adc` and the like: A becomes the result of the operation on A and the operand.
+#[inline(always)]
+pub(crate) fn with_constant(
+    bytes: &mut [u8],
+    registers: &mut PlainRegisters,
+    op: Binary,
+    operand: i32,
+) -> PlainFlow
+    requires { IsSafe (instruction.WithConstant op) operand (state_of registers.old bytes.old) }
+    ensures { let step = plain_step 0 (instruction.WithConstant op) operand (state_of registers.old bytes.old) in
+        Does step result registers.new bytes.new }
+{
+    let value = op.apply(registers.stack.a, operand).unwrap();
+    registers.set_top(value);
+    PlainFlow::Next
+}
 
 /// An operation of two operands: A and B are popped, and the result of B and A is pushed.
 #[inline(always)]
@@ -97,56 +112,4 @@ pub(crate) fn load_pointer_to_instruction(
     let pointer = next.wrapping_add(registers.stack.a.cast_unsigned());
     registers.set_top(pointer.cast_signed());
     PlainFlow::Next
-}
-
-/// Executes one operation of the process that runs. What the process asks of others it leaves as it is.
-#[inline(always)]
-pub(crate) fn operate(
-    bytes: &mut [u8],
-    registers: &mut PlainRegisters,
-    code_start: u32,
-    op: Op,
-) -> PlainFlow
-    requires { IsOperationSafe op (state_of registers.old bytes.old) }
-    ensures { let step = plain_operation code_start op (state_of registers.old bytes.old) in
-        Does step result registers.new bytes.new }
-{
-    match op {
-        Op::Reverse => {
-            registers.stack.reverse();
-            PlainFlow::Next
-        }
-        Op::MinimumInteger => {
-            registers.stack.push(i32::MIN);
-            PlainFlow::Next
-        }
-        Op::Binary(op) => binary(bytes, registers, op),
-        Op::Unary(op) => unary(bytes, registers, op),
-        Op::Shift(op) => shift(bytes, registers, op),
-        Op::Long(op) => long(bytes, registers, op),
-        Op::LoadByte => load_at(bytes, registers),
-        Op::StoreByte => store_at(bytes, registers),
-        Op::ByteSubscript => byte_subscript(bytes, registers),
-        Op::WordSubscript => word_subscript(bytes, registers),
-        Op::CheckSubscript | Op::CheckCount => {
-            registers.pop();
-            PlainFlow::Next
-        }
-        Op::LoadPointerToInstruction => load_pointer_to_instruction(bytes, registers, code_start),
-        Op::Move => move_bytes(bytes, registers),
-        Op::Return => return_from_call(bytes, registers, code_start),
-        Op::LoopEnd => loop_end(bytes, registers),
-        Op::StopProcess => PlainFlow::Stop,
-        Op::Input => PlainFlow::Receive,
-        Op::Output => PlainFlow::Send,
-        Op::StartProcess => PlainFlow::Start,
-        Op::EndProcess => PlainFlow::Join,
-        Op::Alternate => PlainFlow::Begin,
-        Op::EnableChannel => PlainFlow::EnableChannel,
-        Op::EnableSkip => PlainFlow::EnableSkip,
-        Op::AlternationWait => PlainFlow::Wait,
-        Op::DisableChannel => PlainFlow::DisableChannel,
-        Op::DisableSkip => PlainFlow::DisableSkip,
-        Op::AlternationEnd => PlainFlow::End,
-    }
 }

@@ -42,7 +42,7 @@ impl PlainStore {
         PlainStore { bytes }
     }
 
-    /// A memory of so many bytes, each 0.
+    /// A memory of `size` bytes, each 0.
     ///
     /// # Errors
     ///
@@ -82,7 +82,7 @@ impl PlainStore {
 
     /// Executes instructions of the process that runs, one after the other, until one asks something of others, of code
     /// that begins at this address. `executed` counts their bytes, but not the last one of what asks something. Returns
-    /// what that leaves to be done, and nothing where no instruction is to be read. Nothing is tested.
+    /// what that leaves to be done, and nothing if no instruction is to be read. Nothing is tested.
     #[inline(always)]
     pub(crate) fn run(
         &mut self,
@@ -147,7 +147,7 @@ impl PlainStore {
         words::store(&mut self.bytes, address, value);
     }
 
-    /// So many bytes from one address on go to another, as they were before. All lie in memory.
+    /// `count` bytes from one address on go to another, as they were before. All lie in memory.
     #[inline(always)]
     pub(crate) fn copy(&mut self, source: u32, target: u32, count: u32)
         requires source { HasBytes (defined self.old) source count }
@@ -166,7 +166,7 @@ impl PlainStore {
         place < self.bytes.len()
     }
 
-    /// Whether all of so many places from this one on lie in memory.
+    /// Whether all of `count` places from this one on lie in memory.
     fn has_all(&self, place: u32, count: u32) -> bool
         ensures { result ≡ (count == 0) || nat_le (place + count) (length self.now) }
     {

@@ -46,7 +46,7 @@ pub(crate) fn store_byte(bytes: &mut [u8], address: u32, byte: u8)
     bytes::set_byte(bytes, place_of(address) as usize, byte);
 }
 
-/// So many bytes from one address on go to another, as they were before.
+/// `count` bytes from one address on go to another, as they were before.
 #[inline(always)]
 pub(crate) fn copy(bytes: &mut [u8], source: u32, target: u32, count: u32)
     requires source { HasBytes (defined bytes.old) source count }

@@ -69,7 +69,7 @@ fn unlink_next<S: LoadStore>(store: &mut S, process: u32) -> u32
     left
 }
 
-/// The process so many links after this one.
+/// The process that is `links` links after this one.
 fn follow<S: LoadStore>(store: &S, process: u32, links: usize) -> u32
     requires { let memory = S.cells store.now in (k : ℕ) → k < links
         → IsTrue (may_write_word (S.holding store.now) (link_place (follow memory process k))) }

@@ -95,8 +95,8 @@ impl Workspaces {
 
     /// Executes instructions of the process that runs, one after the other, until one asks something of others, of code
     /// that begins at this address. `executed` counts their bytes, but not the last one of what asks something. Returns
-    /// what that leaves to be done, and nothing where no instruction is to be read. Nothing is tested: however far that goes, the
-    /// next byte is safe, and no link of a ready process has changed.
+    /// what that leaves to be done, and nothing if no instruction is to be read. Nothing is tested: however far that
+    /// goes, the next byte is safe, and no link of a ready process has changed.
     #[inline(always)]
     pub fn run(
         &mut self,
@@ -163,7 +163,7 @@ impl Workspaces {
         self.store.set_word(address, value);
     }
 
-    /// So many bytes from one address on go to another, as they were before. All lie in memory, and no link of a ready
+    /// `count` bytes from one address on go to another, as they were before. All lie in memory, and no link of a ready
     /// process is where they go.
     #[inline(always)]
     pub fn copy(&mut self, source: u32, target: u32, count: u32)
@@ -179,7 +179,7 @@ impl Workspaces {
         self.store.copy(source, target, count);
     }
 
-    /// So many bytes from the address on, all of which lie in memory.
+    /// `count` bytes from the address on, all of which lie in memory.
     pub fn lend(&self, address: u32, count: u32) -> &[u8]
         requires { IsTrue (are_defined self.now.memory address count) }
         ensures { result.now ≡ bytes_at self.now.memory (place_of address) count }
