@@ -2,6 +2,7 @@ pub mod Judging
 pub mod Reporting
 pub mod RowsLeft
 pub mod Passing
+pub mod Walks
 pub mod CalmWorlds
 pub mod Tables
 pub mod LawfulWorlds

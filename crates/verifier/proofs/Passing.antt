@@ -16,15 +16,10 @@ use Rattle.verifier.specs.declared.stop.Stop.TheVariants as stops
 use Rattle.verifier.specs.Judge.{past_starts, past_rule, past_spelling, judged_at, first_start, refused, at_the_end}
 use Rattle.verifier.specs.Judge.{judge, verdict}
 use Rattle.verifier.specs.Judging.{falling_state, StopsBy}
-use Rattle.verifier.proofs.Judging.{Spans, judge_end}
+use Rattle.verifier.specs.Walking.{OnTheWay}
+use Rattle.verifier.proofs.Judging.{judge_end}
 
 -- ---- the verdict from an offset on
-
--- the verdict on the whole module is that on the rest of it
-pub record OnTheWay (m : Contents) (at : ℕ) (before : Option State) : Type 0 where
-  pub fuel : ℕ
-  pub enough : length m.code ≤ at + fuel
-  pub same : judge fuel m at before ≡ verdict m
 
 pub start : (m : Contents) → OnTheWay m 0 (Some (root_state m))
 start m = record { fuel = length m.code; enough = omega arith; same = refl }
@@ -82,12 +77,11 @@ hidden-is m at o before after i low w sp j l =
     ∙ ap (past_starts (λ to after. judge (further m at before low w).fuel m to after) (at + i.len) after) l
 
 -- where the pass goes on
-pub goes-on : (m : Contents) (at : ℕ) (before after : Option State) (i : Instr) → Spans m → at < length m.code
+pub goes-on : (m : Contents) (at : ℕ) (before after : Option State) (i : Instr) → 1 ≤ i.len → at < length m.code
     → OnTheWay m at before → fetched m.code at ≡ Ok i → judged_at m at before i ≡ Ok after
     → first_start m (at + 1) (i.len - 1) ≡ None → OnTheWay m (at + i.len) after
-goes-on m at before after i spans low w sp j l =
+goes-on m at before after i some low w sp j l =
     let f = further m at before low w in
-    let some = spans.some at i sp in
     let enough = f.enough in
     record {
       fuel = f.fuel;

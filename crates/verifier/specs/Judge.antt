@@ -26,10 +26,15 @@ both (Ok cost) r = Ok (falling r)
 both (Err first) (breaks second) = Err (lower first second)
 both (Err first) _ = Err first
 
--- one instruction, in the state at its offset, or where there is none
+-- one instruction, in the state at its offset, or where there is none: falling into the offset costs this, or breaks a
+-- rule
+abbrev pub judged_once : Contents → ℕ → Result ℕ Rule → Instr → Option State → Result (Option State) Rule
+judged_once m at entered i None = Err (if is_instruction m i then rules.Flow else rules.Spelling)
+judged_once m at entered i (Some s) = both entered (rule_at m at i s)
+
+-- the same, where `before` falls into the offset
 abbrev pub judged_in : Contents → ℕ → Option State → Instr → Option State → Result (Option State) Rule
-judged_in m at before i None = Err (if is_instruction m i then rules.Flow else rules.Spelling)
-judged_in m at before i (Some s) = both (entering m at before) (rule_at m at i s)
+judged_in m at before i reached = judged_once m at (entering m at before) i reached
 
 -- one instruction, where `before` falls into its offset
 unfoldable pub judged_at : Contents → ℕ → Option State → Instr → Result (Option State) Rule

@@ -11,11 +11,12 @@ ghost use Rattle.facts.specs.Rules.{is_instruction};
 ghost use Rattle.rulings.specs.Telling.{Advances};
 ghost use Rattle.alternation_rules.specs.Telling.{Selects};
 ghost use Rattle.par_rules.specs.Telling.{Starts};
-ghost use Rattle.certified_worlds.specs.Certified.{entering};
-ghost use Rattle.verifier.specs.Judge.{lower, both, judged_at};
+ghost use Rattle.certified_worlds.specs.Certified.{entering, state_at};
+ghost use Rattle.verifier.specs.Judge.{lower, both, judged_once};
 ghost use Rattle.verifier.specs.Judging.{falling_state, Judges, IsComparable, IsGiven};
 
 use crate::rows::Given;
+use crate::walk::Arrival;
 use certificate::Module;
 use facts::{
     Continuation, Started, Way, advance, is_instruction, leave, reserve_guards, start, way_of,
@@ -25,7 +26,7 @@ use states::{Rule, State, cost_below};
 use std::alloc::AllocError;
 
 /// What it costs to fall into an offset where this is given. Nothing may fall into a procedure.
-fn entering(state: &State, falls: bool, given: Given) -> Result<u64, Rule>
+pub(crate) fn entering(state: &State, falls: bool, given: Given) -> Result<u64, Rule>
     requires { IsComparable given }
     ensures { let before = falling_state falls (state_of state.now) in
         (m : Contents) (at : ℕ) → IsGiven m at given.entry → result ≡ entering m at before }
@@ -105,30 +106,47 @@ fn unreached(module: &Module, instr: Instr) -> Rule
     Rule::Spelling
 }
 
-/// One instruction: whether a state falls into the next offset, or the rule that is broken. `falls`: the
-/// state falls into this offset. `given`: what the tables give there. The outer error is that memory ran out.
-#[tactic(auto, unfolding(crate::specs::Judge::judged_at))]
-pub(crate) fn judge<'a>(
+/// Takes on the state that is given at an offset, if one is. Returns whether there is a state now. `falls`: one falls
+/// into the offset.
+pub(crate) fn take_on<'a>(
     module: &'a Module<'a>,
     state: &mut State<'a>,
     falls: bool,
-    given: Given<'a>,
+    arrival: &Arrival<'a>,
+) -> bool
+    requires belongs { BelongsTo «module».now state.old }
+    requires here { IsGiven «module».now arrival.now.at arrival.now.given }
+    ensures reached { let before = falling_state falls (state_of state.old) in
+        falling_state result (state_of state.new) ≡ state_at «module».now arrival.now.at before }
+    ensures belongs { BelongsTo «module».now state.new }
+{
+    match arrival.given {
+        Given::Label(row) => state.become_label(module, row),
+        Given::Procedure { context, row } => state.become_procedure(module, row, context),
+        Given::Nothing => return falls,
+    }
+    true
+}
+
+/// One instruction: whether a state falls into the next offset, or the rule that is broken. `is_reached`: there is a
+/// state at the offset. `entered`: what falling into it costs. The outer error is that memory ran out.
+pub(crate) fn judge<'a>(
+    module: &'a Module<'a>,
+    state: &mut State<'a>,
+    is_reached: bool,
+    entered: Result<u64, Rule>,
     at: usize,
     instr: Instr,
 ) -> Result<Result<bool, Rule>, AllocError>
     requires belongs { BelongsTo «module».now state.old }
-    requires here { IsGiven «module».now at given }
     requires keeps { Keeps «module».now }
-    ensures judged { let before = falling_state falls (state_of state.old) in
-        IfOk result (λ judged. Judges judged (state_of state.new) (judged_at «module».now at before instr)) }
+    ensures judged { let reached = falling_state is_reached (state_of state.old) in
+        IfOk result (λ judged. Judges judged (state_of state.new)
+        (judged_once «module».now at entered instr reached)) }
     ensures belongs { BelongsTo «module».now state.new }
 {
-    let entered = entering(state, falls, given);
-    match given {
-        Given::Label(row) => state.become_label(module, row),
-        Given::Procedure { context, row } => state.become_procedure(module, row, context),
-        Given::Nothing if falls => {}
-        Given::Nothing => return Ok(Err(unreached(module, instr))),
+    if !is_reached {
+        return Ok(Err(unreached(module, instr)));
     }
     reserve_guards(state)?;
     Ok(match way_of(instr) {

@@ -8,7 +8,7 @@ use module_format::{LabelRow, ProcedureRow};
 
 /// What the tables give at an offset.
 #[derive(Clone, Copy)]
-pub(crate) enum Given<'a> {
+pub enum Given<'a> {
     Nothing,
     Label(&'a LabelRow),
     /// A procedure begins there, whose context has this number.
@@ -28,12 +28,14 @@ pub(crate) struct Rows<'a> {
 impl<'a> Rows<'a> {
     ghost use Rattle.std.specs.Prelude.{◌≡◌, ℕ, MatchOption, None};
     ghost use Rattle.module_format.specs.Contents.{Contents, label_at};
+    ghost use Rattle.module_format.specs.Keeping.{Keeps};
     ghost use Rattle.certificate.specs.Starts.{procedure_at};
     ghost use Rattle.verifier.specs.Judging.{LabelsLeft, ProceduresLeft, AreLeft, IsLabelRow, Begins, IsGiven};
 
     /// All rows of a module.
     pub fn of(module: &'a Module<'a>) -> Self
-        ensures { AreLeft «module».now 0 result }
+        ensures left { AreLeft «module».now 0 result }
+        ensures kept { Keeps «module».now }
     {
         let tables = module.tables();
         Rows {

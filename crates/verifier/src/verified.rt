@@ -2,7 +2,7 @@
 
 use crate::Refusal;
 use crate::laws::certified_modules_run_well;
-use crate::pass::pass;
+use crate::pass::judge_code;
 use certificate::Module;
 use std::alloc::Global;
 use std::marker::Model;
@@ -57,6 +57,6 @@ pub fn verify<'a>(alloc: Global, module: &'a Module<'a>) -> Result<Verified<'a>,
     // The rule that is broken, by its number, and where; or `states::MEMORY` and 0.
     ensures refuses { IfErr result (Reports «module».now) }
 {
-    pass(alloc, module)?;
+    judge_code(alloc, module)?;
     Ok(Verified { module })
 }

@@ -1,6 +1,6 @@
 use Rattle.std.proofs.Common.{◌≡◌, ◌≤◌}
 use Rattle.verifier.proofs.Passing.{NoneFrom}
-use Rattle.verifier.proofs.pass.start_within.Given as goal
+use Rattle.verifier.proofs.walk.start_within.Given as goal
 
 abbrev pub invariant-loop-offset : goal.invariant-loop-offset
 invariant-loop-offset l = record {

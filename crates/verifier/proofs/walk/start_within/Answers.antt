@@ -1,6 +1,6 @@
 use Rattle.std.proofs.Common.{sym, ◌∙◌, arith}
 use Rattle.verifier.proofs.Passing.{none-within, some-within}
-use Rattle.verifier.proofs.pass.start_within.Goals as goal
+use Rattle.verifier.proofs.walk.start_within.Goals as goal
 
 pub returns-then-is_start : goal.returns-then-is_start
 returns-then-is_start c =
