@@ -6,6 +6,7 @@
 //! memory ran out.
 
 mod drafts;
+mod explained;
 mod modules;
 mod programs;
 mod runs;

@@ -4,6 +4,7 @@ mod draft_branches;
 mod draft_code;
 mod draft_rows;
 pub(crate) mod drafts;
+pub(crate) mod explained;
 pub(crate) mod files;
 pub(crate) mod modules;
 pub(crate) mod programs;

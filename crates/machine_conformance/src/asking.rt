@@ -4,6 +4,7 @@ use crate::alterations::{Ways, altered_sums, cuts};
 use crate::altered_runs::altered_runs;
 use crate::altered_verdicts::altered_verdicts;
 use crate::assembling::ask_draft;
+use crate::explaining::sentence;
 use crate::following::follow;
 use crate::lookups::look_up;
 use crate::modules::{put_fault, read, verdict};
@@ -28,6 +29,7 @@ fn ask_module<'a>(
     let rest = statement.rest;
     match statement.word {
         "verify" => verdict(alloc, module, rest, out),
+        "explain" => sentence(alloc, module, rest, out),
         "then" => run(alloc, module, setting, rest, out),
         "replay" => replayed(alloc, module, setting.events.as_str(), rest, out),
         "step" => step(alloc, module, setting.process.as_str(), rest, out),

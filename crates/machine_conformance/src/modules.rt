@@ -1,5 +1,6 @@
 //! The answers of reading a file and of the verdict.
 
+use crate::scheduling::pair_schedules;
 use crate::words::Words;
 use certificate::Module;
 use conformance::{Answer, Outcome, judged};
@@ -92,14 +93,17 @@ fn is_rule(word: &str, number: u8) -> bool {
     }
 }
 
-/// The verdict on a module.
+/// The verdict on a module. One that is accepted has to run alike on both machines, whoever runs next.
 pub(crate) fn verdict(alloc: Global, module: &Module, text: &str, out: &mut Answer) -> Outcome {
     let expected = Expected::of(text);
     match verify(alloc, module) {
         Ok(verified) => {
             out.put("ok ");
             out.great(verified.module().tables().budget);
-            judged(out, text)
+            match judged(out, text) {
+                Outcome::Held => pair_schedules(alloc, module, &verified),
+                outcome => outcome,
+            }
         }
         Err(refusal) => {
             out.fault("V", refusal.number, u64::from(refusal.offset));

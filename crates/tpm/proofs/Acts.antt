@@ -1,15 +1,19 @@
 -- What was performed, as what the program did.
 use Rattle.std.proofs.Common.{◌≡◌, ℕ, Bool, List, Option, Some, Result, Ok, Err, ◌⊎◌, inl, inr, refl}
+use Rattle.std.specs.Prelude.{string_bytes}
 use Rattle.std.specs.Borrow.{Bor}
 use Rattle.clap.specs.Walk.{Text}
+use Rattle.verifier.specs.declared.Refusal.{Refusal}
 use Rattle.tpm.specs.declared.files.FileFault.{FileFault}
 use Rattle.tpm.specs.declared.files.FileFault.TheVariants as file_faults
 use Rattle.tpm.specs.declared.report.Failure.{Failure}
 use Rattle.tpm.specs.declared.report.Failure.TheVariants as failures
 use Rattle.tpm.specs.CommandLine.{Asked, path_of, line_of}
 use Rattle.tpm.specs.Texts.{status_of}
-use Rattle.tpm.specs.Acting.{Acts, Performs, Reads, Hinders, IsStopped, IsUntold, malformed, uncertified}
-use Rattle.tpm.specs.Acting.{uncompiled, not_upgraded, told, refused, unread, stopped, unwritten, starved_by_file}
+use Rattle.tpm.specs.Acting.{Acts, Performs, Reads, Answers, Hinders, IsRefusedWith, RefusesWith, Tells}
+use Rattle.tpm.specs.Acting.{IsStopped, IsUntold, malformed, uncertified, uncompiled, not_upgraded, told, refused}
+use Rattle.tpm.specs.Acting.{explained, unread, stopped}
+use Rattle.tpm.specs.Acting.{unwritten, unexplained, starved_by_file}
 use Rattle.tpm.specs.Acting.{starved_by_text}
 
 module _ {F R W : Type 0} (opens : F → Text → Result R FileFault → F → Type 0)
@@ -80,6 +84,8 @@ module _ {F R W : Type 0} (opens : F → Text → Result R FileFault → F → T
       refused asked line (read_so (λ bytes next why. (malformed fault why.0, why.1)) performed.0) performed.1 is
   acts_failed (failures.Uncertified refusal) status is line performed =
       refused asked line (read_so (λ bytes next why. (uncertified refusal why.0, why.1)) performed.0) performed.1 is
+  acts_failed (failures.Explained refusal text) status is line performed =
+      explained asked (string_bytes text) line (refusal, performed.0) performed.1 is
   acts_failed (failures.Uncompiled fault) status is line performed =
       refused asked line (read_so (λ bytes next why. (uncompiled fault why.0, why.1)) performed.0) performed.1 is
   acts_failed (failures.NotUpgraded fault) status is line performed =
@@ -92,6 +98,32 @@ module _ {F R W : Type 0} (opens : F → Text → Result R FileFault → F → T
       stopped asked (failures.ReadFailed link) line performed.0 performed.1 is
   acts_failed (failures.WriteFailed link) status is line performed =
       stopped asked (failures.WriteFailed link) line performed.0 performed.1 is
-  acts_failed failures.Unwritten status is line performed =
-      unwritten asked performed.0 line performed.1 performed.2 is
+  acts_failed failures.Unwritten status is line performed = go performed.1
+    where
+      go : Answers opens creates closes left read_failed written write_failed reads asked before after
+          (Ok performed.0)
+          ⊎ RefusesWith opens creates closes left read_failed written write_failed reads asked before after performed.0
+          → Acts opens creates closes left read_failed written write_failed reads words before after out_before
+          out_after status
+      go (inl answers) = unwritten asked performed.0 line answers performed.2 is
+      go (inr refuses) = unexplained asked performed.0 line refuses performed.2 is
   acts_failed failures.Memory status is line performed = starved_at status is line performed.1 performed.0
+
+  -- the text that explains a refusal was not written to its end
+  pub explained_in_part : (refusal : Refusal) (text : Text) (failure : Failure)
+      → Reads opens creates closes left read_failed written write_failed reads asked before
+      (λ bytes next. IsRefusedWith bytes asked refusal text × (after ≡ next))
+      → Tells out_before out_after text (Err failure)
+      → Performs opens creates closes left read_failed written write_failed reads asked before after out_before
+      out_after (Err failure)
+  explained_in_part refusal text (failures.Malformed fault) file tells = absurd tells
+  explained_in_part refusal text (failures.Uncertified refused_for) file tells = absurd tells
+  explained_in_part refusal text (failures.Explained refused_for told_by) file tells = absurd tells
+  explained_in_part refusal text (failures.Uncompiled fault) file tells = absurd tells
+  explained_in_part refusal text (failures.NotUpgraded fault) file tells = absurd tells
+  explained_in_part refusal text (failures.Unread path) file tells = absurd tells
+  explained_in_part refusal text (failures.Uncreated path) file tells = absurd tells
+  explained_in_part refusal text (failures.ReadFailed link) file tells = absurd tells
+  explained_in_part refusal text (failures.WriteFailed link) file tells = absurd tells
+  explained_in_part refusal text failures.Unwritten file tells = (text, inr (refusal, file), tells)
+  explained_in_part refusal text failures.Memory file tells = absurd tells

@@ -22,6 +22,7 @@ module _ {F R W : Type 0} (creates : F → Text → Result W FileFault → F →
         → RunsOpened creates closes left read_failed written write_failed m outputs before after readers (Err failure)
     stops (failures.Malformed fault) runs = absurd runs
     stops (failures.Uncertified refusal) runs = absurd runs
+    stops (failures.Explained refusal text) runs = absurd runs
     stops (failures.Uncompiled fault) runs = absurd runs
     stops (failures.NotUpgraded fault) runs = absurd runs
     stops (failures.Unread path) runs = absurd runs

@@ -24,6 +24,7 @@ module _ {F R W : Type 0} (opens : F → Text → Result R FileFault → F → T
       failure
   module_withheld bytes source out before after (failures.Malformed fault) why = absurd why.writes
   module_withheld bytes source out before after (failures.Uncertified refusal) why = absurd why.writes
+  module_withheld bytes source out before after (failures.Explained refusal text) why = absurd why.writes
   module_withheld bytes source out before after (failures.Uncompiled fault) why = why
   module_withheld bytes source out before after (failures.NotUpgraded fault) why = absurd why.writes
   module_withheld bytes source out before after (failures.Unread missing) why = why
@@ -53,6 +54,7 @@ module _ {F R W : Type 0} (opens : F → Text → Result R FileFault → F → T
       failure
   upgrade_withheld bytes old new before after (failures.Malformed fault) why = why
   upgrade_withheld bytes old new before after (failures.Uncertified refusal) why = absurd why.writes
+  upgrade_withheld bytes old new before after (failures.Explained refusal text) why = absurd why.writes
   upgrade_withheld bytes old new before after (failures.Uncompiled fault) why = absurd why.writes
   upgrade_withheld bytes old new before after (failures.NotUpgraded fault) why = why
   upgrade_withheld bytes old new before after (failures.Unread missing) why = why
@@ -91,7 +93,8 @@ module _ {F R W : Type 0} (opens : F → Text → Result R FileFault → F → T
         after failure
     run_withheld path inputs outputs before after (failures.Malformed fault) why = absurd why
     run_withheld path inputs outputs before after (failures.Uncertified refusal) why =
-        (record { wanted = refl; contents = m; format = format; reported = why.0 }, why.1)
+        (record { contents = m; format = format; withheld = (refl, why.0) }, why.1)
+    run_withheld path inputs outputs before after (failures.Explained refusal text) why = absurd why
     run_withheld path inputs outputs before after (failures.Uncompiled fault) why = absurd why
     run_withheld path inputs outputs before after (failures.NotUpgraded fault) why = absurd why
     run_withheld path inputs outputs before after (failures.Unread missing) why =

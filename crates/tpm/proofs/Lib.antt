@@ -5,6 +5,5 @@ pub mod Judged
 pub mod FilesClosed
 pub mod FilesRun
 pub mod SubcommandsHavePaths
-pub mod ListingLines
 pub mod Beginnings
 pub mod UnreadFiles

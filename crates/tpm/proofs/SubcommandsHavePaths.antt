@@ -30,9 +30,9 @@ use Rattle.clap.specs.Faults.{word_fault, other_fault, flag_word_fault, position
 use Rattle.clap.specs.Faults.{react_fault, option_fault, long_fault, short_fault, bundle_step_fault, flags_fault}
 use Rattle.clap.specs.Faults.{bundle_fault, stray_fault, defaults_fault}
 use Rattle.module_format.specs.declared.rows.Direction.TheVariants.{In, Out}
-use Rattle.tpm.specs.CommandLine.{Asked, compiles, upgrades, verifies, runs, lists, path_rule, link_rule}
+use Rattle.tpm.specs.CommandLine.{Asked, compiles, upgrades, verifies, runs, lists, explains, path_rule}
 use Rattle.tpm.specs.CommandLine.{compile_shape, upgrade_shape, subcommand_shape, run_shape, tpm, paths_given, named}
-use Rattle.tpm.specs.CommandLine.{entered_by, unless_faulty, compiled_by, upgraded_by, line_of}
+use Rattle.tpm.specs.CommandLine.{link_rule, entered_by, unless_faulty, compiled_by, upgraded_by, line_of}
 
 -- ---- the arguments of a subcommand
 
@@ -481,11 +481,13 @@ run_is_leaf = record {
 -- ---- the whole line
 
 -- the subcommand that has the name, by which one has
-abbrev among : Bool → Bool → Bool → Bool → Bool → Option Shape
-among a b c d u =
+abbrev among : Bool → Bool → Bool → Bool → Bool → Bool → Option Shape
+among a b c d x u =
     cond a (Some compile_leaf)
     (cond b (Some (plain_leaf (codes "verify")))
-    (cond c (Some run_leaf) (cond d (Some (plain_leaf (codes "list"))) (cond u (Some upgrade_leaf) None))))
+    (cond c (Some run_leaf)
+    (cond d (Some (plain_leaf (codes "list")))
+    (cond x (Some (plain_leaf (codes "explain"))) (cond u (Some upgrade_leaf) None)))))
 
 -- what is asked for where both paths are given
 both_given : (rows : List Row) (source out : Text) → first_of (codes "SRC") rows ≡ Some source
@@ -510,37 +512,41 @@ entered_given : (stop : Option (Text × List Text)) → entered_fault (built tpm
     → (asked : Asked) × (option_and_then entered_by (entered (built tpm) stop) ≡ Some asked)
 entered_given None fault is = absurd (cc)
 entered_given (Some p) fault is = go (answers_to p.0 (codes "compile", [])) (answers_to p.0 (codes "verify", []))
-    (answers_to p.0 (codes "run", [])) (answers_to p.0 (codes "list", [])) (answers_to p.0 (codes "upgrade", [])) fault
-    is
+    (answers_to p.0 (codes "run", [])) (answers_to p.0 (codes "list", [])) (answers_to p.0 (codes "explain", []))
+    (answers_to p.0 (codes "upgrade", [])) fault is
   where
-    go : (a b c d u : Bool)
-        → option_map_or (λ s. level_fault s [] nothing_held p.1 false []) (among a b c d u) [] ≡ []
-        → is_some (option_map (λ s. rows_at s p.1) (among a b c d u)) ≡ true
+    go : (a b c d x u : Bool)
+        → option_map_or (λ s. level_fault s [] nothing_held p.1 false []) (among a b c d x u) [] ≡ []
+        → is_some (option_map (λ s. rows_at s p.1) (among a b c d x u)) ≡ true
         → (asked : Asked)
-        × (option_and_then entered_by (option_map (λ s. rows_at s p.1) (among a b c d u)) ≡ Some asked)
-    go true b c d u f e =
+        × (option_and_then entered_by (option_map (λ s. rows_at s p.1) (among a b c d x u)) ≡ Some asked)
+    go true b c d x u f e =
         let source = path_given (codes "SRC") compile_leaf p.1 source_is_required f in
         let out = path_given (codes "OUT") compile_leaf p.1 out_is_required f in
         (compiles source.0 out.0, both_given (rows_of_leaf compile_leaf p.1) source.0 out.0 source.1 out.1)
-    go false true c d u f e =
+    go false true c d x u f e =
         let path = path_given (codes "MOD") (plain_leaf (codes "verify")) p.1 (plain_is_leaf (codes "verify")) f in
         let rows = rows_of_leaf (plain_leaf (codes "verify")) p.1 in
         (verifies path.0, ap (option_and_then (named (codes "verify") rows)) path.1)
-    go false false true d u f e =
+    go false false true d x u f e =
         let path = path_given (codes "MOD") run_leaf p.1 run_is_leaf f in
         let rows = rows_of_leaf run_leaf p.1 in (
           runs path.0 (paths_given In rows) (paths_given Out rows),
           ap (option_and_then (named (codes "run") rows)) path.1,
         )
-    go false false false true u f e =
+    go false false false true x u f e =
         let path = path_given (codes "MOD") (plain_leaf (codes "list")) p.1 (plain_is_leaf (codes "list")) f in
         let rows = rows_of_leaf (plain_leaf (codes "list")) p.1 in
         (lists path.0, ap (option_and_then (named (codes "list") rows)) path.1)
-    go false false false false true f e =
+    go false false false false true u f e =
+        let path = path_given (codes "MOD") (plain_leaf (codes "explain")) p.1 (plain_is_leaf (codes "explain")) f in
+        let rows = rows_of_leaf (plain_leaf (codes "explain")) p.1 in
+        (explains path.0, ap (option_and_then (named (codes "explain") rows)) path.1)
+    go false false false false false true f e =
         let old = path_given (codes "OLD") upgrade_leaf p.1 old_is_required f in
         let new = path_given (codes "NEW") upgrade_leaf p.1 new_is_required f in
         (upgrades old.0 new.0, both_named (rows_of_leaf upgrade_leaf p.1) old.0 new.0 old.1 new.1)
-    go false false false false false f e = absurd (cc)
+    go false false false false false false f e = absurd (cc)
 
 -- a subcommand that is not missed is there
 is_entered : (rows : List Row) (b : Bool) → check_fault (built tpm).top rows b ≡ [] → b ≡ true

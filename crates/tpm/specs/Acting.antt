@@ -1,5 +1,6 @@
 -- What the program reports, and when: our own choice.
 use Rattle.std.specs.Prelude.{◌≡◌, ◌⊎◌, ⊤, ℕ, Bool, true, List, take, Option, Some, None, Result, Ok, Err}
+use Rattle.std.specs.Prelude.{string_bytes}
 use Rattle.std.specs.Io.KnownBytes.{Appends}
 use Rattle.clap.specs.Walk.{Text}
 use Rattle.module_format.specs.declared.fault.FormatFault.{FormatFault}
@@ -11,7 +12,7 @@ use Rattle.verifier.specs.declared.Refusal.{Refusal}
 use Rattle.certified_worlds.specs.Certified.{IsCertified}
 use Rattle.compiler.specs.declared.source.CompileFault.{CompileFault}
 use Rattle.compiler.specs.Compiled.{IsRefusedFor}
-use Rattle.verifier.specs.Reports.{Reports}
+use Rattle.verifier.specs.Reports.{Reports, out_of_memory}
 use Rattle.verifier.specs.declared.upgrading.UpgradeFault.{UpgradeFault}
 use Rattle.tpm.specs.declared.files.FileFault.{FileFault}
 use Rattle.tpm.specs.declared.files.FileFault.TheVariants as file_faults
@@ -19,13 +20,15 @@ use Rattle.tpm.specs.declared.report.Report.TheVariants.{Accepted}
 use Rattle.tpm.specs.declared.report.Failure.{Failure}
 use Rattle.tpm.specs.declared.report.Failure.TheVariants as failures
 use Rattle.tpm.specs.declared.report.TheConstants.{DONE, REFUSED, MISUSED, FAILED, STARVED}
-use Rattle.tpm.specs.CommandLine.{Asked, compiles, upgrades, verifies, runs, lists, path_of, wants_verdict, line_of}
+use Rattle.tpm.specs.CommandLine.{Asked, compiles, upgrades, verifies, runs, lists, explains, path_of, wants_verdict}
+use Rattle.tpm.specs.CommandLine.{line_of}
 use Rattle.tpm.specs.Compiling.{CompilesAndWrites, HasCompiled}
+use Rattle.tpm.specs.Explaining.{IsExplained, IsRefusalExplained}
 use Rattle.tpm.specs.Malformed.{IsMalformed}
 use Rattle.tpm.specs.Upgrading.{HasUpgraded, IsRefusedUpgrade, UpgradesAndWrites}
 use Rattle.tpm.specs.FilesOnLinks.{RunsTo}
 use Rattle.tpm.specs.Texts.{report_line, run_text, status_of}
-use Rattle.tpm.specs.Listing.{listing}
+use Rattle.listings.specs.Listing.{listing}
 
 -- ---- the bytes of a module file
 
@@ -38,6 +41,7 @@ pub record IsAccepted (m : Contents) (text : Text) : Type 0 where
 abbrev pub WithholdsVerdict : Contents → Failure → Type 0
 WithholdsVerdict m (failures.Malformed fault) = ⊥
 WithholdsVerdict m (failures.Uncertified refusal) = Reports m refusal
+WithholdsVerdict m (failures.Explained refusal text) = ⊥
 WithholdsVerdict m (failures.Uncompiled fault) = ⊥
 WithholdsVerdict m (failures.NotUpgraded fault) = ⊥
 WithholdsVerdict m (failures.Unread path) = ⊥
@@ -54,13 +58,22 @@ pub record IsJudged (bytes : List ℕ) (asked : Asked) (holds_of : Contents → 
   pub certified : wants_verdict asked ≡ true → IsCertified contents
   pub holds : holds_of contents
 
--- The module's verdict is wanted. The bytes are its file, and unless memory ran out it breaks this rule there and none
--- before.
+-- Why nothing is reported of a module: its verdict is wanted, and unless memory ran out it breaks this rule there and
+-- none before. Of a verdict that is to be explained, only that memory ran out is no part of what is reported.
+abbrev pub Withholds : Contents → Asked → Refusal → Type 0
+Withholds m (explains path) refusal = refusal ≡ out_of_memory
+Withholds m asked refusal = (wants_verdict asked ≡ true) × Reports m refusal
+
+-- The bytes are the file of a module of which nothing is reported for this reason.
 pub record IsUncertified (bytes : List ℕ) (asked : Asked) (refusal : Refusal) : Type 0 where
-  pub wanted : wants_verdict asked ≡ true
   pub contents : Contents
   pub format : Format bytes contents
-  pub reported : Reports contents refusal
+  pub withheld : Withholds contents asked refusal
+
+-- An explanation is asked for. The module is refused for this, and this text explains it.
+abbrev pub IsRefusedWith : List ℕ → Asked → Refusal → Text → Type 0
+IsRefusedWith bytes (explains path) refusal text = IsRefusalExplained bytes refusal text
+IsRefusedWith bytes asked refusal text = ⊥
 
 -- A source is asked for that becomes no module, for this reason.
 abbrev pub IsUncompiled : List ℕ → Asked → CompileFault → Type 0
@@ -117,6 +130,7 @@ module _ {F R W : Type 0} (opens : F → Text → Result R FileFault → F → T
   TellsOf m (verifies path) before after text = IsAccepted m text × (after ≡ before)
   TellsOf m (runs path inputs outputs) before after text = HasRun m inputs outputs before after text
   TellsOf m (lists path) before after text = (text ≡ listing m) × (after ≡ before)
+  TellsOf m (explains path) before after text = IsExplained m text × (after ≡ before)
 
   -- a file of a link or a link failed, or memory ran out for them
   abbrev pub StopsIn : Contents → Asked → F → F → Failure → Type 0
@@ -125,6 +139,7 @@ module _ {F R W : Type 0} (opens : F → Text → Result R FileFault → F → T
   StopsIn m (verifies path) before after failure = ⊥
   StopsIn m (runs path inputs outputs) before after failure = RunOf m inputs outputs before after (Err failure)
   StopsIn m (lists path) before after failure = ⊥
+  StopsIn m (explains path) before after failure = ⊥
 
   -- what is asked for was done, but is not reported
   abbrev pub IsDone : Contents → Asked → F → F → Type 0
@@ -134,11 +149,13 @@ module _ {F R W : Type 0} (opens : F → Text → Result R FileFault → F → T
   IsDone m (runs path inputs outputs) before after =
       (report : RunReport) × RunOf m inputs outputs before after (Ok report)
   IsDone m (lists path) before after = after ≡ before
+  IsDone m (explains path) before after = after ≡ before
 
   -- why no run is reported
   abbrev pub WithholdsRun : Contents → Asked → F → F → Failure → Type 0
   WithholdsRun m asked before after (failures.Malformed fault) = ⊥
   WithholdsRun m asked before after (failures.Uncertified refusal) = Reports m refusal × (after ≡ before)
+  WithholdsRun m asked before after (failures.Explained refusal text) = ⊥
   WithholdsRun m asked before after (failures.Uncompiled fault) = ⊥
   WithholdsRun m asked before after (failures.NotUpgraded fault) = ⊥
   WithholdsRun m asked before after failures.Unwritten = ⊥
@@ -175,11 +192,13 @@ module _ {F R W : Type 0} (opens : F → Text → Result R FileFault → F → T
       (u : ⊤) × UpgradesAndWrites creates closes written bytes new before after (Ok u)
   IsUntold bytes asked before after = IsJudged bytes asked (λ m. IsDone m asked before after)
 
-  -- why nothing is reported about the source or the module in the bytes
+  -- why nothing is reported about the source or the module in the bytes, or why the module is refused that is explained
   abbrev pub IsHindered : List ℕ → Asked → F → F → Failure → Type 0
   IsHindered bytes asked before after (failures.Malformed fault) = IsMalformed bytes fault × (after ≡ before)
   IsHindered bytes asked before after (failures.Uncertified refusal) =
       IsUncertified bytes asked refusal × (after ≡ before)
+  IsHindered bytes asked before after (failures.Explained refusal text) =
+      IsRefusedWith bytes asked refusal (string_bytes text) × (after ≡ before)
   IsHindered bytes asked before after (failures.Uncompiled fault) =
       IsUncompiled bytes asked fault × (after ≡ before)
   IsHindered bytes asked before after (failures.NotUpgraded fault) =
@@ -201,6 +220,11 @@ module _ {F R W : Type 0} (opens : F → Text → Result R FileFault → F → T
     abbrev pub Hinders : Asked → F → F → Failure → Type 0
     Hinders asked before after failure = Reads asked before (λ bytes next. IsHindered bytes asked next after failure)
 
+    -- The module in the file is refused, and this text explains it.
+    abbrev pub RefusesWith : Asked → F → F → Text → Type 0
+    RefusesWith asked before after text =
+        (refusal : Refusal) × Reads asked before (λ bytes next. IsRefusedWith bytes asked refusal text × (after ≡ next))
+
     -- what is reported about the file that is asked for, or why nothing is
     abbrev pub Answers : Asked → F → F → Result Text Failure → Type 0
     Answers asked before after (Ok text) = Reads asked before (λ bytes next. IsTold bytes asked next after text)
@@ -212,13 +236,17 @@ module _ {F R W : Type 0} (opens : F → Text → Result R FileFault → F → T
         reads before (path_of asked) (Err file_faults.Memory) after ⊎ Hinders asked before after failures.Memory
     Answers asked before after (Err failure) = Hinders asked before after failure
 
-    -- What the program did as asked: it wrote the report, or it wrote nothing and returned why, or standard output
-    -- failed.
+    -- What the program did as asked: it wrote the report; it wrote the explanation of a refusal, and returned that; it
+    -- wrote nothing and returned why; or standard output failed.
     abbrev pub Performs : Asked → F → F → Option (List ℕ) → Option (List ℕ) → Result ⊤ Failure → Type 0
     Performs asked before after out_before out_after (Ok _) =
         (text : Text) × Answers asked before after (Ok text) × Appends out_before out_after text
+    Performs asked before after out_before out_after (Err (failures.Explained refusal text)) =
+        Answers asked before after (Err (failures.Explained refusal text))
+        × Appends out_before out_after (string_bytes text)
     Performs asked before after out_before out_after (Err failures.Unwritten) =
-        (text : Text) × Answers asked before after (Ok text) × HoldsBeginning out_before out_after text
+        (text : Text) × (Answers asked before after (Ok text) ⊎ RefusesWith asked before after text)
+        × HoldsBeginning out_before out_after text
     Performs asked before after out_before out_after (Err failure) =
         Answers asked before after (Err failure) × (out_after ≡ out_before)
 
@@ -233,6 +261,9 @@ module _ {F R W : Type 0} (opens : F → Text → Result R FileFault → F → T
       refused : (asked : Asked) → line_of words ≡ Some asked
           → Reads asked before (λ bytes next. IsRefusedBy bytes asked × (after ≡ next))
           → out_after ≡ out_before → status ≡ REFUSED → Acts words before after out_before out_after status
+      -- the verifier refuses the module, which is explained, and nothing else
+      explained : (asked : Asked) (text : Text) → line_of words ≡ Some asked → RefusesWith asked before after text
+          → Appends out_before out_after text → status ≡ REFUSED → Acts words before after out_before out_after status
       -- the words ask for nothing, and no file is touched
       misused : line_of words ≡ None → after ≡ before → out_after ≡ out_before → status ≡ MISUSED
           → Acts words before after out_before out_after status
@@ -247,6 +278,10 @@ module _ {F R W : Type 0} (opens : F → Text → Result R FileFault → F → T
       -- standard output failed, and holds a beginning of what is reported
       unwritten : (asked : Asked) (text : Text) → line_of words ≡ Some asked
           → Reads asked before (λ bytes next. IsTold bytes asked next after text)
+          → HoldsBeginning out_before out_after text → status ≡ FAILED
+          → Acts words before after out_before out_after status
+      -- standard output failed, and holds a beginning of the explanation of a refusal
+      unexplained : (asked : Asked) (text : Text) → line_of words ≡ Some asked → RefusesWith asked before after text
           → HoldsBeginning out_before out_after text → status ≡ FAILED
           → Acts words before after out_before out_after status
       -- memory ran out at the words, and no file is touched

@@ -9,20 +9,21 @@ use Rattle.clap.specs.Faults.{fault_of}
 use Rattle.machine_state.specs.declared.link.Link.TheVariants.{Zero, One, Two, Three}
 use Rattle.link_runs.specs.ByLink.{ByLink, by_link}
 use Rattle.tpm.specs.declared.line.Line.{Line}
-use Rattle.tpm.specs.declared.line.Line.TheVariants.{Compile, Upgrade, Verify, Run, List as Listed}
+use Rattle.tpm.specs.declared.line.Line.TheVariants.{Compile, Upgrade, Verify, Run, List as Listed, Explain}
 use Rattle.module_format.specs.declared.rows.Direction.{Direction}
 use Rattle.module_format.specs.declared.rows.Direction.TheVariants.{In, Out}
 use Rattle.tpm.specs.Links.{link_name, paths_of}
 
 -- what is asked for: the module of a source file, written to another file; a module file in version 2, written to
--- another file; the verdict on a module file, its run with files on its input links and output links, or the listing of
--- its code
+-- another file; the verdict on a module file, its run with files on its input links and output links, the listing of
+-- its code, or the explanation of its verdict
 pub data Asked : Type 0 where
   compiles : Text → Text → Asked
   upgrades : Text → Text → Asked
   verifies : Text → Asked
   runs : Text → ByLink (Option Text) → ByLink (Option Text) → Asked
   lists : Text → Asked
+  explains : Text → Asked
 
 -- the file that is read first
 abbrev pub path_of : Asked → Text
@@ -31,14 +32,16 @@ path_of (upgrades old new) = old
 path_of (verifies path) = path
 path_of (runs path inputs outputs) = path
 path_of (lists path) = path
+path_of (explains path) = path
 
--- of a module all but a listing and its upgrade want its verdict first
+-- of a module all but a listing, an explanation and its upgrade want its verdict first
 abbrev pub wants_verdict : Asked → Bool
 wants_verdict (compiles source out) = false
 wants_verdict (upgrades old new) = false
 wants_verdict (verifies path) = true
 wants_verdict (runs path inputs outputs) = true
 wants_verdict (lists path) = false
+wants_verdict (explains path) = false
 
 -- ---- the command
 
@@ -81,7 +84,7 @@ with_links direction s =
 abbrev pub run_shape : Shape
 run_shape = with_links Out (with_links In (subcommand_shape (codes "run")))
 
--- `tpm compile SRC OUT`, `tpm verify MOD`, `tpm run MOD` with files on the links, `tpm list MOD`, and
+-- `tpm compile SRC OUT`, `tpm verify MOD`, `tpm run MOD` with files on the links, `tpm list MOD`, `tpm explain MOD`, and
 -- `tpm upgrade OLD NEW`
 abbrev pub tpm : App
 tpm = record {
@@ -93,7 +96,7 @@ tpm = record {
   };
   subs =
       compile_shape ∷ subcommand_shape (codes "verify") ∷ run_shape ∷ subcommand_shape (codes "list")
-      ∷ upgrade_shape ∷ [];
+      ∷ subcommand_shape (codes "explain") ∷ upgrade_shape ∷ [];
 }
 
 -- ---- the meaning of the words
@@ -106,7 +109,8 @@ abbrev pub named : Text → List Row → Text → Option Asked
 named name rows path =
     if bytes_eq name (codes "verify") then Some (verifies path) else
     if bytes_eq name (codes "run") then Some (runs path (paths_given In rows) (paths_given Out rows)) else
-    if bytes_eq name (codes "list") then Some (lists path) else None
+    if bytes_eq name (codes "list") then Some (lists path) else
+    if bytes_eq name (codes "explain") then Some (explains path) else None
 
 -- the module of the source, written to the file, where both paths are given
 abbrev pub compiled_by : List Row → Option Asked
@@ -145,3 +149,4 @@ asked_of (Upgrade path out) = upgrades path.now out.now
 asked_of (Verify path) = verifies path.now
 asked_of (Run path inputs outputs) = runs path.now (paths_of inputs) (paths_of outputs)
 asked_of (Listed path) = lists path.now
+asked_of (Explain path) = explains path.now

@@ -42,6 +42,7 @@ module _ {F R W : Type 0} (creates : F → Text → Result W FileFault → F →
   CreatesAndRuns (Ok report) = RunsWithCreated (Ok report)
   CreatesAndRuns (Err (failures.Malformed fault)) = ⊥
   CreatesAndRuns (Err (failures.Uncertified refusal)) = ⊥
+  CreatesAndRuns (Err (failures.Explained refusal text)) = ⊥
   CreatesAndRuns (Err (failures.Uncompiled fault)) = ⊥
   CreatesAndRuns (Err (failures.NotUpgraded fault)) = ⊥
   CreatesAndRuns (Err (failures.Unread path)) = ⊥
@@ -82,6 +83,7 @@ module _ {F R W : Type 0} (creates : F → Text → Result W FileFault → F →
   RunsOpened (Ok report) = Finishes report
   RunsOpened (Err (failures.Malformed fault)) = ⊥
   RunsOpened (Err (failures.Uncertified refusal)) = ⊥
+  RunsOpened (Err (failures.Explained refusal text)) = ⊥
   RunsOpened (Err (failures.Uncompiled fault)) = ⊥
   RunsOpened (Err (failures.NotUpgraded fault)) = ⊥
   RunsOpened (Err (failures.Unread path)) = ⊥
@@ -111,6 +113,7 @@ module _ {F R W : Type 0} (opens : F → Text → Result R FileFault → F → T
   RunsTo (Ok report) = OpensAndRuns (Ok report)
   RunsTo (Err (failures.Malformed fault)) = ⊥
   RunsTo (Err (failures.Uncertified refusal)) = ⊥
+  RunsTo (Err (failures.Explained refusal text)) = ⊥
   RunsTo (Err (failures.Uncompiled fault)) = ⊥
   RunsTo (Err (failures.NotUpgraded fault)) = ⊥
   RunsTo (Err (failures.Unread path)) = FailsToOpen path.now file_faults.Failed

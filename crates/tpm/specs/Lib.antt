@@ -2,11 +2,10 @@ pub mod Links
 pub mod CommandLine
 pub mod LineFaults
 pub mod Texts
-pub mod Names
-pub mod Listing
 pub mod FilesInOrder
 pub mod FilesOnLinks
 pub mod Compiling
 pub mod Malformed
 pub mod Upgrading
+pub mod Explaining
 pub mod Acting

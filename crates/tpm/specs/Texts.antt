@@ -13,7 +13,7 @@ use Rattle.link_runner.specs.declared.report.Report.{Report as RunReport}
 use Rattle.tpm.specs.declared.report.Report.{Report}
 use Rattle.tpm.specs.declared.report.Report.TheVariants.{Compiled, Upgraded, Accepted, Ended, Idle}
 use Rattle.tpm.specs.declared.report.Failure.{Failure}
-use Rattle.tpm.specs.declared.report.Failure.TheVariants.{Malformed, Uncertified, Uncompiled, NotUpgraded}
+use Rattle.tpm.specs.declared.report.Failure.TheVariants.{Malformed, Uncertified, Explained, Uncompiled, NotUpgraded}
 use Rattle.tpm.specs.declared.report.Failure.TheVariants.{Unread, Uncreated, ReadFailed, WriteFailed, Unwritten, Memory}
 use Rattle.tpm.specs.declared.report.TheConstants.{REFUSED, FAILED, STARVED}
 use Rattle.tpm.specs.Links.{link_name}
@@ -68,6 +68,7 @@ run_text inputs outputs report =
 abbrev pub status_of : Failure → ℕ
 status_of (Malformed fault) = REFUSED
 status_of (Uncertified refusal) = REFUSED
+status_of (Explained refusal text) = REFUSED
 status_of (Uncompiled fault) = REFUSED
 status_of (NotUpgraded fault) = REFUSED
 status_of (Unread path) = FAILED

@@ -12,16 +12,17 @@ ghost use Rattle.tpm.specs.Acting.{WithholdsVerdict};
 
 use crate::command_line::line;
 use crate::compiling::compile_to_file;
+use crate::explaining::explain;
 use crate::files::{FileFault, Files};
 use crate::line::{Line, LineFault};
 use crate::links::LinkPaths;
-use crate::listing::listing;
 use crate::report::{DONE, Failure, MISUSED, Report, STARVED};
 use crate::run_report::run_report;
 use crate::running::run_with_files;
 use crate::telling::tell;
 use crate::upgrading::upgrade_to_file;
 use certificate::Module;
+use listings::listing;
 use std::alloc::Global;
 use std::io::Write;
 use verifier::verify;
@@ -94,6 +95,10 @@ fn judge<'a, F: Files>(
             let module = Module::read(alloc, bytes)?;
             Ok(listing(alloc, &module)?)
         }
+        Line::Explain { .. } => {
+            let module = Module::read(alloc, bytes)?;
+            explain(alloc, &module)
+        }
     }
 }
 
@@ -106,7 +111,8 @@ fn read_path<'a>(line: Line<'a>) -> &'a str
         Line::Upgrade { path, .. }
         | Line::Verify { path }
         | Line::Run { path, .. }
-        | Line::List { path } => path,
+        | Line::List { path }
+        | Line::Explain { path } => path,
     }
 }
 
@@ -124,7 +130,7 @@ fn answer<'a, F: Files>(alloc: Global, line: Line<'a>, files: &mut F) -> Result<
     }
 }
 
-/// Does what is asked for, and reports it on `out`.
+/// Does what is asked for, and reports it on `out`, where a refusal that is explained is, too.
 fn perform<'a, F: Files, O: Write>(
     alloc: Global,
     line: Line<'a>,
@@ -135,8 +141,14 @@ fn perform<'a, F: Files, O: Write>(
         (inside F.Writer.written) (inside F.Writer.failed)
         F.reads (asked_of line.entry) files.old files.new (O.contents out.old) (O.contents out.new) result }
 {
-    let text = answer(alloc, line, files)?;
-    tell(text.as_bytes(), out)
+    match answer(alloc, line, files) {
+        Ok(text) => tell(text.as_bytes(), out),
+        Err(Failure::Explained { refusal, text }) => match tell(text.as_bytes(), out) {
+            Ok(()) => Err(Failure::Explained { refusal, text }),
+            Err(failure) => Err(failure),
+        },
+        Err(failure) => Err(failure),
+    }
 }
 
 /// Reports on `err` why nothing was done, and returns the exit status. A failure of `err` is not reported.

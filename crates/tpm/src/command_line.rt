@@ -1,6 +1,6 @@
 //! The reading of a command line. It is a module of its own, since its check takes long.
 
-ghost use Rattle.std.specs.Prelude.{◌≡◌, IfOk, IfErr, Some, false, option_map, option_and_then};
+ghost use Rattle.std.specs.Prelude.{◌≡◌, IfOk, IfErr, Some, false, codes, option_map, option_and_then};
 ghost use Rattle.clap.specs.Matches.{found_of};
 ghost use Rattle.clap.specs.Simple.{app_of, shape_of, subcommand_rows_of, with_subcommand};
 ghost use Rattle.clap.specs.declared.builder.command.Command.TheViews.{out-Command as fields_of};
@@ -128,6 +128,20 @@ fn with_subcommand<'a>(
     command.subcommand(subcommand)
 }
 
+/// A command with two more subcommands, which list the code of a module and explain the verdict on it.
+fn with_descriptions<'a>(alloc: Global, command: Command<'a>) -> Result<Command<'a>, AllocError>
+    ensures { let listed = with_subcommand (app_of command.entry) (subcommand_shape (codes "list")) in
+        IfOk result (λ c. app_of c ≡ with_subcommand listed (subcommand_shape (codes "explain"))) }
+{
+    let command = with_subcommand(alloc, command, "list", "Lists the instructions of a module")?;
+    with_subcommand(
+        alloc,
+        command,
+        "explain",
+        "Explains the verdict on a module",
+    )
+}
+
 /// A command with one more subcommand, which runs a module.
 fn with_run<'a>(alloc: Global, command: Command<'a>) -> Result<Command<'a>, AllocError>
     ensures { IfOk result (λ c. app_of c ≡ with_subcommand (app_of command.entry) run_shape) }
@@ -157,13 +171,15 @@ fn command<'a>(alloc: Global) -> Result<Command<'a>, AllocError>
     ensures { IfOk result (λ c. app_of c ≡ tpm) }
 {
     let tpm = Command::new(alloc, "tpm")
-        .about("Compiles occam programs, and verifies, runs, lists and upgrades transputer modules")
+        .about(
+            "Compiles occam programs, and verifies, explains, runs, lists and upgrades transputer modules",
+        )
         .subcommand_required(true)
         .disable_help_subcommand(true);
     let tpm = with_compile(alloc, tpm)?;
     let tpm = with_subcommand(alloc, tpm, "verify", "Tells whether a module is certified")?;
     let tpm = with_run(alloc, tpm)?;
-    let tpm = with_subcommand(alloc, tpm, "list", "Lists the instructions of a module")?;
+    let tpm = with_descriptions(alloc, tpm)?;
     with_upgrade(alloc, tpm)
 }
 
@@ -198,6 +214,7 @@ fn line_named<'a>(name: &str, given: &ArgMatches<'a>, path: &'a str) -> Option<L
             outputs: paths_given(given, Direction::Out),
         }),
         "list" => Some(Line::List { path }),
+        "explain" => Some(Line::Explain { path }),
         _ => None,
     }
 }
@@ -251,7 +268,8 @@ fn asked<'a>(matches: &ArgMatches<'a>) -> Option<Line<'a>>
 }
 
 /// What the words of a command line ask for, of which the first is the program's name: `compile SRC OUT`, `verify MOD`,
-/// `list MOD`, `upgrade OLD NEW`, or `run MOD` with the options `--in0 F` to `--in3 F` and `--out0 F` to `--out3 F`.
+/// `list MOD`, `explain MOD`, `upgrade OLD NEW`, or `run MOD` with the options `--in0 F` to `--in3 F` and `--out0 F` to
+/// `--out3 F`.
 pub fn line<'a>(alloc: Global, words: &'a [&'a str]) -> Result<Line<'a>, LineFault>
     ensures asked { IfOk result (λ l. line_of (texts words.entry.now) ≡ Some (asked_of l)) }
     // A body that always reports that memory ran out meets this too, since no clause can say that memory

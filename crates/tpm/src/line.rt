@@ -35,6 +35,10 @@ pub enum Line<'a> {
     List {
         path: &'a str,
     },
+    /// The explanation of the verdict on the module in the file of this path.
+    Explain {
+        path: &'a str,
+    },
 }
 
 /// Why a command line asks for nothing.

@@ -1,14 +1,13 @@
-//! `tpm`: compiles occam programs, and verifies, runs, lists and upgrades transputer modules.
+//! `tpm`: compiles occam programs, and verifies, explains, runs, lists and upgrades transputer modules.
 #![tactic(auto)]
 
 mod acting;
 mod command_line;
 mod compiling;
+mod explaining;
 mod files;
 mod line;
 mod links;
-mod listing;
-mod names;
 mod opened;
 mod report;
 mod run_report;

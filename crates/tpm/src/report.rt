@@ -1,4 +1,4 @@
-//! What is reported about a module or a source, and why there is nothing to report.
+//! What is reported about a module or a source, and why nothing is, or why the module is refused.
 
 ghost use Rattle.std.specs.Prelude.{◌≡◌, Some};
 ghost use Rattle.tpm.specs.Texts.{report_text, status_of};
@@ -60,6 +60,9 @@ pub enum Failure<'a> {
     /// The module is not certified.
     #[error("refused V{} at {}", .0.number, .0.offset)]
     Uncertified(Refusal),
+    /// The module is not certified, and this text explains why.
+    #[error("refused V{} at {}", .refusal.number, .refusal.offset)]
+    Explained { refusal: Refusal, text: String },
     /// The source becomes no module.
     #[error("refused {0}")]
     Uncompiled(CompileFault),
@@ -144,6 +147,7 @@ impl Failure<'_> {
         match self {
             Failure::Malformed(_)
             | Failure::Uncertified(_)
+            | Failure::Explained { .. }
             | Failure::Uncompiled(_)
             | Failure::NotUpgraded(_) => REFUSED,
             Failure::Unread(_)

@@ -12,6 +12,16 @@ pub(crate) const JUMP: [u8; 122] = [
     0, 0, 0,
 ];
 
+/// `ldc 5`, `stl 1`, `ldl 1`, `adc 1`, `stl 1`, `stopp`, and a label row at `ldl 1`, by which the word is a number from 0
+/// to the greatest: so the sum may not fit a word.
+pub(crate) const TOO_GREAT: [u8; 123] = [
+    0x54, 0x50, 0x4d, 0x31, 7, 0, 0, 0, 0, 0, 0, 0, 5, 0, 0, 0, 3, 0, 0, 0, 7, 0, 0, 0, 0, 0, 0, 0,
+    7, 0, 0, 0, 0, 0, 0, 0, 0, 0, 0, 0, 0, 0, 0, 0, 0, 0, 0, 0, 0, 0, 0, 0, 0, 0, 0, 0, 0, 0, 0, 0,
+    0, 0, 0, 0, 0, 0, 0, 0, 1, 0, 0, 0, 0, 0, 0, 0, 0x45, 0xd1, 0x71, 0x81, 0xd1, 0x21, 0xf5, 2, 0,
+    0, 0, 0, 0, 0, 0, 0, 0, 5, 0, 0, 0, 0, 0, 0, 0, 0, 0, 0, 1, 0, 1, 0, 0, 0, 1, 0, 0, 0, 1, 0, 0,
+    0, 0, 0xff, 0xff, 0xff, 0x7f,
+];
+
 /// A module of version 2 with each kind of row: `assemble` makes it of the draft in `drafts`. A PAR has two branches,
 /// of which one sends the word 5 to the other over a channel; after it the constant, of which a table row says that it
 /// is 7, is passed to a procedure that wants a number from 0 to 10. Each of its 46 bytes of code is executed once.

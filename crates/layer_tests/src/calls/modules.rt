@@ -1,5 +1,6 @@
-//! Calls that read, write, verify and run modules.
+//! Calls that read, write, verify, explain and run modules.
 
+use super::explained::explained;
 use super::{Answer, refused};
 use accepted_runs::{Replay, replay};
 use certificate::{Module, ModuleFile};
@@ -18,6 +19,8 @@ pub(crate) enum Question<'e> {
     Written,
     /// The budget with which it is accepted.
     Verified,
+    /// How many bytes its explanation has, if it ends with this text.
+    Explained(&'e str),
     /// How many bytes are executed by these events, if they finish it.
     Executed(&'e [Event]),
     /// How many bytes a replay of these events executes and sends on output link 0, if they finish it.
@@ -89,6 +92,7 @@ fn asked_of(alloc: Global, module: &Module, file: &[u8], question: Question) -> 
     match question {
         Question::Labels => Answer::Counts(module.tables().labels.len() as u64),
         Question::Written => written(alloc, module, file),
+        Question::Explained(end) => explained(alloc, module, end),
         Question::Verified | Question::Replayed(_) => verified(alloc, module, question),
         Question::Executed(events) => loaded(alloc, module, events),
     }

@@ -18,3 +18,7 @@ returns-in-run c =
 pub returns-in-list : goal.returns-in-list
 returns-in-list c =
     sym (ap (λ (n : Text). named n (rows_of (found_of c.args.given.now)) c.args.path.now) c.in-list.is)
+
+pub returns-in-explain : goal.returns-in-explain
+returns-in-explain c =
+    sym (ap (λ (n : Text). named n (rows_of (found_of c.args.given.now)) c.args.path.now) c.in-explain.is)

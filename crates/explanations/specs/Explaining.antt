@@ -1,0 +1,69 @@
+-- The explanation of the verdict on a module: what is known at each instruction, up to the first rule that is broken.
+use Rattle.std.specs.Prelude.{◌≡◌, ℕ, zero, suc, ◌+◌, ◌≤◌, ◌-◌, nat_le, if◌then◌else◌, pos, length, ◌++◌, Option, Some}
+use Rattle.std.specs.Prelude.{None, Result, Ok, Err}
+use Rattle.prefix_decoder.specs.declared.decoding.Instr.{Instr}
+use Rattle.prefix_decoder.specs.declared.decoding.DecodeFault.{DecodeFault}
+use Rattle.prefix_decoder.specs.Fetching.{fetched}
+use Rattle.module_format.specs.Contents.{Contents}
+use Rattle.states.specs.declared.known.Mode.TheVariants.{Plain}
+use Rattle.states.specs.declared.rule.Rule.{Rule}
+use Rattle.states.specs.State.{State, root_state}
+use Rattle.certified_worlds.specs.Certified.{state_at, entering}
+use Rattle.verifier.specs.Judge.{Verdict, refused, judged_at, first_start}
+use Rattle.fact_texts.specs.Texts.{Text}
+use Rattle.state_texts.specs.declared.settings.Setting.{Setting}
+use Rattle.sentences.specs.Sights.{sight_text, setting_after, is_at_entry, breach_text, hidden_text, unspelled_text}
+use Rattle.sentences.specs.Sights.{ended_text}
+
+-- ---- the walk
+
+-- the state that breaks the rule: the one that falls into the offset, or the one there
+abbrev pub breaking : Contents → ℕ → Option State → Rule → Option State
+breaking m at before broken = if is_at_entry (entering m at before) broken then before else state_at m at before
+
+abbrev pub starts_text : (ℕ → Option State → Setting → Text) → ℕ → ℕ → Option State → Setting → Option ℕ → Text
+starts_text go at to after before (Some inside) = hidden_text at inside
+starts_text go at to after before None = go to after before
+
+-- the instruction that breaks a rule, the state that breaks it, and why
+unfoldable pub last_text : Contents → ℕ → Instr → Option State → Setting → Rule → Text
+last_text m at i before setting broken =
+    let by = breaking m at before broken in
+    sight_text m at setting by ++ breach_text m at i broken (is_at_entry (entering m at before) broken) by
+
+abbrev pub rule_text : Contents → (ℕ → Option State → Setting → Text) → ℕ → Instr → Option State → Setting
+    → Result (Option State) Rule → Text
+rule_text m go at i before setting (Err broken) = last_text m at i before setting broken
+rule_text m go at i before setting (Ok after) =
+    let reached = state_at m at before in
+    sight_text m at setting reached
+    ++ starts_text go at (at + i.len) after (setting_after setting reached) (first_start m (at + 1) (i.len - 1))
+
+abbrev pub fetched_text : Contents → (ℕ → Option State → Setting → Text) → ℕ → Option State → Setting
+    → Result Instr DecodeFault → Text
+fetched_text m go at before setting (Err e) = unspelled_text m at
+fetched_text m go at before setting (Ok i) = rule_text m go at i before setting (judged_at m at before i)
+
+-- from an offset on, with at most this number of instructions, where the setting before is this one
+unfoldable pub explained : ℕ → Contents → ℕ → Option State → Setting → Text
+explained zero m at before setting = ended_text m at before
+explained (suc more) m at before setting =
+    if nat_le (length m.code) at then ended_text m at before
+    else fetched_text m (λ to after next. explained more m to after next) at before setting (fetched m.code at)
+
+-- the setting of the root
+abbrev pub root_setting : Setting
+root_setting = record { context = 0; depth = pos 0; mode = Plain }
+
+abbrev pub explanation : Contents → Text
+explanation m = explained (length m.code) m 0 (Some (root_state m)) root_setting
+
+-- the module is not refused at the offset
+abbrev pub IsElsewhere : Verdict → ℕ → Type 0
+IsElsewhere judged at = (rule : Rule) → judged ≡ refused rule at → ⊥
+
+-- What is written goes up to an offset into which this state falls, where the setting before is this one.
+pub record Explains (m : Contents) (written : Text) (at : ℕ) (before : Option State) (setting : Setting) : Type 0 where
+  pub more : ℕ
+  pub enough : length m.code ≤ at + more
+  pub all : explanation m ≡ written ++ explained more m at before setting

@@ -1,0 +1,2 @@
+pub mod Explaining
+pub mod Endings

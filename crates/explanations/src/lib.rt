@@ -1,0 +1,8 @@
+//! The explanation of the verdict on a module.
+#![tactic(auto)]
+
+mod explaining;
+mod laws;
+
+pub use explaining::explanation;
+pub use laws::explanations_tell_the_verdict;

@@ -1,0 +1,226 @@
+//! The rows of a module, in words: a line for each.
+
+ghost use Rattle.std.specs.Prelude.{◌≡◌, ◌++◌, OnOk, Some, string_bytes};
+ghost use Rattle.module_format.specs.Contents.{branch_of, contents_of, label_of, procedure_of};
+ghost use Rattle.fact_texts.specs.RowTexts.{branch_text, context_name, context_text, label_text, procedure_text};
+ghost use Rattle.fact_texts.specs.RowTexts.{registers_text, is_unknown, label_head, procedure_head, branch_head};
+ghost use Rattle.fact_texts.specs.RowTexts.{gifts_text, list_text};
+
+use crate::facts::FactText;
+use crate::items::{Item, push_items};
+use module_format::{BranchRow, Fact, LabelRow, ProcedureRow, Stack, Tables};
+use std::alloc::AllocError;
+use std::fmt;
+
+/// A context by its number: the root, then procedures, and from the first branch on branches.
+#[derive(Clone, Copy)]
+pub struct ContextText {
+    pub first_branch: usize,
+    pub number: u32,
+}
+
+impl fmt::Display for ContextText {
+    ghost output = { λ context. Some (context_name context.first_branch context.number) };
+
+    fn fmt<W: fmt::Write>(&self, f: &mut fmt::Formatter<W>) -> fmt::Result {
+        let ContextText {
+            first_branch,
+            number,
+        } = *self;
+        if number == 0 {
+            return write!(f, "root");
+        }
+        if (number as usize) < first_branch {
+            return write!(f, "procedure {number}");
+        }
+        write!(f, "branch {number}")
+    }
+}
+
+/// A context of a module.
+pub fn context_text(tables: &Tables<'_>, number: u32) -> ContextText
+    ensures { context_name result.first_branch result.number ≡ context_text (contents_of tables.now) number }
+{
+    ContextText {
+        first_branch: tables.first_branch(),
+        number,
+    }
+}
+
+/// A register by its name, if something is known of it.
+#[derive(Clone, Copy)]
+struct RegisterText {
+    name: &'static str,
+    fact: Fact,
+}
+
+/// Whether nothing is known.
+pub fn is_unknown(fact: Fact) -> bool
+    ensures { result ≡ is_unknown fact }
+{
+    matches!(fact, Fact::Unknown)
+}
+
+impl fmt::Display for RegisterText {
+    ghost use Rattle.fact_texts.specs.RowTexts.{register_text};
+
+    ghost output = { λ register. Some (register_text register.name.now register.fact) };
+
+    fn fmt<W: fmt::Write>(&self, f: &mut fmt::Formatter<W>) -> fmt::Result {
+        let RegisterText { name, fact } = *self;
+        if is_unknown(fact) {
+            return write!(f, "");
+        }
+        write!(f, ", {name} {}", FactText(fact))
+    }
+}
+
+/// Appends the registers of which something is known.
+#[tactic(auto, unfolding(crate::specs::RowTexts::registers_text))]
+fn push_registers(text: &mut String, stack: Stack<Fact>) -> Result<(), AllocError>
+    ensures { OnOk result (string_bytes text.new ≡ string_bytes text.old ++ registers_text stack) }
+{
+    let a = RegisterText {
+        name: "A",
+        fact: stack.a,
+    };
+    let b = RegisterText {
+        name: "B",
+        fact: stack.b,
+    };
+    let c = RegisterText {
+        name: "C",
+        fact: stack.c,
+    };
+    write!(text, "{a}{b}{c}")
+}
+
+/// Appends what a line says of a label before its registers.
+#[tactic(auto, using(crate::proofs::SixDigits::six_digits_written), unfolding(crate::specs::RowTexts::label_head))]
+fn push_label_head(text: &mut String, tables: &Tables<'_>, row: &LabelRow) -> Result<(), AllocError>
+    ensures { OnOk result (string_bytes text.new
+        ≡ string_bytes text.old ++ label_head (contents_of tables.now) (label_of row.now)) }
+{
+    let context = context_text(tables, u32::from(row.context));
+    let LabelRow {
+        offset,
+        depth,
+        number,
+        ..
+    } = *row;
+    write!(
+        text,
+        "{offset:06} label: {context}, depth {depth}, number {number}"
+    )
+}
+
+/// Appends the line of a label.
+pub fn push_label(text: &mut String, tables: &Tables<'_>, row: &LabelRow) -> Result<(), AllocError>
+    ensures { OnOk result (string_bytes text.new
+        ≡ string_bytes text.old ++ label_text (contents_of tables.now) (label_of row.now)) }
+{
+    push_label_head(text, tables, row)?;
+    push_registers(text, row.stack)?;
+    push_items(text, &row.entries)?;
+    text.push_str("\n")?;
+    Ok(())
+}
+
+/// Appends what a line says of a procedure before its parameters.
+#[tactic(auto, using(crate::proofs::SixDigits::six_digits_written), unfolding(crate::specs::RowTexts::procedure_head))]
+fn push_procedure_head(
+    text: &mut String,
+    tables: &Tables<'_>,
+    context: u32,
+    row: &ProcedureRow,
+) -> Result<(), AllocError>
+    ensures { OnOk result (string_bytes text.new
+        ≡ string_bytes text.old ++ procedure_head (contents_of tables.now) context (procedure_of row.now)) }
+{
+    let context = context_text(tables, context);
+    let ProcedureRow {
+        entry,
+        lo,
+        hi,
+        number,
+        ..
+    } = *row;
+    write!(
+        text,
+        "{entry:06} {context}: frame from {lo} up to {hi}, number {number}"
+    )
+}
+
+/// Appends the line of a procedure, whose number as a context is given.
+pub fn push_procedure(
+    text: &mut String,
+    tables: &Tables<'_>,
+    context: u32,
+    row: &ProcedureRow,
+) -> Result<(), AllocError>
+    ensures { OnOk result (string_bytes text.new
+        ≡ string_bytes text.old ++ procedure_text (contents_of tables.now) context (procedure_of row.now)) }
+{
+    push_procedure_head(text, tables, context, row)?;
+    push_items(text, &row.parameters)?;
+    text.push_str("\n")?;
+    Ok(())
+}
+
+/// Appends a list, after the words for it.
+#[tactic(auto, unfolding(crate::specs::RowTexts::list_text))]
+fn push_list<T: Item>(text: &mut String, words: &str, items: &[T]) -> Result<(), AllocError>
+    ensures { OnOk result (string_bytes text.new ≡ string_bytes text.old ++ list_text words.now T.text_of items.now) }
+{
+    text.push_str(words)?;
+    push_items(text, items)?;
+    Ok(())
+}
+
+/// Appends what a branch is given.
+fn push_gifts(text: &mut String, row: &BranchRow) -> Result<(), AllocError>
+    ensures { OnOk result (string_bytes text.new ≡ string_bytes text.old ++ gifts_text (branch_of row.now)) }
+{
+    push_list(text, "; writes words", &row.writes)?;
+    push_list(text, "; reads words", &row.reads)?;
+    push_list(text, "; writes parameters", &row.written_parameters)?;
+    push_list(text, "; reads parameters", &row.read_parameters)?;
+    push_list(text, "; ends", &row.ends)?;
+    Ok(())
+}
+
+/// Appends what a line says of a branch before what it is given.
+#[tactic(auto, using(crate::proofs::SixDigits::six_digits_written), unfolding(crate::specs::RowTexts::branch_head))]
+fn push_branch_head(
+    text: &mut String,
+    tables: &Tables<'_>,
+    context: u32,
+    row: &BranchRow,
+) -> Result<(), AllocError>
+    ensures { OnOk result (string_bytes text.new
+        ≡ string_bytes text.old ++ branch_head (contents_of tables.now) context (branch_of row.now)) }
+{
+    let context = context_text(tables, context);
+    let BranchRow {
+        entry,
+        workspace,
+        ..
+    } = *row;
+    write!(text, "{entry:06} {context}: workspace {workspace}")
+}
+
+/// Appends the line of a branch, whose number as a context is given.
+pub fn push_branch(
+    text: &mut String,
+    tables: &Tables<'_>,
+    context: u32,
+    row: &BranchRow,
+) -> Result<(), AllocError>
+    ensures { OnOk result (string_bytes text.new
+        ≡ string_bytes text.old ++ branch_text (contents_of tables.now) context (branch_of row.now)) }
+{
+    push_branch_head(text, tables, context, row)?;
+    push_gifts(text, row)?;
+    text.push_str("\n")?;
+    Ok(())
+}

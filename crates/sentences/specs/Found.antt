@@ -1,0 +1,178 @@
+-- What was found where an instruction breaks a rule, in words.
+use Rattle.std.specs.Prelude.{ℕ, if◌then◌else◌, ℤ, pos, ◌+ℤ◌, ◌*ℤ◌, length, [], ◌++◌, codes, Option, Some, None}
+use Rattle.std.specs.Fmt.{decimal, signed_decimal}
+use Rattle.module_format.specs.Contents.{Contents}
+use Rattle.module_format.specs.declared.stack.Stack.{Stack}
+use Rattle.machine_state.specs.declared.op.Op.{Op}
+use Rattle.machine_state.specs.declared.op.Op.TheVariants.{AlternationEnd}
+use Rattle.machine_state.specs.declared.instruction.Instruction.{Instruction}
+use Rattle.machine_state.specs.declared.instruction.Instruction.TheVariants.{LoadLocalPointer, LoadLocal, StoreLocal}
+use Rattle.machine_state.specs.declared.instruction.Instruction.TheVariants.{AdjustWorkspace, Operate}
+use Rattle.states.specs.declared.known.Known.{Known}
+use Rattle.states.specs.declared.known.Mode.{Mode}
+use Rattle.states.specs.declared.known.WordFact.{WordFact}
+use Rattle.states.specs.declared.rule.Rule.{Rule}
+use Rattle.states.specs.declared.rule.Rule.TheVariants as rules
+use Rattle.states.specs.State.{State}
+use Rattle.fact_texts.specs.Texts.{Text, range_text}
+use Rattle.fact_texts.specs.FactTexts.{fact_text}
+use Rattle.fact_texts.specs.RowTexts.{is_unknown, context_text}
+use Rattle.fact_texts.specs.declared.facts.RangeText.{RangeText}
+use Rattle.state_texts.specs.StateTexts.{mode_text}
+use Rattle.state_texts.specs.FrameTexts.{word_text}
+use Rattle.sentences.specs.declared.uses.Uses.{Uses}
+use Rattle.sentences.specs.declared.uses.Uses.TheVariants.{Nothing, A, AAndB, All}
+use Rattle.sentences.specs.declared.found.Spot.{Spot}
+use Rattle.sentences.specs.Leads.{lead_of, lead_lack}
+use Rattle.sentences.specs.Uses.{used_by, used, used_for_guards, used_for_pars}
+
+-- ---- registers
+
+-- what is known of the registers that are used
+unfoldable pub registers_found : Uses → Stack Known → Text
+registers_found Nothing stack = codes "no register is used"
+registers_found A stack = codes "A is " ++ fact_text stack.a.fact
+registers_found AAndB stack =
+    codes "A is " ++ (fact_text stack.a.fact ++ (codes " and B is " ++ fact_text stack.b.fact))
+registers_found All stack =
+    codes "A is " ++ (fact_text stack.a.fact ++ (codes ", B is " ++ (fact_text stack.b.fact ++ (codes " and C is "
+    ++ fact_text stack.c.fact))))
+
+-- the first register of which nothing is known; if there is none, it is a byte of a message
+unfoldable pub unknown_found : Stack Known → Text
+unknown_found stack =
+    if is_unknown stack.a.fact then codes "nothing is known of A"
+    else if is_unknown stack.b.fact then codes "nothing is known of B"
+    else if is_unknown stack.c.fact then codes "nothing is known of C"
+    else codes "a byte of the message may be part of no number"
+
+-- the range of a result that does not fit, or else what is known of the registers that are used
+unfoldable pub number_found : Uses → Stack Known → Option RangeText → Text
+number_found uses stack None = registers_found uses stack
+number_found uses stack (Some r) = range_text r.lo r.hi ++ codes " does not"
+
+-- ---- places
+
+unfoldable pub offset_found : ℤ → ℤ → Text
+offset_found depth e = codes "the offset is " ++ signed_decimal (pos 4 *ℤ (depth +ℤ e))
+
+-- the offset of a pointer that is made, or else what is known of the registers that are used
+unfoldable pub pointer_found : Instruction → ℤ → State → Text
+pointer_found LoadLocalPointer e s = offset_found s.depth e
+pointer_found i e s = registers_found (used i) s.stack
+
+unfoldable pub signed_text : ℤ → Text
+signed_text n = signed_decimal n
+
+-- words and a number
+unfoldable pub phrase : Text → ℤ → Text
+phrase words n = words ++ signed_text n
+
+unfoldable pub target_words : Text
+target_words = codes "it leads to "
+
+unfoldable pub target_found : ℕ → ℤ → Text
+target_found next e = phrase target_words (pos next +ℤ e)
+
+unfoldable pub word_words : Instruction → Text
+word_words LoadLocal = codes "it is word "
+word_words StoreLocal = codes "it is word "
+word_words AdjustWorkspace = codes "it would be at word "
+word_words i = codes "the workspace is at word "
+
+unfoldable pub word_of : Instruction → ℤ → ℤ → ℤ
+word_of LoadLocal depth e = depth +ℤ e
+word_of StoreLocal depth e = depth +ℤ e
+word_of AdjustWorkspace depth e = depth +ℤ e
+word_of i depth e = depth
+
+-- the word that is used, or where the workspace is or would be
+unfoldable pub word_found : Instruction → ℤ → ℤ → Text
+word_found i depth e = phrase (word_words i) (word_of i depth e)
+
+-- ---- modes
+
+unfoldable pub mode_found : Mode → Text
+mode_found mode = codes "the mode is " ++ mode_text mode
+
+unfoldable pub count_found : State → Text
+count_found s = codes ", guards: " ++ decimal (length s.guards)
+
+unfoldable pub guards_found : State → Text
+guards_found s = mode_found s.mode ++ count_found s
+
+unfoldable pub after_mode : Uses → Stack Known → Text
+after_mode uses stack = codes "; " ++ registers_found uses stack
+
+-- the registers, if any are used
+unfoldable pub more_registers : Uses → Stack Known → Text
+more_registers Nothing stack = []
+more_registers uses stack = after_mode uses stack
+
+unfoldable pub order_found : Instruction → State → Text
+order_found i s = guards_found s ++ more_registers (used_for_guards i) s.stack
+
+unfoldable pub par_found : Instruction → State → Text
+par_found i s = mode_found s.mode ++ more_registers (used_for_pars i) s.stack
+
+-- ---- ways
+
+-- what an operation leads by: guards, or registers
+unfoldable pub way_by : Op → State → Text
+way_by AlternationEnd s = guards_found s
+way_by op s = registers_found (used_by op) s.stack
+
+-- where an instruction leads, or by what
+unfoldable pub way_found : Instruction → ℕ → ℤ → State → Text
+way_found (Operate op) next e s = way_by op s
+way_found i next e s = target_found next e
+
+unfoldable pub context_found : Contents → ℕ → Text
+context_found m n = codes "the context is " ++ context_text m n
+
+unfoldable pub depth_found : ℤ → Text
+depth_found depth = codes ", the depth " ++ signed_decimal depth
+
+unfoldable pub word_zero_found : WordFact → Text
+word_zero_found fact = codes " and word 0 is " ++ word_text fact
+
+-- the depth, and what word 0 has
+unfoldable pub first_word_found : State → Text
+first_word_found s = depth_found s.depth ++ word_zero_found (s.frame (pos 0))
+
+-- what is asked at a return
+unfoldable pub return_found : Contents → State → Text
+return_found m s = context_found m s.context ++ first_word_found s
+
+-- where a call leads, or what is asked at a return
+unfoldable pub call_found : Contents → Instruction → ℕ → ℤ → State → Text
+call_found m (Operate op) next e s = return_found m s
+call_found m i next e s = target_found next e
+
+-- where an instruction leads, and what the label there wants that is not known
+unfoldable pub label_found : Contents → Instruction → ℕ → ℤ → State → Text
+label_found m i next e s = way_found i next e s ++ lead_lack m next s (lead_of i e s.stack)
+
+-- what the bytes of an instruction cost, and the number that is left
+unfoldable pub payment_found : ℕ → ℕ → Text
+payment_found len number = codes "its bytes are " ++ (decimal len ++ (codes " and the number is " ++ decimal number))
+
+-- ---- by the rule
+
+unfoldable pub found : Contents → Rule → Spot → State → Option RangeText → Text
+found m rules.Spelling spot s sum = codes "this one has none"
+found m rules.InstructionStart spot s sum = codes "one starts there"
+found m rules.Flow spot s sum = codes "nothing leads here"
+found m rules.UnknownRegister spot s sum = unknown_found s.stack
+found m rules.Number spot s sum = number_found (used spot.instruction) s.stack sum
+found m rules.Pointer spot s sum = pointer_found spot.instruction spot.instr.operand s
+found m rules.RegionsMeet spot s sum = registers_found (used spot.instruction) s.stack
+found m rules.Channel spot s sum = registers_found (used spot.instruction) s.stack
+found m rules.MessageLength spot s sum = registers_found (used spot.instruction) s.stack
+found m rules.Alternation spot s sum = order_found spot.instruction s
+found m rules.Forward spot s sum = way_found spot.instruction spot.next spot.instr.operand s
+found m rules.Par spot s sum = par_found spot.instruction s
+found m rules.Call spot s sum = call_found m spot.instruction spot.next spot.instr.operand s
+found m rules.OwnWord spot s sum = word_found spot.instruction s.depth spot.instr.operand
+found m rules.Budget spot s sum = payment_found spot.instr.len s.number
+found m rules.Label spot s sum = label_found m spot.instruction spot.next spot.instr.operand s

@@ -1,0 +1,10 @@
+pub mod Uses
+pub mod Wanted
+pub mod Results
+pub mod Ways
+pub mod Lacks
+pub mod Leads
+pub mod Found
+pub mod Sentences
+pub mod Seen
+pub mod Sights

@@ -1,0 +1,431 @@
+//! What was found where an instruction breaks a rule.
+
+ghost use Rattle.std.specs.Prelude.{◌≡◌, ◌<◌, ◌^◌, pos, ◌+ℤ◌, ◌*ℤ◌, ◌++◌, OnOk, string_bytes};
+ghost use Rattle.module_format.specs.Contents.{contents_of};
+ghost use Rattle.states.specs.Views.{state_of};
+ghost use Rattle.sentences.specs.Found.{registers_found, unknown_found, number_found, offset_found, pointer_found};
+ghost use Rattle.sentences.specs.Found.{signed_text, phrase, target_words, target_found, word_words, word_of, word_found};
+ghost use Rattle.sentences.specs.Found.{mode_found, count_found, guards_found, after_mode, more_registers, order_found};
+ghost use Rattle.sentences.specs.Found.{par_found, way_by, way_found, context_found, depth_found, word_zero_found};
+ghost use Rattle.sentences.specs.Found.{first_word_found, return_found, call_found, label_found, payment_found, found};
+
+use crate::leads::push_lead_lack;
+use crate::uses::{Uses, used, used_by, used_for_guards, used_for_pars};
+use certificate::Module;
+use fact_texts::{FactText, RangeText, context_text, is_unknown};
+use machine_state::{Instruction, Op};
+use module_format::{Stack, Tables};
+use prefix_decoder::Instr;
+use state_texts::{ModeText, WordText};
+use states::{Known, Mode, Rule, State, WordFact};
+use std::alloc::AllocError;
+
+/// An instruction of the machine where it stands.
+#[derive(Clone, Copy)]
+pub(crate) struct Spot {
+    pub instruction: Instruction,
+    pub instr: Instr,
+    /// The offset after it.
+    pub next: usize,
+}
+
+/// Appends what is known of the registers that are used.
+#[tactic(auto, unfolding(crate::specs::Found::registers_found))]
+fn push_registers(text: &mut String, uses: Uses, stack: Stack<Known>) -> Result<(), AllocError>
+    ensures { OnOk result (string_bytes text.new ≡ string_bytes text.old ++ registers_found uses stack) }
+{
+    let a = FactText(stack.a.fact);
+    let b = FactText(stack.b.fact);
+    let c = FactText(stack.c.fact);
+    match uses {
+        Uses::Nothing => text.push_str("no register is used"),
+        Uses::A => write!(text, "A is {a}"),
+        Uses::AAndB => write!(text, "A is {a} and B is {b}"),
+        Uses::All => write!(text, "A is {a}, B is {b} and C is {c}"),
+    }
+}
+
+/// The first register of which nothing is known; if there is none, it is a byte of a message.
+#[tactic(auto, unfolding(crate::specs::Found::unknown_found))]
+fn unknown_found(stack: Stack<Known>) -> &'static str
+    ensures { result.now ≡ unknown_found stack }
+{
+    if is_unknown(stack.a.fact) {
+        return "nothing is known of A";
+    }
+    if is_unknown(stack.b.fact) {
+        return "nothing is known of B";
+    }
+    if is_unknown(stack.c.fact) {
+        return "nothing is known of C";
+    }
+    "a byte of the message may be part of no number"
+}
+
+/// Appends the range of a result that does not fit, or else what is known of the registers that are used.
+#[tactic(auto, unfolding(crate::specs::Found::number_found))]
+fn push_number(
+    text: &mut String,
+    uses: Uses,
+    stack: Stack<Known>,
+    sum: Option<RangeText>,
+) -> Result<(), AllocError>
+    ensures { OnOk result (string_bytes text.new ≡ string_bytes text.old ++ number_found uses stack sum) }
+{
+    match sum {
+        Some(range) => write!(text, "{range} does not"),
+        None => push_registers(text, uses, stack),
+    }
+}
+
+/// The offset of a word of the frame.
+fn offset_of(depth: i32, operand: i32) -> i64
+    ensures { result ≡ pos 4 *ℤ (depth +ℤ operand) }
+{
+    4 * (i64::from(depth) + i64::from(operand))
+}
+
+/// Appends the offset of a word of the frame.
+#[tactic(auto, unfolding(crate::specs::Found::offset_found))]
+fn push_offset(text: &mut String, depth: i32, operand: i32) -> Result<(), AllocError>
+    ensures { OnOk result (string_bytes text.new ≡ string_bytes text.old ++ offset_found depth operand) }
+{
+    let offset = offset_of(depth, operand);
+    write!(text, "the offset is {offset}")
+}
+
+/// Appends the offset of a pointer that is made, or else what is known of the registers that are used.
+#[tactic(auto, unfolding(crate::specs::Found::pointer_found))]
+fn push_pointer(text: &mut String, spot: Spot, state: &State) -> Result<(), AllocError>
+    ensures { OnOk result (string_bytes text.new
+        ≡ string_bytes text.old ++ pointer_found spot.instruction spot.instr.operand (state_of state.now)) }
+{
+    match spot.instruction {
+        Instruction::LoadLocalPointer => push_offset(text, state.depth, spot.instr.operand),
+        _ => push_registers(text, used(spot.instruction), state.stack),
+    }
+}
+
+/// The offset to which an instruction leads.
+fn target_of(next: usize, operand: i32) -> i64
+    requires { next < 2 ^ 32 }
+    ensures { result ≡ pos next +ℤ operand }
+{
+    next as i64 + i64::from(operand)
+}
+
+/// Appends a number.
+#[tactic(auto, unfolding(crate::specs::Found::signed_text))]
+fn push_signed(text: &mut String, number: i64) -> Result<(), AllocError>
+    ensures { OnOk result (string_bytes text.new ≡ string_bytes text.old ++ signed_text number) }
+{
+    write!(text, "{number}")
+}
+
+/// Appends words and a number.
+#[tactic(auto, unfolding(crate::specs::Found::phrase))]
+fn push_phrase(text: &mut String, words: &str, number: i64) -> Result<(), AllocError>
+    ensures { OnOk result (string_bytes text.new ≡ string_bytes text.old ++ phrase words.now number) }
+{
+    text.push_str(words)?;
+    push_signed(text, number)?;
+    Ok(())
+}
+
+/// What is said of the offset to which an instruction leads.
+#[tactic(auto, unfolding(crate::specs::Found::target_words))]
+fn target_words() -> &'static str
+    ensures { result.now ≡ target_words }
+{
+    "it leads to "
+}
+
+/// Appends the offset to which an instruction leads.
+#[tactic(auto, unfolding(crate::specs::Found::target_found))]
+fn push_target(text: &mut String, next: usize, operand: i32) -> Result<(), AllocError>
+    requires { next < 2 ^ 32 }
+    ensures { OnOk result (string_bytes text.new ≡ string_bytes text.old ++ target_found next operand) }
+{
+    push_phrase(text, target_words(), target_of(next, operand))
+}
+
+/// The word of the frame at a distance from the workspace.
+fn word_at(depth: i32, operand: i32) -> i64
+    ensures { result ≡ depth +ℤ operand }
+{
+    i64::from(depth) + i64::from(operand)
+}
+
+/// What is said of the word that is used, or of the workspace.
+#[tactic(auto, unfolding(crate::specs::Found::word_words))]
+fn word_words(instruction: Instruction) -> &'static str
+    ensures { result.now ≡ word_words instruction }
+{
+    match instruction {
+        Instruction::LoadLocal | Instruction::StoreLocal => "it is word ",
+        Instruction::AdjustWorkspace => "it would be at word ",
+        _ => "the workspace is at word ",
+    }
+}
+
+/// The word that is used, or where the workspace is or would be.
+#[tactic(auto, unfolding(crate::specs::Found::word_of))]
+fn word_of(instruction: Instruction, depth: i32, operand: i32) -> i64
+    ensures { result ≡ word_of instruction depth operand }
+{
+    match instruction {
+        Instruction::LoadLocal | Instruction::StoreLocal | Instruction::AdjustWorkspace => {
+            word_at(depth, operand)
+        }
+        _ => i64::from(depth),
+    }
+}
+
+/// Appends the word that is used, or where the workspace is or would be.
+#[tactic(auto, unfolding(crate::specs::Found::word_found))]
+fn push_word(
+    text: &mut String,
+    instruction: Instruction,
+    depth: i32,
+    operand: i32,
+) -> Result<(), AllocError>
+    ensures { OnOk result (string_bytes text.new
+        ≡ string_bytes text.old ++ word_found instruction depth operand) }
+{
+    let word = word_of(instruction, depth, operand);
+    push_phrase(text, word_words(instruction), word)
+}
+
+/// Appends the mode.
+#[tactic(auto, unfolding(crate::specs::Found::mode_found))]
+fn push_mode(text: &mut String, mode: Mode) -> Result<(), AllocError>
+    ensures { OnOk result (string_bytes text.new ≡ string_bytes text.old ++ mode_found mode) }
+{
+    let mode = ModeText(mode);
+    write!(text, "the mode is {mode}")
+}
+
+/// Appends how many guards there are.
+#[tactic(auto, unfolding(crate::specs::Found::count_found))]
+fn push_count(text: &mut String, state: &State) -> Result<(), AllocError>
+    ensures { OnOk result (string_bytes text.new ≡ string_bytes text.old ++ count_found (state_of state.now)) }
+{
+    let count = state.guards.len();
+    write!(text, ", guards: {count}")
+}
+
+/// Appends the mode, and how many guards there are.
+#[tactic(auto, unfolding(crate::specs::Found::guards_found))]
+fn push_guards(text: &mut String, state: &State) -> Result<(), AllocError>
+    ensures { OnOk result (string_bytes text.new ≡ string_bytes text.old ++ guards_found (state_of state.now)) }
+{
+    push_mode(text, state.mode)?;
+    push_count(text, state)?;
+    Ok(())
+}
+
+/// Appends what is known of registers, after something else.
+#[tactic(auto, unfolding(crate::specs::Found::after_mode))]
+fn push_after_mode(text: &mut String, uses: Uses, stack: Stack<Known>) -> Result<(), AllocError>
+    ensures { OnOk result (string_bytes text.new ≡ string_bytes text.old ++ after_mode uses stack) }
+{
+    text.push_str("; ")?;
+    push_registers(text, uses, stack)?;
+    Ok(())
+}
+
+/// Appends the same, if any are used.
+#[tactic(auto, unfolding(crate::specs::Found::more_registers))]
+fn push_more_registers(text: &mut String, uses: Uses, stack: Stack<Known>) -> Result<(), AllocError>
+    ensures { OnOk result (string_bytes text.new ≡ string_bytes text.old ++ more_registers uses stack) }
+{
+    match uses {
+        Uses::Nothing => text.push_str(""),
+        _ => push_after_mode(text, uses, stack),
+    }
+}
+
+/// Appends the mode, the guards, and the registers that are used for a guard.
+#[tactic(auto, unfolding(crate::specs::Found::order_found))]
+fn push_order(text: &mut String, instruction: Instruction, state: &State) -> Result<(), AllocError>
+    ensures { OnOk result (string_bytes text.new
+        ≡ string_bytes text.old ++ order_found instruction (state_of state.now)) }
+{
+    push_guards(text, state)?;
+    push_more_registers(text, used_for_guards(instruction), state.stack)?;
+    Ok(())
+}
+
+/// Appends the mode, and the registers that are used for a PAR.
+#[tactic(auto, unfolding(crate::specs::Found::par_found))]
+fn push_par(text: &mut String, instruction: Instruction, state: &State) -> Result<(), AllocError>
+    ensures { OnOk result (string_bytes text.new
+        ≡ string_bytes text.old ++ par_found instruction (state_of state.now)) }
+{
+    push_mode(text, state.mode)?;
+    push_more_registers(text, used_for_pars(instruction), state.stack)?;
+    Ok(())
+}
+
+/// Appends what an operation leads by: guards, or registers.
+#[tactic(auto, unfolding(crate::specs::Found::way_by))]
+fn push_way_by(text: &mut String, op: Op, state: &State) -> Result<(), AllocError>
+    ensures { OnOk result (string_bytes text.new ≡ string_bytes text.old ++ way_by op (state_of state.now)) }
+{
+    match op {
+        Op::AlternationEnd => push_guards(text, state),
+        _ => push_registers(text, used_by(op), state.stack),
+    }
+}
+
+/// Appends where an instruction leads, or by what.
+#[tactic(auto, unfolding(crate::specs::Found::way_found))]
+fn push_way(text: &mut String, spot: Spot, state: &State) -> Result<(), AllocError>
+    requires { spot.next < 2 ^ 32 }
+    ensures { OnOk result (string_bytes text.new ≡ string_bytes text.old
+        ++ way_found spot.instruction spot.next spot.instr.operand (state_of state.now)) }
+{
+    match spot.instruction {
+        Instruction::Operate(op) => push_way_by(text, op, state),
+        _ => push_target(text, spot.next, spot.instr.operand),
+    }
+}
+
+/// Appends the context.
+#[tactic(auto, unfolding(crate::specs::Found::context_found))]
+fn push_context(text: &mut String, tables: &Tables<'_>, number: u32) -> Result<(), AllocError>
+    ensures { OnOk result (string_bytes text.new
+        ≡ string_bytes text.old ++ context_found (contents_of tables.now) number) }
+{
+    let context = context_text(tables, number);
+    write!(text, "the context is {context}")
+}
+
+/// Appends the depth.
+#[tactic(auto, unfolding(crate::specs::Found::depth_found))]
+fn push_depth(text: &mut String, depth: i32) -> Result<(), AllocError>
+    ensures { OnOk result (string_bytes text.new ≡ string_bytes text.old ++ depth_found depth) }
+{
+    write!(text, ", the depth {depth}")
+}
+
+/// Appends what word 0 has.
+#[tactic(auto, unfolding(crate::specs::Found::word_zero_found))]
+fn push_word_zero(text: &mut String, fact: WordFact) -> Result<(), AllocError>
+    ensures { OnOk result (string_bytes text.new ≡ string_bytes text.old ++ word_zero_found fact) }
+{
+    let word = WordText(fact);
+    write!(text, " and word 0 is {word}")
+}
+
+/// Appends the depth, and what word 0 has.
+#[tactic(auto, unfolding(crate::specs::Found::first_word_found))]
+fn push_first_word(text: &mut String, state: &State) -> Result<(), AllocError>
+    ensures { OnOk result (string_bytes text.new
+        ≡ string_bytes text.old ++ first_word_found (state_of state.now)) }
+{
+    push_depth(text, state.depth)?;
+    push_word_zero(text, state.fact_of(0))?;
+    Ok(())
+}
+
+/// Appends what is asked at a return.
+#[tactic(auto, unfolding(crate::specs::Found::return_found))]
+fn push_return(text: &mut String, tables: &Tables<'_>, state: &State) -> Result<(), AllocError>
+    ensures { OnOk result (string_bytes text.new
+        ≡ string_bytes text.old ++ return_found (contents_of tables.now) (state_of state.now)) }
+{
+    push_context(text, tables, state.context)?;
+    push_first_word(text, state)?;
+    Ok(())
+}
+
+/// Appends where a call leads, or what is asked at a return.
+#[tactic(auto, unfolding(crate::specs::Found::call_found))]
+fn push_call(
+    text: &mut String,
+    tables: &Tables<'_>,
+    spot: Spot,
+    state: &State,
+) -> Result<(), AllocError>
+    requires { spot.next < 2 ^ 32 }
+    ensures { OnOk result (string_bytes text.new ≡ string_bytes text.old
+        ++ call_found (contents_of tables.now) spot.instruction spot.next spot.instr.operand (state_of state.now)) }
+{
+    match spot.instruction {
+        Instruction::Operate(_) => push_return(text, tables, state),
+        _ => push_target(text, spot.next, spot.instr.operand),
+    }
+}
+
+/// Appends where an instruction leads, and what the label there wants that is not known.
+#[tactic(auto, unfolding(crate::specs::Found::label_found))]
+fn push_label(
+    text: &mut String,
+    module: &Module,
+    spot: Spot,
+    state: &State,
+) -> Result<(), AllocError>
+    requires { spot.next < 2 ^ 32 }
+    ensures { OnOk result (string_bytes text.new ≡ string_bytes text.old
+        ++ label_found «module».now spot.instruction spot.next spot.instr.operand (state_of state.now)) }
+{
+    push_way(text, spot, state)?;
+    push_lead_lack(
+        text,
+        module,
+        spot.instruction,
+        spot.next,
+        spot.instr.operand,
+        state,
+    )?;
+    Ok(())
+}
+
+/// Appends what the bytes of an instruction cost, and the number that is left.
+#[tactic(auto, unfolding(crate::specs::Found::payment_found))]
+fn push_payment(text: &mut String, len: usize, number: u64) -> Result<(), AllocError>
+    ensures { OnOk result (string_bytes text.new ≡ string_bytes text.old ++ payment_found len number) }
+{
+    write!(text, "its bytes are {len} and the number is {number}")
+}
+
+/// Appends what was found, by the rule.
+#[tactic(auto, unfolding(crate::specs::Found::found))]
+pub(crate) fn push_found(
+    text: &mut String,
+    module: &Module,
+    rule: Rule,
+    spot: Spot,
+    state: &State,
+    sum: Option<RangeText>,
+) -> Result<(), AllocError>
+    requires { spot.next < 2 ^ 32 }
+    ensures { OnOk result (string_bytes text.new
+        ≡ string_bytes text.old ++ found «module».now rule spot (state_of state.now) sum) }
+{
+    let Spot {
+        instruction,
+        instr,
+        ..
+    } = spot;
+    let uses = used(instruction);
+    match rule {
+        Rule::Spelling => text.push_str("this one has none"),
+        Rule::InstructionStart => text.push_str("one starts there"),
+        Rule::Flow => text.push_str("nothing leads here"),
+        Rule::UnknownRegister => text.push_str(unknown_found(state.stack)),
+        Rule::Number => push_number(text, uses, state.stack, sum),
+        Rule::Pointer => push_pointer(text, spot, state),
+        Rule::RegionsMeet => push_registers(text, uses, state.stack),
+        Rule::Channel => push_registers(text, uses, state.stack),
+        Rule::MessageLength => push_registers(text, uses, state.stack),
+        Rule::Alternation => push_order(text, instruction, state),
+        Rule::Forward => push_way(text, spot, state),
+        Rule::Par => push_par(text, instruction, state),
+        Rule::Call => push_call(text, module.tables(), spot, state),
+        Rule::OwnWord => push_word(text, instruction, state.depth, instr.operand),
+        Rule::Budget => push_payment(text, instr.len, state.number),
+        Rule::Label => push_label(text, module, spot, state),
+    }
+}

@@ -1,0 +1,16 @@
+//! What is written of an instruction where a module is explained, and the sentence that explains a refusal.
+#![tactic(auto)]
+
+mod found;
+mod lacks;
+mod leads;
+mod reasons;
+mod results;
+mod sentence;
+mod sights;
+mod uses;
+mod wanted;
+mod ways;
+
+pub use reasons::{Broken, is_at_entry, push_breach, push_end, push_hidden, push_unspelled};
+pub use sights::{push_sight, setting_after};

@@ -1,0 +1,266 @@
+//! Why a module is refused.
+
+ghost use Rattle.std.specs.Prelude.{◌≡◌, ◌+◌, ◌<◌, ◌^◌, ◌++◌, length, OnOk, string_bytes};
+ghost use Rattle.states.specs.Views.{state_of};
+ghost use Rattle.sentences.specs.Sights.{refused_text, is_at_entry, number_at, entry_reason, unreached_reason};
+ghost use Rattle.sentences.specs.Sights.{reason, breach_text, hidden_text, ended_text, unspelled_text};
+ghost use Rattle.sentences.specs.Sights.{line_text, refused_head, within_text, unpaid_text, accepted_text};
+ghost use Rattle.sentences.specs.Seen.{seen};
+
+use crate::leads::push_lack_at;
+use crate::sentence::push_sentence;
+use crate::ways::Way;
+use certificate::Module;
+use listings::push_line;
+use prefix_decoder::Instr;
+use state_texts::push_frame;
+use states::{Rule, State};
+use std::alloc::{AllocError, Global};
+
+/// Appends the number and the place of a refusal.
+#[tactic(auto, unfolding(crate::specs::Sights::refused_head))]
+fn push_refused(text: &mut String, rule: Rule, at: usize) -> Result<(), AllocError>
+    ensures { OnOk result (string_bytes text.new ≡ string_bytes text.old ++ refused_head rule at) }
+{
+    let number = rule.number();
+    write!(text, "refused V{number} at {at}: ")
+}
+
+/// Whether the rule is broken by falling into the offset.
+pub fn is_at_entry(entered: Result<u64, Rule>, broken: Rule) -> bool
+    ensures { result ≡ is_at_entry entered broken }
+{
+    match entered {
+        Ok(_) => false,
+        Err(entered) => entered.number() == broken.number(),
+    }
+}
+
+/// The number that the label at an offset wants.
+fn number_at(module: &Module, at: u32) -> u64
+    ensures { result ≡ number_at «module».now at }
+{
+    match module.label_at(at) {
+        Some(row) => row.number,
+        None => 0,
+    }
+}
+
+/// Appends what a label costs, and the number that is left.
+#[tactic(auto, unfolding(crate::specs::Sights::unpaid_text))]
+fn push_unpaid(text: &mut String, cost: u64, number: u64) -> Result<(), AllocError>
+    ensures { OnOk result (string_bytes text.new ≡ string_bytes text.old ++ unpaid_text cost number) }
+{
+    write!(text, "the label costs {cost} and the number is {number}")
+}
+
+/// Appends why a state may not fall into an offset.
+#[tactic(auto, unfolding(crate::specs::Sights::entry_reason))]
+fn push_entry_reason(
+    text: &mut String,
+    module: &Module,
+    at: u32,
+    broken: Rule,
+    state: &State,
+) -> Result<(), AllocError>
+    ensures { OnOk result (string_bytes text.new
+        ≡ string_bytes text.old ++ entry_reason «module».now at broken (state_of state.now)) }
+{
+    match broken {
+        Rule::Flow => text.push_str("control runs into a procedure"),
+        Rule::Budget => push_unpaid(text, number_at(module, at), state.number),
+        _ => push_lack_at(text, module, at, Way::Falls, state),
+    }
+}
+
+/// Why an instruction is refused to which nothing leads.
+#[tactic(auto, unfolding(crate::specs::Sights::unreached_reason))]
+fn unreached_reason(broken: Rule) -> &'static str
+    ensures { result.now ≡ unreached_reason broken }
+{
+    match broken {
+        Rule::Flow => "nothing leads here",
+        _ => "this is no instruction of the module",
+    }
+}
+
+/// Appends why the rule is broken.
+fn push_reason(
+    text: &mut String,
+    module: &Module,
+    broken: Broken,
+    state: &State,
+) -> Result<(), AllocError>
+    requires { broken.at + broken.instr.len < 2 ^ 32 }
+    ensures { let why = reason «module».now broken.at broken.instr broken.rule broken.at_entry (state_of state.now) in
+        OnOk result (string_bytes text.new ≡ string_bytes text.old ++ why) }
+{
+    let Broken {
+        at,
+        instr,
+        rule,
+        at_entry,
+    } = broken;
+    if at_entry {
+        return push_entry_reason(text, module, at as u32, rule, state);
+    }
+    push_sentence(text, module, at, instr, rule, state)
+}
+
+/// Appends a line.
+#[tactic(auto, unfolding(crate::specs::Sights::line_text))]
+fn push_line_of(text: &mut String, why: &str) -> Result<(), AllocError>
+    ensures { OnOk result (string_bytes text.new ≡ string_bytes text.old ++ line_text why.now) }
+{
+    text.push_str(why)?;
+    text.push_str("\n")?;
+    Ok(())
+}
+
+/// Appends a refusal with a reason that is known as a text.
+#[tactic(auto, unfolding(crate::specs::Sights::refused_text))]
+fn push_refusal(text: &mut String, rule: Rule, at: usize, why: &str) -> Result<(), AllocError>
+    ensures { OnOk result (string_bytes text.new ≡ string_bytes text.old ++ refused_text rule at why.now) }
+{
+    push_refused(text, rule, at)?;
+    push_line_of(text, why)?;
+    Ok(())
+}
+
+/// An instruction that breaks a rule: by itself, or since a state falls into its offset.
+#[derive(Clone, Copy)]
+pub struct Broken {
+    pub at: usize,
+    pub instr: Instr,
+    pub rule: Rule,
+    pub at_entry: bool,
+}
+
+/// Appends why the rule is broken, and a line feed.
+#[tactic(auto, unfolding(crate::specs::Sights::line_text))]
+fn push_reason_line(
+    text: &mut String,
+    module: &Module,
+    broken: Broken,
+    state: &State,
+) -> Result<(), AllocError>
+    requires { broken.at + broken.instr.len < 2 ^ 32 }
+    ensures { let why = reason «module».now broken.at broken.instr broken.rule broken.at_entry (state_of state.now) in
+        OnOk result (string_bytes text.new ≡ string_bytes text.old ++ line_text why) }
+{
+    push_reason(text, module, broken, state)?;
+    text.push_str("\n")?;
+    Ok(())
+}
+
+/// Appends the refusal.
+#[tactic(auto, unfolding(crate::specs::Sights::refused_text))]
+fn push_refused_reason(
+    text: &mut String,
+    module: &Module,
+    broken: Broken,
+    state: &State,
+) -> Result<(), AllocError>
+    requires { broken.at + broken.instr.len < 2 ^ 32 }
+    ensures { let why = reason «module».now broken.at broken.instr broken.rule broken.at_entry (state_of state.now) in
+        OnOk result (string_bytes text.new ≡ string_bytes text.old ++ refused_text broken.rule broken.at why) }
+{
+    push_refused(text, broken.rule, broken.at)?;
+    push_reason_line(text, module, broken, state)?;
+    Ok(())
+}
+
+/// Appends what is known of the words of the frame, and why the rule is broken.
+#[tactic(auto, unfolding(crate::specs::Sights::breach_text))]
+pub fn push_breach(
+    text: &mut String,
+    module: &Module,
+    broken: Broken,
+    state: Option<&State>,
+) -> Result<(), AllocError>
+    requires { broken.at + broken.instr.len < 2 ^ 32 }
+    ensures { OnOk result (string_bytes text.new ≡ string_bytes text.old
+        ++ breach_text «module».now broken.at broken.instr broken.rule broken.at_entry (seen state.entry)) }
+{
+    let Some(state) = state else {
+        return push_refusal(text, broken.rule, broken.at, unreached_reason(broken.rule));
+    };
+    push_frame(text, module, state)?;
+    push_refused_reason(text, module, broken, state)?;
+    Ok(())
+}
+
+/// Appends that an instruction starts within the one at an offset.
+#[tactic(auto, unfolding(crate::specs::Sights::within_text))]
+fn push_within(text: &mut String, at: usize) -> Result<(), AllocError>
+    ensures { OnOk result (string_bytes text.new ≡ string_bytes text.old ++ within_text at) }
+{
+    text.push_str("an instruction starts here, within the one at ")?;
+    write!(text, "{at}")?;
+    Ok(())
+}
+
+/// Appends the same, and a line feed.
+#[tactic(auto, unfolding(crate::specs::Sights::line_text))]
+fn push_within_line(text: &mut String, at: usize) -> Result<(), AllocError>
+    ensures { OnOk result (string_bytes text.new ≡ string_bytes text.old ++ line_text (within_text at)) }
+{
+    push_within(text, at)?;
+    text.push_str("\n")?;
+    Ok(())
+}
+
+/// Appends the refusal of a start within the instruction at an offset.
+#[tactic(auto, unfolding(crate::specs::Sights::refused_text))]
+pub fn push_hidden(text: &mut String, at: usize, inside: usize) -> Result<(), AllocError>
+    ensures { OnOk result (string_bytes text.new ≡ string_bytes text.old ++ hidden_text at inside) }
+{
+    push_refused(text, Rule::InstructionStart, inside)?;
+    push_within_line(text, at)?;
+    Ok(())
+}
+
+/// Appends the byte at an offset at which no instruction is spelled.
+pub fn push_unspelled(
+    alloc: Global,
+    text: &mut String,
+    module: &Module,
+    at: usize,
+) -> Result<(), AllocError>
+    requires { at < length «module».now.code }
+    ensures { OnOk result (string_bytes text.new ≡ string_bytes text.old ++ unspelled_text «module».now at) }
+{
+    let _size = push_line(alloc, text, module.tables(), at)?;
+    push_refusal(text, Rule::Spelling, at, "no instruction is spelled here")?;
+    Ok(())
+}
+
+/// Appends that a module is accepted.
+#[tactic(auto, unfolding(crate::specs::Sights::accepted_text))]
+fn push_accepted(text: &mut String, budget: u64) -> Result<(), AllocError>
+    ensures { OnOk result (string_bytes text.new ≡ string_bytes text.old ++ accepted_text budget) }
+{
+    write!(text, "accepted, budget {budget}\n")
+}
+
+/// Appends what is said at the end of the code.
+#[tactic(auto, unfolding(crate::specs::Sights::ended_text))]
+pub fn push_end(
+    text: &mut String,
+    module: &Module,
+    at: usize,
+    state: Option<&State>,
+) -> Result<(), AllocError>
+    ensures { OnOk result (string_bytes text.new
+        ≡ string_bytes text.old ++ ended_text «module».now at (seen state.entry)) }
+{
+    match state {
+        Some(_) => push_refusal(
+            text,
+            Rule::Flow,
+            at,
+            "control runs past the end of the code",
+        ),
+        None => push_accepted(text, module.tables().budget),
+    }
+}

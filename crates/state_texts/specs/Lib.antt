@@ -1,0 +1,2 @@
+pub mod StateTexts
+pub mod FrameTexts
