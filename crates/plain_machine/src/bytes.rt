@@ -10,7 +10,7 @@ ghost use Rattle.plain_machine.specs.Plain.{defined};
 const WORD: usize = 4;
 
 /// The byte at a place.
-#[inline(always)]
+#[inline]
 #[tactic(auto, using(crate::proofs::PlainBytes::byte_is))]
 pub(crate) fn byte_at(bytes: &[u8], place: usize) -> u8
     requires { place < length bytes.now }
@@ -20,7 +20,7 @@ pub(crate) fn byte_at(bytes: &[u8], place: usize) -> u8
 }
 
 /// Writes the byte at a place.
-#[inline(always)]
+#[inline]
 #[tactic(auto, using(crate::proofs::PlainBytes::byte_written))]
 pub(crate) fn set_byte(bytes: &mut [u8], place: usize, byte: u8)
     requires { place < length bytes.old }
@@ -30,7 +30,7 @@ pub(crate) fn set_byte(bytes: &mut [u8], place: usize, byte: u8)
 }
 
 /// The word at a place, the least significant byte first.
-#[inline(always)]
+#[inline]
 #[tactic(auto, using(crate::proofs::PlainBytes::word_is))]
 pub(crate) fn word_at(bytes: &[u8], place: usize) -> i32
     requires { place + 4 ≤ length bytes.now }
@@ -45,7 +45,7 @@ pub(crate) fn word_at(bytes: &[u8], place: usize) -> i32
 }
 
 /// Writes the word at a place, the least significant byte first.
-#[inline(always)]
+#[inline]
 #[tactic(auto, unfolding(machine_state::specs::Memory::with_word))]
 pub(crate) fn set_word(bytes: &mut [u8], place: usize, value: i32)
     requires { place + 4 ≤ length bytes.old }
@@ -74,7 +74,7 @@ pub(crate) fn copy(bytes: &mut [u8], source: usize, target: usize, count: usize)
 }
 
 /// The four bytes from one place on go to another, as they were before. All lie in memory.
-#[inline(always)]
+#[inline]
 #[tactic(auto, using(crate::proofs::PlainBytes::sizes), unfolding(machine_state::specs::LocalStep::copied))]
 fn copy_word(bytes: &mut [u8], source: usize, target: usize)
     requires source { source + 4 ≤ length bytes.old }
@@ -93,7 +93,7 @@ fn copy_word(bytes: &mut [u8], source: usize, target: usize)
 }
 
 /// `count` bytes from one place on go to another, as they were before. All lie in memory.
-#[inline(always)]
+#[inline]
 pub(crate) fn copy_inside(bytes: &mut [u8], source: usize, target: usize, count: usize)
     requires source { 0 < count → source + count ≤ length bytes.old }
     requires target { 0 < count → target + count ≤ length bytes.old }

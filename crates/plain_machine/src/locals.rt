@@ -10,7 +10,7 @@ use crate::words::{load, store};
 use machine_state::local_address;
 
 /// `ldl`: the word with this number from the workspace is pushed.
-#[inline(always)]
+#[inline]
 pub(crate) fn load_local(
     bytes: &mut [u8],
     registers: &mut PlainRegisters,
@@ -26,7 +26,7 @@ pub(crate) fn load_local(
 }
 
 /// `stl`: A goes to the word with this number from the workspace, and is popped.
-#[inline(always)]
+#[inline]
 pub(crate) fn store_local(
     bytes: &mut [u8],
     registers: &mut PlainRegisters,

@@ -11,7 +11,7 @@ use machine_state::{LongOp, Shift, local_address};
 use word_arithmetic::{Binary, Unary};
 
 /// `adc` and the like: A becomes the result of the operation on A and the operand.
-#[inline(always)]
+#[inline]
 pub(crate) fn with_constant(
     bytes: &mut [u8],
     registers: &mut PlainRegisters,
@@ -28,7 +28,7 @@ pub(crate) fn with_constant(
 }
 
 /// An operation of two operands: A and B are popped, and the result of B and A is pushed.
-#[inline(always)]
+#[inline]
 pub(crate) fn binary(bytes: &mut [u8], registers: &mut PlainRegisters, op: Binary) -> PlainFlow
     requires { IsOperationSafe (operation.Binary op) (state_of registers.old bytes.old) }
     ensures { let step = plain_operation 0 (operation.Binary op) (state_of registers.old bytes.old) in
@@ -40,7 +40,7 @@ pub(crate) fn binary(bytes: &mut [u8], registers: &mut PlainRegisters, op: Binar
 }
 
 /// An operation of one operand: A becomes the result of A.
-#[inline(always)]
+#[inline]
 pub(crate) fn unary(bytes: &mut [u8], registers: &mut PlainRegisters, op: Unary) -> PlainFlow
     requires { IsOperationSafe (operation.Unary op) (state_of registers.old bytes.old) }
     ensures { let step = plain_operation 0 (operation.Unary op) (state_of registers.old bytes.old) in
@@ -52,7 +52,7 @@ pub(crate) fn unary(bytes: &mut [u8], registers: &mut PlainRegisters, op: Unary)
 }
 
 /// `shl`, `shr`: A and B are popped, and B, shifted by A bits, is pushed.
-#[inline(always)]
+#[inline]
 pub(crate) fn shift(bytes: &mut [u8], registers: &mut PlainRegisters, op: Shift) -> PlainFlow
     requires { IsOperationSafe (operation.Shift op) (state_of registers.old bytes.old) }
     ensures { let step = plain_operation 0 (operation.Shift op) (state_of registers.old bytes.old) in
@@ -64,7 +64,7 @@ pub(crate) fn shift(bytes: &mut [u8], registers: &mut PlainRegisters, op: Shift)
 }
 
 /// `lsum`, `ldiff`, `lmul`: A becomes the low word of the result of B, A and C, and B the high one or the carry.
-#[inline(always)]
+#[inline]
 pub(crate) fn long(bytes: &mut [u8], registers: &mut PlainRegisters, op: LongOp) -> PlainFlow
     ensures { let step = plain_operation 0 (operation.Long op) (state_of registers.old bytes.old) in
         Does step result registers.new bytes.new }
@@ -76,7 +76,7 @@ pub(crate) fn long(bytes: &mut [u8], registers: &mut PlainRegisters, op: LongOp)
 }
 
 /// `bsub`: A and B are popped, and the address B bytes after A is pushed.
-#[inline(always)]
+#[inline]
 pub(crate) fn byte_subscript(bytes: &mut [u8], registers: &mut PlainRegisters) -> PlainFlow
     ensures { let step = plain_operation 0 operation.ByteSubscript (state_of registers.old bytes.old) in
         Does step result registers.new bytes.new }
@@ -88,7 +88,7 @@ pub(crate) fn byte_subscript(bytes: &mut [u8], registers: &mut PlainRegisters) -
 }
 
 /// `wsub`: A and B are popped, and the address B words after A is pushed.
-#[inline(always)]
+#[inline]
 pub(crate) fn word_subscript(bytes: &mut [u8], registers: &mut PlainRegisters) -> PlainFlow
     ensures { let step = plain_operation 0 operation.WordSubscript (state_of registers.old bytes.old) in
         Does step result registers.new bytes.new }
@@ -99,7 +99,7 @@ pub(crate) fn word_subscript(bytes: &mut [u8], registers: &mut PlainRegisters) -
 }
 
 /// `ldpi`: A becomes the address A bytes after the instruction.
-#[inline(always)]
+#[inline]
 pub(crate) fn load_pointer_to_instruction(
     bytes: &mut [u8],
     registers: &mut PlainRegisters,

@@ -12,7 +12,7 @@ use crate::words::{load, store};
 use machine_state::local_address;
 
 /// The process that runs leaves: its word W-1 takes the address where it goes on, of code that begins at this address.
-#[inline(always)]
+#[inline]
 pub fn park(bytes: &mut [u8], registers: &PlainRegisters, code_start: u32)
     requires { HasWord (defined bytes.old) (scheduling_word registers.now.workspace 0) }
     ensures { let back = word_of (plain_code_address code_start (state_of registers.now bytes.old)) in
@@ -23,7 +23,7 @@ pub fn park(bytes: &mut [u8], registers: &PlainRegisters, code_start: u32)
 }
 
 /// The process with this workspace runs, where its word W-1 says. A, B and C are not its own, and stay.
-#[inline(always)]
+#[inline]
 pub fn resume(bytes: &[u8], registers: &mut PlainRegisters, code_start: u32, workspace: u32)
     requires { HasWord (defined bytes.now) (scheduling_word workspace 0) }
     ensures { let back = address (plain_word (defined bytes.now) (scheduling_word workspace 0)) in

@@ -101,7 +101,7 @@ impl PlainStore {
 
     /// The process that runs leaves: its word W-1 takes the address where it goes on, of code that begins at this
     /// address.
-    #[inline(always)]
+    #[inline]
     pub(crate) fn park(&mut self, registers: &PlainRegisters, code_start: u32)
         requires { HasWord (defined self.old) (scheduling_word registers.now.workspace 0) }
         ensures { defined self.new ≡ parked code_start registers.now (defined self.old) }
@@ -110,7 +110,7 @@ impl PlainStore {
     }
 
     /// The process with this workspace runs, where its word W-1 says. A, B and C are not its own, and stay.
-    #[inline(always)]
+    #[inline]
     pub(crate) fn resume(&self, registers: &mut PlainRegisters, code_start: u32, workspace: u32)
         requires { HasWord (defined self.now) (scheduling_word workspace 0) }
         ensures { let back = address (plain_word (defined self.now) (scheduling_word workspace 0)) in
@@ -121,7 +121,7 @@ impl PlainStore {
     }
 
     /// Writes the byte at an address in memory.
-    #[inline(always)]
+    #[inline]
     pub(crate) fn set_byte(&mut self, address: u32, byte: u8)
         requires { place_of address < length self.old }
         ensures { defined self.new ≡ with_byte (defined self.old) (place_of address) (Some byte) }
@@ -130,7 +130,7 @@ impl PlainStore {
     }
 
     /// The word at an address in memory.
-    #[inline(always)]
+    #[inline]
     pub(crate) fn word(&self, address: u32) -> i32
         requires { HasWord (defined self.now) address }
         ensures { result ≡ plain_word (defined self.now) address }
@@ -139,7 +139,7 @@ impl PlainStore {
     }
 
     /// Writes the word at an address in memory.
-    #[inline(always)]
+    #[inline]
     pub(crate) fn set_word(&mut self, address: u32, value: i32)
         requires { HasWord (defined self.old) address }
         ensures { defined self.new ≡ with_plain_word address value (defined self.old) }
@@ -148,7 +148,7 @@ impl PlainStore {
     }
 
     /// `count` bytes from one address on go to another, as they were before. All lie in memory.
-    #[inline(always)]
+    #[inline]
     pub(crate) fn copy(&mut self, source: u32, target: u32, count: u32)
         requires source { HasBytes (defined self.old) source count }
         requires target { HasBytes (defined self.old) target count }
@@ -159,7 +159,7 @@ impl PlainStore {
     }
 
     /// Whether the place lies in memory.
-    #[inline(always)]
+    #[inline]
     fn has(&self, place: usize) -> bool
         ensures { result ≡ nat_lt place (length self.now) }
     {
@@ -222,25 +222,25 @@ impl LoadStore for PlainStore {
         self.has_all(place_of(address), count)
     }
 
-    #[inline(always)]
+    #[inline]
     #[tactic(auto, using(crate::proofs::PlainBytes::bounds))]
     fn load_byte(&self, address: u32) -> Option<u8> {
         Some(bytes::byte_at(&self.bytes, place_of(address) as usize))
     }
 
-    #[inline(always)]
+    #[inline]
     #[tactic(auto, using(crate::proofs::PlainBytes::bounds))]
     fn write_byte(&mut self, address: u32, byte: u8) {
         bytes::set_byte(&mut self.bytes, place_of(address) as usize, byte);
     }
 
-    #[inline(always)]
+    #[inline]
     #[tactic(auto, using(crate::proofs::PlainBytes::bounds))]
     fn load_word(&self, address: u32) -> Word {
         Some(bytes::word_at(&self.bytes, place_of(address) as usize))
     }
 
-    #[inline(always)]
+    #[inline]
     #[tactic(auto, using(crate::proofs::PlainBytes::bounds))]
     fn write_word(&mut self, address: u32, value: i32) {
         bytes::set_word(&mut self.bytes, place_of(address) as usize, value);

@@ -11,7 +11,7 @@ use crate::words::{copy, load, load_byte, store, store_byte};
 use machine_state::local_address;
 
 /// `ldnl`: A becomes the word with this number from A.
-#[inline(always)]
+#[inline]
 pub(crate) fn load_non_local(
     bytes: &mut [u8],
     registers: &mut PlainRegisters,
@@ -28,7 +28,7 @@ pub(crate) fn load_non_local(
 }
 
 /// `stnl`: B goes to the word with this number from A, and both are popped.
-#[inline(always)]
+#[inline]
 pub(crate) fn store_non_local(
     bytes: &mut [u8],
     registers: &mut PlainRegisters,
@@ -46,7 +46,7 @@ pub(crate) fn store_non_local(
 }
 
 /// `lb`: A becomes the byte at A.
-#[inline(always)]
+#[inline]
 pub(crate) fn load_at(bytes: &mut [u8], registers: &mut PlainRegisters) -> PlainFlow
     requires { IsOperationSafe operation.LoadByte (state_of registers.old bytes.old) }
     ensures { let step = plain_operation 0 operation.LoadByte (state_of registers.old bytes.old) in
@@ -58,7 +58,7 @@ pub(crate) fn load_at(bytes: &mut [u8], registers: &mut PlainRegisters) -> Plain
 }
 
 /// `sb`: the byte at A becomes the low byte of B, and both are popped.
-#[inline(always)]
+#[inline]
 pub(crate) fn store_at(bytes: &mut [u8], registers: &mut PlainRegisters) -> PlainFlow
     requires { IsOperationSafe operation.StoreByte (state_of registers.old bytes.old) }
     ensures { let step = plain_operation 0 operation.StoreByte (state_of registers.old bytes.old) in
@@ -72,7 +72,7 @@ pub(crate) fn store_at(bytes: &mut [u8], registers: &mut PlainRegisters) -> Plai
 }
 
 /// `move`: A bytes go from C to B.
-#[inline(always)]
+#[inline]
 pub(crate) fn move_bytes(bytes: &mut [u8], registers: &mut PlainRegisters) -> PlainFlow
     requires { IsOperationSafe operation.Move (state_of registers.old bytes.old) }
     ensures { let step = plain_operation 0 operation.Move (state_of registers.old bytes.old) in

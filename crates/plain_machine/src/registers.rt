@@ -20,7 +20,7 @@ impl PlainRegisters {
     ghost use Rattle.plain_machine.specs.PlainStep.{plain_popped};
 
     /// A is dropped, and C stays.
-    #[inline(always)]
+    #[inline]
     pub(crate) fn pop(&mut self)
         ensures { self.new ≡ record self.old { stack = plain_popped self.old.stack } }
     {
@@ -29,7 +29,7 @@ impl PlainRegisters {
     }
 
     /// A is this value from now on.
-    #[inline(always)]
+    #[inline]
     pub(crate) fn set_top(&mut self, value: i32)
         ensures { self.new ≡ record self.old { stack = with_top value self.old.stack } }
     {
@@ -37,7 +37,7 @@ impl PlainRegisters {
     }
 
     /// A and B are these values from now on.
-    #[inline(always)]
+    #[inline]
     pub(crate) fn set_two(&mut self, top: i32, second: i32)
         ensures { self.new ≡ record self.old { stack = record self.old.stack { a = top; b = second } } }
     {
@@ -46,7 +46,7 @@ impl PlainRegisters {
     }
 
     /// The value takes the place of A and B, and C stays.
-    #[inline(always)]
+    #[inline]
     pub(crate) fn replace_two(&mut self, value: i32)
         ensures { self.new ≡ record self.old { stack = with_top value (plain_popped self.old.stack) } }
     {
@@ -55,7 +55,7 @@ impl PlainRegisters {
     }
 
     /// The code offset that lies so far from the next byte, modulo 2^32.
-    #[inline(always)]
+    #[inline]
     pub(crate) fn target(&self, distance: i32) -> u32
         ensures { result ≡ target self.now.at distance }
     {
@@ -63,7 +63,7 @@ impl PlainRegisters {
     }
 
     /// The address of the next byte in a code that begins at this address, modulo 2^32.
-    #[inline(always)]
+    #[inline]
     pub(crate) fn code_address(&self, code_start: u32) -> u32
         ensures { result ≡ (code_start + self.now.at) % 2 ^ 32 }
     {

@@ -11,7 +11,7 @@ use crate::bytes;
 use machine_state::place_of;
 
 /// The word at an address.
-#[inline(always)]
+#[inline]
 pub(crate) fn load(bytes: &[u8], address: u32) -> i32
     requires { HasWord (defined bytes.now) address }
     ensures { result ≡ plain_word (defined bytes.now) address }
@@ -20,7 +20,7 @@ pub(crate) fn load(bytes: &[u8], address: u32) -> i32
 }
 
 /// Writes the word at an address.
-#[inline(always)]
+#[inline]
 pub(crate) fn store(bytes: &mut [u8], address: u32, value: i32)
     requires { HasWord (defined bytes.old) address }
     ensures { defined bytes.new ≡ with_word (defined bytes.old) (place_of address) (Some value) }
@@ -29,7 +29,7 @@ pub(crate) fn store(bytes: &mut [u8], address: u32, value: i32)
 }
 
 /// The byte at an address.
-#[inline(always)]
+#[inline]
 pub(crate) fn load_byte(bytes: &[u8], address: u32) -> u8
     requires { place_of address < length (defined bytes.now) }
     ensures { result ≡ plain_byte (defined bytes.now) address }
@@ -38,7 +38,7 @@ pub(crate) fn load_byte(bytes: &[u8], address: u32) -> u8
 }
 
 /// Writes the byte at an address.
-#[inline(always)]
+#[inline]
 pub(crate) fn store_byte(bytes: &mut [u8], address: u32, byte: u8)
     requires { place_of address < length (defined bytes.old) }
     ensures { defined bytes.new ≡ with_byte (defined bytes.old) (place_of address) (Some byte) }
@@ -47,7 +47,7 @@ pub(crate) fn store_byte(bytes: &mut [u8], address: u32, byte: u8)
 }
 
 /// `count` bytes from one address on go to another, as they were before.
-#[inline(always)]
+#[inline]
 pub(crate) fn copy(bytes: &mut [u8], source: u32, target: u32, count: u32)
     requires source { HasBytes (defined bytes.old) source count }
     requires target { HasBytes (defined bytes.old) target count }

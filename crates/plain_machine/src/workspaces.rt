@@ -120,7 +120,7 @@ impl Workspaces {
 
     /// The process with these registers leaves: its word W-1 takes the address where it goes on, of code that begins at
     /// this address. No link of a ready process is there.
-    #[inline(always)]
+    #[inline]
     pub fn park(&mut self, registers: &PlainRegisters, code_start: u32)
         requires word { HasWord self.old.memory (scheduling_word registers.now.workspace 0) }
         requires links { let after = parked code_start registers.now self.old.memory in
@@ -143,7 +143,7 @@ impl Workspaces {
     }
 
     /// The word at this address, which lies in memory.
-    #[inline(always)]
+    #[inline]
     pub fn word(&self, address: u32) -> i32
         requires { HasWord self.now.memory address }
         ensures { result ≡ plain_word self.now.memory address }
@@ -152,7 +152,7 @@ impl Workspaces {
     }
 
     /// The word goes to this address, which lies in memory. No link of a ready process is there.
-    #[inline(always)]
+    #[inline]
     pub fn set_word(&mut self, address: u32, value: i32)
         requires inside { HasWord self.old.memory address }
         requires links { let after = with_plain_word address value self.old.memory in
@@ -165,7 +165,7 @@ impl Workspaces {
 
     /// `count` bytes from one address on go to another, as they were before. All lie in memory, and no link of a ready
     /// process is where they go.
-    #[inline(always)]
+    #[inline]
     pub fn copy(&mut self, source: u32, target: u32, count: u32)
         requires source { HasBytes self.old.memory source count }
         requires target { HasBytes self.old.memory target count }
@@ -188,7 +188,7 @@ impl Workspaces {
     }
 
     /// The process with this workspace is ready, after all that are. Of memory only links change.
-    #[inline(always)]
+    #[inline]
     pub fn push(&mut self, workspace: u32)
         requires { CanPushBehind (length self.old.memory) self.old.ready workspace }
         ensures ready { self.new.ready ≡ self.old.ready ++ workspace ∷ [] }
@@ -198,7 +198,7 @@ impl Workspaces {
     }
 
     /// Whether no process is ready.
-    #[inline(always)]
+    #[inline]
     pub fn is_empty(&self) -> bool
         ensures { result ≡ (length self.now.ready == 0) }
     {

@@ -11,7 +11,7 @@ use machine_state::{LINK_WORDS, Link};
 const INPUT_WORDS: u32 = LINK_WORDS + 16;
 
 /// The link whose word is at the address, of four whose words begin here.
-#[inline(always)]
+#[inline]
 fn link_from(first: u32, address: u32) -> Option<Link>
     requires { first + 12 < 2 ^ 32 }
     ensures { option_map link_index result ≡ link_from first address }
@@ -32,7 +32,7 @@ fn link_from(first: u32, address: u32) -> Option<Link>
 }
 
 /// The link whose input word is at the address.
-#[inline(always)]
+#[inline]
 pub(crate) fn input_link(address: u32) -> Option<Link>
     ensures { option_map link_index result ≡ input_link address }
 {
@@ -40,7 +40,7 @@ pub(crate) fn input_link(address: u32) -> Option<Link>
 }
 
 /// The link whose output word is at the address.
-#[inline(always)]
+#[inline]
 pub(crate) fn output_link(address: u32) -> Option<Link>
     ensures { option_map link_index result ≡ output_link address }
 {
