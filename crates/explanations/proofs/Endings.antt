@@ -12,7 +12,9 @@ use Rattle.verifier.specs.Judge.{Verdict, refused, at_the_end, past_starts, past
 use Rattle.verifier.specs.Judge.{first_start, judge}
 use Rattle.fact_texts.specs.Texts.{Text}
 use Rattle.state_texts.specs.declared.settings.Setting.{Setting}
+use Rattle.state_texts.specs.FrameTexts.{frame_text}
 use Rattle.sentences.specs.Sights.{sight_text, setting_after, is_at_entry, breach_text, ended_text, accepted_text}
+use Rattle.sentences.specs.Sights.{rows_before, run_past, past_text}
 use Rattle.explanations.specs.Explaining.{explained, fetched_text, rule_text, last_text, starts_text, breaking}
 use Rattle.explanations.specs.Endings.{Tells}
 
@@ -30,15 +32,16 @@ either m true v w s t first second = first
 either m false v w s t first second = second
 
 at_end : (m : Contents) (at : ℕ) (before : Option State) → Tells m (at_the_end at before) (ended_text m at before)
-unfolding ended_text
+unfolding ended_text run_past past_text
 at_end m at None = ([], refl)
-at_end m at (Some s) = (_, ([], refl))
+at_end m at (Some s) = (_, (frame_text m s, refl))
 
 at_breach : (m : Contents) (at : ℕ) (i : Instr) (broken : Rule) (at_entry : Bool) (by : Option State)
     → Tells m (refused broken at) (breach_text m at i broken at_entry by)
 unfolding breach_text
 at_breach m at i broken at_entry None = (_, ([], refl))
-at_breach m at i broken at_entry (Some s) = (_, (_, refl))
+at_breach m at i broken at_entry (Some s) =
+    later m (refused broken at) (frame_text m s) _ (_, (rows_before m at i broken at_entry s, refl))
 
 module _ (m : Contents) (go : ℕ → Option State → Verdict) (write : ℕ → Option State → Setting → Text)
     (told : (to : ℕ) (after : Option State) (next : Setting) → Tells m (go to after) (write to after next))

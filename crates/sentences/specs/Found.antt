@@ -2,9 +2,13 @@
 use Rattle.std.specs.Prelude.{ℕ, if◌then◌else◌, ℤ, pos, ◌+ℤ◌, ◌*ℤ◌, length, [], ◌++◌, codes, Option, Some, None}
 use Rattle.std.specs.Fmt.{decimal, signed_decimal}
 use Rattle.module_format.specs.Contents.{Contents}
+use Rattle.module_format.specs.declared.contexts.Context.{Context}
+use Rattle.module_format.specs.Contexts.{context_at}
+use Rattle.certificate.specs.Starts.{procedure_at}
+use Rattle.machine_state.specs.LocalStep.{target}
 use Rattle.module_format.specs.declared.stack.Stack.{Stack}
 use Rattle.machine_state.specs.declared.op.Op.{Op}
-use Rattle.machine_state.specs.declared.op.Op.TheVariants.{AlternationEnd}
+use Rattle.machine_state.specs.declared.op.Op.TheVariants.{AlternationEnd, StartProcess}
 use Rattle.machine_state.specs.declared.instruction.Instruction.{Instruction}
 use Rattle.machine_state.specs.declared.instruction.Instruction.TheVariants.{LoadLocalPointer, LoadLocal, StoreLocal}
 use Rattle.machine_state.specs.declared.instruction.Instruction.TheVariants.{AdjustWorkspace, Operate}
@@ -23,7 +27,10 @@ use Rattle.state_texts.specs.FrameTexts.{word_text}
 use Rattle.sentences.specs.declared.uses.Uses.{Uses}
 use Rattle.sentences.specs.declared.uses.Uses.TheVariants.{Nothing, A, AAndB, All}
 use Rattle.sentences.specs.declared.found.Spot.{Spot}
+use Rattle.sentences.specs.Channels.{channel_found, length_found}
+use Rattle.sentences.specs.Begun.{procedure_begun, branch_part, branch_target}
 use Rattle.sentences.specs.Leads.{lead_of, lead_lack}
+use Rattle.sentences.specs.Payments.{asked_text}
 use Rattle.sentences.specs.Uses.{used_by, used, used_for_guards, used_for_pars}
 
 -- ---- registers
@@ -115,6 +122,10 @@ order_found i s = guards_found s ++ more_registers (used_for_guards i) s.stack
 unfoldable pub par_found : Instruction → State → Text
 par_found i s = mode_found s.mode ++ more_registers (used_for_pars i) s.stack
 
+-- the same, and which branch begins where one is started
+unfoldable pub start_found : Contents → Instruction → ℕ → State → Text
+start_found m i next s = par_found i s ++ branch_part m next (branch_target i s.stack)
+
 -- ---- ways
 
 -- what an operation leads by: guards, or registers
@@ -144,10 +155,58 @@ first_word_found s = depth_found s.depth ++ word_zero_found (s.frame (pos 0))
 unfoldable pub return_found : Contents → State → Text
 return_found m s = context_found m s.context ++ first_word_found s
 
+unfoldable pub in_context : Contents → ℕ → Text
+in_context m n = codes "; " ++ context_found m n
+
+-- which procedure begins at an offset, and the context of the call
+unfoldable pub callee_found : Contents → ℕ → ℕ → Text
+callee_found m to n = procedure_begun m (procedure_at m to) ++ in_context m n
+
+unfoldable pub call_target : Contents → ℕ → ℤ → ℕ → Text
+call_target m next e n = target_found next e ++ callee_found m (target next e) n
+
 -- where a call leads, or what is asked at a return
 unfoldable pub call_found : Contents → Instruction → ℕ → ℤ → State → Text
 call_found m (Operate op) next e s = return_found m s
-call_found m i next e s = target_found next e
+call_found m i next e s = call_target m next e s.context
+
+unfoldable pub lo_words : Text
+lo_words = codes "; frame from "
+
+unfoldable pub hi_words : Text
+hi_words = codes " up to "
+
+-- the bounds of a frame
+unfoldable pub bounds_text : ℤ → ℤ → Text
+bounds_text lo hi = phrase lo_words lo ++ phrase hi_words hi
+
+-- the frame of a context
+unfoldable pub bounds_part : Option Context → Text
+bounds_part None = []
+bounds_part (Some c) = bounds_text c.lo c.hi
+
+-- the word that is used, or where the workspace is or would be, and the frame
+unfoldable pub own_word_found : Contents → Instruction → ℤ → State → Text
+own_word_found m i e s = word_found i s.depth e ++ bounds_part (context_at m s.context)
+
+-- ---- channels
+
+-- which channel an operation names, or what is known of the registers that are used
+unfoldable pub channel_by : Op → Stack Known → Text
+channel_by StartProcess stack = registers_found AAndB stack
+channel_by op stack = channel_found stack.b.fact
+
+-- the same of an instruction
+unfoldable pub end_found : Instruction → Stack Known → Text
+end_found (Operate op) stack = channel_by op stack
+end_found i stack = registers_found All stack
+
+-- the lengths of a message and of those of its channel, or what is known of the registers that are used
+unfoldable pub message_found : Contents → Instruction → State → Text
+message_found m (Operate op) s = length_found m s
+message_found m i s = registers_found All s.stack
+
+-- ---- labels
 
 -- where an instruction leads, and what the label there wants that is not known
 unfoldable pub label_found : Contents → Instruction → ℕ → ℤ → State → Text
@@ -156,6 +215,10 @@ label_found m i next e s = way_found i next e s ++ lead_lack m next s (lead_of i
 -- what the bytes of an instruction cost, and the number that is left
 unfoldable pub payment_found : ℕ → ℕ → Text
 payment_found len number = codes "its bytes are " ++ (decimal len ++ (codes " and the number is " ++ decimal number))
+
+-- the same, and what is asked where it leads
+unfoldable pub budget_found : Contents → Instruction → ℕ → ℕ → ℤ → State → Text
+budget_found m i len next e s = payment_found len s.number ++ asked_text m i next e s
 
 -- ---- by the rule
 
@@ -167,12 +230,13 @@ found m rules.UnknownRegister spot s sum = unknown_found s.stack
 found m rules.Number spot s sum = number_found (used spot.instruction) s.stack sum
 found m rules.Pointer spot s sum = pointer_found spot.instruction spot.instr.operand s
 found m rules.RegionsMeet spot s sum = registers_found (used spot.instruction) s.stack
-found m rules.Channel spot s sum = registers_found (used spot.instruction) s.stack
-found m rules.MessageLength spot s sum = registers_found (used spot.instruction) s.stack
+found m rules.Channel spot s sum = end_found spot.instruction s.stack
+found m rules.MessageLength spot s sum = message_found m spot.instruction s
 found m rules.Alternation spot s sum = order_found spot.instruction s
 found m rules.Forward spot s sum = way_found spot.instruction spot.next spot.instr.operand s
-found m rules.Par spot s sum = par_found spot.instruction s
+found m rules.Par spot s sum = start_found m spot.instruction spot.next s
 found m rules.Call spot s sum = call_found m spot.instruction spot.next spot.instr.operand s
-found m rules.OwnWord spot s sum = word_found spot.instruction s.depth spot.instr.operand
-found m rules.Budget spot s sum = payment_found spot.instr.len s.number
+found m rules.OwnWord spot s sum = own_word_found m spot.instruction spot.instr.operand s
+found m rules.Budget spot s sum =
+    budget_found m spot.instruction spot.instr.len spot.next spot.instr.operand s
 found m rules.Label spot s sum = label_found m spot.instruction spot.next spot.instr.operand s

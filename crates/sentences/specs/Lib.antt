@@ -4,7 +4,13 @@ pub mod Results
 pub mod Ways
 pub mod Lacks
 pub mod Leads
+pub mod Costs
+pub mod Channels
+pub mod Begun
+pub mod Payments
 pub mod Found
 pub mod Sentences
+pub mod Rows
+pub mod RowsAsked
 pub mod Seen
 pub mod Sights

@@ -8,7 +8,8 @@ use Rattle.module_format.specs.declared.stack.Stack.{Stack}
 use Rattle.machine_state.specs.declared.op.Op.{Op}
 use Rattle.machine_state.specs.declared.op.Op.TheVariants.{Binary}
 use Rattle.machine_state.specs.declared.instruction.Instruction.{Instruction}
-use Rattle.machine_state.specs.declared.instruction.Instruction.TheVariants.{WithConstant, LoadNonLocalPointer, Operate}
+use Rattle.machine_state.specs.declared.instruction.Instruction.TheVariants.{WithConstant, LoadNonLocalPointer}
+use Rattle.machine_state.specs.declared.instruction.Instruction.TheVariants.{Operate}
 use Rattle.states.specs.declared.known.Known.{Known}
 use Rattle.fact_texts.specs.declared.facts.RangeText.{RangeText}
 

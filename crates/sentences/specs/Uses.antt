@@ -6,7 +6,8 @@ use Rattle.machine_state.specs.declared.op.Op.TheVariants.{LoadByte, StoreByte, 
 use Rattle.machine_state.specs.declared.op.Op.TheVariants.{EnableSkip, DisableChannel, DisableSkip, LoopEnd}
 use Rattle.machine_state.specs.declared.op.Op.TheVariants.{StartProcess, EndProcess}
 use Rattle.machine_state.specs.declared.instruction.Instruction.{Instruction}
-use Rattle.machine_state.specs.declared.instruction.Instruction.TheVariants.{WithConstant, LoadNonLocalPointer, Operate}
+use Rattle.machine_state.specs.declared.instruction.Instruction.TheVariants.{WithConstant, LoadNonLocalPointer}
+use Rattle.machine_state.specs.declared.instruction.Instruction.TheVariants.{Operate}
 use Rattle.machine_state.specs.declared.instruction.Instruction.TheVariants.{StoreNonLocal, LoadNonLocal, Call}
 use Rattle.machine_state.specs.declared.instruction.Instruction.TheVariants.{StoreLocal, ConditionalJump}
 use Rattle.sentences.specs.declared.uses.Uses.{Uses}

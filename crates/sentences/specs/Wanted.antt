@@ -162,7 +162,7 @@ word_wanted i = codes "to write the three words below the workspace"
 
 -- a payment is wanted by an operation
 unfoldable pub payment_wanted_by : Op → Text
-payment_wanted_by LoopEnd = codes "a number that pays for its bytes and at the label of the loop"
+payment_wanted_by LoopEnd = codes "a number that pays for its bytes, and with the weight of the loop at its label"
 payment_wanted_by AlternationEnd = codes "a number that pays for its bytes and at each label where a guard leads"
 payment_wanted_by StartProcess =
     codes "a number that pays for its bytes and at the labels of the branch and after the PAR"

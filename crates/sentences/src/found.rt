@@ -4,17 +4,25 @@ ghost use Rattle.std.specs.Prelude.{◌≡◌, ◌<◌, ◌^◌, pos, ◌+ℤ◌
 ghost use Rattle.module_format.specs.Contents.{contents_of};
 ghost use Rattle.states.specs.Views.{state_of};
 ghost use Rattle.sentences.specs.Found.{registers_found, unknown_found, number_found, offset_found, pointer_found};
-ghost use Rattle.sentences.specs.Found.{signed_text, phrase, target_words, target_found, word_words, word_of, word_found};
-ghost use Rattle.sentences.specs.Found.{mode_found, count_found, guards_found, after_mode, more_registers, order_found};
+ghost use Rattle.sentences.specs.Found.{signed_text, phrase, target_words, target_found, word_words, word_of};
+ghost use Rattle.sentences.specs.Found.{word_found};
+ghost use Rattle.sentences.specs.Found.{mode_found, count_found, guards_found, after_mode, more_registers};
+ghost use Rattle.sentences.specs.Found.{order_found};
 ghost use Rattle.sentences.specs.Found.{par_found, way_by, way_found, context_found, depth_found, word_zero_found};
-ghost use Rattle.sentences.specs.Found.{first_word_found, return_found, call_found, label_found, payment_found, found};
+ghost use Rattle.sentences.specs.Found.{first_word_found, return_found, call_found, label_found, payment_found};
+ghost use Rattle.sentences.specs.Found.{budget_found, found};
+ghost use Rattle.sentences.specs.Found.{channel_by, end_found, message_found, start_found, in_context, callee_found};
+ghost use Rattle.sentences.specs.Found.{call_target, lo_words, hi_words, bounds_text, bounds_part, own_word_found};
 
-use crate::leads::push_lead_lack;
+use crate::begun::{push_branch_part, push_procedure_begun};
+use crate::channels::{push_channel, push_length};
+use crate::leads::{push_lead_lack, target};
+use crate::payments::push_asked;
 use crate::uses::{Uses, used, used_by, used_for_guards, used_for_pars};
 use certificate::Module;
 use fact_texts::{FactText, RangeText, context_text, is_unknown};
 use machine_state::{Instruction, Op};
-use module_format::{Stack, Tables};
+use module_format::{Context, Stack, Tables};
 use prefix_decoder::Instr;
 use state_texts::{ModeText, WordText};
 use states::{Known, Mode, Rule, State, WordFact};
@@ -267,6 +275,22 @@ fn push_par(text: &mut String, instruction: Instruction, state: &State) -> Resul
     Ok(())
 }
 
+/// Appends the same, and which branch begins where one is started.
+#[tactic(auto, unfolding(crate::specs::Found::start_found))]
+fn push_start(
+    text: &mut String,
+    module: &Module,
+    spot: Spot,
+    state: &State,
+) -> Result<(), AllocError>
+    ensures { OnOk result (string_bytes text.new ≡ string_bytes text.old
+        ++ start_found «module».now spot.instruction spot.next (state_of state.now)) }
+{
+    push_par(text, spot.instruction, state)?;
+    push_branch_part(text, module, spot.instruction, spot.next, state.stack)?;
+    Ok(())
+}
+
 /// Appends what an operation leads by: guards, or registers.
 #[tactic(auto, unfolding(crate::specs::Found::way_by))]
 fn push_way_by(text: &mut String, op: Op, state: &State) -> Result<(), AllocError>
@@ -340,22 +364,115 @@ fn push_return(text: &mut String, tables: &Tables<'_>, state: &State) -> Result<
     Ok(())
 }
 
+/// Appends the context after something else.
+#[tactic(auto, unfolding(crate::specs::Found::in_context))]
+fn push_in_context(text: &mut String, tables: &Tables<'_>, number: u32) -> Result<(), AllocError>
+    ensures { OnOk result (string_bytes text.new
+        ≡ string_bytes text.old ++ in_context (contents_of tables.now) number) }
+{
+    text.push_str("; ")?;
+    push_context(text, tables, number)?;
+    Ok(())
+}
+
+/// Appends which procedure begins at an offset, and the context of the call.
+#[tactic(auto, unfolding(crate::specs::Found::callee_found))]
+fn push_callee(text: &mut String, module: &Module, to: u32, context: u32) -> Result<(), AllocError>
+    ensures { OnOk result (string_bytes text.new
+        ≡ string_bytes text.old ++ callee_found «module».now to context) }
+{
+    push_procedure_begun(text, module, to)?;
+    push_in_context(text, module.tables(), context)?;
+    Ok(())
+}
+
+/// Appends where a call leads, which procedure begins there, and the context.
+#[tactic(auto, unfolding(crate::specs::Found::call_target))]
+fn push_call_target(
+    text: &mut String,
+    module: &Module,
+    spot: Spot,
+    context: u32,
+) -> Result<(), AllocError>
+    requires { spot.next < 2 ^ 32 }
+    ensures { OnOk result (string_bytes text.new ≡ string_bytes text.old
+        ++ call_target «module».now spot.next spot.instr.operand context) }
+{
+    let to = target(spot.next, spot.instr.operand);
+    push_target(text, spot.next, spot.instr.operand)?;
+    push_callee(text, module, to, context)?;
+    Ok(())
+}
+
 /// Appends where a call leads, or what is asked at a return.
 #[tactic(auto, unfolding(crate::specs::Found::call_found))]
 fn push_call(
     text: &mut String,
-    tables: &Tables<'_>,
+    module: &Module,
     spot: Spot,
     state: &State,
 ) -> Result<(), AllocError>
     requires { spot.next < 2 ^ 32 }
     ensures { OnOk result (string_bytes text.new ≡ string_bytes text.old
-        ++ call_found (contents_of tables.now) spot.instruction spot.next spot.instr.operand (state_of state.now)) }
+        ++ call_found «module».now spot.instruction spot.next spot.instr.operand (state_of state.now)) }
 {
     match spot.instruction {
-        Instruction::Operate(_) => push_return(text, tables, state),
-        _ => push_target(text, spot.next, spot.instr.operand),
+        Instruction::Operate(_) => push_return(text, module.tables(), state),
+        _ => push_call_target(text, module, spot, state.context),
     }
+}
+
+/// What is said of the first word of a frame.
+#[tactic(auto, unfolding(crate::specs::Found::lo_words))]
+fn lo_words() -> &'static str
+    ensures { result.now ≡ lo_words }
+{
+    "; frame from "
+}
+
+/// What is said of the word after a frame.
+#[tactic(auto, unfolding(crate::specs::Found::hi_words))]
+fn hi_words() -> &'static str
+    ensures { result.now ≡ hi_words }
+{
+    " up to "
+}
+
+/// Appends the bounds of a frame.
+#[tactic(auto, unfolding(crate::specs::Found::bounds_text))]
+fn push_bounds_text(text: &mut String, lo: i64, hi: i64) -> Result<(), AllocError>
+    ensures { OnOk result (string_bytes text.new ≡ string_bytes text.old ++ bounds_text lo hi) }
+{
+    push_phrase(text, lo_words(), lo)?;
+    push_phrase(text, hi_words(), hi)?;
+    Ok(())
+}
+
+/// Appends the frame of a context.
+#[tactic(auto, unfolding(crate::specs::Found::bounds_part))]
+fn push_bounds(text: &mut String, bounds: Option<Context>) -> Result<(), AllocError>
+    ensures { OnOk result (string_bytes text.new ≡ string_bytes text.old ++ bounds_part bounds) }
+{
+    match bounds {
+        Some(frame) => push_bounds_text(text, frame.lo, frame.hi),
+        None => text.push_str(""),
+    }
+}
+
+/// Appends the word that is used, or where the workspace is or would be, and the frame.
+#[tactic(auto, unfolding(crate::specs::Found::own_word_found))]
+fn push_own_word(
+    text: &mut String,
+    module: &Module,
+    spot: Spot,
+    state: &State,
+) -> Result<(), AllocError>
+    ensures { OnOk result (string_bytes text.new ≡ string_bytes text.old
+        ++ own_word_found «module».now spot.instruction spot.instr.operand (state_of state.now)) }
+{
+    push_word(text, spot.instruction, state.depth, spot.instr.operand)?;
+    push_bounds(text, module.context(state.context))?;
+    Ok(())
 }
 
 /// Appends where an instruction leads, and what the label there wants that is not known.
@@ -382,6 +499,72 @@ fn push_label(
     Ok(())
 }
 
+/// Appends what the bytes of an instruction cost, the number that is left, and what is asked where it leads.
+#[tactic(auto, unfolding(crate::specs::Found::budget_found))]
+fn push_budget(
+    text: &mut String,
+    module: &Module,
+    spot: Spot,
+    state: &State,
+) -> Result<(), AllocError>
+    ensures { OnOk result (string_bytes text.new ≡ string_bytes text.old ++ budget_found «module».now
+        spot.instruction spot.instr.len spot.next spot.instr.operand (state_of state.now)) }
+{
+    push_payment(text, spot.instr.len, state.number)?;
+    push_asked(
+        text,
+        module,
+        spot.instruction,
+        spot.next,
+        spot.instr.operand,
+        state,
+    )?;
+    Ok(())
+}
+
+/// Appends which channel an operation names, or what is known of the registers that are used.
+#[tactic(auto, unfolding(crate::specs::Found::channel_by))]
+fn push_channel_by(text: &mut String, op: Op, stack: Stack<Known>) -> Result<(), AllocError>
+    ensures { OnOk result (string_bytes text.new ≡ string_bytes text.old ++ channel_by op stack) }
+{
+    match op {
+        Op::StartProcess => push_registers(text, Uses::AAndB, stack),
+        _ => push_channel(text, stack.b.fact),
+    }
+}
+
+/// Appends which channel an instruction names, or what is known of the registers that are used.
+#[tactic(auto, unfolding(crate::specs::Found::end_found))]
+fn push_end(
+    text: &mut String,
+    instruction: Instruction,
+    stack: Stack<Known>,
+) -> Result<(), AllocError>
+    ensures { OnOk result (string_bytes text.new ≡ string_bytes text.old ++ end_found instruction stack) }
+{
+    match instruction {
+        Instruction::Operate(op) => push_channel_by(text, op, stack),
+        _ => push_registers(text, Uses::All, stack),
+    }
+}
+
+/// Appends the lengths of a message and of those of its channel, or what is known of the registers that are used.
+#[tactic(auto, unfolding(crate::specs::Found::message_found))]
+fn push_message(
+    text: &mut String,
+    module: &Module,
+    instruction: Instruction,
+    state: &State,
+) -> Result<(), AllocError>
+    ensures { OnOk result (string_bytes text.new
+        ≡ string_bytes text.old ++ message_found «module».now instruction (state_of state.now)) }
+{
+    match instruction {
+        Instruction::Operate(_) => push_length(text, module, state),
+        _ => push_registers(text, Uses::All, state.stack),
+    }
+}
+
 /// Appends what the bytes of an instruction cost, and the number that is left.
 #[tactic(auto, unfolding(crate::specs::Found::payment_found))]
 fn push_payment(text: &mut String, len: usize, number: u64) -> Result<(), AllocError>
@@ -404,11 +587,7 @@ pub(crate) fn push_found(
     ensures { OnOk result (string_bytes text.new
         ≡ string_bytes text.old ++ found «module».now rule spot (state_of state.now) sum) }
 {
-    let Spot {
-        instruction,
-        instr,
-        ..
-    } = spot;
+    let instruction = spot.instruction;
     let uses = used(instruction);
     match rule {
         Rule::Spelling => text.push_str("this one has none"),
@@ -418,14 +597,14 @@ pub(crate) fn push_found(
         Rule::Number => push_number(text, uses, state.stack, sum),
         Rule::Pointer => push_pointer(text, spot, state),
         Rule::RegionsMeet => push_registers(text, uses, state.stack),
-        Rule::Channel => push_registers(text, uses, state.stack),
-        Rule::MessageLength => push_registers(text, uses, state.stack),
+        Rule::Channel => push_end(text, instruction, state.stack),
+        Rule::MessageLength => push_message(text, module, instruction, state),
         Rule::Alternation => push_order(text, instruction, state),
         Rule::Forward => push_way(text, spot, state),
-        Rule::Par => push_par(text, instruction, state),
-        Rule::Call => push_call(text, module.tables(), spot, state),
-        Rule::OwnWord => push_word(text, instruction, state.depth, instr.operand),
-        Rule::Budget => push_payment(text, instr.len, state.number),
+        Rule::Par => push_start(text, module, spot, state),
+        Rule::Call => push_call(text, module, spot, state),
+        Rule::OwnWord => push_own_word(text, module, spot, state),
+        Rule::Budget => push_budget(text, module, spot, state),
         Rule::Label => push_label(text, module, spot, state),
     }
 }

@@ -4,7 +4,8 @@ ghost use Rattle.std.specs.Prelude.{◌≡◌, ◌++◌, OnOk, string_bytes};
 ghost use Rattle.machine_state.specs.LocalStep.{target};
 ghost use Rattle.module_format.specs.Contents.{contents_of, label_at, label_of};
 ghost use Rattle.states.specs.Views.{state_of};
-ghost use Rattle.sentences.specs.Leads.{turns_back, lead_by, lead_of, lack_text, lack_part, lack_at, lead_lack, after_way};
+ghost use Rattle.sentences.specs.Leads.{turns_back, lead_by, lead_of, lack_text, lack_part, lack_at, lead_lack};
+ghost use Rattle.sentences.specs.Leads.{after_way};
 
 use crate::lacks::{Lack, lack_of};
 use crate::ways::Way;
@@ -47,7 +48,7 @@ fn lead_by(op: Op, stack: Stack<Known>) -> Option<Lead>
 
 /// Where an instruction leads, if it is to one label.
 #[tactic(auto, unfolding(crate::specs::Leads::lead_of))]
-fn lead_of(instruction: Instruction, operand: i32, stack: Stack<Known>) -> Option<Lead>
+pub(crate) fn lead_of(instruction: Instruction, operand: i32, stack: Stack<Known>) -> Option<Lead>
     ensures { result ≡ lead_of instruction operand stack }
 {
     match instruction {
@@ -65,7 +66,7 @@ fn lead_of(instruction: Instruction, operand: i32, stack: Stack<Known>) -> Optio
 }
 
 /// The code offset at a distance from another one.
-fn target(next: usize, distance: i32) -> u32
+pub(crate) fn target(next: usize, distance: i32) -> u32
     ensures { result ≡ target next distance }
 {
     let to = next as u128 + u128::from(distance.cast_unsigned());

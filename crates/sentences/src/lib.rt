@@ -1,11 +1,16 @@
 //! What is written of an instruction where a module is explained, and the sentence that explains a refusal.
 #![tactic(auto)]
 
+mod begun;
+mod channels;
+mod costs;
 mod found;
 mod lacks;
 mod leads;
+mod payments;
 mod reasons;
 mod results;
+mod rows;
 mod sentence;
 mod sights;
 mod uses;

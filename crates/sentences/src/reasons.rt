@@ -2,12 +2,16 @@
 
 ghost use Rattle.std.specs.Prelude.{◌≡◌, ◌+◌, ◌<◌, ◌^◌, ◌++◌, length, OnOk, string_bytes};
 ghost use Rattle.states.specs.Views.{state_of};
-ghost use Rattle.sentences.specs.Sights.{refused_text, is_at_entry, number_at, entry_reason, unreached_reason};
+ghost use Rattle.sentences.specs.Sights.{refused_text, is_at_entry, cost_at, entry_reason, unreached_reason};
 ghost use Rattle.sentences.specs.Sights.{reason, breach_text, hidden_text, ended_text, unspelled_text};
 ghost use Rattle.sentences.specs.Sights.{line_text, refused_head, within_text, unpaid_text, accepted_text};
+ghost use Rattle.sentences.specs.Sights.{rows_before};
+ghost use Rattle.sentences.specs.Sights.{past_text, run_past, within_words};
 ghost use Rattle.sentences.specs.Seen.{seen};
 
+use crate::costs::label_cost;
 use crate::leads::push_lack_at;
+use crate::rows::push_rows_asked;
 use crate::sentence::push_sentence;
 use crate::ways::Way;
 use certificate::Module;
@@ -36,19 +40,19 @@ pub fn is_at_entry(entered: Result<u64, Rule>, broken: Rule) -> bool
     }
 }
 
-/// The number that the label at an offset wants.
-fn number_at(module: &Module, at: u32) -> u64
-    ensures { result ≡ number_at «module».now at }
+/// What the label at an offset costs.
+fn cost_at(module: &Module, at: u32, state: &State) -> u128
+    ensures { result ≡ cost_at «module».now at (state_of state.now) }
 {
     match module.label_at(at) {
-        Some(row) => row.number,
+        Some(row) => label_cost(Way::Falls, state, row),
         None => 0,
     }
 }
 
 /// Appends what a label costs, and the number that is left.
 #[tactic(auto, unfolding(crate::specs::Sights::unpaid_text))]
-fn push_unpaid(text: &mut String, cost: u64, number: u64) -> Result<(), AllocError>
+fn push_unpaid(text: &mut String, cost: u128, number: u64) -> Result<(), AllocError>
     ensures { OnOk result (string_bytes text.new ≡ string_bytes text.old ++ unpaid_text cost number) }
 {
     write!(text, "the label costs {cost} and the number is {number}")
@@ -68,7 +72,7 @@ fn push_entry_reason(
 {
     match broken {
         Rule::Flow => text.push_str("control runs into a procedure"),
-        Rule::Budget => push_unpaid(text, number_at(module, at), state.number),
+        Rule::Budget => push_unpaid(text, cost_at(module, at, state), state.number),
         _ => push_lack_at(text, module, at, Way::Falls, state),
     }
 }
@@ -170,7 +174,43 @@ fn push_refused_reason(
     Ok(())
 }
 
-/// Appends what is known of the words of the frame, and why the rule is broken.
+/// Appends the rows that the rule asks, if it is the instruction's.
+fn push_rows_before(
+    text: &mut String,
+    module: &Module,
+    broken: Broken,
+    state: &State,
+) -> Result<(), AllocError>
+    requires { broken.at + broken.instr.len < 2 ^ 32 }
+    ensures { OnOk result (string_bytes text.new ≡ string_bytes text.old
+        ++ rows_before «module».now broken.at broken.instr broken.rule broken.at_entry (state_of state.now)) }
+{
+    if broken.at_entry {
+        return text.push_str("");
+    }
+    let next = broken.at + broken.instr.len;
+    push_rows_asked(text, module, next, broken.instr, broken.rule, state)
+}
+
+/// Appends the rows that are asked, and why the rule is broken.
+fn push_rows_and_reason(
+    text: &mut String,
+    module: &Module,
+    broken: Broken,
+    state: &State,
+) -> Result<(), AllocError>
+    requires { broken.at + broken.instr.len < 2 ^ 32 }
+    ensures { let why = reason «module».now broken.at broken.instr broken.rule broken.at_entry (state_of state.now) in
+        let rows = rows_before «module».now broken.at broken.instr broken.rule broken.at_entry (state_of state.now) in
+        OnOk result (string_bytes text.new
+        ≡ string_bytes text.old ++ (rows ++ refused_text broken.rule broken.at why)) }
+{
+    push_rows_before(text, module, broken, state)?;
+    push_refused_reason(text, module, broken, state)?;
+    Ok(())
+}
+
+/// Appends what is known of the words of the frame, the rows that are asked, and why the rule is broken.
 #[tactic(auto, unfolding(crate::specs::Sights::breach_text))]
 pub fn push_breach(
     text: &mut String,
@@ -186,16 +226,24 @@ pub fn push_breach(
         return push_refusal(text, broken.rule, broken.at, unreached_reason(broken.rule));
     };
     push_frame(text, module, state)?;
-    push_refused_reason(text, module, broken, state)?;
+    push_rows_and_reason(text, module, broken, state)?;
     Ok(())
 }
 
-/// Appends that an instruction starts within the one at an offset.
+/// What is said of a start within an instruction.
+#[tactic(auto, unfolding(crate::specs::Sights::within_words))]
+fn within_words() -> &'static str
+    ensures { result.now ≡ within_words }
+{
+    "a label, an entry or a successor is here, within the instruction at "
+}
+
+/// Appends that a row names an offset within the instruction at another one.
 #[tactic(auto, unfolding(crate::specs::Sights::within_text))]
 fn push_within(text: &mut String, at: usize) -> Result<(), AllocError>
     ensures { OnOk result (string_bytes text.new ≡ string_bytes text.old ++ within_text at) }
 {
-    text.push_str("an instruction starts here, within the one at ")?;
+    text.push_str(within_words())?;
     write!(text, "{at}")?;
     Ok(())
 }
@@ -243,6 +291,35 @@ fn push_accepted(text: &mut String, budget: u64) -> Result<(), AllocError>
     write!(text, "accepted, budget {budget}\n")
 }
 
+/// Appends the refusal of a state that runs past the end of the code.
+#[tactic(auto, unfolding(crate::specs::Sights::past_text))]
+fn push_past(text: &mut String, at: usize) -> Result<(), AllocError>
+    ensures { OnOk result (string_bytes text.new ≡ string_bytes text.old ++ past_text at) }
+{
+    push_refusal(
+        text,
+        Rule::Flow,
+        at,
+        "control runs past the end of the code",
+    )
+}
+
+/// Appends what is known of the words of the frame, and the same.
+#[tactic(auto, unfolding(crate::specs::Sights::run_past))]
+fn push_run_past(
+    text: &mut String,
+    module: &Module,
+    at: usize,
+    state: &State,
+) -> Result<(), AllocError>
+    ensures { OnOk result (string_bytes text.new
+        ≡ string_bytes text.old ++ run_past «module».now at (state_of state.now)) }
+{
+    push_frame(text, module, state)?;
+    push_past(text, at)?;
+    Ok(())
+}
+
 /// Appends what is said at the end of the code.
 #[tactic(auto, unfolding(crate::specs::Sights::ended_text))]
 pub fn push_end(
@@ -255,12 +332,7 @@ pub fn push_end(
         ≡ string_bytes text.old ++ ended_text «module».now at (seen state.entry)) }
 {
     match state {
-        Some(_) => push_refusal(
-            text,
-            Rule::Flow,
-            at,
-            "control runs past the end of the code",
-        ),
+        Some(state) => push_run_past(text, module, at, state),
         None => push_accepted(text, module.tables().budget),
     }
 }

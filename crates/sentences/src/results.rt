@@ -1,7 +1,8 @@
 //! Sums and differences that may not fit a word.
 
 ghost use Rattle.std.specs.Prelude.{◌≡◌, negsuc, pos, ◌≤ℤ◌, ◌+ℤ◌, ◌-ℤ◌, ◌*ℤ◌};
-ghost use Rattle.sentences.specs.Results.{moved, sum_of, difference_of, result_with, result_of_two, result_by, result_of};
+ghost use Rattle.sentences.specs.Results.{moved, sum_of, difference_of, result_with, result_of_two, result_by};
+ghost use Rattle.sentences.specs.Results.{result_of};
 
 use fact_texts::RangeText;
 use machine_state::{Instruction, Op};

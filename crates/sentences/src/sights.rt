@@ -5,8 +5,9 @@ ghost use Rattle.states.specs.Views.{state_of};
 ghost use Rattle.module_format.specs.Contents.{label_at};
 ghost use Rattle.certificate.specs.Starts.{procedure_at};
 ghost use Rattle.certificate.specs.Branches.{branch_at};
-ghost use Rattle.sentences.specs.Sights.{label_line, procedure_line, branch_line, rows_text, known_here};
-ghost use Rattle.sentences.specs.Sights.{context_rows, instruction_text, sight_text, setting_after};
+ghost use Rattle.sentences.specs.Sights.{known_here};
+ghost use Rattle.sentences.specs.Rows.{label_line, procedure_line, branch_line, context_rows, rows_text};
+ghost use Rattle.sentences.specs.Sights.{instruction_text, sight_text, setting_after};
 ghost use Rattle.sentences.specs.Seen.{seen};
 
 use certificate::Module;
@@ -50,7 +51,7 @@ fn push_branch_at(text: &mut String, module: &Module, at: u32) -> Result<(), All
 }
 
 /// Appends the rows of the procedure and the branch that begin at an offset.
-#[tactic(auto, unfolding(crate::specs::Sights::context_rows))]
+#[tactic(auto, unfolding(crate::specs::Rows::context_rows))]
 fn push_context_rows(text: &mut String, module: &Module, at: u32) -> Result<(), AllocError>
     ensures { OnOk result (string_bytes text.new ≡ string_bytes text.old ++ context_rows «module».now at) }
 {
@@ -60,8 +61,8 @@ fn push_context_rows(text: &mut String, module: &Module, at: u32) -> Result<(), 
 }
 
 /// Appends the rows of an offset.
-#[tactic(auto, unfolding(crate::specs::Sights::rows_text))]
-fn push_rows(text: &mut String, module: &Module, at: u32) -> Result<(), AllocError>
+#[tactic(auto, unfolding(crate::specs::Rows::rows_text))]
+pub(crate) fn push_rows(text: &mut String, module: &Module, at: u32) -> Result<(), AllocError>
     ensures { OnOk result (string_bytes text.new ≡ string_bytes text.old ++ rows_text «module».now at) }
 {
     push_label_at(text, module, at)?;

@@ -280,7 +280,8 @@ fn payment_wanted_by(op: Op) -> &'static str
     ensures { result.now ≡ payment_wanted_by op }
 {
     match op {
-        Op::LoopEnd => "a number that pays for its bytes and at the label of the loop",
+        Op::LoopEnd =>
+            "a number that pays for its bytes, and with the weight of the loop at its label",
         Op::AlternationEnd =>
             "a number that pays for its bytes and at each label where a guard leads",
         Op::StartProcess =>

@@ -1,0 +1,109 @@
+//! What is asked of the number where an instruction leads.
+
+ghost use Rattle.std.specs.Prelude.{◌≡◌, ◌++◌, OnOk, string_bytes};
+ghost use Rattle.machine_state.specs.LocalStep.{target};
+ghost use Rattle.module_format.specs.Contents.{label_at};
+ghost use Rattle.certificate.specs.Starts.{procedure_at};
+ghost use Rattle.states.specs.Views.{state_of};
+ghost use Rattle.sentences.specs.Leads.{lead_of};
+ghost use Rattle.sentences.specs.Payments.{label_words, procedure_words, cost_text, label_asked, procedure_asked};
+ghost use Rattle.sentences.specs.Payments.{lead_asked, asked_text};
+
+use crate::costs::label_cost;
+use crate::leads::{lead_of, target};
+use crate::ways::Way;
+use certificate::Module;
+use machine_state::Instruction;
+use states::State;
+use std::alloc::AllocError;
+
+/// What is said of the cost of a label.
+#[tactic(auto, unfolding(crate::specs::Payments::label_words))]
+fn label_words() -> &'static str
+    ensures { result.now ≡ label_words }
+{
+    "; the label costs "
+}
+
+/// What is said of the cost of a procedure.
+#[tactic(auto, unfolding(crate::specs::Payments::procedure_words))]
+fn procedure_words() -> &'static str
+    ensures { result.now ≡ procedure_words }
+{
+    "; the procedure costs "
+}
+
+/// Appends words and a cost.
+#[tactic(auto, unfolding(crate::specs::Payments::cost_text))]
+fn push_cost(text: &mut String, words: &str, cost: u128) -> Result<(), AllocError>
+    ensures { OnOk result (string_bytes text.new ≡ string_bytes text.old ++ cost_text words.now cost) }
+{
+    text.push_str(words)?;
+    write!(text, "{cost}")?;
+    Ok(())
+}
+
+/// Appends what the label at an offset costs.
+fn push_label_asked(
+    text: &mut String,
+    module: &Module,
+    to: u32,
+    way: Way,
+    state: &State,
+) -> Result<(), AllocError>
+    ensures { OnOk result (string_bytes text.new ≡ string_bytes text.old
+        ++ label_asked way (state_of state.now) (label_at «module».now to)) }
+{
+    match module.label_at(to) {
+        Some(row) => push_cost(text, label_words(), label_cost(way, state, row)),
+        None => text.push_str(""),
+    }
+}
+
+/// Appends what the procedure at an offset costs.
+fn push_procedure_asked(text: &mut String, module: &Module, to: u32) -> Result<(), AllocError>
+    ensures { OnOk result (string_bytes text.new
+        ≡ string_bytes text.old ++ procedure_asked (procedure_at «module».now to)) }
+{
+    match module.procedure_at(to) {
+        Some((_context, row)) => push_cost(text, procedure_words(), u128::from(row.number)),
+        None => text.push_str(""),
+    }
+}
+
+/// Appends what the label costs to which an instruction leads.
+fn push_lead_asked(
+    text: &mut String,
+    module: &Module,
+    instruction: Instruction,
+    next: usize,
+    operand: i32,
+    state: &State,
+) -> Result<(), AllocError>
+    ensures { OnOk result (string_bytes text.new ≡ string_bytes text.old ++ lead_asked «module».now next
+        (state_of state.now) (lead_of instruction operand (state_of state.now).stack)) }
+{
+    match lead_of(instruction, operand, state.stack) {
+        Some(lead) => push_label_asked(text, module, target(next, lead.distance), lead.way, state),
+        None => text.push_str(""),
+    }
+}
+
+/// Appends what is asked where an instruction leads. `next`: the offset after it.
+#[tactic(auto, unfolding(crate::specs::Payments::asked_text))]
+pub(crate) fn push_asked(
+    text: &mut String,
+    module: &Module,
+    instruction: Instruction,
+    next: usize,
+    operand: i32,
+    state: &State,
+) -> Result<(), AllocError>
+    ensures { OnOk result (string_bytes text.new ≡ string_bytes text.old
+        ++ asked_text «module».now instruction next operand (state_of state.now)) }
+{
+    match instruction {
+        Instruction::Call => push_procedure_asked(text, module, target(next, operand)),
+        _ => push_lead_asked(text, module, instruction, next, operand, state),
+    }
+}
