@@ -175,6 +175,18 @@ def to_entries_between_stores():
     return compared(after([pointer, *known]), after([pointer, *wanted]), test="ldc 50, ldl 1, stnl 0, ldc 0")
 
 
+def to_new_labels_of_half_blocks():
+    """To 8,000 labels with 90 entries about half a block each, once a store went through a pointer to any word; four
+    times. Of the other half of each block less is known, so that what is known of a block together does not decide."""
+    pointer = pointer_to(range(2, FRAME_HI))
+    half = BLOCK // 2
+    starts = range(FRAME_LO + BLOCK, FRAME_HI - BLOCK, half)
+    ranges = [(start, (0, 9) if number % 2 else (5, 110)) for number, start in enumerate(starts)]
+    known = [number_entry(start, half, *limits) for start, limits in ranges if not start <= 1 < start + half]
+    wanted = [number_entry(start, half, 0, 9) for start, limits in ranges if limits == (0, 9) and start > 1][:90]
+    return compared_with_each(after([pointer, *known]), wanted, 4, 8_000, THROUGH_POINTER)
+
+
 # ---- loops
 
 def loops(count, weight, skipped=()):

@@ -1,6 +1,6 @@
 -- What is known of words together, and of each of them.
 use Rattle.std.proofs.Common.{◌≡◌, ℕ, zero, suc, ◌<◌, ℤ, pos, ◌+ℤ◌, ◌≤ℤ◌, ◌<ℤ◌, Bool, true, false, ◌&&◌}
-use Rattle.std.proofs.Common.{List, [], ◌∷◌, length, get_or, drop, None, refl, sym, ap, ◌∙◌, subst, arith, ◌⊎◌, inl, inr}
+use Rattle.std.proofs.Common.{List, [], ◌∷◌, ◌++◌, length, get_or, drop, None, refl, sym, ap, ◌∙◌, subst, arith, ◌⊎◌, inl, inr}
 use Rattle.std.specs.Prelude.{not}
 use Rattle.std.specs.Int.{int_min, int_max}
 use Rattle.std.proofs.lemmas.Bool.{cases_lt}
@@ -16,14 +16,24 @@ use Rattle.states.specs.declared.span.Together.{Together}
 use Rattle.states.specs.State.{Facts, by_itself, is_alone, handed_out, is_word, said_of, entry_fact}
 use Rattle.states.specs.Below.{says, implies}
 use Rattle.states.specs.Comparing.{BlockSaysAll, loop_of}
-use Rattle.states.specs.Implied.{IsImplied, AllImplied}
-use Rattle.states.specs.Rows.{AreApart}
+use Rattle.states.specs.Blocks.{block_words}
+use Rattle.states.specs.Implied.{IsImplied, AllImplied, BlockImplied, IsWithin}
+use Rattle.states.specs.Rows.{rise_from, AreApart}
 use Rattle.states.specs.Spans.{with_plain, together}
 use Rattle.states.proofs.RowFacts.{and-parts, and-both, le-yes, le-from, before, within, behind, lies, about-before}
-use Rattle.states.proofs.RowFacts.{about-behind, entry_fact-before, entry_fact-within, entry_fact-drop}
+use Rattle.states.proofs.RowFacts.{rise-parts, about-behind, entry_fact-before, entry_fact-within, entry_fact-drop}
+
+-- each fact says nothing
+pub unknown-implied : (fact : Fact) → implies fact Unknown ≡ true
+unknown-implied Unknown = refl
+unknown-implied (Number lo hi) = refl
+unknown-implied (Pointer region lo hi step) = refl
+unknown-implied (CodeAddress offset) = refl
+unknown-implied (Loop base count weight) = refl
+unknown-implied ReturnAddress = refl
 
 -- a range within another one implies what that one implies
-implies-narrower : (lo hi low high : ℤ) (wanted : Fact) → low ≤ℤ lo → hi ≤ℤ high
+pub implies-narrower : (lo hi low high : ℤ) (wanted : Fact) → low ≤ℤ lo → hi ≤ℤ high
     → implies (Number low high) wanted ≡ true → implies (Number lo hi) wanted ≡ true
 implies-narrower lo hi low high Unknown a b h = refl
 implies-narrower lo hi low high (Number from to) a b h =
@@ -71,15 +81,64 @@ together-implies facts first (suc more) j wanted numbers h l =
     ]
 
 -- a block of which what is known together implies all that is wanted
-pub sum-says : (facts wanted : Facts) (first end : ℤ) (n : ℕ) (t : Together) → t ≡ together facts first n
-    → t.are_numbers ≡ true → end ≡ first +ℤ pos n → AllImplied wanted first end (Number t.lo t.hi)
-    → BlockSaysAll first facts wanted n
-sum-says facts wanted first end n t is numbers end_is all = λ j l.
+pub sum-says : (facts wanted : Facts) (first : ℤ) (t : Together) → t ≡ together facts first block_words
+    → t.are_numbers ≡ true → BlockImplied wanted first (Number t.lo t.hi) → BlockSaysAll first facts wanted block_words
+sum-says facts wanted first t is numbers all = λ j l.
     let k = first +ℤ pos j in
-    let here = all k (omega (arith, ints)) (omega (arith, ints, l, end_is)) in
+    let here = all k (omega (arith, ints)) (omega (arith, ints, l)) in
     ap (says (facts k)) here.is
-    ∙ together-implies facts first n j here.fact (ap (λ (u : Together). u.are_numbers) (sym is) ∙ numbers)
+    ∙ together-implies facts first block_words j here.fact (ap (λ (u : Together). u.are_numbers) (sym is) ∙ numbers)
     (ap (λ (u : Together). implies (Number u.lo u.hi) here.fact) (sym is) ∙ here.implied) l
+
+-- a fact that says nothing implies no other one
+implied-nothing : (said wanted : Fact) → implies Unknown wanted ≡ true → implies said wanted ≡ true
+implied-nothing said Unknown h = unknown-implied said
+implied-nothing said (Number lo hi) h = absurd (cc)
+implied-nothing said (Pointer region lo hi step) h = absurd (cc)
+implied-nothing said (CodeAddress offset) h = absurd (cc)
+implied-nothing said (Loop base count weight) h = absurd (cc)
+implied-nothing said ReturnAddress h = absurd (cc)
+
+-- a block of which nothing is wanted
+pub nothing-says : (facts wanted : Facts) (first : ℤ) → BlockImplied wanted first Unknown
+    → BlockSaysAll first facts wanted block_words
+nothing-says facts wanted first all = λ j l.
+    let k = first +ℤ pos j in
+    let here = all k (omega (arith, ints)) (omega (arith, ints, l)) in
+    ap (says (facts k)) here.is ∙ implied-nothing (by_itself (facts k)) here.fact here.implied
+
+-- ---- the first and the last entry of a row
+
+rises-to : (low : ℤ) (earlier : List Entry) (last : Entry) → rise_from low (earlier ++ last ∷ []) ≡ true
+    → low ≤ℤ end_of last
+rises-to low [] last rises = let p = rise-parts low last [] rises in let l = p.0 in omega (arith, ints, l)
+rises-to low (entry ∷ earlier) last rises =
+    let p = rise-parts low entry (earlier ++ last ∷ []) rises in
+    let l = p.0 in
+    let next = rises-to (end_of entry) earlier last p.1 in
+    omega (arith, ints, l, next)
+
+-- after the last entry nothing is said
+unknown-after : (low k : ℤ) (earlier : List Entry) (last : Entry) → rise_from low (earlier ++ last ∷ []) ≡ true
+    → end_of last ≤ℤ k → entry_fact (earlier ++ last ∷ []) k ≡ Alone Unknown
+unknown-after low k [] last rises h = rw (about-behind last k h) refl
+unknown-after low k (entry ∷ earlier) last rises h =
+    let p = rise-parts low entry (earlier ++ last ∷ []) rises in
+    let next = rises-to (end_of entry) earlier last p.1 in
+    rw (about-behind entry k (omega (arith, ints, next, h))) (unknown-after (end_of entry) k earlier last p.1 h)
+
+-- a row whose first entry begins no earlier than some words, and whose last one ends with them or before
+pub within-ends : (row later earlier : List Entry) (lowest highest : Entry) (first end : ℤ) → AreApart row
+    → row ≡ lowest ∷ later → row ≡ earlier ++ highest ∷ [] → first ≤ℤ lowest.word → end_of highest ≤ℤ end
+    → IsWithin (entry_fact row) first end
+within-ends row later earlier lowest highest first end apart is last_is low high = λ k far. elim far [
+  | inl l ↦ ap (λ (es : List Entry). entry_fact es k) is
+      ∙ entry_fact-before least_word k lowest later (subst (λ (es : List Entry). AreApart es) is apart)
+      (omega (arith, ints, l, low))
+  | inr h ↦ ap (λ (es : List Entry). entry_fact es k) last_is
+      ∙ unknown-after least_word k earlier highest (subst (λ (es : List Entry). AreApart es) last_is apart)
+      (omega (arith, ints, h, high))
+]
 
 -- ---- the entries of some words
 
@@ -88,7 +147,7 @@ abbrev pub ImpliedSoFar : List Entry → List Entry → ℤ → ℤ → Fact →
 ImpliedSoFar row rest first end fact =
     (k : ℤ) → first ≤ℤ k → k <ℤ end → (entry_fact row k ≡ entry_fact rest k) ⊎ IsImplied fact (entry_fact row k)
 
-plain-said : (wanted : Fact) (is_first : Bool) → loop_of wanted ≡ None → said_of wanted is_first ≡ Alone wanted
+pub plain-said : (wanted : Fact) (is_first : Bool) → loop_of wanted ≡ None → said_of wanted is_first ≡ Alone wanted
 plain-said Unknown is_first h = refl
 plain-said (Number lo hi) is_first h = refl
 plain-said (Pointer region lo hi step) is_first h = refl
@@ -124,14 +183,6 @@ implied-more row rest entry later first end fact is either so_far = λ k low hig
 -- nothing is wanted of a word
 unwanted : (fact : Fact) (wanted : WordFact) → wanted ≡ Alone Unknown → IsImplied fact wanted
 unwanted fact wanted is = record { fact = Unknown; is = is; implied = unknown-implied fact }
-  where
-    unknown-implied : (fact : Fact) → implies fact Unknown ≡ true
-    unknown-implied Unknown = refl
-    unknown-implied (Number lo hi) = refl
-    unknown-implied (Pointer region lo hi step) = refl
-    unknown-implied (CodeAddress offset) = refl
-    unknown-implied (Loop base count weight) = refl
-    unknown-implied ReturnAddress = refl
 
 -- the next entry begins after these words
 pub implied-before : (row rest : List Entry) (entry : Entry) (later : List Entry) (first end : ℤ) (fact : Fact)

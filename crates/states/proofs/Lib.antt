@@ -8,6 +8,7 @@ pub mod FrameFacts
 pub mod SpanFacts
 pub mod BlockSums
 pub mod Leavings
+pub mod Widenings
 pub mod Comparisons
 pub mod Entering
 pub mod States
@@ -18,3 +19,4 @@ pub mod CutEntries
 pub mod LoopPairs
 pub mod Remembering
 pub mod Hulls
+pub mod Claimed

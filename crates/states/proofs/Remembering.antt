@@ -1,5 +1,5 @@
 -- What is remembered of comparisons with labels, once words are changed or asked again.
-use Rattle.std.proofs.Common.{◌≡◌, ◌≢◌, ◌⊎◌, ℕ, suc, ◌+◌, ◌-◌, ◌*◌, ◌/◌, ◌%◌, ◌<◌, ◌≤◌, ℤ, pos, negsuc, ◌+ℤ◌, ◌-ℤ◌}
+use Rattle.std.proofs.Common.{◌≡◌, ◌≢◌, ◌⊎◌, ℕ, suc, ◌+◌, ◌-◌, ◌*◌, ◌/◌, ◌%◌, ◌<◌, ◌≤◌, ℤ, pos, negsuc, ◌+ℤ◌, ◌-ℤ◌, ◌≤ℤ◌, ◌<ℤ◌}
 use Rattle.std.proofs.Common.{Bool, true, false, ◌&&◌, List, [], ◌∷◌, length, Option, Some, None, refl, sym, ap, ◌∙◌}
 use Rattle.std.proofs.Common.{subst, arith, inl, inr, cond}
 use Rattle.std.specs.Prelude.{nat_le, nat_lt, is_none, sum_by, if◌then◌else◌, Result, Ok, Err}
@@ -19,25 +19,29 @@ use Rattle.states.specs.declared.known.WordFact.{WordFact}
 use Rattle.states.specs.declared.known.WordFact.TheVariants.{Alone}
 use Rattle.states.specs.declared.remembered.Compared.{Compared}
 use Rattle.states.specs.declared.remembered.Remembered.{Remembered}
+use Rattle.states.specs.declared.blocks.Block.{Block}
 use Rattle.states.specs.declared.span.Leaving.{Leaving}
+use Rattle.states.specs.declared.span.Leaving.TheVariants.{Widen}
 use Rattle.states.specs.declared.rule.Rule.{Rule}
 use Rattle.states.specs.declared.rule.Rule.TheVariants as rules
 use Rattle.states.specs.State.{State, Facts, by_itself, is_alone, entry_fact}
 use Rattle.states.specs.Spans.{left_of}
 use Rattle.states.specs.Below.{View, says, are_alike, is_whole, holds_constant, price, entries_hold, agrees, cost, compared}
 use Rattle.states.specs.Below.{view, below, below_at}
-use Rattle.states.specs.Blocks.{block_words, first_of, HaveRoom}
+use Rattle.states.specs.Blocks.{block_words, block_at, first_of, leaving_in, HaveRoom}
+use Rattle.states.specs.Implied.{BlockImplied, IsWithin}
 use Rattle.states.specs.Comparing.{BlockSaysAll, loop_of, stands}
 use Rattle.states.specs.Frames.{with_alone, with_span}
 use Rattle.states.specs.Remembered.{never, compared_at, time_of, index_time, word_time, HasTimes, loop_stays, loops_stay}
-use Rattle.states.specs.Remembered.{wants_no_loop, IsPaid, IsRecalled, ChangedSay, IsRemembered, AreRemembered}
+use Rattle.states.specs.Remembered.{wants_no_loop, IsPaid, IsRecalled, ChangedSay, allows, IsRemembered, AreRemembered}
 use Rattle.states.specs.Remembering.{IsChanged}
 use Rattle.states.proofs.BlockSums.{number-of}
 use Rattle.states.proofs.RowFacts.{and-parts, and-both}
-use Rattle.states.proofs.Comparisons.{entries_hold-says}
+use Rattle.states.proofs.Comparisons.{entries_hold-says, says-unknown}
 use Rattle.states.proofs.FrameFacts.{word-cases}
 use Rattle.states.proofs.Loops.{some-words}
-use Rattle.states.proofs.Leavings.{inside, outside, in-block}
+use Rattle.states.proofs.Leavings.{inside, outside, in-block, leaving-inside, AreLeftOutside}
+use Rattle.states.proofs.Widenings.{AreWidened}
 
 -- ---- loops whose words are what they were
 
@@ -141,14 +145,25 @@ due-same times later facts others time (entry ∷ entries) same stays =
     let new = sum_by-cons (price others) entry entries in
     omega (arith, old, new, here, rest)
 
+-- where what is wanted is allowed of what was not written since a time, it was allowed before, and is known if it was
+abbrev pub StayAllowed : (ℤ → ℕ) → (ℤ → ℕ) → (ℤ → Option Leaving) → (ℤ → Option Leaving) → Facts → Facts → ℕ → Type 0
+StayAllowed written later left leaving facts others time =
+    (k : ℤ) (wanted : WordFact) → later k ≤ time → allows (leaving k) wanted ≡ true
+    → (written k ≤ time) × (allows (left k) wanted ≡ true)
+    × (says (facts k) wanted ≡ true → says (others k) wanted ≡ true)
+
 -- a comparison is remembered where words are changed later
-remembered-still : (times later : ℤ → ℕ) (facts others : Facts) (entries : List Entry) (c : Compared)
-    → AreSame times later facts others c.time → IsRemembered times facts entries c
-    → IsRemembered later others entries c
-remembered-still times later facts others entries c same old = record {
+remembered-still : (times later written wrote : ℤ → ℕ) (left leaving : ℤ → Option Leaving) (facts others : Facts)
+    (entries : List Entry) (c : Compared) → AreSame times later facts others c.time
+    → StayAllowed written wrote left leaving facts others c.time → IsRemembered times written left facts entries c
+    → IsRemembered later wrote leaving others entries c
+remembered-still times later written wrote left leaving facts others entries c same allowed old = record {
   knows = λ k l.
       let at = same k l in
       ap (λ (f : WordFact). says f (entry_fact entries k)) at.0 ∙ old.knows k at.1;
+  widened = λ k l allowing.
+      let at = allowed k (entry_fact entries k) l allowing in
+      at.2 (old.widened k at.0 at.1);
   whole = λ stays. whole-same times later facts others c.time entries same stays
       ∙ old.whole (stayed times later facts others c.time entries same stays);
   due = λ stays. due-same times later facts others c.time entries same stays
@@ -191,54 +206,95 @@ block-index words times number i below within timed =
 
 -- ---- all comparisons
 
-pub remembered-same : (m : Contents) (facts others : Facts) (lo : ℤ) (times : List ℕ) (began : ℕ)
-    (compared : List Compared) → others ≡ facts → AreRemembered m facts lo times began compared
-    → AreRemembered m others lo times began compared
-remembered-same m facts others lo times began compared same old =
-    subst (λ (f : Facts). AreRemembered m f lo times began compared) (sym same) old
+pub remembered-same : (m : Contents) (said facts others : Facts) (left leaving : ℤ → Option Leaving) (lo : ℤ)
+    (times written : List ℕ) (began : ℕ) (compared : List Compared) → others ≡ facts → leaving ≡ left
+    → AreRemembered m said facts left lo times written began compared
+    → AreRemembered m said others leaving lo times written began compared
+remembered-same m said facts others left leaving lo times written began compared same left_same old =
+    subst (λ (l : ℤ → Option Leaving). AreRemembered m said others l lo times written began compared) (sym left_same)
+    (subst (λ (f : Facts). AreRemembered m said f left lo times written began compared) (sym same) old)
 
--- none is of the label that the state goes on from
-pub remembered-none : (m : Contents) (facts : Facts) (lo : ℤ) (times : List ℕ) (began : ℕ) (compared : List Compared)
-    → ((at : ℕ) → (compared_at compared at).time < began) → AreRemembered m facts lo times began compared
+-- none is of the label that the state goes on from, and what that label says is known
+pub remembered-none : (m : Contents) (said facts : Facts) (left : ℤ → Option Leaving) (lo : ℤ) (times written : List ℕ)
+    (began : ℕ) (compared : List Compared) → facts ≡ said → ((at : ℕ) → (compared_at compared at).time < began)
+    → AreRemembered m said facts left lo times written began compared
 unfolding AreRemembered
-remembered-none m facts lo times began compared none = λ at t found later.
-    let before = none at in
-    absurd (omega (arith, before, later))
+remembered-none m said facts left lo times written began compared is none = (
+  λ at t found later.
+      let before = none at in
+      absurd (omega (arith, before, later)),
+  λ k some early. ap (λ (f : Facts). f k) is,
+)
 
-pub remembered-never : (m : Contents) (facts : Facts) (lo : ℤ) (times : List ℕ) (began : ℕ) (compared : List Compared)
-    → 1 ≤ began → ((at : ℕ) → compared_at compared at ≡ never) → AreRemembered m facts lo times began compared
-remembered-never m facts lo times began compared begun none =
-    remembered-none m facts lo times began compared (λ at.
-    let time = ap (λ (c : Compared). c.time) (none at) in
-    omega (arith, time, begun))
+-- nothing is remembered, and all blocks were changed since
+pub remembered-never : (m : Contents) (said facts : Facts) (left : ℤ → Option Leaving) (lo : ℤ) (times written : List ℕ)
+    (began : ℕ) (compared : List Compared) → 1 ≤ began → ((n : ℕ) → n < length times → began ≤ time_of times n)
+    → ((at : ℕ) → compared_at compared at ≡ never)
+    → AreRemembered m said facts left lo times written began compared
+unfolding AreRemembered
+remembered-never m said facts left lo times written began compared begun late none = (
+  λ at t found later.
+      let time = ap (λ (c : Compared). c.time) (none at) in
+      absurd (omega (arith, time, begun, later)),
+  λ k some early. on k (k -ℤ lo) some early,
+)
+  where
+    on : (k z : ℤ) → 1 ≤ index_time times z → index_time times z < began → facts k ≡ said k
+    on k (pos n) some early = elim (cases_lt (n / block_words) (length times)) [
+      | inl low ↦
+          let after = late (n / block_words) low in
+          absurd (omega (arith, after, early))
+      | inr high ↦
+          let zero_is = get_or_past times (n / block_words) 0 high in
+          absurd (omega (arith, zero_is, some))
+    ]
+    on k (negsuc n) some early = absurd (omega (arith, some))
 
 -- the words outside a block are what they were
 pub record AreOutside (lo : ℤ) (number : ℕ) (facts others : Facts) : Type 0 where
   pub same : (k : ℤ) → ((n : ℕ) → k -ℤ lo ≡ pos n → n / block_words ≢ number) → others k ≡ facts k
 
-pub remembered-changed : (facts others : Facts) (lo : ℤ) (number : ℕ) (old new : Remembered) → IsChanged number old new
-    → AreOutside lo number facts others
-    → AreRemembered old.«module».now facts lo old.times.items old.began old.compared.items
-    → AreRemembered new.«module».now others lo new.times.items new.began new.compared.items
+pub remembered-changed : (said facts others : Facts) (left leaving : ℤ → Option Leaving) (lo : ℤ) (number : ℕ)
+    (is_widened : Bool) (old new : Remembered) → IsChanged number is_widened old new
+    → AreOutside lo number facts others → AreLeftOutside lo number left leaving
+    → (is_widened ≡ true → AreWidened lo number facts others left leaving)
+    → AreRemembered old.«module».now said facts left lo old.times.items old.written.items old.began old.compared.items
+    → AreRemembered new.«module».now said others leaving lo new.times.items new.written.items new.began
+    new.compared.items
 unfolding AreRemembered
-remembered-changed facts others lo number old new change far remembered = λ at t found later.
-    elim (change.kept.each at) [
-      | inl same ↦
-          let time = ap (λ (c : Compared). c.time) same in
-          let began = change.began in
-          let after = change.later at in
-          let before = remembered at t (ap (λ (m : Contents). label_at m at) (sym change.kept.same) ∙ found)
-          (omega (arith, time, began, later)) in
-          subst (λ (c : Compared). IsRemembered (word_time lo new.times.items) others t.entries c) (sym same)
-          (remembered-still (word_time lo old.times.items) (word_time lo new.times.items) facts others t.entries
-          (compared_at old.compared.items at)
-          (λ k l. on (compared_at old.compared.items at).time k (k -ℤ lo) refl (omega (arith, time, after)) l) before)
-      | inr none ↦
-          let time = ap (λ (c : Compared). c.time) none in
-          let begun = new.begun in
-          absurd (omega (arith, time, later, begun))
-    ]
+remembered-changed said facts others left leaving lo number is_widened old new change far apart widened remembered = (
+  λ at t found later.
+      elim (change.kept.each at) [
+        | inl same ↦
+            let time = ap (λ (c : Compared). c.time) same in
+            let began = change.began in
+            let after = change.later at in
+            let before = remembered.0 at t (ap (λ (m : Contents). label_at m at) (sym change.kept.same) ∙ found)
+            (omega (arith, time, began, later)) in
+            subst (λ (c : Compared). IsRemembered (word_time lo new.times.items) (word_time lo new.written.items)
+            leaving others t.entries c) (sym same)
+            (remembered-still (word_time lo old.times.items) (word_time lo new.times.items)
+            (word_time lo old.written.items) (word_time lo new.written.items) left leaving facts others t.entries
+            (compared_at old.compared.items at)
+            (λ k l. on (compared_at old.compared.items at).time k (k -ℤ lo) refl (omega (arith, time, after)) l)
+            (λ k wanted l allowing. allowed (compared_at old.compared.items at).time k (k -ℤ lo) wanted refl
+            (omega (arith, time, after)) l allowing) before)
+        | inr none ↦
+            let time = ap (λ (c : Compared). c.time) none in
+            let begun = new.begun in
+            absurd (omega (arith, time, later, begun))
+      ],
+  λ k some early.
+      let before = fresh k (k -ℤ lo) refl some early in
+      before.2 ∙ remembered.1 k before.0 before.1,
+)
   where
+    away : (k : ℤ) (n : ℕ) → k -ℤ lo ≡ pos n → n / block_words ≢ number
+        → (i : ℕ) → k -ℤ lo ≡ pos i → i / block_words ≢ number
+    away k n at d i e =
+        let same : n ≡ i = omega (arith, ints, at, e) in
+        λ is. d (ap (λ (j : ℕ). j / block_words) same ∙ is)
+
     on : (time : ℕ) (k z : ℤ) → k -ℤ lo ≡ z → time < time_of new.times.items number
         → index_time new.times.items z ≤ time → (others k ≡ facts k) × (index_time old.times.items z ≤ time)
     on time k (pos n) at later l = elim (cases_eq (n / block_words) number) [
@@ -246,9 +302,7 @@ remembered-changed facts others lo number old new change far remembered = λ at 
           let here = ap (time_of new.times.items) e in
           absurd (omega (arith, here, later, l))
       | inr d ↦ (
-        far.same k (λ i e.
-            let same : n ≡ i = omega (arith, ints, at, e) in
-            λ is. d (ap (λ (j : ℕ). j / block_words) same ∙ is)),
+        far.same k (away k n at d),
         (let same = change.others (n / block_words) d in omega (arith, same, l)),
       )
     ]
@@ -256,6 +310,64 @@ remembered-changed facts others lo number old new change far remembered = λ at 
       far.same k (λ i e. absurd (omega (arith, ints, at, e))),
       omega arith,
     )
+
+    within : (b : Bool) → is_widened ≡ b → (time : ℕ) (k : ℤ) (n : ℕ) (wanted : WordFact) → k -ℤ lo ≡ pos n
+        → n / block_words ≡ number → time < time_of new.times.items number
+        → time_of new.written.items number ≤ time → allows (leaving k) wanted ≡ true
+        → (time_of old.written.items number ≤ time) × (allows (left k) wanted ≡ true)
+        × (says (facts k) wanted ≡ true → says (others k) wanted ≡ true)
+    within true is time k n wanted at e later l allowing =
+        let here : time_of new.written.items number ≡ time_of old.written.items number =
+        change.here
+        ∙ ap (λ (b : Bool). cond b (time_of old.written.items number) (time_of new.times.items number)) is in
+        let both = (widened is).each k n at e wanted allowing in
+        (omega (arith, here, l), both.0, both.1)
+    within false is time k n wanted at e later l allowing =
+        let here : time_of new.written.items number ≡ time_of new.times.items number =
+        change.here
+        ∙ ap (λ (b : Bool). cond b (time_of old.written.items number) (time_of new.times.items number)) is in
+        absurd (omega (arith, here, later, l))
+
+    allowed : (time : ℕ) (k z : ℤ) (wanted : WordFact) → k -ℤ lo ≡ z → time < time_of new.times.items number
+        → index_time new.written.items z ≤ time → allows (leaving k) wanted ≡ true
+        → (index_time old.written.items z ≤ time) × (allows (left k) wanted ≡ true)
+        × (says (facts k) wanted ≡ true → says (others k) wanted ≡ true)
+    allowed time k (pos n) wanted at later l allowing = elim (cases_eq (n / block_words) number) [
+      | inl e ↦
+          let here = ap (time_of new.written.items) e in
+          let before = ap (time_of old.written.items) e in
+          let inner = within is_widened refl time k n wanted at e later (omega (arith, here, l)) allowing in
+          let earlier = inner.0 in
+          (omega (arith, before, earlier), inner.1, inner.2)
+      | inr d ↦ (
+        (let same = change.unwritten (n / block_words) d in omega (arith, same, l)),
+        sym (ap (λ (o : Option Leaving). allows o wanted) (apart.same k (away k n at d))) ∙ allowing,
+        λ h. ap (λ (f : WordFact). says f wanted) (far.same k (away k n at d)) ∙ h,
+      )
+    ]
+    allowed time k (negsuc n) wanted at later l allowing = (
+      omega arith,
+      sym (ap (λ (o : Option Leaving). allows o wanted)
+          (apart.same k (λ i e. absurd (omega (arith, ints, at, e))))) ∙ allowing,
+      λ h. ap (λ (f : WordFact). says f wanted) (far.same k (λ i e. absurd (omega (arith, ints, at, e)))) ∙ h,
+    )
+
+    fresh : (k z : ℤ) → k -ℤ lo ≡ z → 1 ≤ index_time new.times.items z → index_time new.times.items z < new.began
+        → (1 ≤ index_time old.times.items z) × (index_time old.times.items z < old.began) × (others k ≡ facts k)
+    fresh k (pos n) at some early = elim (cases_eq (n / block_words) number) [
+      | inl e ↦
+          let here = ap (time_of new.times.items) e in
+          let late = change.late in
+          absurd (omega (arith, here, late, early))
+      | inr d ↦
+          let same = change.others (n / block_words) d in
+          let began = change.began in (
+            omega (arith, same, some),
+            omega (arith, same, began, early),
+            far.same k (away k n at d),
+          )
+    ]
+    fresh k (negsuc n) at some early = absurd (omega (arith, some))
 
 -- a word is written
 pub outside-word : (lo word : ℤ) (index number : ℕ) (fact : Fact) (facts others : Facts)
@@ -284,48 +396,72 @@ outside-block lo number leaving facts others is = record {
 }
 
 -- a comparison more
-pub remembered-put : (facts : Facts) (lo : ℤ) (old new : Remembered) (t : Label)
+pub remembered-put : (said facts : Facts) (left : ℤ → Option Leaving) (lo : ℤ) (old new : Remembered) (t : Label)
     (offset paid : ℕ) (is_plain : Bool) → new.«module».now ≡ old.«module».now → new.times.items ≡ old.times.items
-    → new.began ≡ old.began
+    → new.written.items ≡ old.written.items → new.began ≡ old.began
     → ((at : ℕ) → (compared_at new.compared.items at ≡ compared_at old.compared.items at)
     ⊎ ((at ≡ offset) × (compared_at new.compared.items at
     ≡ record { time = new.time; paid = paid; is_plain = is_plain })))
     → label_at old.«module».now offset ≡ Some t → IsPaid facts t.entries paid
     → (is_plain ≡ true → wants_no_loop t.entries ≡ true)
-    → AreRemembered old.«module».now facts lo old.times.items old.began old.compared.items
-    → AreRemembered new.«module».now facts lo new.times.items new.began new.compared.items
+    → AreRemembered old.«module».now said facts left lo old.times.items old.written.items old.began old.compared.items
+    → AreRemembered new.«module».now said facts left lo new.times.items new.written.items new.began new.compared.items
 unfolding AreRemembered
-remembered-put facts lo old new t offset paid is_plain same times_is began each label due plain remembered =
-    λ at other found later. elim (each at) [
-      | inl kept ↦
-          let time = ap (λ (c : Compared). c.time) kept in
-          let before = remembered at other (ap (λ (m : Contents). label_at m at) (sym same) ∙ found)
-          (omega (arith, time, began, later)) in
-          subst (λ (c : Compared). IsRemembered (word_time lo new.times.items) facts other.entries c) (sym kept)
-          (subst (λ (ts : List ℕ). IsRemembered (word_time lo ts) facts other.entries (compared_at old.compared.items at))
-          (sym times_is) before)
-      | inr put ↦
-          let one : Some other ≡ Some t =
-          sym found ∙ (ap (λ (m : Contents). label_at m at) same
-          ∙ (ap (label_at old.«module».now) put.0 ∙ label)) in
-          let label_is : other ≡ t = cc in
-          subst (λ (c : Compared). IsRemembered (word_time lo new.times.items) facts other.entries c) (sym put.1)
-          (subst (λ (l : Label). IsRemembered (word_time lo new.times.items) facts l.entries
-          (record { time = new.time; paid = paid; is_plain = is_plain })) (sym label_is)
-          (record { knows = λ k l. due.knows k; whole = λ s. due.whole; due = λ s. due.due; plain = plain }))
-    ]
+remembered-put said facts left lo old new t offset paid is_plain same times_is written_is began each label due plain
+    remembered = (
+      λ at other found later. elim (each at) [
+        | inl kept ↦
+            let time = ap (λ (c : Compared). c.time) kept in
+            let before = remembered.0 at other (ap (λ (m : Contents). label_at m at) (sym same) ∙ found)
+            (omega (arith, time, began, later)) in
+            subst (λ (c : Compared). IsRemembered (word_time lo new.times.items) (word_time lo new.written.items) left
+            facts other.entries c) (sym kept)
+            (subst (λ (ts : List ℕ). IsRemembered (word_time lo ts) (word_time lo new.written.items) left facts
+            other.entries (compared_at old.compared.items at)) (sym times_is)
+            (subst (λ (ts : List ℕ). IsRemembered (word_time lo old.times.items) (word_time lo ts) left facts
+            other.entries (compared_at old.compared.items at)) (sym written_is) before))
+        | inr put ↦
+            let one : Some other ≡ Some t =
+            sym found ∙ (ap (λ (m : Contents). label_at m at) same
+            ∙ (ap (label_at old.«module».now) put.0 ∙ label)) in
+            let label_is : other ≡ t = cc in
+            subst (λ (c : Compared). IsRemembered (word_time lo new.times.items) (word_time lo new.written.items) left
+            facts other.entries c) (sym put.1)
+            (subst (λ (l : Label). IsRemembered (word_time lo new.times.items) (word_time lo new.written.items) left
+            facts l.entries (record { time = new.time; paid = paid; is_plain = is_plain })) (sym label_is)
+            (record {
+              knows = λ k l. due.knows k;
+              widened = λ k l allowing. due.knows k;
+              whole = λ s. due.whole;
+              due = λ s. due.due;
+              plain = plain;
+            }))
+      ],
+      λ k some early.
+          let time = ap (λ (ts : List ℕ). word_time lo ts k) times_is in
+          remembered.1 k (omega (arith, time, some)) (omega (arith, time, began, early)),
+    )
 
 -- ---- a comparison that is asked again
 
 -- the comparison with a label that is remembered
-pub remembered-at : (m : Contents) (facts : Facts) (lo : ℤ) (times : List ℕ) (began : ℕ) (compared : List Compared)
-    (at : ℕ) (t : Label) (c : Compared) → AreRemembered m facts lo times began compared → c ≡ compared_at compared at
-    → label_at m at ≡ Some t → began ≤ c.time → IsRemembered (word_time lo times) facts t.entries c
+pub remembered-at : (m : Contents) (said facts : Facts) (left : ℤ → Option Leaving) (lo : ℤ) (times written : List ℕ)
+    (began : ℕ) (compared : List Compared) (at : ℕ) (t : Label) (c : Compared)
+    → AreRemembered m said facts left lo times written began compared → c ≡ compared_at compared at
+    → label_at m at ≡ Some t → began ≤ c.time
+    → IsRemembered (word_time lo times) (word_time lo written) left facts t.entries c
 unfolding AreRemembered
-remembered-at m facts lo times began compared at t c remembered is found later =
+remembered-at m said facts left lo times written began compared at t c remembered is found later =
     let time = ap (λ (x : Compared). x.time) is in
-    subst (λ (x : Compared). IsRemembered (word_time lo times) facts t.entries x) (sym is)
-    (remembered at t found (omega (arith, time, later)))
+    subst (λ (x : Compared). IsRemembered (word_time lo times) (word_time lo written) left facts t.entries x) (sym is)
+    (remembered.0 at t found (omega (arith, time, later)))
+
+-- of words that were last changed before the state went on from a label, what that label says is known
+pub remembered-said : (m : Contents) (said facts : Facts) (left : ℤ → Option Leaving) (lo : ℤ) (times written : List ℕ)
+    (began : ℕ) (compared : List Compared) → AreRemembered m said facts left lo times written began compared
+    → (k : ℤ) → 1 ≤ word_time lo times k → word_time lo times k < began → facts k ≡ said k
+unfolding AreRemembered
+remembered-said m said facts left lo times written began compared remembered = remembered.1
 
 -- an entry of a loop, of whose words the first was not changed since a time
 pub stays-by : (times : ℤ → ℕ) (time : ℕ) (entry : Entry) (base : ℤ) (count weight : ℕ) (word next : ℤ)
@@ -373,11 +509,106 @@ all-stay times time (entry ∷ entries) all =
     zero-stays (CodeAddress offset) = refl
     zero-stays ReturnAddress = refl
 
+-- ---- a comparison before all changes
+
+-- what is paid for an entry of no loop
+no-price : (fact : Fact) (f g : WordFact) → is_none (loop_of fact) ≡ true
+    → (elim fact as (λ _. ℕ) [
+      | Loop base count weight ↦
+          if holds_constant f base && holds_constant g (pos count) then weight * (count - 1) else 0
+      | _ ↦ 0
+    ]) ≡ 0
+no-price (Loop base count weight) f g h = absurd (cc)
+no-price Unknown f g h = refl
+no-price (Number lo hi) f g h = refl
+no-price (Pointer region lo hi step) f g h = refl
+no-price (CodeAddress offset) f g h = refl
+no-price ReturnAddress f g h = refl
+
+none-due : (facts : Facts) (entries : List Entry) → wants_no_loop entries ≡ true → sum_by (price facts) entries ≡ 0
+none-due facts [] none = refl
+none-due facts (entry ∷ entries) none =
+    let both : (is_none (loop_of entry.fact) ≡ true) × (wants_no_loop entries ≡ true) = and-parts _ _ none in
+    let here : price facts entry ≡ 0 =
+    no-price entry.fact (facts entry.word) (facts (entry.word +ℤ pos 1)) both.0 in
+    let rest = none-due facts entries both.1 in
+    let all = sum_by-cons (price facts) entry entries in
+    omega (arith, here, rest, all)
+
+none-whole : (facts : Facts) (entries : List Entry) → wants_no_loop entries ≡ true
+    → list_all (is_whole facts) entries ≡ true
+none-whole facts [] none = refl
+none-whole facts (entry ∷ entries) none =
+    let both : (is_none (loop_of entry.fact) ≡ true) × (wants_no_loop entries ≡ true) = and-parts _ _ none in
+    and-both _ _
+    (no-loop entry.fact (are_alike (is_alone (facts entry.word)) (is_alone (facts (entry.word +ℤ pos 1)))) both.0)
+    (none-whole facts entries both.1)
+
+-- a word that was not changed after the beginning of time is none of the blocks
+outside-blocks : (lo : ℤ) (times : List ℕ) (k : ℤ) → ((n : ℕ) → n < length times → 1 ≤ time_of times n)
+    → word_time lo times k ≤ 0 → (k <ℤ lo) ⊎ ((lo +ℤ pos (length times * block_words)) ≤ℤ k)
+outside-blocks lo times k some none = on (k -ℤ lo) refl none
+  where
+    on : (z : ℤ) → k -ℤ lo ≡ z → index_time times z ≤ 0 → (k <ℤ lo) ⊎ ((lo +ℤ pos (length times * block_words)) ≤ℤ k)
+    on (pos n) at l = elim (cases_lt (n / block_words) (length times)) [
+      | inl low ↦
+          let late = some (n / block_words) low in
+          absurd (omega (arith, late, l))
+      | inr high ↦
+          let both = div-add-mod' n block_words in
+          let more : length times * block_words ≤ (n / block_words) * block_words = mul-le-mul_right block_words high in
+          inr (omega (arith, ints, at, both, more))
+    ]
+    on (negsuc n) at l = inl (omega (arith, ints, at))
+
+-- all blocks were changed since
+pub remembered-first : (lo end : ℤ) (times written : List ℕ) (left : ℤ → Option Leaving) (facts : Facts)
+    (entries : List Entry) → ((n : ℕ) → n < length times → 1 ≤ time_of times n) → length written ≡ length times
+    → ((n : ℕ) → n < length times → 1 ≤ time_of written n) → end ≡ lo +ℤ pos (length times * block_words)
+    → IsWithin (entry_fact entries) lo end → wants_no_loop entries ≡ true
+    → IsRemembered (word_time lo times) (word_time lo written) left facts entries
+    (record { time = 0; paid = 0; is_plain = true })
+remembered-first lo end times written left facts entries some alike each end_is within none = record {
+  knows = λ k l. silent k (outside-blocks lo times k some l);
+  widened = λ k l allowing.
+      silent k (subst (λ (n : ℕ). (k <ℤ lo) ⊎ ((lo +ℤ pos (n * block_words)) ≤ℤ k)) alike
+      (outside-blocks lo written k (λ n low. each n (omega (arith, alike, low))) l));
+  whole = λ stays. none-whole facts entries none;
+  due = λ stays. none-due facts entries none;
+  plain = λ h. none;
+}
+  where
+    silent : (k : ℤ) → (k <ℤ lo) ⊎ ((lo +ℤ pos (length times * block_words)) ≤ℤ k)
+        → says (facts k) (entry_fact entries k) ≡ true
+    silent k out =
+        ap (says (facts k)) (within k (subst (λ (e : ℤ). (k <ℤ lo) ⊎ (e ≤ℤ k)) (sym end_is) out))
+        ∙ says-unknown (facts k)
+
+-- a block that was only widened since, by a range that says what is wanted
+pub widened-says : (lo : ℤ) (times : ℤ → ℕ) (written : List ℕ) (blocks : List Block) (facts : Facts)
+    (entries : List Entry) (c : Compared) (number : ℕ) (low high : ℤ) (left : Option Leaving)
+    → IsRemembered times (word_time lo written) (leaving_in lo blocks) facts entries c
+    → time_of written number ≤ c.time → left ≡ (block_at blocks number).left → left ≡ Some (Widen low high)
+    → BlockImplied (entry_fact entries) (first_of lo number) (Number low high)
+    → BlockSaysAll (first_of lo number) facts (entry_fact entries) block_words
+widened-says lo times written blocks facts entries c number low high left known early left_is is all = λ j l.
+    let k = first_of lo number +ℤ pos j in
+    let index : k -ℤ lo ≡ pos (number * block_words + j) = omega (arith, ints) in
+    let same = number-of (number * block_words + j) number block_words (omega arith) (omega (arith, l)) in
+    let time : word_time lo written k ≡ time_of written number =
+    ap (index_time written) index ∙ ap (time_of written) same in
+    let here = all k (omega (arith, ints)) (omega (arith, ints, l)) in
+    let widen : leaving_in lo blocks k ≡ Some (Widen low high) =
+    leaving-inside blocks lo k number j l refl ∙ (sym left_is ∙ is) in
+    known.widened k (omega (arith, time, early))
+    (ap (λ (o : Option Leaving). allows o (entry_fact entries k)) widen
+    ∙ (ap (allows (Some (Widen low high))) here.is ∙ here.implied))
+
 -- nothing was changed since
-pub recalled-all : (lo : ℤ) (times : List ℕ) (facts : Facts) (entries : List Entry) (c : Compared)
-    → ((n : ℕ) → time_of times n ≤ c.time) → IsRemembered (word_time lo times) facts entries c
-    → IsRecalled facts entries c
-recalled-all lo times facts entries c none remembered =
+pub recalled-all : (lo : ℤ) (times : List ℕ) (written : ℤ → ℕ) (left : ℤ → Option Leaving) (facts : Facts)
+    (entries : List Entry) (c : Compared) → ((n : ℕ) → time_of times n ≤ c.time)
+    → IsRemembered (word_time lo times) written left facts entries c → IsRecalled facts entries c
+recalled-all lo times written left facts entries c none remembered =
     let all = λ (k : ℤ). on (k -ℤ lo) in
     let stays = all-stay (word_time lo times) c.time entries all in
     record {
@@ -394,10 +625,11 @@ recalled-all lo times facts entries c none remembered =
     on (negsuc n) = omega arith
 
 -- no loop was changed since, and of the words that were, what is wanted is known
-pub recalled-some : (lo : ℤ) (times : List ℕ) (facts : Facts) (entries : List Entry) (c : Compared)
-    → loops_stay (word_time lo times) c.time entries ≡ true → ChangedSay lo times facts (entry_fact entries) c.time
-    → IsRemembered (word_time lo times) facts entries c → IsRecalled facts entries c
-recalled-some lo times facts entries c stays changed remembered = record {
+pub recalled-some : (lo : ℤ) (times : List ℕ) (written : ℤ → ℕ) (left : ℤ → Option Leaving) (facts : Facts)
+    (entries : List Entry) (c : Compared) → loops_stay (word_time lo times) c.time entries ≡ true
+    → ChangedSay lo times facts (entry_fact entries) c.time
+    → IsRemembered (word_time lo times) written left facts entries c → IsRecalled facts entries c
+recalled-some lo times written left facts entries c stays changed remembered = record {
   paid = record {
     knows = λ k. elim (cases_lt c.time (word_time lo times k)) [
       | inl l ↦ changed k l

@@ -9,7 +9,10 @@ use Rattle.states.specs.declared.known.LoopWord.TheVariants as words
 use Rattle.states.specs.declared.known.WordFact.{WordFact}
 use Rattle.states.specs.declared.known.WordFact.TheVariants.{Alone, Index, Count}
 use Rattle.states.specs.Lookup.{facts_over}
-use Rattle.states.specs.Blocks.{facts_left}
+use Rattle.states.specs.Blocks.{facts_left, leaving_in}
+use Rattle.module_format.specs.Rows.{Entry}
+use Rattle.states.specs.declared.remembered.Compared.{Compared}
+use Rattle.states.specs.Remembered.{word_time, IsRemembered}
 use Rattle.states.specs.State.{Facts, is_word, by_itself}
 use Rattle.states.specs.declared.span.Leaving.{Leaving}
 use Rattle.states.specs.Spans.{is_in_span, left_of}
@@ -20,6 +23,12 @@ over_facts frame = facts_over frame.lo frame.row.now frame.overlay.written.items
 
 abbrev pub frame_facts : Frame → Facts
 frame_facts frame = facts_left frame.lo frame.by_block.kept.items (over_facts frame)
+
+-- So it was at the time of a comparison with entries, and is still for what was not changed since.
+abbrev pub IsKnown : Frame → List Entry → Compared → Type 0
+IsKnown frame entries c =
+    IsRemembered (word_time frame.lo frame.remembered.times.items) (word_time frame.lo frame.remembered.written.items)
+    (leaving_in frame.lo frame.by_block.kept.items) (frame_facts frame) entries c
 
 -- word k has this fact from now on, and the others what they had
 abbrev pub with_alone : ℤ → Fact → Facts → Facts

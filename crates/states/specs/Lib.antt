@@ -10,6 +10,7 @@ pub mod Comparing
 pub mod Cutting
 pub mod Implied
 pub mod Remembered
+pub mod Claims
 pub mod Remembering
 pub mod Views
 pub mod Room

@@ -1,14 +1,18 @@
 -- What is remembered of comparisons with labels: what a label wants is known still of words that were not changed since.
 use Rattle.std.specs.Prelude.{◌≡◌, ◌≤◌, ◌<◌, ℕ, ◌+◌, ◌*◌, ◌/◌, ℤ, pos, negsuc, ◌+ℤ◌, ◌-ℤ◌, Bool, true, false}
-use Rattle.std.specs.Prelude.{◌&&◌, nat_le, is_none, List, get_or, Some, sum_by}
+use Rattle.std.specs.Prelude.{◌&&◌, nat_le, is_none, List, get_or, Option, Some, None, sum_by}
 use Rattle.std.specs.List.{list_all}
 use Rattle.std.proofs.Props.{props}
 use Rattle.module_format.specs.Rows.{Entry}
 use Rattle.module_format.specs.Contents.{Contents, Label, label_at}
-use Rattle.module_format.specs.declared.fact.Fact.TheVariants.{Loop}
+use Rattle.module_format.specs.declared.fact.Fact.TheVariants.{Loop, Number}
+use Rattle.states.specs.declared.known.WordFact.{WordFact}
+use Rattle.states.specs.declared.known.WordFact.TheVariants.{Alone}
 use Rattle.states.specs.declared.remembered.Compared.{Compared}
+use Rattle.states.specs.declared.span.Leaving.{Leaving}
+use Rattle.states.specs.declared.span.Leaving.TheVariants.{Widen}
 use Rattle.states.specs.State.{Facts, entry_fact}
-use Rattle.states.specs.Below.{says, is_whole, price}
+use Rattle.states.specs.Below.{implies, says, is_whole, price}
 use Rattle.states.specs.Blocks.{block_words}
 use Rattle.states.specs.Comparing.{SaysAll, loop_of}
 
@@ -78,20 +82,35 @@ abbrev pub ChangedSay : ℤ → List ℕ → Facts → Facts → ℕ → Type 0
 ChangedSay lo times facts wanted time =
     (k : ℤ) → time < word_time lo times k → says (facts k) (wanted k) ≡ true
 
--- So it was at the time of a comparison, and is still for the words and loops that were not changed since.
-pub record IsRemembered (times : ℤ → ℕ) (facts : Facts) (entries : List Entry) (c : Compared) : Type 0 where
+-- A word of which this was known is known to be so still once it is left so: it was not left, or widened by a range that
+-- says what is wanted.
+abbrev pub allows : Option Leaving → WordFact → Bool
+allows None wanted = true
+allows (Some (Widen lo hi)) (Alone wanted) = implies (Number lo hi) wanted
+allows _ _ = false
+
+-- So it was at the time of a comparison, and is still for the words and loops that were not changed since; and for the
+-- words that were not written since, where how they were left allows it.
+pub record IsRemembered (times written : ℤ → ℕ) (left : ℤ → Option Leaving) (facts : Facts) (entries : List Entry)
+    (c : Compared) : Type 0 where
   pub knows : (k : ℤ) → times k ≤ c.time → says (facts k) (entry_fact entries k) ≡ true
+  pub widened : (k : ℤ) → written k ≤ c.time → allows (left k) (entry_fact entries k) ≡ true
+      → says (facts k) (entry_fact entries k) ≡ true
   pub whole : loops_stay times c.time entries ≡ true → list_all (is_whole facts) entries ≡ true
   pub due : loops_stay times c.time entries ≡ true → sum_by (price facts) entries ≡ c.paid
   pub plain : c.is_plain ≡ true → wants_no_loop entries ≡ true
 
--- so it is of each comparison with a label of a module that was not made before a time
-unfoldable pub AreRemembered : Contents → Facts → ℤ → List ℕ → ℕ → List Compared → Type 0
-AreRemembered m facts lo times began compared =
-    (at : ℕ) (t : Label) → label_at m at ≡ Some t → began ≤ (compared_at compared at).time
-    → IsRemembered (word_time lo times) facts t.entries (compared_at compared at)
+-- So it is of each comparison with a label of a module that was not made before a time. Of words that were last changed
+-- before that time, it is known what is said.
+unfoldable pub AreRemembered : Contents → Facts → Facts → (ℤ → Option Leaving) → ℤ → List ℕ → List ℕ → ℕ
+    → List Compared → Type 0
+AreRemembered m said facts left lo times written began compared =
+    ((at : ℕ) (t : Label) → label_at m at ≡ Some t → began ≤ (compared_at compared at).time
+    → IsRemembered (word_time lo times) (word_time lo written) left facts t.entries (compared_at compared at))
+    × ((k : ℤ) → 1 ≤ word_time lo times k → word_time lo times k < began → facts k ≡ said k)
 
-pub AreRemembered-prop : (m : Contents) (facts : Facts) (lo : ℤ) (times : List ℕ) (began : ℕ) (compared : List Compared)
-    → IsProp (AreRemembered m facts lo times began compared)
+pub AreRemembered-prop : (m : Contents) (said facts : Facts) (left : ℤ → Option Leaving) (lo : ℤ)
+    (times written : List ℕ) (began : ℕ) (compared : List Compared)
+    → IsProp (AreRemembered m said facts left lo times written began compared)
 unfolding AreRemembered
-AreRemembered-prop m facts lo times began compared = hlevel props
+AreRemembered-prop m said facts left lo times written began compared = hlevel props

@@ -8,12 +8,14 @@ ghost use Rattle.std.specs.List.{list_all};
 ghost use Rattle.module_format.specs.Contents.{procedure_of};
 ghost use Rattle.module_format.specs.Order.{least_word};
 ghost use Rattle.states.specs.Blocks.{block_words, HaveRoom, HaveRoom-prop, AreSummed, AreSummed-prop, facts_left};
+ghost use Rattle.states.specs.Blocks.{leaving_in};
 ghost use Rattle.states.specs.Lookup.{facts_over};
 ghost use Rattle.states.specs.Remembered.{HasTimes, HasTimes-prop, AreRemembered, AreRemembered-prop};
 ghost use Rattle.states.specs.Rows.{AreApart, LoopFits, IsRow};
 ghost use Rattle.states.specs.State.{is_silent, entry_fact, parameter_fact};
 
 use crate::blocks::{Block, Blocks, block_words};
+use crate::claims::Claims;
 use crate::implication::{holds_constant, says};
 use crate::known::{LoopWord, WordFact};
 use crate::overlay::Overlay;
@@ -34,6 +36,7 @@ pub(crate) struct Frame<'a> {
     /// What is kept for blocks of words, so that a span is neither asked nor left word by word.
     pub(crate) by_block: Blocks,
     pub(crate) remembered: Remembered<'a>,
+    pub(crate) claims: Claims<'a>,
     ghost apart: { AreApart row.now },
     ghost loops: { ∥ ((k : ℤ) → LoopFits (entry_fact row.now k)) ∥₁ },
     ghost inside: { (k : ℤ) → is_silent (entry_fact row.now k) ≡ false → (lo ≤ℤ k) × (k <ℤ (lo +ℤ pos (vec_len overlay.places))) },
@@ -44,11 +47,14 @@ pub(crate) struct Frame<'a> {
         by_block.kept.items } by { AreSummed-prop (facts_left lo by_block.kept.items
             (facts_over lo row.now overlay.written.items)) lo by_block.kept.items },
     ghost timed: { HasTimes (vec_len overlay.places) (vec_len remembered.times) } by { HasTimes-prop (vec_len overlay.places) (vec_len remembered.times) },
-    ghost compared: { AreRemembered remembered.«module».now
-        (facts_left lo by_block.kept.items (facts_over lo row.now overlay.written.items)) lo
-        remembered.times.items remembered.began remembered.compared.items } by { AreRemembered-prop
-            remembered.«module».now (facts_left lo by_block.kept.items (facts_over lo row.now overlay.written.items)) lo
-            remembered.times.items remembered.began remembered.compared.items },
+    ghost compared: { AreRemembered remembered.«module».now (entry_fact row.now)
+        (facts_left lo by_block.kept.items (facts_over lo row.now overlay.written.items))
+        (leaving_in lo by_block.kept.items) lo remembered.times.items remembered.written.items remembered.began
+        remembered.compared.items } by { AreRemembered-prop remembered.«module».now (entry_fact row.now)
+            (facts_left lo by_block.kept.items (facts_over lo row.now overlay.written.items))
+            (leaving_in lo by_block.kept.items) lo remembered.times.items remembered.written.items remembered.began
+            remembered.compared.items },
+    ghost alike: { claims.«module».now ≡ remembered.«module».now },
 }
 
 impl<'a> Frame<'a> {
@@ -79,6 +85,7 @@ impl<'a> Frame<'a> {
             overlay: Overlay::new(alloc, room)?,
             by_block: Blocks::new(alloc, room / block_words())?,
             remembered: Remembered::new(alloc, module, room)?,
+            claims: Claims::new(alloc, module, room / block_words() + 1)?,
         })
     }
 
@@ -87,12 +94,15 @@ impl<'a> Frame<'a> {
         ensures facts { IfOk result (λ f. frame_facts f ≡ frame_facts self.now) }
         ensures room { IfOk result (SameRoom self.now) }
     {
+        let module = self.remembered.module;
+        let room = self.overlay.places.len();
         Ok(Frame {
             lo: self.lo,
             row: self.row,
             overlay: self.overlay.copy(alloc)?,
             by_block: self.by_block.copy(alloc)?,
-            remembered: Remembered::new(alloc, self.remembered.module, self.overlay.places.len())?,
+            remembered: Remembered::new(alloc, module, room)?,
+            claims: Claims::new(alloc, module, room / block_words() + 1)?,
         })
     }
 
@@ -187,6 +197,7 @@ impl<'a> Frame<'a> {
         if left.is_some() {
             self.settle_words(number);
             self.by_block.set(number, Block { sum, left: None });
+            self.remembered.change(number, false);
         }
     }
 
@@ -201,7 +212,7 @@ impl<'a> Frame<'a> {
         self.settle(number);
         self.overlay.set(index, fact);
         self.by_block.forget(number);
-        self.remembered.change(number);
+        self.remembered.change(number, false);
     }
 
     /// If the word is this one of a loop, it is what it says by itself from now on.

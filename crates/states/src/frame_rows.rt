@@ -167,7 +167,7 @@ impl Frame<'_> {
     }
 
     /// Whether too many words were changed to seek each in a row, so that the row is tested word by word.
-    fn asks_each(&self, row: &[Entry]) -> bool {
+    pub(crate) fn asks_each(&self, row: &[Entry]) -> bool {
         let in_blocks = self
             .by_block
             .left_count()

@@ -3,7 +3,7 @@
 ghost use Rattle.std.specs.Prelude.{◌≡◌, ℤ, ◌≤ℤ◌, IsTrue, true, None};
 ghost use Rattle.states.specs.Below.{implies};
 ghost use Rattle.states.specs.Comparing.{loop_of};
-ghost use Rattle.states.specs.Implied.{AllImplied};
+ghost use Rattle.states.specs.Implied.{AllImplied, IsWithin};
 ghost use Rattle.states.specs.Rows.{AreApart};
 ghost use Rattle.states.specs.State.{entry_fact};
 
@@ -12,7 +12,7 @@ use crate::row::{end_of, loop_of, start_of};
 use module_format::{Entry, Fact};
 
 /// A row without some of the entries that end at a word or before. It takes a logarithm of steps.
-fn from_word<'a>(row: &'a [Entry], word: i64) -> &'a [Entry]
+pub(crate) fn from_word<'a>(row: &'a [Entry], word: i64) -> &'a [Entry]
     requires { AreApart row.now }
     ensures apart { AreApart result.now }
     ensures same { (k : ℤ) → word ≤ℤ k → entry_fact result.now k ≡ entry_fact row.now k }
@@ -55,4 +55,18 @@ pub(crate) fn all_implied(row: &[Entry], first: i64, end: i64, fact: Fact) -> bo
         rest = later;
     }
     true
+}
+
+/// Whether each entry of a row, which has one, lies within the words from `first` up to `end` (not included).
+pub(crate) fn is_row_within(row: &[Entry], first: i64, end: i64) -> bool
+    requires { AreApart row.now }
+    ensures { IsTrue result → IsWithin (entry_fact row.now) first end }
+{
+    let Some((lowest, _later)) = row.split_first() else {
+        return false;
+    };
+    let Some((highest, _earlier)) = row.split_last() else {
+        return false;
+    };
+    first <= start_of(lowest) && end_of(highest) <= end
 }

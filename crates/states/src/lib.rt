@@ -2,6 +2,7 @@
 #![tactic(auto)]
 
 mod blocks;
+mod claims;
 mod comparison;
 mod cutting;
 mod frame;

@@ -35,6 +35,8 @@ pub(crate) struct Remembered<'a> {
     pub module: &'a Module<'a>,
     /// For each block of words when one of them was last changed.
     pub times: Vec<u64>,
+    /// For each block when one of them was last changed but by widening all of them.
+    pub written: Vec<u64>,
     /// When the last change was.
     pub time: u64,
     /// When the state became that of a label. What was compared before means nothing.
@@ -44,6 +46,9 @@ pub(crate) struct Remembered<'a> {
     ghost order: { began ≤ time },
     ghost changed: { (n : ℕ) → time_of times.items n ≤ time },
     ghost past: { (at : ℕ) → (compared_at compared.items at).time ≤ time },
+    ghost alike: { vec_len written ≡ vec_len times },
+    ghost each: { (n : ℕ) → n < vec_len times → 1 ≤ time_of times.items n },
+    ghost each_written: { (n : ℕ) → n < vec_len times → 1 ≤ time_of written.items n },
 }
 
 impl<'a> Remembered<'a> {
@@ -59,12 +64,16 @@ impl<'a> Remembered<'a> {
         ensures same { IfOk result (λ r. r.«module».now ≡ «module».now) }
         ensures times { IfOk result (λ r. HasTimes words (vec_len r.times)) }
         ensures none { IfOk result (λ r. (at : ℕ) → compared_at r.compared.items at ≡ never) }
+        ensures late { IfOk result (λ r. (n : ℕ) → n < vec_len r.times → r.began ≤ time_of r.times.items n) }
     {
-        let times = vec![in alloc; 0; words / block_words() + 1]?;
+        let blocks = words / block_words() + 1;
+        let times = vec![in alloc; 1; blocks]?;
+        let written = vec![in alloc; 1; blocks]?;
         let compared = vec![in alloc; Compared::NEVER; module.tables().code.len()]?;
         Ok(Remembered {
             module,
             times,
+            written,
             time: 1,
             began: 1,
             compared,
@@ -91,10 +100,21 @@ impl<'a> Remembered<'a> {
         self.times[number]
     }
 
+    /// When a block of words was last changed but by widening all of its words.
+    pub(crate) fn written_time(&self, number: usize) -> u64
+        ensures { result ≡ time_of self.now.written.items number }
+    {
+        if number >= self.written.len() {
+            return 0;
+        }
+        self.written[number]
+    }
+
     /// What is changed from now on is later than all comparisons. If times run out, these are forgotten.
     fn tick(&mut self)
         ensures kept { IsKept self.old self.new }
         ensures times { self.new.times ≡ self.old.times }
+        ensures written { self.new.written ≡ self.old.written }
         ensures began { self.new.began ≡ self.old.began }
         ensures later { (at : ℕ) → (compared_at self.new.compared.items at).time < self.new.time }
     {
@@ -104,13 +124,16 @@ impl<'a> Remembered<'a> {
         }
     }
 
-    /// A word of a block is changed.
-    pub(crate) fn change(&mut self, number: usize)
+    /// A word of a block is changed, or all of its words are widened.
+    pub(crate) fn change(&mut self, number: usize, is_widened: bool)
         requires { number < vec_len self.old.times }
-        ensures { IsChanged number self.old self.new }
+        ensures { IsChanged number is_widened self.old self.new }
     {
         self.tick();
         self.times[number] = self.time;
+        if !is_widened {
+            self.written[number] = self.time;
+        }
     }
 
     /// The state becomes that of a label: what was compared means nothing from now on.
@@ -126,6 +149,7 @@ impl<'a> Remembered<'a> {
     pub(crate) fn put(&mut self, offset: usize, paid: u64, is_plain: bool)
         ensures same { self.new.«module».now ≡ self.old.«module».now }
         ensures times { self.new.times.items ≡ self.old.times.items }
+        ensures written { self.new.written.items ≡ self.old.written.items }
         ensures len { vec_len self.new.times ≡ vec_len self.old.times }
         ensures began { self.new.began ≡ self.old.began }
         ensures each { (at : ℕ) → (compared_at self.new.compared.items at ≡ compared_at self.old.compared.items at)

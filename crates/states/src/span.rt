@@ -3,7 +3,7 @@
 ghost use Rattle.std.specs.Prelude.{◌≡◌, Some};
 ghost use Rattle.states.specs.Rows.{LoopFits};
 ghost use Rattle.states.specs.Spans.{of_none, with_plain, with_one, with_silent, joined, widened, left_of};
-ghost use Rattle.states.specs.Blocks.{left_after, sum_left, is_number, is_unbounded};
+ghost use Rattle.states.specs.Blocks.{left_after, sum_left, is_number, is_unbounded, is_widening};
 ghost use Rattle.states.specs.declared.known.WordFact.TheVariants.{Alone};
 ghost use Rattle.states.specs.declared.span.Leaving.TheVariants.{Widen};
 
@@ -155,6 +155,13 @@ impl Leaving {
             Leaving::Become(fact) => fact,
             Leaving::Widen { lo, hi } => widened(lo, hi, said),
         }
+    }
+
+    /// Whether it only widens what was known.
+    pub(crate) fn is_widening(self) -> bool
+        ensures { result ≡ is_widening self }
+    {
+        matches!(self, Leaving::Widen { .. })
     }
 
     /// What is known together of a block's words once they are left so, where that follows from what was.

@@ -1,11 +1,12 @@
 use Rattle.std.proofs.Common.{◌≡◌, ap, ◌∙◌, sym, Some, vec_len}
 use Rattle.states.specs.declared.blocks.Block.{Block}
-use Rattle.states.specs.Blocks.{block_words, first_of, left_after, facts_left}
-use Rattle.states.specs.State.{Facts}
+use Rattle.states.specs.Blocks.{block_words, block_at, first_of, left_after, facts_left, leaving_in}
+use Rattle.states.specs.State.{Facts, entry_fact}
 use Rattle.states.specs.Spans.{together}
 use Rattle.states.specs.Frames.{frame_facts, over_facts, with_span}
 use Rattle.states.proofs.BlockSums.{sum-is}
-use Rattle.states.proofs.Leavings.{block-left, summed-left, sum-right}
+use Rattle.states.proofs.Leavings.{block-left, summed-left, sum-right, left-outside}
+use Rattle.states.proofs.Widenings.{block-widened}
 use Rattle.states.proofs.Remembering.{block-there, outside-block, remembered-changed}
 use Rattle.states.proofs.frame.Frame.leave_block.Goals as goal
 use Rattle.states.proofs.frame.Frame.leave_block.Goals.{After-set}
@@ -14,14 +15,17 @@ use Rattle.states.proofs.frame.Frame.leave_block.Goals.{After-set}
 abbrev kept : After-set → Block
 kept c = record { sum = c.sum_left.result; left = Some c.after.result }
 
+kept-left : (c : After-set) → (kept c).left
+    ≡ Some (left_after (block_at c.args.self.now.by_block.kept.items c.args.number).left c.args.leaving)
+kept-left c =
+    ap (λ o. Some o) (c.after.ensures ∙ ap (λ (b : Block). left_after b.left c.args.leaving) c.get-sum.ensures)
+
 left-so : (c : After-set) → facts_left c.args.self.now.lo c.set.new.self.kept.items (over_facts c.args.self.now)
     ≡ with_span (first_of c.args.self.now.lo c.args.number) block_words c.args.leaving (frame_facts c.args.self.now)
 left-so c =
     let frame = c.args.self.now in
     block-left frame.lo frame.by_block.kept.items c.set.new.self.kept.items (over_facts frame) c.args.number
-    c.args.leaving (kept c)
-    (ap (λ o. Some o) (c.after.ensures ∙ ap (λ (b : Block). left_after b.left c.args.leaving) c.get-sum.ensures))
-    c.set.ensures.kept
+    c.args.leaving (kept c) (kept-left c) c.set.ensures.kept
 
 pub invariant_of-self-clause-summed : goal.invariant_of-self-clause-summed
 invariant_of-self-clause-summed c =
@@ -49,6 +53,12 @@ pub invariant_of-self-clause-compared : goal.invariant_of-self-clause-compared
 invariant_of-self-clause-compared c =
     let frame = c.args.self.now in
     let after = (goal.at.invariant_of-self-clause-compared c).After-set in
-    remembered-changed (frame_facts frame) _ frame.lo c.args.number frame.remembered c.change.new.self c.change.ensures
+    remembered-changed (entry_fact frame.row.now) (frame_facts frame) _ (leaving_in frame.lo frame.by_block.kept.items)
+    (leaving_in frame.lo c.set.new.self.kept.items) frame.lo c.args.number c.is_widening.result frame.remembered
+    c.change.new.self c.change.ensures
     (outside-block frame.lo c.args.number c.args.leaving (frame_facts frame) _ (left-so after))
+    (left-outside frame.lo frame.by_block.kept.items c.set.new.self.kept.items c.args.number (kept after)
+    c.set.ensures.kept)
+    (λ h. block-widened frame.lo frame.by_block.kept.items c.set.new.self.kept.items (frame_facts frame) _ c.args.number
+    c.args.leaving (kept after) (left-so after) (kept-left after) c.set.ensures.kept (sym c.is_widening.ensures ∙ h))
     frame.compared

@@ -1,12 +1,13 @@
 use Rattle.std.proofs.Common.{rules, arith, ◌≡◌, ℕ, ◌/◌, ◌-ℤ◌, pos, ◌+ℤ◌, nat_abs, vec_len, ◌<◌}
-use Rattle.std.proofs.Common.{◌<ℤ◌, ◌≤ℤ◌, ◌^◌, subst, sym, ap, ◌∙◌}
+use Rattle.std.proofs.Common.{◌<ℤ◌, ◌≤ℤ◌, ◌^◌, false, subst, sym, ap, ◌∙◌}
 use Rattle.std.proofs.lemmas.Int.{ints}
-use Rattle.states.specs.Blocks.{facts_left}
+use Rattle.states.specs.Blocks.{no_block, facts_left, leaving_in}
 use Rattle.states.specs.Frames.{frame_facts, over_facts, with_alone}
 use Rattle.states.specs.Lookup.{facts_over}
+use Rattle.states.specs.State.{entry_fact}
 use Rattle.states.proofs.FrameFacts.{facts_over-write, distance}
 use Rattle.states.proofs.BlockSums.{summed-write}
-use Rattle.states.proofs.Leavings.{word-placed}
+use Rattle.states.proofs.Leavings.{word-placed, left-outside}
 use Rattle.states.proofs.Remembering.{time-there, outside-word, remembered-changed}
 use Rattle.states.proofs.frame.Frame.place.Goals as goal
 use Rattle.states.proofs.frame.Frame.place.Goals.{After-forget}
@@ -74,8 +75,12 @@ invariant_of-self-clause-compared c =
     let frame = c.settle.new.self in
     let index = c.abs_diff-index.result in
     let after = (goal.at.invariant_of-self-clause-compared c).After-forget in
-    remembered-changed (frame_facts frame) _ frame.lo (index / c.block_words.result) frame.remembered c.change.new.self
-    c.change.ensures
+    remembered-changed (entry_fact frame.row.now) (frame_facts frame) _ (leaving_in frame.lo frame.by_block.kept.items)
+    (leaving_in frame.lo c.forget.new.self.kept.items) frame.lo (index / c.block_words.result) false frame.remembered
+    c.change.new.self c.change.ensures
     (outside-word frame.lo c.args.word index (index / c.block_words.result) c.args.fact (frame_facts frame) _
     (placed after) (word-is after) (sym (ap (λ (n : ℕ). index / n) c.block_words.ensures.value)))
+    (left-outside frame.lo frame.by_block.kept.items c.forget.new.self.kept.items (index / c.block_words.result)
+    no_block c.forget.ensures.kept)
+    (λ h. absurd (cc))
     frame.compared

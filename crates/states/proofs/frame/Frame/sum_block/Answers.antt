@@ -1,26 +1,30 @@
-use Rattle.std.proofs.Common.{◌≡◌, ap, refl, ◌∙◌, sym, subst, Some}
+use Rattle.std.proofs.Common.{◌≡◌, ℕ, ap, refl, ◌∙◌, sym, subst, Some}
 use Rattle.std.proofs.lemmas.Int.{to_z-of_z}
 use Rattle.std.specs.Int.{w32}
 use Rattle.states.specs.declared.blocks.Block.{Block}
-use Rattle.states.specs.State.{Facts}
-use Rattle.states.specs.Blocks.{AreSummed, facts_left}
+use Rattle.states.specs.State.{Facts, entry_fact}
+use Rattle.states.specs.Blocks.{block_at, AreSummed, facts_left, leaving_in}
 use Rattle.states.specs.Frames.{frame_facts, over_facts}
 use Rattle.states.specs.Spans.{together}
 use Rattle.states.proofs.BlockSums.{summed-more}
-use Rattle.states.proofs.Leavings.{left-same, lefts-set}
+use Rattle.states.proofs.Leavings.{left-same, lefts-set, leaving-same}
 use Rattle.states.proofs.Remembering.{remembered-same}
 use Rattle.states.proofs.frame.Frame.sum_block.Goals as goal
 use Rattle.states.proofs.frame.Frame.sum_block.Goals.{After-set}
+
+same-left : (c : After-set) → (n : ℕ)
+    → (block_at c.set.new.self.kept.items n).left ≡ (block_at c.args.self.now.by_block.kept.items n).left
+same-left c =
+    lefts-set c.args.self.now.by_block.kept.items c.set.new.self.kept.items c.args.number
+    (record { sum = Some c.together-all.result; left = c.get-left.result.left }) c.set.ensures.kept
+    (ap (λ (b : Block). b.left) c.get-left.ensures)
 
 same-facts : (c : After-set)
     → facts_left c.args.self.now.lo c.set.new.self.kept.items (over_facts c.args.self.now)
     ≡ frame_facts c.args.self.now
 same-facts c =
     let frame = c.args.self.now in
-    left-same frame.lo frame.by_block.kept.items c.set.new.self.kept.items (over_facts frame)
-    (lefts-set frame.by_block.kept.items c.set.new.self.kept.items c.args.number
-    (record { sum = Some c.together-all.result; left = c.get-left.result.left }) c.set.ensures.kept
-    (ap (λ (b : Block). b.left) c.get-left.ensures))
+    left-same frame.lo frame.by_block.kept.items c.set.new.self.kept.items (over_facts frame) (same-left c)
 
 pub invariant_of-self-clause-summed : goal.invariant_of-self-clause-summed
 invariant_of-self-clause-summed c =
@@ -41,5 +45,8 @@ returns-then-is_none-clause-facts c =
 pub invariant_of-self-clause-compared : goal.invariant_of-self-clause-compared
 invariant_of-self-clause-compared c =
     let frame = c.args.self.now in
-    remembered-same frame.remembered.«module».now (frame_facts frame) _ frame.lo frame.remembered.times.items
-    frame.remembered.began frame.remembered.compared.items (same-facts c) frame.compared
+    remembered-same frame.remembered.«module».now (entry_fact frame.row.now) (frame_facts frame) _
+    (leaving_in frame.lo frame.by_block.kept.items) (leaving_in frame.lo c.set.new.self.kept.items) frame.lo
+    frame.remembered.times.items frame.remembered.written.items frame.remembered.began
+    frame.remembered.compared.items (same-facts c)
+    (leaving-same frame.lo frame.by_block.kept.items c.set.new.self.kept.items (same-left c)) frame.compared
