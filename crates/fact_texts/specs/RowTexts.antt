@@ -1,6 +1,6 @@
 -- The rows of a module, in words: a line for each.
 use Rattle.std.specs.Prelude.{ℕ, ℤ, Bool, true, false, ◌+◌, ◌==◌, nat_lt, if◌then◌else◌, pos}
-use Rattle.std.specs.Prelude.{◌+ℤ◌, ◌-ℤ◌, [], ◌∷◌, ◌++◌, codes, List}
+use Rattle.std.specs.Prelude.{◌+ℤ◌, ◌-ℤ◌, [], ◌∷◌, ◌++◌, codes, List, length}
 use Rattle.std.specs.List.{flat_map}
 use Rattle.std.specs.Fmt.{decimal, signed_decimal}
 use Rattle.module_format.specs.Rows.{Fact, Entry}
@@ -115,14 +115,18 @@ end_text e = codes " " ++ (direction_text e.direction ++ (codes " " ++ channel_t
 unfoldable pub list_text : {A : Type 0} → Text → (A → Text) → List A → Text
 list_text words text_of items = words ++ flat_map text_of items
 
+-- the same, unless the list is empty
+unfoldable pub list_part : {A : Type 0} → Text → (A → Text) → List A → Text
+list_part words text_of items = if length items == 0 then [] else list_text words text_of items
+
 -- what a branch is given
 abbrev pub gifts_text : Branch → Text
 gifts_text b =
-    list_text (codes "; writes words") interval_text b.writes
-    ++ (list_text (codes "; reads words") interval_text b.reads
-    ++ (list_text (codes "; writes parameters") number_text b.written_parameters
-    ++ (list_text (codes "; reads parameters") number_text b.read_parameters
-    ++ list_text (codes "; ends") end_text b.ends)))
+    list_part (codes "; writes words") interval_text b.writes
+    ++ (list_part (codes "; reads words") interval_text b.reads
+    ++ (list_part (codes "; writes parameters") number_text b.written_parameters
+    ++ (list_part (codes "; reads parameters") number_text b.read_parameters
+    ++ list_part (codes "; ends") end_text b.ends)))
 
 unfoldable pub branch_head : Contents → ℕ → Branch → Text
 branch_head m context b =

@@ -4,7 +4,7 @@ ghost use Rattle.std.specs.Prelude.{◌≡◌, ◌++◌, OnOk, Some, string_byte
 ghost use Rattle.module_format.specs.Contents.{branch_of, contents_of, label_of, procedure_of};
 ghost use Rattle.fact_texts.specs.RowTexts.{branch_text, context_name, context_text, label_text, procedure_text};
 ghost use Rattle.fact_texts.specs.RowTexts.{registers_text, is_unknown, label_head, procedure_head, branch_head};
-ghost use Rattle.fact_texts.specs.RowTexts.{gifts_text, list_text};
+ghost use Rattle.fact_texts.specs.RowTexts.{gifts_text, list_text, list_part};
 
 use crate::facts::FactText;
 use crate::items::{Item, push_items};
@@ -169,12 +169,23 @@ pub fn push_procedure(
 
 /// Appends a list, after the words for it.
 #[tactic(auto, unfolding(crate::specs::RowTexts::list_text))]
-fn push_list<T: Item>(text: &mut String, words: &str, items: &[T]) -> Result<(), AllocError>
+fn push_some<T: Item>(text: &mut String, words: &str, items: &[T]) -> Result<(), AllocError>
     ensures { OnOk result (string_bytes text.new ≡ string_bytes text.old ++ list_text words.now T.text_of items.now) }
 {
     text.push_str(words)?;
     push_items(text, items)?;
     Ok(())
+}
+
+/// Appends the same, unless the list is empty.
+#[tactic(auto, unfolding(crate::specs::RowTexts::list_part))]
+fn push_list<T: Item>(text: &mut String, words: &str, items: &[T]) -> Result<(), AllocError>
+    ensures { OnOk result (string_bytes text.new ≡ string_bytes text.old ++ list_part words.now T.text_of items.now) }
+{
+    if items.is_empty() {
+        return text.push_str("");
+    }
+    push_some(text, words, items)
 }
 
 /// Appends what a branch is given.

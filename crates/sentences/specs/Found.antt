@@ -5,10 +5,11 @@ use Rattle.module_format.specs.Contents.{Contents}
 use Rattle.module_format.specs.declared.contexts.Context.{Context}
 use Rattle.module_format.specs.Contexts.{context_at}
 use Rattle.certificate.specs.Starts.{procedure_at}
+use Rattle.certificate.specs.Branches.{Forked, branch_at}
 use Rattle.machine_state.specs.LocalStep.{target}
 use Rattle.module_format.specs.declared.stack.Stack.{Stack}
 use Rattle.machine_state.specs.declared.op.Op.{Op}
-use Rattle.machine_state.specs.declared.op.Op.TheVariants.{AlternationEnd, StartProcess}
+use Rattle.machine_state.specs.declared.op.Op.TheVariants.{AlternationEnd, Move, StartProcess}
 use Rattle.machine_state.specs.declared.instruction.Instruction.{Instruction}
 use Rattle.machine_state.specs.declared.instruction.Instruction.TheVariants.{LoadLocalPointer, LoadLocal, StoreLocal}
 use Rattle.machine_state.specs.declared.instruction.Instruction.TheVariants.{AdjustWorkspace, Operate}
@@ -30,6 +31,8 @@ use Rattle.sentences.specs.declared.found.Spot.{Spot}
 use Rattle.sentences.specs.Channels.{channel_found, length_found}
 use Rattle.sentences.specs.Begun.{procedure_begun, branch_part, branch_target}
 use Rattle.sentences.specs.Leads.{lead_of, lead_lack}
+use Rattle.sentences.specs.Moves.{brings_mixed, mixed_words}
+use Rattle.sentences.specs.Parameters.{asks_parameters, arguments_found}
 use Rattle.sentences.specs.Payments.{asked_text}
 use Rattle.sentences.specs.Uses.{used_by, used, used_for_guards, used_for_pars}
 
@@ -63,9 +66,19 @@ number_found uses stack (Some r) = range_text r.lo r.hi ++ codes " does not"
 unfoldable pub offset_found : ℤ → ℤ → Text
 offset_found depth e = codes "the offset is " ++ signed_decimal (pos 4 *ℤ (depth +ℤ e))
 
+-- what is known of the registers, and whether bytes go into a parameter that are of no numbers
+unfoldable pub move_found : State → Text
+move_found s = registers_found All s.stack ++ mixed_words (brings_mixed s)
+
+-- what is known of the registers that an operation uses
+unfoldable pub pointer_by : Op → State → Text
+pointer_by Move s = move_found s
+pointer_by op s = registers_found (used_by op) s.stack
+
 -- the offset of a pointer that is made, or else what is known of the registers that are used
 unfoldable pub pointer_found : Instruction → ℤ → State → Text
 pointer_found LoadLocalPointer e s = offset_found s.depth e
+pointer_found (Operate op) e s = pointer_by op s
 pointer_found i e s = registers_found (used i) s.stack
 
 unfoldable pub signed_text : ℤ → Text
@@ -186,8 +199,32 @@ bounds_part None = []
 bounds_part (Some c) = bounds_text c.lo c.hi
 
 -- the word that is used, or where the workspace is or would be, and the frame
-unfoldable pub own_word_found : Contents → Instruction → ℤ → State → Text
-own_word_found m i e s = word_found i s.depth e ++ bounds_part (context_at m s.context)
+unfoldable pub place_found : Contents → Instruction → ℤ → State → Text
+place_found m i e s = word_found i s.depth e ++ bounds_part (context_at m s.context)
+
+unfoldable pub workspace_words : Text
+workspace_words = codes "its workspace is at word "
+
+unfoldable pub branch_started : Contents → ℕ → Text
+branch_started m n = context_text m n ++ codes " is started; "
+
+-- which branch is started, and where its workspace is
+unfoldable pub workspace_text : Contents → ℕ → ℤ → Text
+workspace_text m n word = branch_started m n ++ phrase workspace_words word
+
+-- the same of the branch that begins at an offset
+abbrev pub workspace_found : Contents → Option Forked → Text
+workspace_found m None = codes "no branch begins there"
+workspace_found m (Some f) = workspace_text m f.context f.branch.workspace
+
+-- the word that is used, or else where the workspace is of the branch that is started at a distance
+abbrev pub place_or : Contents → Instruction → ℕ → ℤ → State → Option ℤ → Text
+place_or m i next e s None = place_found m i e s
+place_or m i next e s (Some distance) = workspace_found m (branch_at m (target next distance))
+
+-- the same of an instruction
+unfoldable pub own_word_found : Contents → Instruction → ℕ → ℤ → State → Text
+own_word_found m i next e s = place_or m i next e s (branch_target i s.stack)
 
 -- ---- channels
 
@@ -222,21 +259,28 @@ budget_found m i len next e s = payment_found len s.number ++ asked_text m i nex
 
 -- ---- by the rule
 
-unfoldable pub found : Contents → Rule → Spot → State → Option RangeText → Text
-found m rules.Spelling spot s sum = codes "this one has none"
-found m rules.InstructionStart spot s sum = codes "one starts there"
-found m rules.Flow spot s sum = codes "nothing leads here"
-found m rules.UnknownRegister spot s sum = unknown_found s.stack
-found m rules.Number spot s sum = number_found (used spot.instruction) s.stack sum
-found m rules.Pointer spot s sum = pointer_found spot.instruction spot.instr.operand s
-found m rules.RegionsMeet spot s sum = registers_found (used spot.instruction) s.stack
-found m rules.Channel spot s sum = end_found spot.instruction s.stack
-found m rules.MessageLength spot s sum = message_found m spot.instruction s
-found m rules.Alternation spot s sum = order_found spot.instruction s
-found m rules.Forward spot s sum = way_found spot.instruction spot.next spot.instr.operand s
-found m rules.Par spot s sum = start_found m spot.instruction spot.next s
-found m rules.Call spot s sum = call_found m spot.instruction spot.next spot.instr.operand s
-found m rules.OwnWord spot s sum = own_word_found m spot.instruction spot.instr.operand s
-found m rules.Budget spot s sum =
+unfoldable pub found_by : Contents → Rule → Spot → State → Option RangeText → Text
+found_by m rules.Spelling spot s sum = codes "this one has none"
+found_by m rules.InstructionStart spot s sum = codes "one starts there"
+found_by m rules.Flow spot s sum = codes "nothing leads here"
+found_by m rules.UnknownRegister spot s sum = unknown_found s.stack
+found_by m rules.Number spot s sum = number_found (used spot.instruction) s.stack sum
+found_by m rules.Pointer spot s sum = pointer_found spot.instruction spot.instr.operand s
+found_by m rules.RegionsMeet spot s sum = registers_found (used spot.instruction) s.stack
+found_by m rules.Channel spot s sum = end_found spot.instruction s.stack
+found_by m rules.MessageLength spot s sum = message_found m spot.instruction s
+found_by m rules.Alternation spot s sum = order_found spot.instruction s
+found_by m rules.Forward spot s sum = way_found spot.instruction spot.next spot.instr.operand s
+found_by m rules.Par spot s sum = start_found m spot.instruction spot.next s
+found_by m rules.Call spot s sum = call_found m spot.instruction spot.next spot.instr.operand s
+found_by m rules.OwnWord spot s sum = own_word_found m spot.instruction spot.next spot.instr.operand s
+found_by m rules.Budget spot s sum =
     budget_found m spot.instruction spot.instr.len spot.next spot.instr.operand s
-found m rules.Label spot s sum = label_found m spot.instruction spot.next spot.instr.operand s
+found_by m rules.Label spot s sum = label_found m spot.instruction spot.next spot.instr.operand s
+
+-- the same, or of a call what it passes, where the rule speaks of that
+unfoldable pub found : Contents → Rule → Spot → State → Option RangeText → Text
+found m rule spot s sum =
+    if asks_parameters rule spot.instruction
+    then arguments_found m rule s (procedure_at m (target spot.next spot.instr.operand))
+    else found_by m rule spot s sum

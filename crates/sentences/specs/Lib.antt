@@ -7,6 +7,8 @@ pub mod Leads
 pub mod Costs
 pub mod Channels
 pub mod Begun
+pub mod Moves
+pub mod Parameters
 pub mod Payments
 pub mod Found
 pub mod Sentences

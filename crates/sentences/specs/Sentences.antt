@@ -2,7 +2,9 @@
 use Rattle.std.specs.Prelude.{ℕ, ◌+◌, ◌++◌, codes, Option, Some, None, is_some}
 use Rattle.prefix_decoder.specs.declared.decoding.Instr.{Instr}
 use Rattle.module_format.specs.Contents.{Contents}
+use Rattle.machine_state.specs.declared.op.Op.{Op}
 use Rattle.machine_state.specs.declared.instruction.Instruction.{Instruction}
+use Rattle.machine_state.specs.declared.instruction.Instruction.TheVariants.{Operate}
 use Rattle.machine_state.specs.Instructions.{instruction_of}
 use Rattle.states.specs.declared.rule.Rule.{Rule}
 use Rattle.states.specs.State.{State}
@@ -10,6 +12,8 @@ use Rattle.fact_texts.specs.Texts.{Text}
 use Rattle.fact_texts.specs.declared.facts.RangeText.{RangeText}
 use Rattle.listings.specs.Listing.{entry_of, entry_name, entry_text}
 use Rattle.listings.specs.declared.lines.Entry.{Entry}
+use Rattle.listings.specs.declared.lines.Entry.TheVariants.{Operation}
+use Rattle.listings.specs.Names.{operation_name}
 use Rattle.sentences.specs.declared.found.Spot.{Spot}
 use Rattle.sentences.specs.Wanted.{wanted}
 use Rattle.sentences.specs.Results.{result_of}
@@ -27,8 +31,18 @@ wants_text m rule spot s =
     wants_part (wanted rule spot.instruction (is_some (result_of spot.instruction spot.instr.operand s.stack)))
     ++ found_part m rule spot s (result_of spot.instruction spot.instr.operand s.stack)
 
+-- the name of an operation; of one that the module does not have its number too
+unfoldable pub operation_text : Entry → Op → Text
+operation_text (Operation listed) op = operation_name listed
+operation_text entry op = entry_text entry ++ (codes " (" ++ (operation_name op ++ codes ")"))
+
+-- the name of an instruction
+unfoldable pub name_text : Entry → Instruction → Text
+name_text entry (Operate op) = operation_text entry op
+name_text entry i = entry_name entry
+
 unfoldable pub named_text : Contents → Entry → Rule → Spot → State → Text
-named_text m entry rule spot s = entry_name entry ++ wants_text m rule spot s
+named_text m entry rule spot s = name_text entry spot.instruction ++ wants_text m rule spot s
 
 unfoldable pub no_instruction : Entry → Text
 no_instruction entry = entry_text entry ++ codes " is no instruction"

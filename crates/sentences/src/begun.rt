@@ -55,7 +55,7 @@ fn push_branch_begun(text: &mut String, module: &Module, at: u32) -> Result<(), 
 }
 
 /// The one number that a fact says.
-fn constant_of(fact: Fact) -> Option<i32>
+pub(crate) fn constant_of(fact: Fact) -> Option<i32>
     ensures { result ≡ constant_of fact }
 {
     match fact {

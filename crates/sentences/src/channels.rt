@@ -18,7 +18,7 @@ use std::alloc::AllocError;
 
 /// Appends which channel a word names.
 #[tactic(auto, unfolding(crate::specs::Channels::named_part))]
-fn push_named(text: &mut String, channel: Option<EndKind>) -> Result<(), AllocError>
+pub(crate) fn push_named(text: &mut String, channel: Option<EndKind>) -> Result<(), AllocError>
     ensures { OnOk result (string_bytes text.new ≡ string_bytes text.old ++ named_part channel) }
 {
     match channel {

@@ -1,22 +1,28 @@
 //! What was found where an instruction breaks a rule.
 
 ghost use Rattle.std.specs.Prelude.{◌≡◌, ◌<◌, ◌^◌, pos, ◌+ℤ◌, ◌*ℤ◌, ◌++◌, OnOk, string_bytes};
+ghost use Rattle.certificate.specs.Branches.{branch_at};
 ghost use Rattle.module_format.specs.Contents.{contents_of};
 ghost use Rattle.states.specs.Views.{state_of};
-ghost use Rattle.sentences.specs.Found.{registers_found, unknown_found, number_found, offset_found, pointer_found};
+ghost use Rattle.sentences.specs.Found.{registers_found, unknown_found, number_found, offset_found};
+ghost use Rattle.sentences.specs.Found.{move_found, pointer_by, pointer_found};
 ghost use Rattle.sentences.specs.Found.{signed_text, phrase, target_words, target_found, word_words, word_of};
 ghost use Rattle.sentences.specs.Found.{word_found};
 ghost use Rattle.sentences.specs.Found.{mode_found, count_found, guards_found, after_mode, more_registers};
 ghost use Rattle.sentences.specs.Found.{order_found};
 ghost use Rattle.sentences.specs.Found.{par_found, way_by, way_found, context_found, depth_found, word_zero_found};
 ghost use Rattle.sentences.specs.Found.{first_word_found, return_found, call_found, label_found, payment_found};
-ghost use Rattle.sentences.specs.Found.{budget_found, found};
+ghost use Rattle.sentences.specs.Found.{budget_found, found_by, found};
 ghost use Rattle.sentences.specs.Found.{channel_by, end_found, message_found, start_found, in_context, callee_found};
-ghost use Rattle.sentences.specs.Found.{call_target, lo_words, hi_words, bounds_text, bounds_part, own_word_found};
+ghost use Rattle.sentences.specs.Found.{call_target, lo_words, hi_words, bounds_text, bounds_part, place_found};
+ghost use Rattle.sentences.specs.Found.{workspace_words, branch_started, workspace_text, workspace_found};
+ghost use Rattle.sentences.specs.Found.{own_word_found};
 
-use crate::begun::{push_branch_part, push_procedure_begun};
+use crate::begun::{branch_target, push_branch_part, push_procedure_begun};
 use crate::channels::{push_channel, push_length};
 use crate::leads::{push_lead_lack, target};
+use crate::moves::{brings_mixed, mixed_words};
+use crate::parameters::{asks_parameters, push_arguments};
 use crate::payments::push_asked;
 use crate::uses::{Uses, used, used_by, used_for_guards, used_for_pars};
 use certificate::Module;
@@ -102,6 +108,27 @@ fn push_offset(text: &mut String, depth: i32, operand: i32) -> Result<(), AllocE
     write!(text, "the offset is {offset}")
 }
 
+/// Appends what is known of the registers, and whether bytes go into a parameter that are of no numbers.
+#[tactic(auto, unfolding(crate::specs::Found::move_found))]
+fn push_move(text: &mut String, state: &State) -> Result<(), AllocError>
+    ensures { OnOk result (string_bytes text.new ≡ string_bytes text.old ++ move_found (state_of state.now)) }
+{
+    push_registers(text, Uses::All, state.stack)?;
+    text.push_str(mixed_words(brings_mixed(state)))?;
+    Ok(())
+}
+
+/// Appends what is known of the registers that an operation uses.
+#[tactic(auto, unfolding(crate::specs::Found::pointer_by))]
+fn push_pointer_by(text: &mut String, op: Op, state: &State) -> Result<(), AllocError>
+    ensures { OnOk result (string_bytes text.new ≡ string_bytes text.old ++ pointer_by op (state_of state.now)) }
+{
+    match op {
+        Op::Move => push_move(text, state),
+        _ => push_registers(text, used_by(op), state.stack),
+    }
+}
+
 /// Appends the offset of a pointer that is made, or else what is known of the registers that are used.
 #[tactic(auto, unfolding(crate::specs::Found::pointer_found))]
 fn push_pointer(text: &mut String, spot: Spot, state: &State) -> Result<(), AllocError>
@@ -110,6 +137,7 @@ fn push_pointer(text: &mut String, spot: Spot, state: &State) -> Result<(), Allo
 {
     match spot.instruction {
         Instruction::LoadLocalPointer => push_offset(text, state.depth, spot.instr.operand),
+        Instruction::Operate(op) => push_pointer_by(text, op, state),
         _ => push_registers(text, used(spot.instruction), state.stack),
     }
 }
@@ -460,6 +488,69 @@ fn push_bounds(text: &mut String, bounds: Option<Context>) -> Result<(), AllocEr
 }
 
 /// Appends the word that is used, or where the workspace is or would be, and the frame.
+#[tactic(auto, unfolding(crate::specs::Found::place_found))]
+fn push_place(
+    text: &mut String,
+    module: &Module,
+    spot: Spot,
+    state: &State,
+) -> Result<(), AllocError>
+    ensures { OnOk result (string_bytes text.new ≡ string_bytes text.old
+        ++ place_found «module».now spot.instruction spot.instr.operand (state_of state.now)) }
+{
+    push_word(text, spot.instruction, state.depth, spot.instr.operand)?;
+    push_bounds(text, module.context(state.context))?;
+    Ok(())
+}
+
+/// What is said of the workspace of a branch.
+#[tactic(auto, unfolding(crate::specs::Found::workspace_words))]
+fn workspace_words() -> &'static str
+    ensures { result.now ≡ workspace_words }
+{
+    "its workspace is at word "
+}
+
+/// Appends which branch is started.
+#[tactic(auto, unfolding(crate::specs::Found::branch_started))]
+fn push_started(text: &mut String, tables: &Tables<'_>, number: u32) -> Result<(), AllocError>
+    ensures { OnOk result (string_bytes text.new
+        ≡ string_bytes text.old ++ branch_started (contents_of tables.now) number) }
+{
+    let context = context_text(tables, number);
+    write!(text, "{context} is started; ")
+}
+
+/// Appends which branch is started, and where its workspace is.
+#[tactic(auto, unfolding(crate::specs::Found::workspace_text))]
+fn push_workspace_text(
+    text: &mut String,
+    tables: &Tables<'_>,
+    number: u32,
+    word: i64,
+) -> Result<(), AllocError>
+    ensures { OnOk result (string_bytes text.new
+        ≡ string_bytes text.old ++ workspace_text (contents_of tables.now) number word) }
+{
+    push_started(text, tables, number)?;
+    push_phrase(text, workspace_words(), word)?;
+    Ok(())
+}
+
+/// Appends the same of the branch that begins at an offset.
+fn push_workspace(text: &mut String, module: &Module, at: u32) -> Result<(), AllocError>
+    ensures { OnOk result (string_bytes text.new
+        ≡ string_bytes text.old ++ workspace_found «module».now (branch_at «module».now at)) }
+{
+    match module.branch_at(at) {
+        Some((context, _par, row)) => {
+            push_workspace_text(text, module.tables(), context, i64::from(row.workspace))
+        }
+        None => text.push_str("no branch begins there"),
+    }
+}
+
+/// Appends the word that is used, or else where the workspace is of the branch that is started.
 #[tactic(auto, unfolding(crate::specs::Found::own_word_found))]
 fn push_own_word(
     text: &mut String,
@@ -468,11 +559,12 @@ fn push_own_word(
     state: &State,
 ) -> Result<(), AllocError>
     ensures { OnOk result (string_bytes text.new ≡ string_bytes text.old
-        ++ own_word_found «module».now spot.instruction spot.instr.operand (state_of state.now)) }
+        ++ own_word_found «module».now spot.instruction spot.next spot.instr.operand (state_of state.now)) }
 {
-    push_word(text, spot.instruction, state.depth, spot.instr.operand)?;
-    push_bounds(text, module.context(state.context))?;
-    Ok(())
+    match branch_target(spot.instruction, state.stack) {
+        Some(distance) => push_workspace(text, module, target(spot.next, distance)),
+        None => push_place(text, module, spot, state),
+    }
 }
 
 /// Appends where an instruction leads, and what the label there wants that is not known.
@@ -574,8 +666,8 @@ fn push_payment(text: &mut String, len: usize, number: u64) -> Result<(), AllocE
 }
 
 /// Appends what was found, by the rule.
-#[tactic(auto, unfolding(crate::specs::Found::found))]
-pub(crate) fn push_found(
+#[tactic(auto, unfolding(crate::specs::Found::found_by))]
+fn push_found_by(
     text: &mut String,
     module: &Module,
     rule: Rule,
@@ -585,7 +677,7 @@ pub(crate) fn push_found(
 ) -> Result<(), AllocError>
     requires { spot.next < 2 ^ 32 }
     ensures { OnOk result (string_bytes text.new
-        ≡ string_bytes text.old ++ found «module».now rule spot (state_of state.now) sum) }
+        ≡ string_bytes text.old ++ found_by «module».now rule spot (state_of state.now) sum) }
 {
     let instruction = spot.instruction;
     let uses = used(instruction);
@@ -607,4 +699,25 @@ pub(crate) fn push_found(
         Rule::Budget => push_budget(text, module, spot, state),
         Rule::Label => push_label(text, module, spot, state),
     }
+}
+
+/// Appends the same, or of a call what it passes, where the rule speaks of that.
+#[tactic(auto, unfolding(crate::specs::Found::found))]
+pub(crate) fn push_found(
+    text: &mut String,
+    module: &Module,
+    rule: Rule,
+    spot: Spot,
+    state: &State,
+    sum: Option<RangeText>,
+) -> Result<(), AllocError>
+    requires { spot.next < 2 ^ 32 }
+    ensures { OnOk result (string_bytes text.new
+        ≡ string_bytes text.old ++ found «module».now rule spot (state_of state.now) sum) }
+{
+    if asks_parameters(rule, spot.instruction) {
+        let to = target(spot.next, spot.instr.operand);
+        return push_arguments(text, module, rule, state, to);
+    }
+    push_found_by(text, module, rule, spot, state, sum)
 }

@@ -7,6 +7,8 @@ mod costs;
 mod found;
 mod lacks;
 mod leads;
+mod moves;
+mod parameters;
 mod payments;
 mod reasons;
 mod results;

@@ -2,15 +2,16 @@
 
 ghost use Rattle.std.specs.Prelude.{◌≡◌, ◌+◌, ◌<◌, ◌^◌, ◌++◌, OnOk, string_bytes};
 ghost use Rattle.states.specs.Views.{state_of};
-ghost use Rattle.sentences.specs.Sentences.{wants_part, found_part, wants_text, named_text, no_instruction, sentence};
+ghost use Rattle.sentences.specs.Sentences.{wants_part, found_part, wants_text, operation_text, name_text};
+ghost use Rattle.sentences.specs.Sentences.{named_text, no_instruction, sentence};
 
 use crate::found::{Spot, push_found};
 use crate::results::result_of;
 use crate::wanted::wanted;
 use certificate::Module;
 use fact_texts::RangeText;
-use listings::{Entry, entry_of};
-use machine_state::Instruction;
+use listings::{Entry, entry_of, operation_name};
+use machine_state::{Instruction, Op};
 use prefix_decoder::Instr;
 use states::{Rule, State};
 use std::alloc::AllocError;
@@ -63,6 +64,29 @@ fn push_wants(
     Ok(())
 }
 
+/// Appends the name of an operation; of one that the module does not have its number too.
+#[tactic(auto, unfolding(crate::specs::Sentences::operation_text))]
+fn push_operation(text: &mut String, entry: Entry, op: Op) -> Result<(), AllocError>
+    ensures { OnOk result (string_bytes text.new ≡ string_bytes text.old ++ operation_text entry op) }
+{
+    let name = operation_name(op);
+    match entry {
+        Entry::Operation(listed) => text.push_str(operation_name(listed)),
+        _ => write!(text, "{entry} ({name})"),
+    }
+}
+
+/// Appends the name of an instruction.
+#[tactic(auto, unfolding(crate::specs::Sentences::name_text))]
+fn push_name(text: &mut String, entry: Entry, instruction: Instruction) -> Result<(), AllocError>
+    ensures { OnOk result (string_bytes text.new ≡ string_bytes text.old ++ name_text entry instruction) }
+{
+    match instruction {
+        Instruction::Operate(op) => push_operation(text, entry, op),
+        _ => text.push_str(entry.name()),
+    }
+}
+
 /// Appends the name of an instruction, what it wants, and what was found.
 #[tactic(auto, unfolding(crate::specs::Sentences::named_text))]
 fn push_named(
@@ -77,7 +101,7 @@ fn push_named(
     ensures { OnOk result (string_bytes text.new
         ≡ string_bytes text.old ++ named_text «module».now entry rule spot (state_of state.now)) }
 {
-    text.push_str(entry.name())?;
+    push_name(text, entry, spot.instruction)?;
     push_wants(text, module, rule, spot, state)?;
     Ok(())
 }

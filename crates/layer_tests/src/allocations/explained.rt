@@ -40,11 +40,11 @@ fn explain_refusal_out_of_memory(rt: HostRuntime) {
 #[test]
 fn explain_rows_with_ample_memory(rt: HostRuntime) {
     let answer = ask(rt.alloc(), &ROWS, Question::Explained(ROWS_ACCEPTED));
-    counts(&rt, answer, 2812);
+    counts(&rt, answer, 2712);
 }
 
 #[test]
 fn explain_rows_out_of_memory(rt: HostRuntime) {
     let answer = ask(rt.alloc(), &ROWS, Question::Explained(ROWS_ACCEPTED));
-    may_count(&rt, answer, 2812);
+    may_count(&rt, answer, 2712);
 }
