@@ -1,6 +1,7 @@
 -- The choices of an IF are written one after the other.
-use Rattle.std.proofs.Common.{◌≡◌, ℕ, ◌+◌, ◌<◌, Bool, true, false, nat_eq, List, [], ◌∷◌, ◌++◌, length, map, take}
+use Rattle.std.proofs.Common.{◌≡◌, ℕ, ◌+◌, ◌<◌, Bool, true, false, ◌&&◌, nat_eq, List, [], ◌∷◌, ◌++◌, length, map, take}
 use Rattle.std.proofs.Common.{get_or, Option, refl, sym, ap, subst, ◌∙◌, arith, Result, Ok, Err, IfOk}
+use Rattle.std.proofs.lemmas.Bool.{eqb-true}
 use Rattle.std.proofs.lemmas.Bool.Decides.{nat_tests}
 use Rattle.std.proofs.lemmas.List.{append_assoc, take_all}
 use Rattle.occam_layout.specs.declared.mark.Mark.TheVariants as mark
@@ -22,34 +23,36 @@ use Rattle.code_pieces.specs.Pieces.{Piece, Jump, operates, Code, closed_by}
 use Rattle.code_generator.specs.FrameViews.{frame_seen}
 use Rattle.code_generator.specs.Actions.{test_code}
 use Rattle.code_generator.specs.Processes.{Site, Surroundings, at_place, row_of, is_true, in_choice, tested_choice}
-use Rattle.code_generator.specs.Processes.{last_choice}
+use Rattle.code_generator.specs.Processes.{last_choice, passes, ends_passing}
 use Rattle.code_generator.specs.Processes.{process_code, choices_code, tested_code, choice_code, last_code}
 use Rattle.code_generator.specs.Written.{site_of, Appends, Writes, if_code, chosen_code}
 use Rattle.code_generator.specs.Written.{WritesIf, WritesChoices, WritesChoice, WritesPart, WritesChosen}
 use Rattle.code_generator.specs.Written.{WritesProcess}
+use Rattle.code_generator.proofs.ChoicesPassed.{passes_last}
 use Rattle.code_generator.proofs.PartsWritten.{appends_before, appends_closed, appends_then, site_after, writes_none}
 
 -- ---- one choice after the other
 
--- some choices, and whether they are all of an IF
-abbrev pub upto_code : {part : Part} → Surroundings → ℕ → Bool → Components part → Site → Option Code
-upto_code here end true cs s = choices_code here end cs s
-upto_code here end false cs s = tested_code here end cs s
+-- some choices, whether they are all of an IF, and whether only `TRUE` with `SKIP` comes after them
+abbrev pub upto_code : {part : Part} → Surroundings → ℕ → (is_all is_open : Bool) → Components part → Site
+    → Option Code
+upto_code here end true is_open cs s = choices_code here end cs s
+upto_code here end false is_open cs s = tested_code here end is_open cs s
 
-abbrev pub WritesUpTo : {part : Part} → (s t : ProcessWriter) → calling.Surroundings → ℕ → Bool → Components part
-    → Type 0
-WritesUpTo s t a end is_all cs =
-    Writes s t (upto_code (surroundings_of a) end is_all cs (site_of s))
+abbrev pub WritesUpTo : {part : Part} → (s t : ProcessWriter) → calling.Surroundings → ℕ → (is_all is_open : Bool)
+    → Components part → Type 0
+WritesUpTo s t a end is_all is_open cs =
+    Writes s t (upto_code (surroundings_of a) end is_all is_open cs (site_of s))
     (after_components (surroundings_of a).around (Mark mark.If) cs (known_of s.scope))
 
-choices_more : {part : Part} (is_last : Bool) (around : calling.Surroundings) (end : ℕ) (cs : Components part)
-    (c : Component part) {s t w : ProcessWriter} → WritesUpTo s t around end false cs
-    → WritesPart t w around end is_last c → WritesUpTo s w around end is_last (Further cs c)
-choices_more true around end cs c {s} {t} {w} first one =
+choices_more : {part : Part} (is_last is_open : Bool) (around : calling.Surroundings) (end : ℕ) (cs : Components part)
+    (c : Component part) {s t w : ProcessWriter} → WritesUpTo s t around end false (is_last && passes c) cs
+    → WritesPart t w around end is_last is_open c → WritesUpTo s w around end is_last is_open (Further cs c)
+choices_more true is_open around end cs c {s} {t} {w} first one =
     let here = surroundings_of around in
     let a = here.around in
     record {
-      code = appends_then (tested_code here end cs (site_of s))
+      code = appends_then (tested_code here end (passes c) cs (site_of s))
           (λ label. last_code here end c
           (at_place (after_components a (Mark mark.If) cs (known_of s.scope)) label (site_of s)))
           s.listing t.listing w.listing t.label w.label first.code
@@ -57,15 +60,16 @@ choices_more true around end cs c {s} {t} {w} first one =
       known = one.known ∙ ap (after_component a (Mark mark.If) c) first.known;
       frame = one.frame ∙ first.frame;
     }
-choices_more false around end cs c {s} {t} {w} first one =
+choices_more false is_open around end cs c {s} {t} {w} first one =
     let here = surroundings_of around in
     let a = here.around in
     record {
-      code = appends_then (tested_code here end cs (site_of s))
-          (λ label. choice_code here end c
+      code = appends_then (tested_code here end false cs (site_of s))
+          (λ label. choice_code here end is_open c
           (at_place (after_components a (Mark mark.If) cs (known_of s.scope)) label (site_of s)))
           s.listing t.listing w.listing t.label w.label first.code
-          (subst (λ z. Appends t.listing w.listing w.label (choice_code here end c z)) (site_after first) one.code);
+          (subst (λ z. Appends t.listing w.listing w.label (choice_code here end is_open c z)) (site_after first)
+          one.code);
       known = one.known ∙ ap (after_component a (Mark mark.If) c) first.known;
       frame = one.frame ∙ first.frame;
     }
@@ -77,31 +81,48 @@ pub same_number : (a b : ℕ) → a ≡ b → nat_eq a b ≡ true
 same_number a b h = grind (arith, nat_tests)
 
 -- nothing is written yet
-pub choices_start : (around : calling.Surroundings) (end n : ℕ) (part : Part) (s : ProcessWriter) → 0 < n
-    → WritesUpTo s s around end (nat_eq 0 n) (all_of {part = part} [])
-choices_start around end n part s h =
-    subst (λ b. WritesUpTo s s around end b (all_of {part = part} [])) (sym (other_number 0 n h)) (writes_none s)
+pub choices_start : (around : calling.Surroundings) (end n : ℕ) (is_open : Bool) (part : Part) (s : ProcessWriter)
+    → 0 < n → WritesUpTo s s around end (nat_eq 0 n) is_open (all_of {part = part} [])
+choices_start around end n is_open part s h =
+    subst (λ b. WritesUpTo s s around end b is_open (all_of {part = part} [])) (sym (other_number 0 n h))
+    (writes_none s)
+
+both_where : (b one other : Bool) → (b ≡ true → one ≡ other) → (b && one) ≡ (b && other)
+both_where true one other same = same refl
+both_where false one other same = refl
 
 pub choices_next : {part : Part} {A : Type 0} (around : calling.Surroundings) (end : ℕ) (f : A → Component part)
-    (xs : List A) (i : ℕ) (x : A) (is_last : Bool) {s t w : ProcessWriter} → i < length xs → x ≡ get_or xs i x
-    → is_last ≡ nat_eq (i + 1) (length xs)
-    → WritesUpTo s t around end (nat_eq i (length xs)) (all_of (map f (take i xs)))
-    → WritesPart t w around end is_last (f x)
-    → WritesUpTo s w around end (nat_eq (i + 1) (length xs)) (all_of (map f (take (i + 1) xs)))
-choices_next around end f xs i x is_last {s} {t} {w} h is last before one =
-    let first = subst (λ b. WritesUpTo s t around end b (all_of (map f (take i xs)))) (other_number i (length xs) h)
-    before in
-    let more = choices_more is_last around end (all_of (map f (take i xs))) (f x) first one in
-    subst (λ cs. WritesUpTo s w around end (nat_eq (i + 1) (length xs)) cs)
+    (xs : List A) (i : ℕ) (x : A) (is_last is_open : Bool) {s t w : ProcessWriter} → i < length xs
+    → x ≡ get_or xs i x → is_last ≡ nat_eq (i + 1) (length xs)
+    → is_open ≡ (nat_eq (i + 2) (length xs) && ends_passing (all_of (map f xs)))
+    → WritesUpTo s t around end (nat_eq i (length xs))
+    (nat_eq (i + 1) (length xs) && ends_passing (all_of (map f xs))) (all_of (map f (take i xs)))
+    → WritesPart t w around end is_last is_open (f x)
+    → WritesUpTo s w around end (nat_eq (i + 1) (length xs))
+    (nat_eq (i + 1 + 1) (length xs) && ends_passing (all_of (map f xs))) (all_of (map f (take (i + 1) xs)))
+choices_next around end f xs i x is_last is_open {s} {t} {w} h is last opens before one =
+    let done = all_of (map f (take i xs)) in
+    let ends = ends_passing (all_of (map f xs)) in
+    let number : i + 2 ≡ i + 1 + 1 = omega arith in
+    let same : (is_last && ends) ≡ (is_last && passes (f x)) =
+    both_where is_last ends (passes (f x)) (λ yes. passes_last f xs i x h is (eqb-true _ _ (sym last ∙ yes))) in
+    let first = subst (λ b. WritesUpTo s t around end false b done) (ap (λ b. b && ends) (sym last) ∙ same)
+    (subst (λ b. WritesUpTo s t around end b (nat_eq (i + 1) (length xs) && ends) done)
+    (other_number i (length xs) h) before) in
+    let more = choices_more is_last is_open around end done (f x) first one in
+    subst (λ cs. WritesUpTo s w around end (nat_eq (i + 1) (length xs)) (nat_eq (i + 1 + 1) (length xs) && ends) cs)
     (sym (all_push f (take i xs) (take (i + 1) xs) x (taken_one xs i x x h is)))
-    (subst (λ b. WritesUpTo s w around end b (Further (all_of (map f (take i xs))) (f x))) last more)
+    (subst (λ b. WritesUpTo s w around end (nat_eq (i + 1) (length xs)) b (Further done (f x)))
+    (opens ∙ ap (λ k. nat_eq k (length xs) && ends) number)
+    (subst (λ b. WritesUpTo s w around end b is_open (Further done (f x))) last more))
 
 pub choices_done : {part : Part} {A : Type 0} (around : calling.Surroundings) (end : ℕ) (f : A → Component part)
-    (xs : List A) (i : ℕ) {s t : ProcessWriter} → i ≡ length xs
-    → WritesUpTo s t around end (nat_eq i (length xs)) (all_of (map f (take i xs)))
+    (xs : List A) (i : ℕ) (is_open : Bool) {s t : ProcessWriter} → i ≡ length xs
+    → WritesUpTo s t around end (nat_eq i (length xs)) is_open (all_of (map f (take i xs)))
     → WritesChoices s t around end (all_of (map f xs))
-choices_done around end f xs i {s} {t} h x =
-    let whole = subst (λ b. WritesUpTo s t around end b (all_of (map f (take i xs)))) (same_number i (length xs) h) x in
+choices_done around end f xs i is_open {s} {t} h x =
+    let whole = subst (λ b. WritesUpTo s t around end b is_open (all_of (map f (take i xs))))
+    (same_number i (length xs) h) x in
     subst (λ ys. WritesChoices s t around end (all_of (map f ys))) (take_all i xs (omega arith)) whole
 
 -- an IF without a choice
@@ -115,9 +136,10 @@ no_choices around end f xs s listing (Err e) none stops = tt
 
 -- ---- the last choice
 
-pub writes_always : (around : calling.Surroundings) (end line : ℕ) (e : Expression) (p : Process) {s t : ProcessWriter}
-    → is_true e ≡ true → WritesChosen s t around (Chosen line e p) → WritesPart s t around end true (Chosen line e p)
-writes_always around end line e p {s} {t} holds x =
+pub writes_always : (around : calling.Surroundings) (end : ℕ) (is_open : Bool) (line : ℕ) (e : Expression) (p : Process)
+    {s t : ProcessWriter} → is_true e ≡ true → WritesChosen s t around (Chosen line e p)
+    → WritesPart s t around end true is_open (Chosen line e p)
+writes_always around end is_open line e p {s} {t} holds x =
     let here = surroundings_of around in
     let a = here.around in
     let z = site_of s in
@@ -131,19 +153,20 @@ writes_always around end line e p {s} {t} holds x =
     }
 
 -- so it is wherever that succeeds
-pub always_written : {U E : Type 0} (around : calling.Surroundings) (end line : ℕ) (e : Expression) (p : Process)
-    (c : Component Choices) (s t : ProcessWriter) (r : Result U E) → Chosen line e p ≡ c → is_true e ≡ true
-    → IfOk r (λ _. WritesChosen s t around c) → IfOk r (λ _. WritesPart s t around end true c)
-always_written around end line e p c s t (Ok u) is holds x =
-    subst (λ y. WritesPart s t around end true y) is
-    (writes_always around end line e p holds (subst (λ y. WritesChosen s t around y) (sym is) x))
-always_written around end line e p c s t (Err x) is holds h = tt
+pub always_written : {U E : Type 0} (around : calling.Surroundings) (end : ℕ) (is_open : Bool) (line : ℕ)
+    (e : Expression) (p : Process) (c : Component Choices) (s t : ProcessWriter) (r : Result U E)
+    → Chosen line e p ≡ c → is_true e ≡ true → IfOk r (λ _. WritesChosen s t around c)
+    → IfOk r (λ _. WritesPart s t around end true is_open c)
+always_written around end is_open line e p c s t (Ok u) is holds x =
+    subst (λ y. WritesPart s t around end true is_open y) is
+    (writes_always around end is_open line e p holds (subst (λ y. WritesChosen s t around y) (sym is) x))
+always_written around end is_open line e p c s t (Err x) is holds h = tt
 
-pub writes_stopped : (around : calling.Surroundings) (end line : ℕ) (e : Expression) (p : Process) {s t : ProcessWriter}
-    (listing : List Piece) → is_true e ≡ false → WritesChoice s t around end (Chosen line e p)
-    → listing ≡ t.listing ++ operates STOP_PROCESS ∷ []
-    → WritesPart s (record t { listing = listing }) around end true (Chosen line e p)
-writes_stopped around end line e p {s} {t} listing other x stops =
+pub writes_stopped : (around : calling.Surroundings) (end : ℕ) (is_open : Bool) (line : ℕ) (e : Expression)
+    (p : Process) {s t : ProcessWriter} (listing : List Piece) → is_true e ≡ false
+    → WritesChoice s t around end false (Chosen line e p) → listing ≡ t.listing ++ operates STOP_PROCESS ∷ []
+    → WritesPart s (record t { listing = listing }) around end true is_open (Chosen line e p)
+writes_stopped around end is_open line e p {s} {t} listing other x stops =
     let here = surroundings_of around in
     let a = here.around in
     let z = site_of s in
@@ -152,7 +175,7 @@ writes_stopped around end line e p {s} {t} listing other x stops =
           (last_choice b (process_code here p (at_place (chosen e z.known) z.label z))
           (tested_choice z e end (after_component a (Mark mark.If) (Chosen line e p) z.known)
           (process_code here p (in_choice e z))))) (sym other)
-          (appends_closed (choice_code here end (Chosen line e p) z) s.listing t.listing listing
+          (appends_closed (choice_code here end false (Chosen line e p) z) s.listing t.listing listing
           (operates STOP_PROCESS ∷ []) t.label x.code stops);
       known = x.known;
       frame = x.frame;
@@ -182,7 +205,7 @@ pub writes_tested : (around : calling.Surroundings) (end line : ℕ) (e : Expres
     → site_of tested ≡ at_place (known_of s.scope) (s.label + 1) (site_of s)
     → WritesChosen tested within around (Chosen line e p) → jumped ≡ within.listing ++ Jump end ∷ []
     → after.listing ≡ jumped ++ row_of s.label (frame_seen within.frame) (known_of within.scope) ∷ []
-    → site_of after ≡ site_of within → WritesChoice s after around end (Chosen line e p)
+    → site_of after ≡ site_of within → WritesChoice s after around end false (Chosen line e p)
 writes_tested around end line e p s tested within after jumped test place x jumps row still =
     let here = surroundings_of around in
     let a = here.around in
@@ -208,6 +231,28 @@ writes_tested around end line e p s tested within after jumped test place x jump
           (Jump end ∷ row_of s.label z.frame done ∷ []) within.label inner rest));
       known = ap (λ (y : Site). y.known) still ∙ known;
       frame = ap (λ (y : Site). y.frame) still ∙ frame;
+    }
+
+-- with its test, which jumps to the end of the IF
+pub writes_open : (around : calling.Surroundings) (end line : ℕ) (e : Expression) (p : Process)
+    (s tested within : ProcessWriter)
+    → tested.listing ≡ s.listing ++ test_code (site_of s).frame.homes (site_of s).known.entries s.frame.top e end
+    → site_of tested ≡ site_of s → WritesChosen tested within around (Chosen line e p)
+    → WritesChoice s within around end true (Chosen line e p)
+writes_open around end line e p s tested within test place x =
+    let here = surroundings_of around in
+    let a = here.around in
+    let z = site_of s in
+    let process = process_code here p (at_place (chosen e z.known) z.label z) in
+    let inner : Appends tested.listing within.listing within.label process =
+    subst
+    (λ (y : Site). Appends tested.listing within.listing within.label (chosen_code here (Chosen line e p) y)) place
+    x.code in
+    record {
+      code = appends_before process s.listing tested.listing within.listing
+          (test_code z.frame.homes z.known.entries z.frame.top e end) within.label test inner;
+      known = x.known ∙ ap (λ (y : Site). after_component a (Mark mark.If) (Chosen line e p) y.known) place;
+      frame = x.frame ∙ ap (λ (y : Site). y.frame) place;
     }
 
 -- ---- an IF

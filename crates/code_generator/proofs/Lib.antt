@@ -3,6 +3,7 @@ pub mod BranchesFollowed
 pub mod BranchesWritten
 pub mod CallsFound
 pub mod ChainCode
+pub mod ChoicesPassed
 pub mod ChoicesWritten
 pub mod DeclarationsWritten
 pub mod ItemsPassed

@@ -45,7 +45,7 @@ abbrev pub upto_turns : Surroundings → ℕ → List ℕ → Repeats → Compon
 upto_turns here end name repeats c true n s = turns_written here end name c repeats n s
 upto_turns here end name repeats c false n s =
     tested_turns n s.label
-    (λ m label. choice_code here end c (turn_site here.around (Mark mark.If) name c repeats s m label))
+    (λ m label. choice_code here end false c (turn_site here.around (Mark mark.If) name c repeats s m label))
 
 abbrev pub WritesSome : (s t : ProcessWriter) → calling.Surroundings → ℕ → List ℕ → Repeats → Component Choices → Bool
     → ℕ → Type 0
@@ -57,7 +57,7 @@ turn_more : (is_last : Bool) (around : calling.Surroundings) (end : ℕ) (name :
     (c : Component Choices) (n : ℕ) {s t w : ProcessWriter} (scope : code_scope.Scope)
     → known_of scope ≡ with_entries (add name (index_in repeats n)) (known_of t.scope)
     → WritesSome s t around end name repeats c false n
-    → WritesPart (record t { scope = scope }) w around end is_last c
+    → WritesPart (record t { scope = scope }) w around end is_last false c
     → WritesSome s w around end name repeats c is_last (suc n)
 turn_more true around end name repeats c n {s} {t} {w} scope enters first one =
     let here = surroundings_of around in
@@ -65,7 +65,7 @@ turn_more true around end name repeats c n {s} {t} {w} scope enters first one =
     let known = enters ∙ ap (with_entries (add name (index_in repeats n))) first.known in
     record {
       code = appends_then (tested_turns n s.label
-          (λ m label. choice_code here end c (turn_site a (Mark mark.If) name c repeats (site_of s) m label)))
+          (λ m label. choice_code here end false c (turn_site a (Mark mark.If) name c repeats (site_of s) m label)))
           (λ label. last_code here end c (turn_site a (Mark mark.If) name c repeats (site_of s) n label)) s.listing
           t.listing w.listing t.label w.label first.code
           (subst (λ (z : Site). Appends t.listing w.listing w.label (last_code here end c z))
@@ -79,10 +79,10 @@ turn_more false around end name repeats c n {s} {t} {w} scope enters first one =
     let known = enters ∙ ap (with_entries (add name (index_in repeats n))) first.known in
     record {
       code = appends_then (tested_turns n s.label
-          (λ m label. choice_code here end c (turn_site a (Mark mark.If) name c repeats (site_of s) m label)))
-          (λ label. choice_code here end c (turn_site a (Mark mark.If) name c repeats (site_of s) n label)) s.listing
-          t.listing w.listing t.label w.label first.code
-          (subst (λ (z : Site). Appends t.listing w.listing w.label (choice_code here end c z))
+          (λ m label. choice_code here end false c (turn_site a (Mark mark.If) name c repeats (site_of s) m label)))
+          (λ label. choice_code here end false c (turn_site a (Mark mark.If) name c repeats (site_of s) n label))
+          s.listing t.listing w.listing t.label w.label first.code
+          (subst (λ (z : Site). Appends t.listing w.listing w.label (choice_code here end false c z))
           (λ i. record { frame = first.frame i; known = known i; label = t.label }) one.code);
       known = one.known ∙ ap (after_component a (Mark mark.If) c) known;
       frame = one.frame ∙ first.frame;
@@ -98,7 +98,7 @@ pub turns_next : (around : calling.Surroundings) (end : ℕ) (name : List ℕ) (
     (count n : ℕ) (m : Meaning) {s t w : ProcessWriter} (scope : code_scope.Scope) → n < count
     → m ≡ index_in repeats n → known_of scope ≡ with_entries (add name m) (known_of t.scope)
     → WritesSome s t around end name repeats c (nat_eq n count) n
-    → WritesPart (record t { scope = scope }) w around end (nat_eq (n + 1) count) c
+    → WritesPart (record t { scope = scope }) w around end (nat_eq (n + 1) count) false c
     → WritesSome s w around end name repeats c (nat_eq (n + 1) count) (n + 1)
 turns_next around end name repeats c count n m {s} {t} {w} scope h means enters before one =
     let first = subst (λ b. WritesSome s t around end name repeats c b n) (other_number n count h) before in

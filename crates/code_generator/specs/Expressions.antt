@@ -3,7 +3,7 @@ use Rattle.std.specs.Prelude.{ℕ, ◌+◌, ◌/◌, ◌%◌, nat_eq, nat_le, �
 use Rattle.std.specs.Prelude.{◌∷◌, ◌++◌, if◌then◌else◌, Option, Some, None, Result, Ok, Err}
 use Rattle.std.specs.Ordering.{int_eq}
 use Rattle.prefix_decoder.specs.declared.function.Fun.TheVariants as fun
-use Rattle.word_arithmetic.specs.Word.{least_word, greatest_word}
+use Rattle.word_arithmetic.specs.Word.{least_word, greatest_word, checked_sum, checked_difference}
 use Rattle.word_arithmetic.specs.Range.{Ends}
 use Rattle.word_arithmetic.specs.declared.compare.Comparison.{Comparison}
 use Rattle.word_arithmetic.specs.declared.compare.Comparison.TheVariants as comparison
@@ -29,7 +29,7 @@ use Rattle.scalar_ranges.specs.Fronts.{Front, count_of, front_in}
 use Rattle.code_pieces.specs.declared.operations.TheConstants.{LOAD_BYTE, BYTE_SUBSCRIPT, DIFFERENCE, ADD}
 use Rattle.code_pieces.specs.declared.operations.TheConstants.{PRODUCT, GREATER, WORD_SUBSCRIPT, SUBTRACT}
 use Rattle.code_pieces.specs.declared.operations.TheConstants.{REMAINDER, DIVIDE, NOT, EXCLUSIVE_OR, SHIFT_RIGHT}
-use Rattle.code_pieces.specs.declared.operations.TheConstants.{SHIFT_LEFT, AND, OR, SUM, MULTIPLY}
+use Rattle.code_pieces.specs.declared.operations.TheConstants.{SHIFT_LEFT, AND, OR, SUM, REVERSE}
 use Rattle.code_generator.specs.declared.expressions.Pushes.{Pushes}
 use Rattle.code_generator.specs.declared.expressions.Pushes.TheVariants as pushes
 use Rattle.code_pieces.specs.Pieces.{Piece, Direct, TableAddress, operates, loads, stores, points, constant, below}
@@ -45,9 +45,10 @@ pair_operation arithmetic.Minus = DIFFERENCE
 pair_operation arithmetic.ShiftLeft = SHIFT_LEFT
 pair_operation arithmetic.ShiftRight = SHIFT_RIGHT
 
+-- In a checked program no product of `*` leaves the range of a word. So it is that of `TIMES`, whose code is shorter.
 abbrev pub chain_operation : ChainOperator → ℤ
 chain_operation (chain.Arithmetic arithmetic_chain.Add) = ADD
-chain_operation (chain.Arithmetic arithmetic_chain.Multiply) = MULTIPLY
+chain_operation (chain.Arithmetic arithmetic_chain.Multiply) = PRODUCT
 chain_operation (chain.Arithmetic arithmetic_chain.Plus) = SUM
 chain_operation (chain.Arithmetic arithmetic_chain.Times) = PRODUCT
 chain_operation (chain.Arithmetic arithmetic_chain.BitAnd) = AND
@@ -191,34 +192,84 @@ beside es x first second = record {
   leaf = is_leaf_term es x;
 }
 
--- The right operand is pushed on the left one. Where it is no leaf, the left one waits for it in a temporary.
-abbrev pub onto : ℕ → Bool → List Piece → List Piece
-onto t true right = right
-onto t false right = stores t ∷ right ++ below t
+-- A left operand that waited in a temporary is pushed, below the right one, or on it if their order does not matter.
+abbrev pub back : (in_order : Bool) → ℕ → List Piece
+back true t = below t
+back false t = loads t ∷ []
+
+-- The right operand is pushed on the left one. If it is no leaf, the left one waits for it in a temporary.
+abbrev pub onto : (in_order : Bool) → ℕ → (leaf : Bool) → List Piece → List Piece
+onto in_order t true right = right
+onto in_order t false right = stores t ∷ right ++ back in_order t
+
+-- A constant is pushed below an operand. If that is no leaf, it comes first.
+abbrev pub after_constant : ℤ → (leaf : Bool) → List Piece → List Piece
+after_constant v true code = constant v ∷ code
+after_constant v false code = code ++ constant v ∷ operates REVERSE ∷ []
+
+-- what is added in place of a constant that is subtracted
+abbrev pub added_for : ArithmeticPair → Option ℤ → Option ℤ
+added_for arithmetic.Subtract (Some v) = checked_difference (pos 0) v
+added_for op v = None
+
+-- the constant that an operand of a chain adds; to push the least word takes fewer bytes
+abbrev pub added_by : ChainOperator → Option ℤ → Option ℤ
+added_by (chain.Arithmetic arithmetic_chain.Add) (Some v) = if int_eq v least_word then None else Some v
+added_by op v = None
+
+-- a constant is added, or else this code is there
+abbrev pub adds_or : Option ℤ → List Piece → List Piece
+adds_or None code = code
+adds_or (Some v) code = Direct fun.AddConstant v ∷ []
+
+-- the constants next to one, if they are words: x <= v is x < v + 1, and x >= v is x > v - 1
+abbrev pub next_above : Option ℤ → Option ℤ
+next_above None = None
+next_above (Some v) = checked_sum v (pos 1)
+
+abbrev pub next_below : Option ℤ → Option ℤ
+next_below None = None
+next_below (Some v) = checked_difference v (pos 1)
+
+-- The left operand is pushed on a constant or below it, if there is one.
+abbrev pub on_constant : Pushes → Option ℤ → Pushes
+on_constant how None = how
+on_constant how (Some v) = pushes.OnConstant v
+
+abbrev pub below_constant : Pushes → Option ℤ → Pushes
+below_constant how None = how
+below_constant how (Some v) = pushes.BelowConstant v
 
 -- which operands of an operator between two are pushed, by the values of both if they are constants
 abbrev pub equality_pushes : Option ℤ → Option ℤ → Pushes
 equality_pushes a (Some v) = pushes.Left
 equality_pushes (Some v) None = pushes.Right
-equality_pushes None None = pushes.Both
+equality_pushes None None = pushes.Either
 
 abbrev pub comparison_pushes : Comparison → Option ℤ → Option ℤ → Pushes
 comparison_pushes comparison.Greater a b = pushes.Both
-comparison_pushes comparison.LessOrEqual a b = pushes.Both
-comparison_pushes comparison.Less a b = pushes.Exchanged
-comparison_pushes comparison.GreaterOrEqual a b = pushes.Exchanged
+comparison_pushes comparison.LessOrEqual a b = on_constant pushes.Both (next_above b)
+comparison_pushes comparison.Less a b = on_constant pushes.Exchanged b
+comparison_pushes comparison.GreaterOrEqual a b = below_constant pushes.Exchanged (next_below b)
 comparison_pushes comparison.Equal a b = equality_pushes a b
 comparison_pushes comparison.NotEqual a b = equality_pushes a b
 
+abbrev pub arithmetic_pushes : Option ℤ → Pushes
+arithmetic_pushes None = pushes.Both
+arithmetic_pushes (Some v) = pushes.Left
+
 abbrev pub pushes_of : PairOperator → Option ℤ → Option ℤ → Pushes
-pushes_of (pair.Arithmetic op) a b = pushes.Both
+pushes_of (pair.Arithmetic op) a b = arithmetic_pushes (added_for op b)
 pushes_of (pair.Comparison op) a b = comparison_pushes op a b
 
 abbrev pub pushed : Pushes → ℕ → Operand → Operand → List Piece
-pushed pushes.Both t x y = x.first ++ onto t y.leaf y.second
-pushed pushes.Exchanged t x y = y.first ++ onto t x.leaf x.second
+pushed pushes.Both t x y = x.first ++ onto true t y.leaf y.second
+pushed pushes.Either t x y = x.first ++ onto false t y.leaf y.second
+pushed pushes.Exchanged t x y = y.first ++ onto true t x.leaf x.second
 pushed pushes.Left t x y = x.first
 pushed pushes.Right t x y = y.first
+pushed (pushes.OnConstant v) t x y = after_constant v x.leaf x.first
+pushed (pushes.BelowConstant v) t x y = x.first ++ constant v ∷ []
 
 -- What is pushed is compared with a constant, or two numbers are equal if they differ by 0.
 abbrev pub equality_code : Option ℤ → Option ℤ → List Piece
@@ -226,21 +277,27 @@ equality_code a (Some v) = Direct fun.EqualsConstant v ∷ []
 equality_code (Some v) None = Direct fun.EqualsConstant v ∷ []
 equality_code None None = operates DIFFERENCE ∷ negates ∷ []
 
+-- A comparison with the constant next to one needs no negation.
+abbrev pub negated_unless : Option ℤ → List Piece
+negated_unless None = negates ∷ []
+negated_unless (Some v) = []
+
 abbrev pub comparison_code : Comparison → Option ℤ → Option ℤ → List Piece
 comparison_code comparison.Greater a b = operates GREATER ∷ []
 comparison_code comparison.Less a b = operates GREATER ∷ []
-comparison_code comparison.LessOrEqual a b = operates GREATER ∷ negates ∷ []
-comparison_code comparison.GreaterOrEqual a b = operates GREATER ∷ negates ∷ []
+comparison_code comparison.LessOrEqual a b = operates GREATER ∷ negated_unless (next_above b)
+comparison_code comparison.GreaterOrEqual a b = operates GREATER ∷ negated_unless (next_below b)
 comparison_code comparison.Equal a b = equality_code a b
 comparison_code comparison.NotEqual a b = equality_code a b ++ negates ∷ []
 
 abbrev pub pair_code : PairOperator → Option ℤ → Option ℤ → List Piece
-pair_code (pair.Arithmetic op) a b = operates (pair_operation op) ∷ []
+pair_code (pair.Arithmetic op) a b = adds_or (added_for op b) (operates (pair_operation op) ∷ [])
 pair_code (pair.Comparison op) a b = comparison_code op a b
 
--- an operand more of a chain
-abbrev pub joined : ℕ → ChainOperator → Bool → List Piece → List Piece
-joined t op leaf right = onto t leaf right ++ operates (chain_operation op) ∷ []
+-- An operand more of a chain, by its value if it is a constant. The order of the operands of a chain does not matter.
+abbrev pub joined : ℕ → ChainOperator → Option ℤ → (leaf : Bool) → List Piece → List Piece
+joined t op value leaf right =
+    adds_or (added_by op value) (onto false t leaf right ++ operates (chain_operation op) ∷ [])
 
 -- the value of this number of operands, if they belong to the front
 abbrev pub covered : Option Front → ℕ → Option ℤ
@@ -276,11 +333,12 @@ abbrev mutual
   pub terms_code : List Home → List Entry → ℕ → ChainOperator → Option Front → Terms → List Piece
   terms_code hs es t op front (Two x y) =
       constant_or (covered front 2)
-      (term_code hs es t x ++ joined t op (is_leaf_term es y) (term_code hs es (t + 1) y))
+      (term_code hs es t x
+      ++ joined t op (exact_value (bound_of_term es y)) (is_leaf_term es y) (term_code hs es (t + 1) y))
   terms_code hs es t op front (Then xs x) =
       terms_code hs es t op front xs
       ++ unless (is_known (covered front (count_of xs + 1)))
-      (joined t op (is_leaf_term es x) (term_code hs es (t + 1) x))
+      (joined t op (exact_value (bound_of_term es x)) (is_leaf_term es x) (term_code hs es (t + 1) x))
 
   pub term_code : List Home → List Entry → ℕ → Term → List Piece
   term_code hs es t (Number value) = constant value ∷ []

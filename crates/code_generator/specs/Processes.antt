@@ -1,12 +1,12 @@
 -- The code of processes: a definition over the tree, with what is known at each place. A PAR and an ALT have none here.
-use Rattle.std.specs.Prelude.{ℕ, zero, suc, ◌+◌, ℤ, pos, Bool, true, false, List, [], ◌∷◌, ◌++◌}
+use Rattle.std.specs.Prelude.{ℕ, zero, suc, ◌+◌, ℤ, pos, Bool, true, false, ◌&&◌, List, [], ◌∷◌, ◌++◌}
 use Rattle.std.specs.Prelude.{if◌then◌else◌, Option, Some, None, unwrap_or, option_map}
 use Rattle.std.specs.List.{list_any}
 use Rattle.occam_layout.specs.declared.mark.Mark.TheVariants as mark
 use Rattle.occam_parser.specs.Terminals.{Terminal, Mark}
 use Rattle.occam_parser.specs.Expressions.{Expression, Alone, Truth, Bracketed}
 use Rattle.occam_parser.specs.Lines.{Declaration, Replicator, block_word, Action}
-use Rattle.occam_parser.specs.Lines.{Instance}
+use Rattle.occam_parser.specs.Lines.{Instance, Skip}
 use Rattle.occam_parser.specs.Constructs.{in_if}
 use Rattle.occam_parser.specs.Blocks.{Process, Declared, Does, Construct, Act, Block, Replicated, Body, One, Part}
 use Rattle.occam_parser.specs.Blocks.{Choices, Components, NoComponent, Further, Component, Plain, Chosen, Guarded}
@@ -95,6 +95,29 @@ is_true (Alone (Truth holds)) = holds
 is_true (Alone (Bracketed e)) = is_true e
 is_true e = false
 
+-- a process that does nothing, and a choice of it that always may be taken
+abbrev pub is_skip_action : Action → Bool
+is_skip_action Skip = true
+is_skip_action action = false
+
+abbrev pub does_nothing : Construct → Bool
+does_nothing (Act action) = is_skip_action action
+does_nothing c = false
+
+abbrev pub is_skip : Process → Bool
+is_skip (Does line c) = does_nothing c
+is_skip p = false
+
+abbrev pub passes : {part : Part} → Component part → Bool
+passes (Plain p) = false
+passes (Chosen line e p) = is_true e && is_skip p
+passes (Guarded line g p) = false
+
+-- the last choice of an IF is so
+abbrev pub ends_passing : {part : Part} → Components part → Bool
+ends_passing NoComponent = false
+ends_passing (Further cs c) = passes c
+
 -- where the process of a choice begins that has a test, which takes a label
 abbrev pub in_choice : Expression → Site → Site
 in_choice e s = at_place (chosen e s.known) (s.label + 1) s
@@ -104,6 +127,16 @@ abbrev pub tested_choice : Site → Expression → ℕ → Known → Option Code
 tested_choice s e end after process =
     before (test_code s.frame.homes s.known.entries s.frame.top e s.label)
     (closed_by (Jump end ∷ row_of s.label s.frame after ∷ []) process)
+
+-- A choice after which only `TRUE` with `SKIP` comes: its test jumps to the end of the IF, and its process falls into
+-- that.
+abbrev pub open_choice : Site → Expression → ℕ → Option Code → Option Code
+open_choice s e end process = before (test_code s.frame.homes s.known.entries s.frame.top e end) process
+
+-- a choice that is not the last one
+abbrev pub other_choice : (is_open : Bool) → Option Code → Option Code → Option Code
+other_choice true falls tested = falls
+other_choice false falls tested = tested
 
 -- The last choice needs no test if its condition is TRUE. If it is not, the process stops after it.
 abbrev pub last_choice : Bool → Option Code → Option Code → Option Code
@@ -236,7 +269,7 @@ abbrev mutual
       by_block word
       (repeated_seq s changed after base (loop_code s inner after base count (component_code w c inner)) count)
       (closed_by (row_of s.label s.frame after ∷ []) (turns_code (times repeats) turns.label
-      (λ n label. choice_code w s.label c (turn_site w.around word r.name c repeats turns n label))
+      (λ n label. choice_code w s.label false c (turn_site w.around word r.name c repeats turns n label))
       (λ n label. last_code w s.label c (turn_site w.around word r.name c repeats turns n label))))
 
   -- one after the other
@@ -255,22 +288,23 @@ abbrev mutual
   pub choices_code : {part : Part} → Surroundings → ℕ → Components part → Site → Option Code
   choices_code w end NoComponent s = stopped s.label
   choices_code w end (Further cs c) s =
-      then_code (tested_code w end cs s)
+      then_code (tested_code w end (passes c) cs s)
       (λ label. last_code w end c (at_place (after_components w.around (Mark mark.If) cs s.known) label s))
 
-  -- choices with others after them
-  pub tested_code : {part : Part} → Surroundings → ℕ → Components part → Site → Option Code
-  tested_code w end NoComponent s = no_code s.label
-  tested_code w end (Further cs c) s =
-      then_code (tested_code w end cs s)
-      (λ label. choice_code w end c (at_place (after_components w.around (Mark mark.If) cs s.known) label s))
+  -- choices with others after them, and whether after the last of them only `TRUE` with `SKIP` comes
+  pub tested_code : {part : Part} → Surroundings → ℕ → (is_open : Bool) → Components part → Site → Option Code
+  tested_code w end is_open NoComponent s = no_code s.label
+  tested_code w end is_open (Further cs c) s =
+      then_code (tested_code w end false cs s)
+      (λ label. choice_code w end is_open c (at_place (after_components w.around (Mark mark.If) cs s.known) label s))
 
-  pub choice_code : {part : Part} → Surroundings → ℕ → Component part → Site → Option Code
-  choice_code w end (Plain p) s = None
-  choice_code w end (Chosen line e p) s =
-      tested_choice s e end (after_component w.around (Mark mark.If) (Chosen line e p) s.known)
-      (process_code w p (in_choice e s))
-  choice_code w end (Guarded line g p) s = None
+  pub choice_code : {part : Part} → Surroundings → ℕ → (is_open : Bool) → Component part → Site → Option Code
+  choice_code w end is_open (Plain p) s = None
+  choice_code w end is_open (Chosen line e p) s =
+      other_choice is_open (open_choice s e end (process_code w p (at_place (chosen e s.known) s.label s)))
+      (tested_choice s e end (after_component w.around (Mark mark.If) (Chosen line e p) s.known)
+      (process_code w p (in_choice e s)))
+  choice_code w end is_open (Guarded line g p) s = None
 
   pub last_code : {part : Part} → Surroundings → ℕ → Component part → Site → Option Code
   last_code w end (Plain p) s = None

@@ -1,18 +1,18 @@
 -- The code of what is in a setting of the program.
-use Rattle.std.specs.Prelude.{ℕ, ◌+◌, List, [], ◌∷◌, ◌++◌, Option, ℤ}
+use Rattle.std.specs.Prelude.{ℕ, ◌+◌, Bool, List, [], ◌++◌, ◌∷◌, Option, ℤ}
 use Rattle.occam_parser.specs.Expressions.{Expression, Paired, Term, Terms}
 use Rattle.code_generator.specs.declared.expressions.Pushes.{Pushes}
 use Rattle.occam_parser.specs.declared.tree.ChainOperator.{ChainOperator}
 use Rattle.scalar_ranges.specs.Entries.{Entry}
 use Rattle.scalar_ranges.specs.Scopes.{entries_of}
-use Rattle.scalar_ranges.specs.Bounds.{bound_of, exact_value}
+use Rattle.scalar_ranges.specs.Bounds.{bound_of, bound_of_term, exact_value}
 use Rattle.scalar_ranges.specs.Fronts.{Front, front_of}
 use Rattle.code_generator.specs.declared.setting.Setting.{Setting}
-use Rattle.code_pieces.specs.Pieces.{Piece, operates}
+use Rattle.code_pieces.specs.Pieces.{Piece}
 use Rattle.code_generator.specs.Homes.{Home}
 use Rattle.code_generator.specs.HomeViews.{homes_seen}
-use Rattle.code_generator.specs.Expressions.{expression_code, term_code, terms_code, onto, pushed, beside}
-use Rattle.code_generator.specs.Expressions.{is_leaf_term, unless, is_known, covered, chain_operation}
+use Rattle.code_generator.specs.Expressions.{expression_code, term_code, terms_code, onto, joined, pushed, beside}
+use Rattle.code_generator.specs.Expressions.{is_leaf_term, unless, is_known, covered, after_constant}
 
 abbrev pub entries_in : Setting → List Entry
 entries_in s = entries_of s.scope.now
@@ -33,12 +33,18 @@ terms_in s op front xs = terms_code (homes_in s) (entries_in s) s.top op front x
 abbrev pub term_above : Setting → Term → List Piece
 term_above s x = term_code (homes_in s) (entries_in s) (s.top + 1) x
 
-abbrev pub onto_in : Setting → Term → List Piece
-onto_in s x = onto s.top (is_leaf_term (entries_in s) x) (term_above s x)
+abbrev pub onto_in : (in_order : Bool) → Setting → Term → List Piece
+onto_in in_order s x = onto in_order s.top (is_leaf_term (entries_in s) x) (term_above s x)
+
+-- an operand on a constant
+abbrev pub on_constant_in : Setting → ℤ → Term → List Piece
+on_constant_in s v x = after_constant v (is_leaf_term (entries_in s) x) (term_in s x)
 
 -- an operand of a chain, on those before it; nothing if its value is that of the front
 abbrev pub joined_in : Setting → ChainOperator → Option ℤ → Term → List Piece
-joined_in s op known x = unless (is_known known) (onto_in s x ++ operates (chain_operation op) ∷ [])
+joined_in s op known x =
+    unless (is_known known)
+    (joined s.top op (exact_value (bound_of_term (entries_in s) x)) (is_leaf_term (entries_in s) x) (term_above s x))
 
 -- the operands of a chain after this number of others
 abbrev pub others_in : Setting → ChainOperator → Option Front → ℕ → List Term → List Piece

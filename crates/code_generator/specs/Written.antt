@@ -143,17 +143,20 @@ WritesChoices s t a end cs =
     Writes s t (choices_code (surroundings_of a) end cs (site_of s))
     (after_components (surroundings_of a).around (Mark mark.If) cs (known_of s.scope))
 
-abbrev pub WritesChoice : {part : Part} → (s t : ProcessWriter) → calling.Surroundings → ℕ → Component part → Type 0
-WritesChoice s t a end c = WritesAs s t a (choice_code (surroundings_of a) end c (site_of s)) c
+abbrev pub WritesChoice : {part : Part} → (s t : ProcessWriter) → calling.Surroundings → ℕ → (is_open : Bool)
+    → Component part → Type 0
+WritesChoice s t a end is_open c = WritesAs s t a (choice_code (surroundings_of a) end is_open c (site_of s)) c
 
 -- one of several choices, the last one or another one
-abbrev pub part_code : {part : Part} → Surroundings → ℕ → Bool → Component part → Site → Option Code
-part_code w end true c s = last_code w end c s
-part_code w end false c s = choice_code w end c s
+abbrev pub part_code : {part : Part} → Surroundings → ℕ → (is_last is_open : Bool) → Component part → Site
+    → Option Code
+part_code w end true is_open c s = last_code w end c s
+part_code w end false is_open c s = choice_code w end is_open c s
 
-abbrev pub WritesPart : {part : Part} → (s t : ProcessWriter) → calling.Surroundings → ℕ → Bool → Component part
-    → Type 0
-WritesPart s t a end is_last c = WritesAs s t a (part_code (surroundings_of a) end is_last c (site_of s)) c
+abbrev pub WritesPart : {part : Part} → (s t : ProcessWriter) → calling.Surroundings → ℕ → (is_last is_open : Bool)
+    → Component part → Type 0
+WritesPart s t a end is_last is_open c =
+    WritesAs s t a (part_code (surroundings_of a) end is_last is_open c (site_of s)) c
 
 -- a choice without its test
 abbrev pub chosen_code : {part : Part} → Surroundings → Component part → Site → Option Code
@@ -221,7 +224,7 @@ WritesNoLoop s t changed =
 abbrev pub turns_written : Surroundings → ℕ → List ℕ → Component Choices → Repeats → ℕ → Site → Option Code
 turns_written w end name c repeats count s =
     turns_code count s.label
-    (λ n label. choice_code w end c (turn_site w.around (Mark mark.If) name c repeats s n label))
+    (λ n label. choice_code w end false c (turn_site w.around (Mark mark.If) name c repeats s n label))
     (λ n label. last_code w end c (turn_site w.around (Mark mark.If) name c repeats s n label))
 
 abbrev pub WritesTurns : (s t : ProcessWriter) → calling.Surroundings → ℕ → List ℕ → Repeats → ℕ → Component Choices

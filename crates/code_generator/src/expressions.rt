@@ -15,7 +15,8 @@ ghost use Rattle.code_generator.specs.Expressions.{is_byte_reference, scalar_cod
 ghost use Rattle.code_generator.specs.Expressions.{byte_address, address_code, element_of_words, element_of_table};
 ghost use Rattle.code_generator.specs.Expressions.{element_code, expression_code, term_code, truth, known_address};
 ghost use Rattle.code_generator.specs.Expressions.{subscript_code, pushes_of, pair_code, equality_code};
-ghost use Rattle.code_generator.specs.Expressions.{are_passed_bytes};
+ghost use Rattle.code_generator.specs.Expressions.{are_passed_bytes, added_for, added_by, next_above, next_below};
+ghost use Rattle.code_generator.specs.Expressions.{comparison_pushes, comparison_code, negated_unless};
 
 use crate::home::Home;
 use crate::listing::Listing;
@@ -28,7 +29,7 @@ use occam_parser::{
 };
 use prefix_decoder::Fun;
 use scalar_ranges::{ArrayKind, Front, Meaning, ScalarKind, Scope, value_of};
-use word_arithmetic::Range;
+use word_arithmetic::{Range, checked_add, checked_sub};
 
 /// The operation that an operator between two numbers is.
 pub(crate) fn pair_operation(operator: ArithmeticPair) -> i32
@@ -44,15 +45,16 @@ pub(crate) fn pair_operation(operator: ArithmeticPair) -> i32
     }
 }
 
-/// The operation that an operator of a chain is.
+/// The operation that an operator of a chain is. No product of a checked program leaves the range of a word.
 pub(crate) fn chain_operation(operator: ChainOperator) -> i32
     ensures { result ≡ chain_operation operator }
 {
     match operator {
         ChainOperator::Arithmetic(ArithmeticChain::Add) => operations::ADD,
-        ChainOperator::Arithmetic(ArithmeticChain::Multiply) => operations::MULTIPLY,
+        ChainOperator::Arithmetic(ArithmeticChain::Multiply | ArithmeticChain::Times) => {
+            operations::PRODUCT
+        }
         ChainOperator::Arithmetic(ArithmeticChain::Plus) => operations::SUM,
-        ChainOperator::Arithmetic(ArithmeticChain::Times) => operations::PRODUCT,
         ChainOperator::Arithmetic(ArithmeticChain::BitAnd) | ChainOperator::Logic(Logic::And) => {
             operations::AND
         }
@@ -68,30 +70,99 @@ pub(crate) fn chain_operation(operator: ChainOperator) -> i32
 pub(crate) enum Pushes {
     /// The left one, and then the right one.
     Both,
+    /// Both, in any order.
+    Either,
     /// The right one, and then the left one.
     Exchanged,
     /// The left one alone.
     Left,
     /// The right one alone.
     Right,
+    /// A constant, and then the left one.
+    OnConstant(i32),
+    /// The left one, and then a constant.
+    BelowConstant(i32),
 }
 
-/// Which operands are pushed, by the values of those that are constants. One side of an equality may be a constant that
-/// is an operand of the comparison.
+/// What is added in place of a constant that is subtracted.
+pub(crate) fn added_for(operator: ArithmeticPair, right: Option<i32>) -> Option<i32>
+    ensures { result ≡ added_for operator right }
+{
+    match (operator, right) {
+        (ArithmeticPair::Subtract, Some(value)) => checked_sub(0, value),
+        _ => None,
+    }
+}
+
+/// The constant that an operand of a chain adds. To push the least word takes fewer bytes.
+pub(crate) fn added_by(operator: ChainOperator, value: Option<i32>) -> Option<i32>
+    ensures { result ≡ added_by operator value }
+{
+    match (operator, value) {
+        (ChainOperator::Arithmetic(ArithmeticChain::Add), Some(value)) if value != i32::MIN => {
+            Some(value)
+        }
+        _ => None,
+    }
+}
+
+/// The constant after one, if it is a word.
+fn next_above(value: Option<i32>) -> Option<i32>
+    ensures { result ≡ next_above value }
+{
+    match value {
+        Some(value) => checked_add(value, 1),
+        None => None,
+    }
+}
+
+/// The constant before one, if it is a word.
+fn next_below(value: Option<i32>) -> Option<i32>
+    ensures { result ≡ next_below value }
+{
+    match value {
+        Some(value) => checked_sub(value, 1),
+        None => None,
+    }
+}
+
+/// Which operands are pushed, by the values of those that are constants.
 pub(crate) fn pushes_of(operator: PairOperator, left: Option<i32>, right: Option<i32>) -> Pushes
     ensures { result ≡ pushes_of operator left right }
 {
     match operator {
-        PairOperator::Comparison(Comparison::Less | Comparison::GreaterOrEqual) => {
-            Pushes::Exchanged
-        }
-        PairOperator::Comparison(Comparison::Equal | Comparison::NotEqual) => match (left, right) {
+        PairOperator::Comparison(comparison) => comparison_pushes(comparison, left, right),
+        PairOperator::Arithmetic(operator) => match added_for(operator, right) {
+            Some(_) => Pushes::Left,
+            None => Pushes::Both,
+        },
+    }
+}
+
+/// Which operands of a comparison are pushed. One side of an equality may be a constant that is an operand of the
+/// comparison.
+fn comparison_pushes(comparison: Comparison, left: Option<i32>, right: Option<i32>) -> Pushes
+    ensures { result ≡ comparison_pushes comparison left right }
+{
+    match comparison {
+        Comparison::Greater => Pushes::Both,
+        Comparison::LessOrEqual => match next_above(right) {
+            Some(value) => Pushes::OnConstant(value),
+            None => Pushes::Both,
+        },
+        Comparison::Less => match right {
+            Some(value) => Pushes::OnConstant(value),
+            None => Pushes::Exchanged,
+        },
+        Comparison::GreaterOrEqual => match next_below(right) {
+            Some(value) => Pushes::BelowConstant(value),
+            None => Pushes::Exchanged,
+        },
+        Comparison::Equal | Comparison::NotEqual => match (left, right) {
             (_, Some(_)) => Pushes::Left,
             (Some(_), None) => Pushes::Right,
-            (None, None) => Pushes::Both,
+            (None, None) => Pushes::Either,
         },
-        PairOperator::Arithmetic(_)
-        | PairOperator::Comparison(Comparison::Greater | Comparison::LessOrEqual) => Pushes::Both,
     }
 }
 
@@ -276,19 +347,48 @@ impl Listing {
         ensures { IfOk result (λ _. self.new ≡ self.old ++ pair_code operator left right) }
     {
         match operator {
-            PairOperator::Arithmetic(operator) => self.operate(pair_operation(operator)),
-            PairOperator::Comparison(Comparison::Greater | Comparison::Less) => {
-                self.operate(operations::GREATER)
-            }
-            PairOperator::Comparison(Comparison::LessOrEqual | Comparison::GreaterOrEqual) => {
+            PairOperator::Comparison(comparison) => self.write_comparison(comparison, left, right),
+            PairOperator::Arithmetic(operator) => match added_for(operator, right) {
+                Some(value) => self.direct(Fun::AddConstant, value),
+                None => self.operate(pair_operation(operator)),
+            },
+        }
+    }
+
+    /// What a comparison does with what is pushed.
+    fn write_comparison(
+        &mut self,
+        comparison: Comparison,
+        left: Option<i32>,
+        right: Option<i32>,
+    ) -> Result<(), GenFault>
+        ensures { IfOk result (λ _. self.new ≡ self.old ++ comparison_code comparison left right) }
+    {
+        match comparison {
+            Comparison::Greater | Comparison::Less => self.operate(operations::GREATER),
+            Comparison::LessOrEqual => {
                 self.operate(operations::GREATER)?;
-                self.direct(Fun::EqualsConstant, 0)
+                self.write_negated_unless(next_above(right))
             }
-            PairOperator::Comparison(Comparison::Equal) => self.write_equality(left, right),
-            PairOperator::Comparison(Comparison::NotEqual) => {
+            Comparison::GreaterOrEqual => {
+                self.operate(operations::GREATER)?;
+                self.write_negated_unless(next_below(right))
+            }
+            Comparison::Equal => self.write_equality(left, right),
+            Comparison::NotEqual => {
                 self.write_equality(left, right)?;
                 self.direct(Fun::EqualsConstant, 0)
             }
+        }
+    }
+
+    /// A becomes the truth that it is not, unless the comparison is one with the constant next to one.
+    fn write_negated_unless(&mut self, next: Option<i32>) -> Result<(), GenFault>
+        ensures { IfOk result (λ _. self.new ≡ self.old ++ negated_unless next) }
+    {
+        match next {
+            Some(_) => Ok(()),
+            None => self.direct(Fun::EqualsConstant, 0),
         }
     }
 

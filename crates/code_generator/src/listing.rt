@@ -4,6 +4,7 @@ ghost use Rattle.std.specs.Prelude.{◌≡◌, ◌++◌, ◌∷◌, [], IfOk, �
 ghost use Rattle.prefix_decoder.specs.declared.function.Fun.TheVariants as fun;
 ghost use Rattle.code_pieces.specs.Pieces.{Direct, TableAddress, operates, loads, stores, points, constant, below};
 ghost use Rattle.code_pieces.specs.PieceViews.{pieces_of, piece_of};
+ghost use Rattle.code_generator.specs.Expressions.{back};
 
 use crate::noting::Notes;
 use crate::work::Work;
@@ -142,6 +143,18 @@ impl Listing {
     {
         self.load(temporary)?;
         self.operate(REVERSE)
+    }
+
+    /// Pushes a left operand that waited in a temporary: below the right one that is in A, or on it where their order
+    /// does not matter.
+    pub(crate) fn push_back(&mut self, temporary: u32, in_order: bool) -> Result<(), GenFault>
+        ensures { IfOk result (λ _. self.new ≡ self.old ++ back in_order temporary) }
+    {
+        if in_order {
+            self.push_below(temporary)
+        } else {
+            self.load(temporary)
+        }
     }
 
     /// Pushes the address of a table.

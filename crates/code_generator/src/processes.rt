@@ -1,6 +1,6 @@
 //! Writing the code of processes. If a function fails, some pieces more may have come.
 
-ghost use Rattle.std.specs.Prelude.{◌≡◌, ◌++◌, ◌∷◌, [], IfOk, map, ◌+◌};
+ghost use Rattle.std.specs.Prelude.{◌≡◌, ◌++◌, ◌∷◌, [], IfOk, map, ◌+◌, ◌<◌, ◌&&◌, nat_eq, length, false, true};
 ghost use Rattle.occam_parser.specs.Expressions.{Alone};
 ghost use Rattle.occam_parser.specs.Views.{expression_of, term_of};
 ghost use Rattle.occam_parser.specs.Lines.{Constants, Variables, Channels, Stop, Instance};
@@ -12,7 +12,8 @@ ghost use Rattle.scalar_ranges.specs.Scopes.{entries_of, known_of};
 ghost use Rattle.program_uses.specs.Indices.{seen_repeats};
 ghost use Rattle.code_generator.specs.Actions.{action_code, test_code};
 ghost use Rattle.code_generator.specs.FrameViews.{frame_seen};
-ghost use Rattle.code_generator.specs.Processes.{is_true, row_of, times, under_if};
+ghost use Rattle.code_generator.specs.Processes.{is_true, is_skip_action, does_nothing, is_skip, passes, ends_passing};
+ghost use Rattle.code_generator.specs.Processes.{row_of, times, under_if};
 ghost use Rattle.code_generator.specs.Written.{site_of, Appends, Declares, DeclaresAll, WritesConstruct, WritesProcess};
 ghost use Rattle.code_generator.specs.Written.{WritesSeq, WritesOne, WritesIf, WritesChoices, WritesChoice};
 ghost use Rattle.code_generator.specs.Written.{WritesPart, WritesChosen, WritesLoop, WritesTurns};
@@ -103,6 +104,69 @@ fn is_true_operand(operand: &Operand) -> bool
         | Operand::Element { .. }
         | Operand::Converted { .. } => false,
     }
+}
+
+/// Whether an action is `SKIP`.
+fn is_skip_action(action: &Action) -> bool
+    ensures { result ≡ is_skip_action (action_of action.now) }
+{
+    match action {
+        Action::Skip => true,
+        Action::Stop
+        | Action::Assign { .. }
+        | Action::Input { .. }
+        | Action::Output { .. }
+        | Action::Instance { .. } => false,
+    }
+}
+
+/// Whether a construct is `SKIP`.
+fn does_nothing(construct: &Construct) -> bool
+    ensures { result ≡ does_nothing (construct_of construct.now) }
+{
+    match construct {
+        Construct::Action(action) => is_skip_action(action),
+        Construct::Seq(_)
+        | Construct::If(_)
+        | Construct::Replicated { .. }
+        | Construct::Par(_)
+        | Construct::Alt(_) => false,
+    }
+}
+
+/// Whether a process is `SKIP`, with nothing declared before it.
+fn is_skip(process: &Process) -> bool
+    ensures { result ≡ is_skip (process_of process.now) }
+{
+    if !process.declarations.is_empty() {
+        return false;
+    }
+    does_nothing(&process.construct)
+}
+
+/// Whether a choice may always be taken, and does nothing.
+fn passes(choice: &Choice) -> bool
+    ensures { result ≡ passes (choice_of choice.now) }
+{
+    is_true(&choice.condition) && is_skip(&choice.process)
+}
+
+/// Whether the last choice of an `IF` is so.
+fn ends_passing(choices: &[Choice]) -> bool
+    ensures { result ≡ ends_passing (all_choices choices.now) }
+{
+    if choices.is_empty() {
+        return false;
+    }
+    passes(&choices[choices.len() - 1])
+}
+
+/// Whether only `TRUE` with `SKIP` comes after the choice at this place.
+fn is_open(place: usize, choices: &[Choice]) -> bool
+    requires { place < length choices.now }
+    ensures { result ≡ (nat_eq (place + 2) (length choices.now) && ends_passing (all_choices choices.now)) }
+{
+    place + 2 == choices.len() && ends_passing(choices)
 }
 
 /// The first word that a process has for its names: those before it are for the selection of an alternation and the
@@ -446,23 +510,30 @@ impl<'a> ProcessWriter<'a> {
             return self.listing.operate(operations::STOP_PROCESS);
         }
         for (place, choice) in choices.iter().enumerate() {
-            self.write_part(around, end, place + 1 == choices.len(), choice)?;
+            let is_last = place + 1 == choices.len();
+            self.write_part(around, end, is_last, is_open(place, choices), choice)?;
         }
         Ok(())
     }
 
-    /// A choice of an `IF` that ends at a label, and whether it is the last one.
+    /// A choice of an `IF` that ends at a label, whether it is the last one, and whether only `TRUE` with `SKIP` comes
+    /// after it.
     #[cycle(processes)]
     fn write_part(
         &mut self,
         around: Surroundings<'_, 'a>,
         end: usize,
         is_last: bool,
+        is_open: bool,
         choice: &Choice<'a>,
     ) -> Result<(), GenFault>
-        ensures { IfOk result (λ _. WritesPart self.old self.new around.entry end is_last (choice_of choice.now)) }
+        ensures { IfOk result (λ _. WritesPart self.old self.new around.entry end is_last is_open
+            (choice_of choice.now)) }
     {
         if !is_last {
+            if is_open {
+                return self.write_open_choice(around, end, choice);
+            }
             return self.write_choice(around, end, choice);
         }
         if is_true(&choice.condition) {
@@ -481,7 +552,7 @@ impl<'a> ProcessWriter<'a> {
         end: usize,
         choice: &Choice<'a>,
     ) -> Result<(), GenFault>
-        ensures { IfOk result (λ _. WritesChoice self.old self.new around.entry end (choice_of choice.now)) }
+        ensures { IfOk result (λ _. WritesChoice self.old self.new around.entry end false (choice_of choice.now)) }
     {
         let other = self.label;
         self.label = label_after(other)?;
@@ -489,6 +560,21 @@ impl<'a> ProcessWriter<'a> {
         self.write_chosen(around, choice)?;
         self.listing.push(Piece::Jump { to: end })?;
         self.write_row(other)?;
+        Ok(())
+    }
+
+    /// A choice with its test, which jumps to the end of the `IF`.
+    #[cycle(processes)]
+    fn write_open_choice(
+        &mut self,
+        around: Surroundings<'_, 'a>,
+        end: usize,
+        choice: &Choice<'a>,
+    ) -> Result<(), GenFault>
+        ensures { IfOk result (λ _. WritesChoice self.old self.new around.entry end true (choice_of choice.now)) }
+    {
+        self.write_test(&choice.condition, end)?;
+        self.write_chosen(around, choice)?;
         Ok(())
     }
 
@@ -625,7 +711,7 @@ impl<'a> ProcessWriter<'a> {
         }
         for turn in 0..count {
             add_name(&mut self.scope, name, repeats.index_in(turn))?;
-            self.write_part(around, end, turn + 1 == count, choice)?;
+            self.write_part(around, end, turn + 1 == count, false, choice)?;
         }
         Ok(())
     }

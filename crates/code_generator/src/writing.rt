@@ -8,6 +8,7 @@ ghost use Rattle.scalar_ranges.specs.Bounds.{bound_of, range_found};
 ghost use Rattle.scalar_ranges.specs.FrontViews.{seen_front};
 ghost use Rattle.code_generator.specs.Homes.{home_of};
 ghost use Rattle.code_generator.specs.SettingViews.{entries_in, homes_in, expression_in, term_in, onto_in, joined_in};
+ghost use Rattle.code_generator.specs.SettingViews.{on_constant_in};
 ghost use Rattle.code_generator.specs.SettingViews.{others_in, operands_in, value_in, front_at};
 ghost use Rattle.code_generator.specs.Expressions.{single, address_code, element_of_words, table_element};
 ghost use Rattle.code_generator.specs.Expressions.{element_code};
@@ -15,8 +16,8 @@ ghost use Rattle.code_pieces.specs.declared.operations.TheConstants.{WORD_SUBSCR
 ghost use Rattle.code_pieces.specs.Pieces.{TableAddress, operates};
 
 use crate::expressions::{
-    Pushes, are_passed_bytes, chain_operation, covered, is_byte_reference, is_leaf_term, pushes_of,
-    single,
+    Pushes, added_by, are_passed_bytes, chain_operation, covered, is_byte_reference, is_leaf_term,
+    pushes_of, single,
 };
 use crate::home::Home;
 use crate::listing::Listing;
@@ -105,22 +106,57 @@ impl Listing {
         match (operation, pushes) {
             (Operation::Pair { left, right, .. }, Pushes::Both) => {
                 self.write_operand(setting, left)?;
-                self.write_onto(setting, right)
+                self.write_onto(setting, right, true)
+            }
+            (Operation::Pair { left, right, .. }, Pushes::Either) => {
+                self.write_operand(setting, left)?;
+                self.write_onto(setting, right, false)
             }
             (Operation::Pair { left, right, .. }, Pushes::Exchanged) => {
                 self.write_operand(setting, right)?;
-                self.write_onto(setting, left)
+                self.write_onto(setting, left, true)
             }
             (Operation::Pair { left, .. }, Pushes::Left) => self.write_operand(setting, left),
             (Operation::Pair { right, .. }, Pushes::Right) => self.write_operand(setting, right),
+            (Operation::Pair { left, .. }, Pushes::OnConstant(value)) => {
+                self.write_on_constant(setting, value, left)
+            }
+            (Operation::Pair { left, .. }, Pushes::BelowConstant(value)) => {
+                self.write_operand(setting, left)?;
+                self.constant(value)
+            }
             _ => Ok(()),
         }
     }
 
-    /// A right operand, on the left one that is in A.
+    /// An operand, on a constant.
     #[cycle(write)]
-    fn write_onto(&mut self, setting: Setting, right: &Operand) -> Result<(), GenFault>
-        ensures { IfOk result (λ _. self.new ≡ self.old ++ onto_in setting.entry (term_of right.now)) }
+    fn write_on_constant(
+        &mut self,
+        setting: Setting,
+        value: i32,
+        operand: &Operand,
+    ) -> Result<(), GenFault>
+        ensures { IfOk result (λ _. self.new ≡ self.old ++ on_constant_in setting.entry value (term_of operand.now)) }
+    {
+        if is_leaf_term(setting.scope, operand) {
+            self.constant(value)?;
+            return self.write_operand(setting, operand);
+        }
+        self.write_operand(setting, operand)?;
+        self.constant(value)?;
+        self.operate(operations::REVERSE)
+    }
+
+    /// A right operand, on the left one that is in A, or below it where their order does not matter.
+    #[cycle(write)]
+    fn write_onto(
+        &mut self,
+        setting: Setting,
+        right: &Operand,
+        in_order: bool,
+    ) -> Result<(), GenFault>
+        ensures { IfOk result (λ _. self.new ≡ self.old ++ onto_in in_order setting.entry (term_of right.now)) }
     {
         let above = setting.above()?;
         if is_leaf_term(setting.scope, right) {
@@ -128,7 +164,7 @@ impl Listing {
         }
         self.store(setting.top)?;
         self.write_operand(above, right)?;
-        self.push_below(setting.top)
+        self.push_back(setting.top, in_order)
     }
 
     /// The operands of a chain after the first two.
@@ -164,8 +200,13 @@ impl Listing {
         if known.is_some() {
             return Ok(());
         }
-        self.write_onto(setting, operand)?;
-        self.operate(chain_operation(operator))
+        match added_by(operator, read_operand(setting.scope, operand).value()) {
+            Some(value) => self.direct(Fun::AddConstant, value),
+            None => {
+                self.write_onto(setting, operand, false)?;
+                self.operate(chain_operation(operator))
+            }
+        }
     }
 
     /// An operand.

@@ -1,5 +1,5 @@
 use Rattle.std.proofs.Common.{◌≡◌, ◌+◌, ◌<◌, ◌≤◌, length, map, IfOk, arith, refl, ap, sym, subst, ◌∙◌, rules, nat_eq}
-use Rattle.std.proofs.Common.{true, false, Some, option_map, w32, of_z}
+use Rattle.std.proofs.Common.{true, false, ◌&&◌, Some, option_map, w32, of_z}
 use Rattle.std.proofs.lemmas.Bool.{eqb-true, eqb-false}
 use Rattle.std.proofs.lemmas.Int.{to_z-of_z}
 use Rattle.occam_parser.specs.declared.tree.Body.{the_lemmas}
@@ -27,6 +27,7 @@ use Rattle.code_generator.specs.Homes.{Nowhere}
 use Rattle.code_generator.specs.Declarations.{with_home}
 use Rattle.code_generator.specs.Branches.{WritesPar}
 use Rattle.code_generator.specs.Processes.{Site, Surroundings, at_place, before_turns, process_code, act_code}
+use Rattle.code_generator.specs.Processes.{ends_passing}
 use Rattle.code_generator.specs.Written.{site_of, Writes, WritesConstruct, WritesSeq, WritesIf, WritesPart}
 use Rattle.code_generator.specs.Written.{WritesChoice}
 use Rattle.code_generator.specs.Written.{WritesChosen, WritesTurns, WritesLine, EntersLoop}
@@ -38,7 +39,7 @@ use Rattle.code_generator.proofs.BranchesWritten.{writes_repeated_par}
 use Rattle.code_generator.proofs.PartsWritten.{writes_none, writes_moved, writes_behind, seq_next, seq_done}
 use Rattle.code_generator.proofs.ChoicesWritten.{choices_start, choices_next, choices_done, no_choices}
 use Rattle.code_generator.proofs.ChoicesWritten.{writes_if, writes_chosen, writes_tested, always_written}
-use Rattle.code_generator.proofs.ChoicesWritten.{writes_stopped}
+use Rattle.code_generator.proofs.ChoicesWritten.{writes_stopped, writes_open}
 use Rattle.code_generator.proofs.LoopsWritten.{writes_turning, writes_loop, writes_replicated}
 use Rattle.code_generator.proofs.TurnsWritten.{turns_start, turns_next, turns_done, writes_repeated_if}
 use Rattle.code_generator.proofs.processes.ProcessWriter.+processes.Goals as goal
@@ -157,18 +158,21 @@ pub write_choices-loop-place-init : goal.write_choices-loop-place-init
 write_choices-loop-place-init t c =
     let differs = eqb-false _ _ (sym c.is_empty.ensures ∙ c.if-is_empty.false) in
     let some : 0 < length c.args.choices.now = omega arith in
-    choices_start c.args.around c.args.end (length c.args.choices.now) _ c.args.self.now some
+    choices_start c.args.around c.args.end (length c.args.choices.now)
+    (nat_eq 1 (length c.args.choices.now) && ends_passing (all_choices c.args.choices.now)) _ c.args.self.now some
 
 pub write_choices-loop-place-preserved : goal.write_choices-loop-place-preserved
 write_choices-loop-place-preserved t c =
     choices_next c.args.around c.args.end choice_of c.args.choices.now c.loop-place.place c.index-choices-place.result
-    (nat_eq (c.loop-place.place + 1) (length c.args.choices.now)) (omega arith) c.index-choices-place.is refl
-    c.loop-place.invariant c.in_ok-write_part.ensures
+    (nat_eq (c.loop-place.place + 1) (length c.args.choices.now)) c.is_open.result (omega arith)
+    c.index-choices-place.is refl c.is_open.ensures c.loop-place.invariant c.in_ok-write_part.ensures
 
 pub write_choices-returns : goal.write_choices-returns
 write_choices-returns t c =
     let done : c.loop-place.place ≡ length c.args.choices.now = omega arith in
-    choices_done c.args.around c.args.end choice_of c.args.choices.now c.loop-place.place done c.loop-place.invariant
+    choices_done c.args.around c.args.end choice_of c.args.choices.now c.loop-place.place
+    (nat_eq (c.loop-place.place + 1) (length c.args.choices.now) && ends_passing (all_choices c.args.choices.now)) done
+    c.loop-place.invariant
 
 pub write_part-returns-then-is_true : goal.write_part-returns-then-is_true
 write_part-returns-then-is_true t c =
@@ -178,10 +182,10 @@ write_part-returns-then-is_true t c =
     let view : Chosen x.line (expression_of x.condition) (process_of x.process) ≡ choice_of x =
     search (rules, the_lemmas) in
     let last : c.args.is_last ≡ true = search rules in
-    subst (λ b. IfOk c.write_chosen.result (λ _. WritesPart s after c.args.around c.args.end b (choice_of x)))
-    (sym last)
-    (always_written c.args.around c.args.end x.line (expression_of x.condition) (process_of x.process) (choice_of x) s
-    after c.write_chosen.result view (sym c.is_true.ensures ∙ c.if-is_true.true) c.write_chosen.ensures)
+    subst (λ b. IfOk c.write_chosen.result
+    (λ _. WritesPart s after c.args.around c.args.end b c.args.is_open (choice_of x))) (sym last)
+    (always_written c.args.around c.args.end c.args.is_open x.line (expression_of x.condition) (process_of x.process)
+    (choice_of x) s after c.write_chosen.result view (sym c.is_true.ensures ∙ c.if-is_true.true) c.write_chosen.ensures)
 
 pub write_part-returns : goal.write_part-returns
 write_part-returns t c =
@@ -191,13 +195,14 @@ write_part-returns t c =
     let view : Chosen x.line (expression_of x.condition) (process_of x.process) ≡ choice_of x =
     search (rules, the_lemmas) in
     let last : c.args.is_last ≡ true = search rules in
-    let tested = subst (λ y. WritesChoice s within c.args.around c.args.end y) (sym view)
+    let tested = subst (λ y. WritesChoice s within c.args.around c.args.end false y) (sym view)
     c.in_ok-write_choice.ensures in
-    let stopped = writes_stopped c.args.around c.args.end x.line (expression_of x.condition) (process_of x.process)
-    c.operate.new.self (sym c.is_true.ensures ∙ c.if-is_true.false) tested c.in_ok-operate.ensures in
+    let stopped = writes_stopped c.args.around c.args.end c.args.is_open x.line (expression_of x.condition)
+    (process_of x.process) c.operate.new.self (sym c.is_true.ensures ∙ c.if-is_true.false) tested
+    c.in_ok-operate.ensures in
     let final = record within { listing = c.operate.new.self } in
-    subst (λ b. WritesPart s final c.args.around c.args.end b (choice_of x)) (sym last)
-    (subst (λ y. WritesPart s final c.args.around c.args.end true y) view stopped)
+    subst (λ b. WritesPart s final c.args.around c.args.end b c.args.is_open (choice_of x)) (sym last)
+    (subst (λ y. WritesPart s final c.args.around c.args.end true c.args.is_open y) view stopped)
 
 pub write_chosen-returns : goal.write_chosen-returns
 write_chosen-returns t c =
@@ -228,10 +233,24 @@ write_choice-returns t c =
     }) in
     let chosen = subst (λ y. WritesChosen c.write_test.new.self c.write_chosen.new.self c.args.around y) (sym view)
     c.in_ok-write_chosen.ensures in
-    subst (λ y. WritesChoice s after c.args.around c.args.end y) view
+    subst (λ y. WritesChoice s after c.args.around c.args.end false y) view
     (writes_tested c.args.around c.args.end line e p s c.write_test.new.self c.write_chosen.new.self after
     c.push.new.self c.in_ok-write_test.ensures.code place chosen c.in_ok-push.ensures c.in_ok-write_row.ensures.row
     c.in_ok-write_row.ensures.site)
+
+pub write_open_choice-returns : goal.write_open_choice-returns
+write_open_choice-returns t c =
+    let x = c.args.choice.now in
+    let s = c.args.self.now in
+    let line = x.line in
+    let e = expression_of x.condition in
+    let p = process_of x.process in
+    let view : Chosen line e p ≡ choice_of x = search (rules, the_lemmas) in
+    let chosen = subst (λ y. WritesChosen c.write_test.new.self c.write_chosen.new.self c.args.around y) (sym view)
+    c.in_ok-write_chosen.ensures in
+    subst (λ y. WritesChoice s c.write_chosen.new.self c.args.around c.args.end true y) view
+    (writes_open c.args.around c.args.end line e p s c.write_test.new.self c.write_chosen.new.self
+    c.in_ok-write_test.ensures.code c.in_ok-write_test.ensures.site chosen)
 
 -- ---- alternations
 

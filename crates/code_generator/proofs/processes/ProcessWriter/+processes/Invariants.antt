@@ -1,9 +1,10 @@
-use Rattle.std.proofs.Common.{◌*◌, ◌+◌, take, length, nat_eq}
+use Rattle.std.proofs.Common.{◌*◌, ◌+◌, ◌&&◌, take, length, nat_eq}
 use Rattle.occam_parser.specs.BlockViews.{choice_of, branch_of, plain_component, all_processes, all_choices}
 use Rattle.occam_parser.specs.BlockViews.{all_branches}
 use Rattle.program_uses.specs.Indices.{seen_repeats}
 use Rattle.code_generator.specs.Alternations.{exits_in, WritesBranches}
 use Rattle.code_generator.specs.Alternations as alternations
+use Rattle.code_generator.specs.Processes.{ends_passing}
 use Rattle.code_generator.specs.Written.{WritesSeq}
 use Rattle.code_generator.specs.Branches as Branches
 use Rattle.code_generator.proofs.ChoicesWritten.{WritesUpTo}
@@ -66,6 +67,9 @@ decreases-write_loop l = 16 * l.around.deeper + 3
 abbrev pub decreases-write_one : goal.decreases-write_one
 decreases-write_one l = 16 * l.around.deeper + 2
 
+abbrev pub decreases-write_open_choice : goal.decreases-write_open_choice
+decreases-write_open_choice l = 16 * l.around.deeper + 10
+
 abbrev pub decreases-write_part : goal.decreases-write_part
 decreases-write_part l = 16 * l.around.deeper + 11
 
@@ -94,6 +98,7 @@ invariant-write_seq-loop-process l =
 abbrev pub invariant-write_choices-loop-place : goal.invariant-write_choices-loop-place
 invariant-write_choices-loop-place l =
     WritesUpTo l.initial.self l.self l.around l.end (nat_eq l.place (length l.choices))
+    (nat_eq (l.place + 1) (length l.choices) && ends_passing (all_choices l.choices))
     (all_choices (take l.place l.choices))
 
 abbrev pub invariant-write_par-loop-process : goal.invariant-write_par-loop-process
