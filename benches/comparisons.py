@@ -85,6 +85,29 @@ def compared_with_each(rows, wanted, labels, ends, changes=""):
     return module(body, version=2, procedures=[procedure], labels=befores + afters)
 
 
+def compared_in_turns(rows, wanted, ends, changes):
+    """A label with these entries, and then, over and over, words that are changed and jumps to so many labels, one after
+    the other, with those that are wanted. These labels are at the end."""
+    jump, last = FUNCTIONS.index("cj"), LOAD_CONSTANT * ends + STOP_PROCESS
+    start, changing = 2 * STOP_PROCESS, code(changes)
+    pieces, distance, room = [], 0, MAX_CODE_2 - len(start) - len(last)
+    while True:
+        turn, size = [], 0
+        for end in reversed(range(ends)):
+            turn.append(LOAD_CONSTANT + spelled(jump, distance + size + end))
+            size += len(turn[-1])
+        if distance + size + len(changing) > room:
+            break
+        pieces += [*turn, changing]
+        distance += size + len(changing)
+    body = start + b"".join(reversed(pieces)) + last
+    procedure = struct.pack("<IiiQH", len(STOP_PROCESS), FRAME_LO, FRAME_HI, 2, 0)
+    first = len(start) + distance
+    before = label_row(len(start), CONTEXT, NUMBER_OF_LABELS, rows)
+    afters = [label_row(first + end, CONTEXT, len(last) - end, wanted) for end in range(ends)]
+    return module(body, version=2, procedures=[procedure], labels=[before, *afters])
+
+
 def numbers(skipped=()):
     """An entry for each word of the frame, but for these words."""
     words = [word for word in range(FRAME_LO, FRAME_HI) if word not in skipped]
@@ -185,6 +208,23 @@ def to_new_labels_of_half_blocks():
     known = [number_entry(start, half, *limits) for start, limits in ranges if not start <= 1 < start + half]
     wanted = [number_entry(start, half, 0, 9) for start, limits in ranges if limits == (0, 9) and start > 1][:90]
     return compared_with_each(after([pointer, *known]), wanted, 4, 8_000, THROUGH_POINTER)
+
+
+def to_labels_in_turns(ends=256, before=""):
+    """To labels with two entries for each block of words, one after the other; over and over, each time once a word of
+    each block is written, and maybe other words before. What is known of a block together does not decide."""
+    half = BLOCK // 2
+    halves = list(enumerate(word for word in range(FRAME_LO + BLOCK, FRAME_HI - BLOCK, half) if abs(word) > half))
+    known = [number_entry(word, half, *((100, 110) if number % 2 else (0, 9))) for number, word in halves]
+    wanted = [number_entry(word, half, *((5, 200) if number % 2 else (0, 50))) for number, word in halves]
+    writes = ", ".join(f"ldc 5, stl {word}" for number, word in halves if number % 2 == 0)
+    rows = after([pointer_to(range(2, FRAME_HI)), *known])
+    return compared_in_turns(rows, wanted, ends, f"{before}, {writes}" if before else writes)
+
+
+def to_labels_behind_stores(ends=256):
+    """The same, where a store through a pointer to any word comes before each of these."""
+    return to_labels_in_turns(ends, THROUGH_POINTER)
 
 
 # ---- loops
