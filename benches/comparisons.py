@@ -86,8 +86,8 @@ def compared_with_each(rows, wanted, labels, ends, changes=""):
 
 
 def compared_in_turns(rows, wanted, ends, changes):
-    """A label with these entries, and then, over and over, words that are changed and jumps to so many labels, one after
-    the other, with those that are wanted. These labels are at the end."""
+    """A label with these entries, and then, over and over, words that are changed and jumps to so many labels in turn,
+    with those that are wanted. These labels are at the end."""
     jump, last = FUNCTIONS.index("cj"), LOAD_CONSTANT * ends + STOP_PROCESS
     start, changing = 2 * STOP_PROCESS, code(changes)
     pieces, distance, room = [], 0, MAX_CODE_2 - len(start) - len(last)
