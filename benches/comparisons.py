@@ -45,6 +45,18 @@ def jumps(test, room, end_of_room=0):
         size += len(pieces[-1])
 
 
+def in_procedure(body, labels):
+    """A module whose code, after the end of the root, is that of a procedure with the largest frame."""
+    procedure = struct.pack("<IiiQH", len(STOP_PROCESS), FRAME_LO, FRAME_HI, 2, 0)
+    return module(body, version=2, procedures=[procedure], labels=labels)
+
+
+def at_the_end(first, ends, wanted):
+    """Labels at so many instructions from an offset on, before the end of the code, with these entries."""
+    last = ends + len(STOP_PROCESS)
+    return [label_row(first + end, CONTEXT, last - end, wanted) for end in range(ends)]
+
+
 def compared(rows, wanted, test="ldc 0", changes=""):
     """Jumps from a label with these entries, once words are changed, to one with those that are wanted."""
     start = 2 * STOP_PROCESS
@@ -52,12 +64,11 @@ def compared(rows, wanted, test="ldc 0", changes=""):
     room = MAX_CODE_2 - len(start) - len(changing) - len(STOP_PROCESS)
     middle = changing + jumps(test, room)
     body = start + middle + STOP_PROCESS
-    procedure = struct.pack("<IiiQH", len(STOP_PROCESS), FRAME_LO, FRAME_HI, 2, 0)
     labels = [
         label_row(len(start), CONTEXT, NUMBER_OF_LABELS, rows),
         label_row(len(start) + len(middle), CONTEXT, 2, wanted),
     ]
-    return module(body, version=2, procedures=[procedure], labels=labels)
+    return in_procedure(body, labels)
 
 
 def compared_with_each(rows, wanted, labels, ends, changes=""):
@@ -74,15 +85,13 @@ def compared_with_each(rows, wanted, labels, ends, changes=""):
         distances.append(distance)
     start = 2 * STOP_PROCESS
     body = start + b"".join(reversed(pieces)) + last
-    procedure = struct.pack("<IiiQH", len(STOP_PROCESS), FRAME_LO, FRAME_HI, 2, 0)
     first = len(start) + distance
     numbers_of = [NUMBER_OF_LABELS - number * len(body) for number in range(labels)]
     befores = [
         label_row(first - distance, CONTEXT, number, rows)
         for distance, number in zip(reversed(distances), numbers_of)
     ]
-    afters = [label_row(first + end, CONTEXT, len(last) - end, wanted) for end in range(ends)]
-    return module(body, version=2, procedures=[procedure], labels=befores + afters)
+    return in_procedure(body, [*befores, *at_the_end(first, ends, wanted)])
 
 
 def compared_in_turns(rows, wanted, ends, changes):
@@ -101,11 +110,9 @@ def compared_in_turns(rows, wanted, ends, changes):
         pieces += [*turn, changing]
         distance += size + len(changing)
     body = start + b"".join(reversed(pieces)) + last
-    procedure = struct.pack("<IiiQH", len(STOP_PROCESS), FRAME_LO, FRAME_HI, 2, 0)
     first = len(start) + distance
     before = label_row(len(start), CONTEXT, NUMBER_OF_LABELS, rows)
-    afters = [label_row(first + end, CONTEXT, len(last) - end, wanted) for end in range(ends)]
-    return module(body, version=2, procedures=[procedure], labels=[before, *afters])
+    return in_procedure(body, [before, *at_the_end(first, ends, wanted)])
 
 
 def numbers(skipped=()):
