@@ -63,7 +63,8 @@ fn meet(row: &[Entry], first: i64, end: i64) -> Fact
     fact
 }
 
-/// What is claimed of what the label at a code offset, which wants no loop, wants of some words. Where no fact says it, nothing is claimed.
+/// What is claimed of what the label at a code offset, which wants no loop, wants of some words. Where no fact says it,
+/// nothing is claimed.
 fn claim_of(offset: u32, row: &LabelRow, first: i64, end: i64) -> Claim
     requires apart { AreApart row.now.entries.items }
     requires plain { wants_no_loop row.now.entries.items ≡ true }
