@@ -11,7 +11,7 @@ use Rattle.std.proofs.lemmas.Bool.Decides.{nat_tests}
 use Rattle.std.proofs.lemmas.Int.{ints, clamps}
 use Rattle.std.proofs.lemmas.Nat.{div-add-mod'}
 use Rattle.std.proofs.Math.Nat.{mod-lt}
-use Rattle.std.specs.Prelude.{option_map, unwrap_or, is_some}
+use Rattle.std.specs.Prelude.{option_map, unwrap_or}
 use Rattle.module_format.specs.Rows.{Fact, Entry}
 use Rattle.module_format.specs.declared.fact.Fact.TheVariants.{Unknown, Number, Pointer, CodeAddress, Loop}
 use Rattle.module_format.specs.declared.fact.Fact.TheVariants.{ReturnAddress}
@@ -27,7 +27,6 @@ use Rattle.states.specs.Lookup.{fact_of_index, facts_over}
 use Rattle.states.specs.Frames.{with_alone, with_span}
 use Rattle.states.specs.Spans.{is_in_span, left_of, widened, of_none, with_plain, with_one, together}
 use Rattle.states.specs.Blocks.{block_words, no_block, block_at, first_of, left_by, left_after, leaving_at, facts_left}
-use Rattle.states.specs.Blocks.{leaving_in}
 use Rattle.states.specs.Blocks.{AreSummed}
 use Rattle.states.specs.Blocks.{is_number, is_unbounded, sum_left}
 use Rattle.module_format.specs.Order.{least_word, greatest_word}
@@ -160,26 +159,6 @@ outside-set : (lo k : ℤ) (blocks others : List Block) (number : ℕ) (block : 
     → ((n : ℕ) → k -ℤ lo ≡ pos n → n / block_words ≢ number) → leaving_at others (k -ℤ lo) ≡ leaving_at blocks (k -ℤ lo)
 outside-set lo k blocks others number block kept far =
     leaving-others blocks others number (k -ℤ lo) (λ n differs. set-other blocks others number n block kept differs) far
-
--- how words outside a block are left stays what it was
-pub record AreLeftOutside (lo : ℤ) (number : ℕ) (left leaving : ℤ → Option Leaving) : Type 0 where
-  pub same : (k : ℤ) → ((n : ℕ) → k -ℤ lo ≡ pos n → n / block_words ≢ number) → leaving k ≡ left k
-
-pub left-outside : (lo : ℤ) (blocks others : List Block) (number : ℕ) (block : Block)
-    → IsSet blocks number block others
-    → AreLeftOutside lo number (leaving_in lo blocks) (leaving_in lo others)
-left-outside lo blocks others number block kept = record {
-  same = λ k far. outside-set lo k blocks others number block kept far;
-}
-
--- all words are left as before where each block has its own
-pub leaving-same : (lo : ℤ) (blocks others : List Block)
-    → ((n : ℕ) → (block_at others n).left ≡ (block_at blocks n).left) → leaving_in lo others ≡ leaving_in lo blocks
-leaving-same lo blocks others same = fun_ext (λ k. on (k -ℤ lo))
-  where
-    on : (z : ℤ) → leaving_at others z ≡ leaving_at blocks z
-    on (pos n) = same (n / block_words)
-    on (negsuc n) = refl
 
 pub block-left : (lo : ℤ) (blocks others : List Block) (facts : Facts) (number : ℕ) (leaving : Leaving) (block : Block)
     → block.left ≡ Some (left_after (block_at blocks number).left leaving) → IsSet blocks number block others
@@ -358,18 +337,6 @@ settled-more lo first word blocks facts new old index i leaving fact said word_i
 pub some-leaving : (o : Option Leaving) → o ≢ None → (leaving : Leaving) × (o ≡ Some leaving)
 some-leaving None h = absurd (h refl)
 some-leaving (Some leaving) h = (leaving, refl)
-
--- a block that was left is one of those for which something is kept
-pub left-low : (blocks : List Block) (number : ℕ) (block : Block) → block ≡ block_at blocks number
-    → is_some block.left ≡ true → number < length blocks
-left-low blocks number block is some = elim (cases_lt number (length blocks)) [
-  | inl low ↦ low
-  | inr high ↦
-      let none : is_some block.left ≡ false =
-      ap (λ (b : Block). is_some b.left) (is ∙ get_or_past blocks number no_block high) in
-      let clash : true ≡ false = sym some ∙ none in
-      absurd (cc)
-]
 
 -- nothing is kept for blocks
 pub left-cleared : (lo : ℤ) (blocks : List Block) (facts : Facts) → blocks ≡ [] → facts_left lo blocks facts ≡ facts

@@ -20,3 +20,4 @@ pub mod LoopPairs
 pub mod Remembering
 pub mod Hulls
 pub mod Claimed
+pub mod SaidWords

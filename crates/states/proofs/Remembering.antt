@@ -2,12 +2,13 @@
 use Rattle.std.proofs.Common.{◌≡◌, ◌≢◌, ◌⊎◌, ℕ, suc, ◌+◌, ◌-◌, ◌*◌, ◌/◌, ◌%◌, ◌<◌, ◌≤◌, ℤ, pos, negsuc, ◌+ℤ◌, ◌-ℤ◌, ◌≤ℤ◌, ◌<ℤ◌}
 use Rattle.std.proofs.Common.{Bool, true, false, ◌&&◌, List, [], ◌∷◌, length, Option, Some, None, refl, sym, ap, ◌∙◌}
 use Rattle.std.proofs.Common.{subst, arith, inl, inr, cond}
-use Rattle.std.specs.Prelude.{nat_le, nat_lt, is_none, sum_by, if◌then◌else◌, Result, Ok, Err}
+use Rattle.std.specs.Prelude.{nat_le, nat_lt, is_none, sum_by, if◌then◌else◌, Result, Ok, Err, vec_len}
 use Rattle.std.specs.List.{list_all}
 use Rattle.std.proofs.lemmas.Bool.{cases_lt, cases_eq}
 use Rattle.std.proofs.lemmas.Bool.Decides.{nat_tests}
 use Rattle.std.proofs.lemmas.Int.{ints}
-use Rattle.std.proofs.lemmas.List.{get_or_past}
+use Rattle.std.proofs.lemmas.List.{get_or_past, get_or-set_same, get_or-set_other}
+use Rattle.std.proofs.Math.ListN.{get_or, set}
 use Rattle.std.proofs.lemmas.List.Sums.{sum_by-cons}
 use Rattle.std.proofs.lemmas.Nat.{div-add-mod'}
 use Rattle.std.proofs.Math.Nat.{mod-lt, mul-le-mul_right}
@@ -17,31 +18,33 @@ use Rattle.module_format.specs.declared.fact.Fact.TheVariants.{Unknown, Number, 
 use Rattle.module_format.specs.declared.fact.Fact.TheVariants.{ReturnAddress}
 use Rattle.states.specs.declared.known.WordFact.{WordFact}
 use Rattle.states.specs.declared.known.WordFact.TheVariants.{Alone}
+use Rattle.states.specs.declared.remembered.Changes.{Changes}
 use Rattle.states.specs.declared.remembered.Compared.{Compared}
 use Rattle.states.specs.declared.remembered.Remembered.{Remembered}
-use Rattle.states.specs.declared.blocks.Block.{Block}
 use Rattle.states.specs.declared.span.Leaving.{Leaving}
 use Rattle.states.specs.declared.span.Leaving.TheVariants.{Widen}
 use Rattle.states.specs.declared.rule.Rule.{Rule}
 use Rattle.states.specs.declared.rule.Rule.TheVariants as rules
 use Rattle.states.specs.State.{State, Facts, by_itself, is_alone, entry_fact}
 use Rattle.states.specs.Spans.{left_of}
-use Rattle.states.specs.Below.{View, says, are_alike, is_whole, holds_constant, price, entries_hold, agrees, cost, compared}
+use Rattle.states.specs.Below.{View, says, are_alike, is_whole, holds_constant, price, entries_hold, agrees, cost}
 use Rattle.states.specs.Below.{view, below, below_at}
-use Rattle.states.specs.Blocks.{block_words, block_at, first_of, leaving_in, HaveRoom}
+use Rattle.states.specs.Blocks.{block_words, first_of, is_widening, HaveRoom}
 use Rattle.states.specs.Implied.{BlockImplied, IsWithin}
 use Rattle.states.specs.Comparing.{BlockSaysAll, loop_of, stands}
 use Rattle.states.specs.Frames.{with_alone, with_span}
 use Rattle.states.specs.Remembered.{never, compared_at, time_of, index_time, word_time, HasTimes, loop_stays, loops_stay}
-use Rattle.states.specs.Remembered.{wants_no_loop, IsPaid, IsRecalled, ChangedSay, allows, IsRemembered, AreRemembered}
-use Rattle.states.specs.Remembering.{IsChanged}
+use Rattle.states.specs.Remembered.{wants_no_loop, IsPaid, IsRecalled, ChangedSay, allows, index_written}
+use Rattle.states.specs.Remembered.{word_written, no_changes, changes_of, since_at, since_in, range_of, range_at}
+use Rattle.states.specs.Remembered.{range_in}
+use Rattle.states.specs.Remembering.{IsRemembered, AreRemembered, IsChanged, IsPlaced, IsLeftSo, IsRenewed}
 use Rattle.states.proofs.BlockSums.{number-of}
 use Rattle.states.proofs.RowFacts.{and-parts, and-both}
 use Rattle.states.proofs.Comparisons.{entries_hold-says, says-unknown}
 use Rattle.states.proofs.FrameFacts.{word-cases}
 use Rattle.states.proofs.Loops.{some-words}
-use Rattle.states.proofs.Leavings.{inside, outside, in-block, leaving-inside, AreLeftOutside}
-use Rattle.states.proofs.Widenings.{AreWidened}
+use Rattle.states.proofs.Leavings.{inside, outside, in-block}
+use Rattle.states.proofs.Widenings.{widened-in}
 
 -- ---- loops whose words are what they were
 
@@ -145,31 +148,39 @@ due-same times later facts others time (entry ∷ entries) same stays =
     let new = sum_by-cons (price others) entry entries in
     omega (arith, old, new, here, rest)
 
--- where what is wanted is allowed of what was not written since a time, it was allowed before, and is known if it was
-abbrev pub StayAllowed : (ℤ → ℕ) → (ℤ → ℕ) → (ℤ → Option Leaving) → (ℤ → Option Leaving) → Facts → Facts → ℕ → Type 0
-StayAllowed written later left leaving facts others time =
-    (k : ℤ) (wanted : WordFact) → later k ≤ time → allows (leaving k) wanted ≡ true
-    → (written k ≤ time) × (allows (left k) wanted ≡ true)
+-- where what is wanted of a word that was not written since a time is allowed, it was before, and is known if it was
+abbrev pub StayHeld : ℤ → Remembered → Remembered → Facts → Facts → ℕ → Type 0
+StayHeld lo old new facts others time =
+    (k : ℤ) (wanted : WordFact) → word_written lo new.words.items k ≤ time → since_in lo new.by_block.items k ≤ time
+    → allows (range_in new.began lo new.by_block.items k) wanted ≡ true
+    → (word_written lo old.words.items k ≤ time) × (since_in lo old.by_block.items k ≤ time)
+    × (allows (range_in old.began lo old.by_block.items k) wanted ≡ true)
     × (says (facts k) wanted ≡ true → says (others k) wanted ≡ true)
 
 -- a comparison is remembered where words are changed later
-remembered-still : (times later written wrote : ℤ → ℕ) (left leaving : ℤ → Option Leaving) (facts others : Facts)
-    (entries : List Entry) (c : Compared) → AreSame times later facts others c.time
-    → StayAllowed written wrote left leaving facts others c.time → IsRemembered times written left facts entries c
-    → IsRemembered later wrote leaving others entries c
-remembered-still times later written wrote left leaving facts others entries c same allowed old = record {
+remembered-still : (lo : ℤ) (old new : Remembered) (facts others : Facts) (entries : List Entry) (c : Compared)
+    → AreSame (word_time lo old.times.items) (word_time lo new.times.items) facts others c.time
+    → StayHeld lo old new facts others c.time → IsRemembered lo old facts entries c
+    → IsRemembered lo new others entries c
+remembered-still lo old new facts others entries c same held before = record {
   knows = λ k l.
       let at = same k l in
-      ap (λ (f : WordFact). says f (entry_fact entries k)) at.0 ∙ old.knows k at.1;
-  widened = λ k l allowing.
-      let at = allowed k (entry_fact entries k) l allowing in
-      at.2 (old.widened k at.0 at.1);
+      ap (λ (f : WordFact). says f (entry_fact entries k)) at.0 ∙ before.knows k at.1;
+  held = λ k l m allowing.
+      let at = held k (entry_fact entries k) l m allowing in
+      at.3 (before.held k at.0 at.1 at.2);
   whole = λ stays. whole-same times later facts others c.time entries same stays
-      ∙ old.whole (stayed times later facts others c.time entries same stays);
+      ∙ before.whole (stayed times later facts others c.time entries same stays);
   due = λ stays. due-same times later facts others c.time entries same stays
-      ∙ old.due (stayed times later facts others c.time entries same stays);
-  plain = old.plain;
+      ∙ before.due (stayed times later facts others c.time entries same stays);
+  plain = before.plain;
 }
+  where
+    times : ℤ → ℕ
+    times = word_time lo old.times.items
+
+    later : ℤ → ℕ
+    later = word_time lo new.times.items
 
 -- ---- the times of blocks
 
@@ -204,22 +215,84 @@ block-index words times number i below within timed =
     let more : suc number * block_words ≤ times * block_words = mul-le-mul_right block_words below in
     omega (arith, few, more)
 
+div-below : (n count : ℕ) → n < count → n / block_words < count / block_words + 1
+div-below n count l = elim (cases_lt (count / block_words) (n / block_words)) [
+  | inl below ↦
+      let both = div-add-mod' n block_words in
+      let whole = div-add-mod' count block_words in
+      let rest : count % block_words < block_words = mod-lt count some-words in
+      let more : suc (count / block_words) * block_words ≤ (n / block_words) * block_words =
+      mul-le-mul_right block_words below in
+      absurd (omega (arith, both, whole, rest, more, l))
+  | inr h ↦ omega (arith, h)
+]
+
+-- where time begins, no word was written later than its block
+pub first-placed : (count : ℕ) (words : List ℕ) (blocks : List Changes) → length words ≡ count
+    → ((n : ℕ) → time_of words n ≤ 1) → ((n : ℕ) → n < count / block_words + 1 → 1 ≤ (changes_of blocks n).written)
+    → (n : ℕ) → time_of words n ≤ (changes_of blocks (n / block_words)).written
+first-placed count words blocks len early some n = elim (cases_lt n count) [
+  | inl l ↦
+      let first = early n in
+      let block = some (n / block_words) (div-below n count l) in
+      omega (arith, first, block)
+  | inr h ↦
+      let none = get_or_past words n 0 (omega (arith, len, h)) in
+      omega (arith, none)
+]
+
+-- what holds of each item of a list, once one of them is set
+pub set-all : {A : Type 0} (P : ℕ → A → Type 0) (xs : List A) (i : ℕ) (v d : A) → i < length xs
+    → ((n : ℕ) → P n (get_or xs n d)) → P i v → (n : ℕ) → P n (get_or (set xs i v) n d)
+set-all P xs i v d low all here n = elim (cases_eq n i) [
+  | inl e ↦ subst (P n) (sym (ap (λ (j : ℕ). get_or (set xs i v) j d) e ∙ get_or-set_same xs i v d low))
+      (subst (λ (j : ℕ). P j v) (sym e) here)
+  | inr other ↦ subst (P n) (sym (get_or-set_other xs i n v d other)) (all n)
+]
+
+-- once a word is written, no word was later than its block
+pub placed-more : (words : List ℕ) (blocks : List Changes) (index number time : ℕ) (block : Changes)
+    → index < length words → number < length blocks → number ≡ index / block_words → block.written ≡ time
+    → ((n : ℕ) → time_of words n ≤ (changes_of blocks (n / block_words)).written)
+    → ((n : ℕ) → (changes_of blocks n).written ≤ time)
+    → (n : ℕ) → time_of (set words index time) n ≤ (changes_of (set blocks number block) (n / block_words)).written
+placed-more words blocks index number time block low below number_is block_is placed recent n =
+    elim (cases_eq (n / block_words) number) [
+      | inl e ↦
+          let here : changes_of (set blocks number block) (n / block_words) ≡ block =
+          ap (changes_of (set blocks number block)) e ∙ get_or-set_same blocks number block no_changes below in
+          let now = ap (λ (c : Changes). c.written) here in
+          elim (cases_eq n index) [
+            | inl s ↦
+                let at = ap (time_of (set words index time)) s ∙ get_or-set_same words index time 0 low in
+                omega (arith, at, now, block_is)
+            | inr d ↦
+                let at = get_or-set_other words index n time 0 d in
+                let before = placed n in
+                let late = recent (n / block_words) in
+                omega (arith, at, before, late, now, block_is)
+          ]
+      | inr d ↦
+          let here = get_or-set_other blocks number (n / block_words) block no_changes d in
+          let kept = ap (λ (c : Changes). c.written) here in
+          let at = get_or-set_other words index n time 0
+          (λ s. d (ap (λ (i : ℕ). i / block_words) s ∙ sym number_is)) in
+          let before = placed n in
+          omega (arith, at, before, kept)
+    ]
+
 -- ---- all comparisons
 
-pub remembered-same : (m : Contents) (said facts others : Facts) (left leaving : ℤ → Option Leaving) (lo : ℤ)
-    (times written : List ℕ) (began : ℕ) (compared : List Compared) → others ≡ facts → leaving ≡ left
-    → AreRemembered m said facts left lo times written began compared
-    → AreRemembered m said others leaving lo times written began compared
-remembered-same m said facts others left leaving lo times written began compared same left_same old =
-    subst (λ (l : ℤ → Option Leaving). AreRemembered m said others l lo times written began compared) (sym left_same)
-    (subst (λ (f : Facts). AreRemembered m said f left lo times written began compared) (sym same) old)
+pub remembered-same : (said facts others : Facts) (lo : ℤ) (r : Remembered) → others ≡ facts
+    → AreRemembered said facts lo r → AreRemembered said others lo r
+remembered-same said facts others lo r same old =
+    subst (λ (f : Facts). AreRemembered said f lo r) (sym same) old
 
 -- none is of the label that the state goes on from, and what that label says is known
-pub remembered-none : (m : Contents) (said facts : Facts) (left : ℤ → Option Leaving) (lo : ℤ) (times written : List ℕ)
-    (began : ℕ) (compared : List Compared) → facts ≡ said → ((at : ℕ) → (compared_at compared at).time < began)
-    → AreRemembered m said facts left lo times written began compared
+pub remembered-none : (said facts : Facts) (lo : ℤ) (r : Remembered) → facts ≡ said
+    → ((at : ℕ) → (compared_at r.compared.items at).time < r.began) → AreRemembered said facts lo r
 unfolding AreRemembered
-remembered-none m said facts left lo times written began compared is none = (
+remembered-none said facts lo r is none = (
   λ at t found later.
       let before = none at in
       absurd (omega (arith, before, later)),
@@ -227,25 +300,25 @@ remembered-none m said facts left lo times written began compared is none = (
 )
 
 -- nothing is remembered, and all blocks were changed since
-pub remembered-never : (m : Contents) (said facts : Facts) (left : ℤ → Option Leaving) (lo : ℤ) (times written : List ℕ)
-    (began : ℕ) (compared : List Compared) → 1 ≤ began → ((n : ℕ) → n < length times → began ≤ time_of times n)
-    → ((at : ℕ) → compared_at compared at ≡ never)
-    → AreRemembered m said facts left lo times written began compared
+pub remembered-never : (said facts : Facts) (lo : ℤ) (r : Remembered)
+    → ((n : ℕ) → n < vec_len r.times → r.began ≤ time_of r.times.items n)
+    → ((at : ℕ) → compared_at r.compared.items at ≡ never) → AreRemembered said facts lo r
 unfolding AreRemembered
-remembered-never m said facts left lo times written began compared begun late none = (
+remembered-never said facts lo r late none = (
   λ at t found later.
       let time = ap (λ (c : Compared). c.time) (none at) in
+      let begun = r.begun in
       absurd (omega (arith, time, begun, later)),
   λ k some early. on k (k -ℤ lo) some early,
 )
   where
-    on : (k z : ℤ) → 1 ≤ index_time times z → index_time times z < began → facts k ≡ said k
-    on k (pos n) some early = elim (cases_lt (n / block_words) (length times)) [
+    on : (k z : ℤ) → 1 ≤ index_time r.times.items z → index_time r.times.items z < r.began → facts k ≡ said k
+    on k (pos n) some early = elim (cases_lt (n / block_words) (length r.times.items)) [
       | inl low ↦
-          let after = late (n / block_words) low in
+          let after = late (n / block_words) (omega (arith, low)) in
           absurd (omega (arith, after, early))
       | inr high ↦
-          let zero_is = get_or_past times (n / block_words) 0 high in
+          let zero_is = get_or_past r.times.items (n / block_words) 0 high in
           absurd (omega (arith, zero_is, some))
     ]
     on k (negsuc n) some early = absurd (omega (arith, some))
@@ -254,15 +327,19 @@ remembered-never m said facts left lo times written began compared begun late no
 pub record AreOutside (lo : ℤ) (number : ℕ) (facts others : Facts) : Type 0 where
   pub same : (k : ℤ) → ((n : ℕ) → k -ℤ lo ≡ pos n → n / block_words ≢ number) → others k ≡ facts k
 
-pub remembered-changed : (said facts others : Facts) (left leaving : ℤ → Option Leaving) (lo : ℤ) (number : ℕ)
-    (is_widened : Bool) (old new : Remembered) → IsChanged number is_widened old new
-    → AreOutside lo number facts others → AreLeftOutside lo number left leaving
-    → (is_widened ≡ true → AreWidened lo number facts others left leaving)
-    → AreRemembered old.«module».now said facts left lo old.times.items old.written.items old.began old.compared.items
-    → AreRemembered new.«module».now said others leaving lo new.times.items new.written.items new.began
-    new.compared.items
+-- the word of an index in another block
+away : (lo k : ℤ) (n number : ℕ) → k -ℤ lo ≡ pos n → n / block_words ≢ number
+    → (i : ℕ) → k -ℤ lo ≡ pos i → i / block_words ≢ number
+away lo k n number at d i e =
+    let same : n ≡ i = omega (arith, ints, at, e) in
+    λ is. d (ap (λ (j : ℕ). j / block_words) same ∙ is)
+
+pub remembered-changed : (said facts others : Facts) (lo : ℤ) (number : ℕ) (old new : Remembered)
+    → IsChanged number old new → AreOutside lo number facts others
+    → ((time : ℕ) → time < time_of new.times.items number → StayHeld lo old new facts others time)
+    → AreRemembered said facts lo old → AreRemembered said others lo new
 unfolding AreRemembered
-remembered-changed said facts others left leaving lo number is_widened old new change far apart widened remembered = (
+remembered-changed said facts others lo number old new change far held remembered = (
   λ at t found later.
       elim (change.kept.each at) [
         | inl same ↦
@@ -271,14 +348,10 @@ remembered-changed said facts others left leaving lo number is_widened old new c
             let after = change.later at in
             let before = remembered.0 at t (ap (λ (m : Contents). label_at m at) (sym change.kept.same) ∙ found)
             (omega (arith, time, began, later)) in
-            subst (λ (c : Compared). IsRemembered (word_time lo new.times.items) (word_time lo new.written.items)
-            leaving others t.entries c) (sym same)
-            (remembered-still (word_time lo old.times.items) (word_time lo new.times.items)
-            (word_time lo old.written.items) (word_time lo new.written.items) left leaving facts others t.entries
-            (compared_at old.compared.items at)
+            subst (λ (c : Compared). IsRemembered lo new others t.entries c) (sym same)
+            (remembered-still lo old new facts others t.entries (compared_at old.compared.items at)
             (λ k l. on (compared_at old.compared.items at).time k (k -ℤ lo) refl (omega (arith, time, after)) l)
-            (λ k wanted l allowing. allowed (compared_at old.compared.items at).time k (k -ℤ lo) wanted refl
-            (omega (arith, time, after)) l allowing) before)
+            (held (compared_at old.compared.items at).time (omega (arith, time, after))) before)
         | inr none ↦
             let time = ap (λ (c : Compared). c.time) none in
             let begun = new.begun in
@@ -289,12 +362,6 @@ remembered-changed said facts others left leaving lo number is_widened old new c
       before.2 ∙ remembered.1 k before.0 before.1,
 )
   where
-    away : (k : ℤ) (n : ℕ) → k -ℤ lo ≡ pos n → n / block_words ≢ number
-        → (i : ℕ) → k -ℤ lo ≡ pos i → i / block_words ≢ number
-    away k n at d i e =
-        let same : n ≡ i = omega (arith, ints, at, e) in
-        λ is. d (ap (λ (j : ℕ). j / block_words) same ∙ is)
-
     on : (time : ℕ) (k z : ℤ) → k -ℤ lo ≡ z → time < time_of new.times.items number
         → index_time new.times.items z ≤ time → (others k ≡ facts k) × (index_time old.times.items z ≤ time)
     on time k (pos n) at later l = elim (cases_eq (n / block_words) number) [
@@ -302,54 +369,13 @@ remembered-changed said facts others left leaving lo number is_widened old new c
           let here = ap (time_of new.times.items) e in
           absurd (omega (arith, here, later, l))
       | inr d ↦ (
-        far.same k (away k n at d),
+        far.same k (away lo k n number at d),
         (let same = change.others (n / block_words) d in omega (arith, same, l)),
       )
     ]
     on time k (negsuc n) at later l = (
       far.same k (λ i e. absurd (omega (arith, ints, at, e))),
       omega arith,
-    )
-
-    within : (b : Bool) → is_widened ≡ b → (time : ℕ) (k : ℤ) (n : ℕ) (wanted : WordFact) → k -ℤ lo ≡ pos n
-        → n / block_words ≡ number → time < time_of new.times.items number
-        → time_of new.written.items number ≤ time → allows (leaving k) wanted ≡ true
-        → (time_of old.written.items number ≤ time) × (allows (left k) wanted ≡ true)
-        × (says (facts k) wanted ≡ true → says (others k) wanted ≡ true)
-    within true is time k n wanted at e later l allowing =
-        let here : time_of new.written.items number ≡ time_of old.written.items number =
-        change.here
-        ∙ ap (λ (b : Bool). cond b (time_of old.written.items number) (time_of new.times.items number)) is in
-        let both = (widened is).each k n at e wanted allowing in
-        (omega (arith, here, l), both.0, both.1)
-    within false is time k n wanted at e later l allowing =
-        let here : time_of new.written.items number ≡ time_of new.times.items number =
-        change.here
-        ∙ ap (λ (b : Bool). cond b (time_of old.written.items number) (time_of new.times.items number)) is in
-        absurd (omega (arith, here, later, l))
-
-    allowed : (time : ℕ) (k z : ℤ) (wanted : WordFact) → k -ℤ lo ≡ z → time < time_of new.times.items number
-        → index_time new.written.items z ≤ time → allows (leaving k) wanted ≡ true
-        → (index_time old.written.items z ≤ time) × (allows (left k) wanted ≡ true)
-        × (says (facts k) wanted ≡ true → says (others k) wanted ≡ true)
-    allowed time k (pos n) wanted at later l allowing = elim (cases_eq (n / block_words) number) [
-      | inl e ↦
-          let here = ap (time_of new.written.items) e in
-          let before = ap (time_of old.written.items) e in
-          let inner = within is_widened refl time k n wanted at e later (omega (arith, here, l)) allowing in
-          let earlier = inner.0 in
-          (omega (arith, before, earlier), inner.1, inner.2)
-      | inr d ↦ (
-        (let same = change.unwritten (n / block_words) d in omega (arith, same, l)),
-        sym (ap (λ (o : Option Leaving). allows o wanted) (apart.same k (away k n at d))) ∙ allowing,
-        λ h. ap (λ (f : WordFact). says f wanted) (far.same k (away k n at d)) ∙ h,
-      )
-    ]
-    allowed time k (negsuc n) wanted at later l allowing = (
-      omega arith,
-      sym (ap (λ (o : Option Leaving). allows o wanted)
-          (apart.same k (λ i e. absurd (omega (arith, ints, at, e))))) ∙ allowing,
-      λ h. ap (λ (f : WordFact). says f wanted) (far.same k (λ i e. absurd (omega (arith, ints, at, e)))) ∙ h,
     )
 
     fresh : (k z : ℤ) → k -ℤ lo ≡ z → 1 ≤ index_time new.times.items z → index_time new.times.items z < new.began
@@ -364,7 +390,7 @@ remembered-changed said facts others left leaving lo number is_widened old new c
           let began = change.began in (
             omega (arith, same, some),
             omega (arith, same, began, early),
-            far.same k (away k n at d),
+            far.same k (away lo k n number at d),
           )
     ]
     fresh k (negsuc n) at some early = absurd (omega (arith, some))
@@ -395,43 +421,215 @@ outside-block lo number leaving facts others is = record {
   ];
 }
 
+-- ---- how what is kept of words that were not written changes
+
+-- a block was left as before
+range-same : (began began' : ℕ) (c c' : Changes) → began ≡ began' → c.since ≡ c'.since → c.left ≡ c'.left
+    → range_of began c ≡ range_of began' c'
+range-same began began' c c' b since left =
+    ap (λ (n : ℕ). if nat_lt c.since n then None else c.left) b
+    ∙ (ap (λ (n : ℕ). if nat_lt n began' then None else c.left) since
+    ∙ ap (λ (o : Option Leaving). if nat_lt c'.since began' then None else o) left)
+
+-- a word is written
+pub placed-held : (lo word : ℤ) (index number : ℕ) (fact : Fact) (facts others : Facts) (old new : Remembered)
+    → IsPlaced index number old new → others ≡ with_alone word fact facts → word ≡ lo +ℤ pos index
+    → (time : ℕ) → time < time_of new.times.items number → StayHeld lo old new facts others time
+placed-held lo word index number fact facts others old new placed is at time later =
+    λ k wanted l m allowing. on k (k -ℤ lo) wanted refl l m allowing
+  where
+    same-fact : (k : ℤ) (wanted : WordFact) → k ≢ word → says (facts k) wanted ≡ true → says (others k) wanted ≡ true
+    same-fact k wanted apart h = elim (word-cases k word) [
+      | inl same ↦ absurd (apart same.1)
+      | inr other ↦
+          ap (λ (f : WordFact). says f wanted)
+          (ap (λ (f : Facts). f k) is ∙ ap (λ (b : Bool). cond b (Alone fact) (facts k)) other)
+          ∙ h
+    ]
+
+    on : (k z : ℤ) (wanted : WordFact) → k -ℤ lo ≡ z → index_written new.words.items z ≤ time
+        → since_at new.by_block.items z ≤ time → allows (range_at new.began new.by_block.items z) wanted ≡ true
+        → (index_written old.words.items z ≤ time) × (since_at old.by_block.items z ≤ time)
+        × (allows (range_at old.began old.by_block.items z) wanted ≡ true)
+        × (says (facts k) wanted ≡ true → says (others k) wanted ≡ true)
+    on k (pos n) wanted here l m allowing = elim (cases_eq n index) [
+      | inl e ↦
+          let now = ap (time_of new.words.items) e in
+          let set = placed.here in
+          absurd (omega (arith, now, set, later, l))
+      | inr d ↦
+          let kept = placed.words n d in
+          let since = placed.since (n / block_words) in
+          let range : range_of new.began (changes_of new.by_block.items (n / block_words))
+          ≡ range_of old.began (changes_of old.by_block.items (n / block_words)) =
+          range-same new.began old.began (changes_of new.by_block.items (n / block_words))
+          (changes_of old.by_block.items (n / block_words)) placed.changed.began since
+          (placed.left (n / block_words)) in (
+            omega (arith, kept, l),
+            omega (arith, since, m),
+            ap (λ (o : Option Leaving). allows o wanted) (sym range) ∙ allowing,
+            same-fact k wanted (λ e. d (omega (arith, ints, e, at, here))),
+          )
+    ]
+    on k (negsuc n) wanted here l m allowing = (
+      omega arith,
+      omega arith,
+      refl,
+      same-fact k wanted (λ e. absurd (omega (arith, ints, e, at, here))),
+    )
+
+-- a block is left
+pub left-held : (lo : ℤ) (number : ℕ) (leaving : Leaving) (facts others : Facts) (old new : Remembered)
+    → IsLeftSo number leaving old new → others ≡ with_span (first_of lo number) block_words leaving facts
+    → (time : ℕ) → time < time_of new.times.items number → StayHeld lo old new facts others time
+left-held lo number leaving facts others old new left is time later =
+    λ k wanted l m allowing. on k (k -ℤ lo) wanted refl l m allowing
+  where
+    far : AreOutside lo number facts others
+    far = outside-block lo number leaving facts others is
+
+    within : (w : Bool) → is_widening leaving ≡ w → (k : ℤ) (n : ℕ) (wanted : WordFact) → k -ℤ lo ≡ pos n
+        → n / block_words ≡ number → (changes_of new.by_block.items number).since ≤ time
+        → allows (range_of new.began (changes_of new.by_block.items number)) wanted ≡ true
+        → ((changes_of old.by_block.items number).since ≤ time)
+        × (allows (range_of old.began (changes_of old.by_block.items number)) wanted ≡ true)
+        × (says (facts k) wanted ≡ true → says (others k) wanted ≡ true)
+    within false w k n wanted here e m allowing =
+        let anew = left.anew w in
+        absurd (omega (arith, anew, later, m))
+    within true w k n wanted here e m allowing =
+        let since = left.since w in
+        let both = widened-in lo number leaving facts others k n
+        (range_of old.began (changes_of old.by_block.items number)) wanted is w here e
+        (ap (λ (o : Option Leaving). allows o wanted) (sym (left.range w)) ∙ allowing) in
+        (omega (arith, since, m), both.0, both.1)
+
+    on : (k z : ℤ) (wanted : WordFact) → k -ℤ lo ≡ z → index_written new.words.items z ≤ time
+        → since_at new.by_block.items z ≤ time → allows (range_at new.began new.by_block.items z) wanted ≡ true
+        → (index_written old.words.items z ≤ time) × (since_at old.by_block.items z ≤ time)
+        × (allows (range_at old.began old.by_block.items z) wanted ≡ true)
+        × (says (facts k) wanted ≡ true → says (others k) wanted ≡ true)
+    on k (pos n) wanted here l m allowing = elim (cases_eq (n / block_words) number) [
+      | inl e ↦
+          let new_is = ap (changes_of new.by_block.items) e in
+          let old_is = ap (changes_of old.by_block.items) e in
+          let since = ap (λ (c : Changes). c.since) new_is in
+          let before = ap (λ (c : Changes). c.since) old_is in
+          let inner = within (is_widening leaving) refl k n wanted here e (omega (arith, since, m))
+          (ap (λ (c : Changes). allows (range_of new.began c) wanted) (sym new_is) ∙ allowing) in
+          let m_old = inner.0 in (
+            subst (λ (ws : List ℕ). time_of ws n ≤ time) left.words l,
+            omega (arith, before, m_old),
+            ap (λ (c : Changes). allows (range_of old.began c) wanted) old_is ∙ inner.1,
+            inner.2,
+          )
+      | inr d ↦
+          let same = left.others (n / block_words) d in
+          let since = ap (λ (c : Changes). c.since) same in (
+            subst (λ (ws : List ℕ). time_of ws n ≤ time) left.words l,
+            omega (arith, since, m),
+            sym (ap (λ (o : Option Leaving). allows o wanted) (ap (range_of new.began) same
+                ∙ ap (λ (b : ℕ). range_of b (changes_of old.by_block.items (n / block_words))) left.changed.began))
+                ∙ allowing,
+            λ h. ap (λ (f : WordFact). says f wanted) (far.same k (away lo k n number here d)) ∙ h,
+          )
+    ]
+    on k (negsuc n) wanted here l m allowing = (
+      omega arith,
+      omega arith,
+      refl,
+      λ h. ap (λ (f : WordFact). says f wanted) (far.same k (λ i e. absurd (omega (arith, ints, here, e)))) ∙ h,
+    )
+
+-- how a block was left is kept anew
+pub renewed-known : (lo : ℤ) (number : ℕ) (old new : Remembered) (facts : Facts) (entries : List Entry) (c : Compared)
+    → IsRenewed number old new → IsRemembered lo old facts entries c → IsRemembered lo new facts entries c
+renewed-known lo number old new facts entries c renewed before = record {
+  knows = λ k l. before.knows k (subst (λ (ts : List ℕ). word_time lo ts k ≤ c.time) renewed.times l);
+  held = λ k l m allowing. on k (k -ℤ lo) refl l m allowing;
+  whole = λ stays. before.whole (subst (λ (ts : List ℕ). loops_stay (word_time lo ts) c.time entries ≡ true)
+      renewed.times stays);
+  due = λ stays. before.due (subst (λ (ts : List ℕ). loops_stay (word_time lo ts) c.time entries ≡ true)
+      renewed.times stays);
+  plain = before.plain;
+}
+  where
+    on : (k z : ℤ) → k -ℤ lo ≡ z → index_written new.words.items z ≤ c.time → since_at new.by_block.items z ≤ c.time
+        → allows (range_at new.began new.by_block.items z) (entry_fact entries k) ≡ true
+        → says (facts k) (entry_fact entries k) ≡ true
+    on k (pos n) here l m allowing = elim (cases_eq (n / block_words) number) [
+      | inl e ↦
+          let since = ap (λ (i : ℕ). (changes_of new.by_block.items i).since) e in
+          let now = renewed.now in
+          let time = renewed.time in
+          let all = old.changed (n / block_words) in
+          let at = ap (index_time old.times.items) here in
+          before.knows k (omega (arith, since, now, time, all, at, m))
+      | inr d ↦
+          let same = renewed.others (n / block_words) d in
+          let since = ap (λ (c : Changes). c.since) same in
+          let words = ap (λ (ws : List ℕ). time_of ws n) renewed.words in
+          let written = ap (index_written old.words.items) here in
+          let was = ap (since_at old.by_block.items) here in
+          before.held k (omega (arith, words, written, l)) (omega (arith, since, was, m))
+          (ap (λ (z : ℤ). allows (range_at old.began old.by_block.items z) (entry_fact entries k)) here
+          ∙ (sym (ap (λ (o : Option Leaving). allows o (entry_fact entries k)) (ap (range_of new.began) same
+          ∙ ap (λ (b : ℕ). range_of b (changes_of old.by_block.items (n / block_words))) renewed.began))
+          ∙ allowing))
+    ]
+    on k (negsuc n) here l m allowing =
+        let at = ap (index_time old.times.items) here in
+        before.knows k (omega (arith, at))
+
+pub remembered-renewed : (said facts : Facts) (lo : ℤ) (number : ℕ) (old new : Remembered) → IsRenewed number old new
+    → AreRemembered said facts lo old → AreRemembered said facts lo new
+unfolding AreRemembered
+remembered-renewed said facts lo number old new renewed before = (
+  λ at t found later.
+      let same = ap (λ (cs : List Compared). compared_at cs at) renewed.compared in
+      let time = ap (λ (c : Compared). c.time) same in
+      let began = renewed.began in
+      subst (λ (c : Compared). IsRemembered lo new facts t.entries c) (sym same)
+      (renewed-known lo number old new facts t.entries (compared_at old.compared.items at) renewed
+      (before.0 at t (ap (λ (m : Contents). label_at m at) (sym renewed.same) ∙ found)
+      (omega (arith, time, began, later)))),
+  λ k some early.
+      let time = ap (λ (ts : List ℕ). word_time lo ts k) renewed.times in
+      let began = renewed.began in
+      before.1 k (omega (arith, time, some)) (omega (arith, time, began, early)),
+)
+
 -- a comparison more
-pub remembered-put : (said facts : Facts) (left : ℤ → Option Leaving) (lo : ℤ) (old new : Remembered) (t : Label)
-    (offset paid : ℕ) (is_plain : Bool) → new.«module».now ≡ old.«module».now → new.times.items ≡ old.times.items
-    → new.written.items ≡ old.written.items → new.began ≡ old.began
+pub remembered-put : (said facts : Facts) (lo : ℤ) (old new : Remembered) (t : Label) (offset paid : ℕ)
+    (is_plain : Bool) → new.«module».now ≡ old.«module».now → new.times.items ≡ old.times.items
+    → new.words.items ≡ old.words.items → new.by_block.items ≡ old.by_block.items → new.began ≡ old.began
     → ((at : ℕ) → (compared_at new.compared.items at ≡ compared_at old.compared.items at)
     ⊎ ((at ≡ offset) × (compared_at new.compared.items at
     ≡ record { time = new.time; paid = paid; is_plain = is_plain })))
     → label_at old.«module».now offset ≡ Some t → IsPaid facts t.entries paid
     → (is_plain ≡ true → wants_no_loop t.entries ≡ true)
-    → AreRemembered old.«module».now said facts left lo old.times.items old.written.items old.began old.compared.items
-    → AreRemembered new.«module».now said facts left lo new.times.items new.written.items new.began new.compared.items
+    → AreRemembered said facts lo old → AreRemembered said facts lo new
 unfolding AreRemembered
-remembered-put said facts left lo old new t offset paid is_plain same times_is written_is began each label due plain
+remembered-put said facts lo old new t offset paid is_plain same times_is words_is blocks_is began each label due plain
     remembered = (
       λ at other found later. elim (each at) [
         | inl kept ↦
             let time = ap (λ (c : Compared). c.time) kept in
             let before = remembered.0 at other (ap (λ (m : Contents). label_at m at) (sym same) ∙ found)
             (omega (arith, time, began, later)) in
-            subst (λ (c : Compared). IsRemembered (word_time lo new.times.items) (word_time lo new.written.items) left
-            facts other.entries c) (sym kept)
-            (subst (λ (ts : List ℕ). IsRemembered (word_time lo ts) (word_time lo new.written.items) left facts
-            other.entries (compared_at old.compared.items at)) (sym times_is)
-            (subst (λ (ts : List ℕ). IsRemembered (word_time lo old.times.items) (word_time lo ts) left facts
-            other.entries (compared_at old.compared.items at)) (sym written_is) before))
+            subst (λ (c : Compared). IsRemembered lo new facts other.entries c) (sym kept)
+            (still other.entries (compared_at old.compared.items at) before)
         | inr put ↦
             let one : Some other ≡ Some t =
             sym found ∙ (ap (λ (m : Contents). label_at m at) same
             ∙ (ap (label_at old.«module».now) put.0 ∙ label)) in
             let label_is : other ≡ t = cc in
-            subst (λ (c : Compared). IsRemembered (word_time lo new.times.items) (word_time lo new.written.items) left
-            facts other.entries c) (sym put.1)
-            (subst (λ (l : Label). IsRemembered (word_time lo new.times.items) (word_time lo new.written.items) left
-            facts l.entries (record { time = new.time; paid = paid; is_plain = is_plain })) (sym label_is)
+            subst (λ (c : Compared). IsRemembered lo new facts other.entries c) (sym put.1)
+            (subst (λ (l : Label). IsRemembered lo new facts l.entries
+            (record { time = new.time; paid = paid; is_plain = is_plain })) (sym label_is)
             (record {
               knows = λ k l. due.knows k;
-              widened = λ k l allowing. due.knows k;
+              held = λ k l m allowing. due.knows k;
               whole = λ s. due.whole;
               due = λ s. due.due;
               plain = plain;
@@ -441,27 +639,41 @@ remembered-put said facts left lo old new t offset paid is_plain same times_is w
           let time = ap (λ (ts : List ℕ). word_time lo ts k) times_is in
           remembered.1 k (omega (arith, time, some)) (omega (arith, time, began, early)),
     )
+  where
+    still : (entries : List Entry) (c : Compared) → IsRemembered lo old facts entries c
+        → IsRemembered lo new facts entries c
+    still entries c before = record {
+      knows = λ k l. before.knows k (subst (λ (ts : List ℕ). word_time lo ts k ≤ c.time) times_is l);
+      held = λ k l m allowing. before.held k
+          (subst (λ (ws : List ℕ). word_written lo ws k ≤ c.time) words_is l)
+          (subst (λ (bs : List Changes). since_in lo bs k ≤ c.time) blocks_is m)
+          (subst (λ (b : ℕ). allows (range_in b lo old.by_block.items k) (entry_fact entries k) ≡ true) began
+          (subst (λ (bs : List Changes). allows (range_in new.began lo bs k) (entry_fact entries k) ≡ true)
+          blocks_is allowing));
+      whole = λ stays. before.whole (subst (λ (ts : List ℕ). loops_stay (word_time lo ts) c.time entries ≡ true)
+          times_is stays);
+      due = λ stays. before.due (subst (λ (ts : List ℕ). loops_stay (word_time lo ts) c.time entries ≡ true)
+          times_is stays);
+      plain = before.plain;
+    }
 
 -- ---- a comparison that is asked again
 
 -- the comparison with a label that is remembered
-pub remembered-at : (m : Contents) (said facts : Facts) (left : ℤ → Option Leaving) (lo : ℤ) (times written : List ℕ)
-    (began : ℕ) (compared : List Compared) (at : ℕ) (t : Label) (c : Compared)
-    → AreRemembered m said facts left lo times written began compared → c ≡ compared_at compared at
-    → label_at m at ≡ Some t → began ≤ c.time
-    → IsRemembered (word_time lo times) (word_time lo written) left facts t.entries c
+pub remembered-at : (said facts : Facts) (lo : ℤ) (r : Remembered) (at : ℕ) (t : Label) (c : Compared)
+    → AreRemembered said facts lo r → c ≡ compared_at r.compared.items at → label_at r.«module».now at ≡ Some t
+    → r.began ≤ c.time → IsRemembered lo r facts t.entries c
 unfolding AreRemembered
-remembered-at m said facts left lo times written began compared at t c remembered is found later =
+remembered-at said facts lo r at t c remembered is found later =
     let time = ap (λ (x : Compared). x.time) is in
-    subst (λ (x : Compared). IsRemembered (word_time lo times) (word_time lo written) left facts t.entries x) (sym is)
+    subst (λ (x : Compared). IsRemembered lo r facts t.entries x) (sym is)
     (remembered.0 at t found (omega (arith, time, later)))
 
 -- of words that were last changed before the state went on from a label, what that label says is known
-pub remembered-said : (m : Contents) (said facts : Facts) (left : ℤ → Option Leaving) (lo : ℤ) (times written : List ℕ)
-    (began : ℕ) (compared : List Compared) → AreRemembered m said facts left lo times written began compared
-    → (k : ℤ) → 1 ≤ word_time lo times k → word_time lo times k < began → facts k ≡ said k
+pub remembered-said : (said facts : Facts) (lo : ℤ) (r : Remembered) → AreRemembered said facts lo r
+    → (k : ℤ) → 1 ≤ word_time lo r.times.items k → word_time lo r.times.items k < r.began → facts k ≡ said k
 unfolding AreRemembered
-remembered-said m said facts left lo times written began compared remembered = remembered.1
+remembered-said said facts lo r remembered = remembered.1
 
 -- an entry of a loop, of whose words the first was not changed since a time
 pub stays-by : (times : ℤ → ℕ) (time : ℕ) (entry : Entry) (base : ℤ) (count weight : ℕ) (word next : ℤ)
@@ -562,55 +774,69 @@ outside-blocks lo times k some none = on (k -ℤ lo) refl none
     on (negsuc n) at l = inl (omega (arith, ints, at))
 
 -- all blocks were changed since
-pub remembered-first : (lo end : ℤ) (times written : List ℕ) (left : ℤ → Option Leaving) (facts : Facts)
-    (entries : List Entry) → ((n : ℕ) → n < length times → 1 ≤ time_of times n) → length written ≡ length times
-    → ((n : ℕ) → n < length times → 1 ≤ time_of written n) → end ≡ lo +ℤ pos (length times * block_words)
-    → IsWithin (entry_fact entries) lo end → wants_no_loop entries ≡ true
-    → IsRemembered (word_time lo times) (word_time lo written) left facts entries
-    (record { time = 0; paid = 0; is_plain = true })
-remembered-first lo end times written left facts entries some alike each end_is within none = record {
-  knows = λ k l. silent k (outside-blocks lo times k some l);
-  widened = λ k l allowing.
-      silent k (subst (λ (n : ℕ). (k <ℤ lo) ⊎ ((lo +ℤ pos (n * block_words)) ≤ℤ k)) alike
-      (outside-blocks lo written k (λ n low. each n (omega (arith, alike, low))) l));
+pub remembered-first : (lo end : ℤ) (r : Remembered) (facts : Facts) (entries : List Entry)
+    → end ≡ lo +ℤ pos (length r.times.items * block_words) → IsWithin (entry_fact entries) lo end
+    → wants_no_loop entries ≡ true
+    → IsRemembered lo r facts entries (record { time = 0; paid = 0; is_plain = true })
+remembered-first lo end r facts entries end_is within none = record {
+  knows = λ k l. silent k (outside-blocks lo r.times.items k (λ n h. r.each n (omega (arith, h))) l);
+  held = λ k l m allowing. silent k (unkept k (k -ℤ lo) refl m);
   whole = λ stays. none-whole facts entries none;
   due = λ stays. none-due facts entries none;
   plain = λ h. none;
 }
   where
-    silent : (k : ℤ) → (k <ℤ lo) ⊎ ((lo +ℤ pos (length times * block_words)) ≤ℤ k)
+    silent : (k : ℤ) → (k <ℤ lo) ⊎ ((lo +ℤ pos (length r.times.items * block_words)) ≤ℤ k)
         → says (facts k) (entry_fact entries k) ≡ true
     silent k out =
         ap (says (facts k)) (within k (subst (λ (e : ℤ). (k <ℤ lo) ⊎ (e ≤ℤ k)) (sym end_is) out))
         ∙ says-unknown (facts k)
 
--- a block that was only widened since, by a range that says what is wanted
-pub widened-says : (lo : ℤ) (times : ℤ → ℕ) (written : List ℕ) (blocks : List Block) (facts : Facts)
-    (entries : List Entry) (c : Compared) (number : ℕ) (low high : ℤ) (left : Option Leaving)
-    → IsRemembered times (word_time lo written) (leaving_in lo blocks) facts entries c
-    → time_of written number ≤ c.time → left ≡ (block_at blocks number).left → left ≡ Some (Widen low high)
+    unkept : (k z : ℤ) → k -ℤ lo ≡ z → since_at r.by_block.items z ≤ 0
+        → (k <ℤ lo) ⊎ ((lo +ℤ pos (length r.times.items * block_words)) ≤ℤ k)
+    unkept k (pos n) at l = elim (cases_lt (n / block_words) (length r.times.items)) [
+      | inl low ↦
+          let some = r.each_since (n / block_words) (omega (arith, low)) in
+          absurd (omega (arith, some, l))
+      | inr high ↦
+          let both = div-add-mod' n block_words in
+          let more : length r.times.items * block_words ≤ (n / block_words) * block_words =
+          mul-le-mul_right block_words high in
+          inr (omega (arith, ints, at, both, more))
+    ]
+    unkept k (negsuc n) at l = inl (omega (arith, ints, at))
+
+-- a block of which no word was written since, and which was widened since by a range that says what is wanted
+pub widened-says : (lo : ℤ) (r : Remembered) (facts : Facts) (entries : List Entry) (c : Compared) (number : ℕ)
+    (low high : ℤ) → IsRemembered lo r facts entries c → (changes_of r.by_block.items number).since ≤ c.time
+    → (changes_of r.by_block.items number).written ≤ c.time
+    → range_of r.began (changes_of r.by_block.items number) ≡ Some (Widen low high)
     → BlockImplied (entry_fact entries) (first_of lo number) (Number low high)
     → BlockSaysAll (first_of lo number) facts (entry_fact entries) block_words
-widened-says lo times written blocks facts entries c number low high left known early left_is is all = λ j l.
+widened-says lo r facts entries c number low high known since written range all = λ j l.
     let k = first_of lo number +ℤ pos j in
-    let index : k -ℤ lo ≡ pos (number * block_words + j) = omega (arith, ints) in
-    let same = number-of (number * block_words + j) number block_words (omega arith) (omega (arith, l)) in
-    let time : word_time lo written k ≡ time_of written number =
-    ap (index_time written) index ∙ ap (time_of written) same in
+    let n = number * block_words + j in
+    let index : k -ℤ lo ≡ pos n = omega (arith, ints) in
+    let same = number-of n number block_words (omega arith) (omega (arith, l)) in
+    let word = ap (index_written r.words.items) index in
+    let before = r.placed n in
+    let block = ap (λ (i : ℕ). (changes_of r.by_block.items i).written) same in
+    let time = ap (since_at r.by_block.items) index in
+    let kept = ap (λ (i : ℕ). (changes_of r.by_block.items i).since) same in
     let here = all k (omega (arith, ints)) (omega (arith, ints, l)) in
-    let widen : leaving_in lo blocks k ≡ Some (Widen low high) =
-    leaving-inside blocks lo k number j l refl ∙ (sym left_is ∙ is) in
-    known.widened k (omega (arith, time, early))
-    (ap (λ (o : Option Leaving). allows o (entry_fact entries k)) widen
+    let left : range_in r.began lo r.by_block.items k ≡ Some (Widen low high) =
+    ap (range_at r.began r.by_block.items) index
+    ∙ (ap (λ (i : ℕ). range_of r.began (changes_of r.by_block.items i)) same ∙ range) in
+    known.held k (omega (arith, word, before, block, written)) (omega (arith, time, kept, since))
+    (ap (λ (o : Option Leaving). allows o (entry_fact entries k)) left
     ∙ (ap (allows (Some (Widen low high))) here.is ∙ here.implied))
 
 -- nothing was changed since
-pub recalled-all : (lo : ℤ) (times : List ℕ) (written : ℤ → ℕ) (left : ℤ → Option Leaving) (facts : Facts)
-    (entries : List Entry) (c : Compared) → ((n : ℕ) → time_of times n ≤ c.time)
-    → IsRemembered (word_time lo times) written left facts entries c → IsRecalled facts entries c
-recalled-all lo times written left facts entries c none remembered =
+pub recalled-all : (lo : ℤ) (r : Remembered) (facts : Facts) (entries : List Entry) (c : Compared)
+    → ((n : ℕ) → time_of r.times.items n ≤ c.time) → IsRemembered lo r facts entries c → IsRecalled facts entries c
+recalled-all lo r facts entries c none remembered =
     let all = λ (k : ℤ). on (k -ℤ lo) in
-    let stays = all-stay (word_time lo times) c.time entries all in
+    let stays = all-stay (word_time lo r.times.items) c.time entries all in
     record {
       paid = record {
         knows = λ k. remembered.knows k (all k);
@@ -620,18 +846,18 @@ recalled-all lo times written left facts entries c none remembered =
       plain = remembered.plain;
     }
   where
-    on : (z : ℤ) → index_time times z ≤ c.time
+    on : (z : ℤ) → index_time r.times.items z ≤ c.time
     on (pos n) = none (n / block_words)
     on (negsuc n) = omega arith
 
 -- no loop was changed since, and of the words that were, what is wanted is known
-pub recalled-some : (lo : ℤ) (times : List ℕ) (written : ℤ → ℕ) (left : ℤ → Option Leaving) (facts : Facts)
-    (entries : List Entry) (c : Compared) → loops_stay (word_time lo times) c.time entries ≡ true
-    → ChangedSay lo times facts (entry_fact entries) c.time
-    → IsRemembered (word_time lo times) written left facts entries c → IsRecalled facts entries c
-recalled-some lo times written left facts entries c stays changed remembered = record {
+pub recalled-some : (lo : ℤ) (r : Remembered) (facts : Facts) (entries : List Entry) (c : Compared)
+    → loops_stay (word_time lo r.times.items) c.time entries ≡ true
+    → ChangedSay lo r.times.items facts (entry_fact entries) c.time → IsRemembered lo r facts entries c
+    → IsRecalled facts entries c
+recalled-some lo r facts entries c stays changed remembered = record {
   paid = record {
-    knows = λ k. elim (cases_lt c.time (word_time lo times k)) [
+    knows = λ k. elim (cases_lt c.time (word_time lo r.times.items k)) [
       | inl l ↦ changed k l
       | inr l ↦ remembered.knows k (omega (arith, l))
     ];

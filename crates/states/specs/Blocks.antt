@@ -85,10 +85,6 @@ abbrev pub leaving_at : List Block → ℤ → Option Leaving
 leaving_at blocks (pos index) = (block_at blocks (index / block_words)).left
 leaving_at blocks (negsuc n) = None
 
--- how a word was left, if it was, where word `lo` has index 0
-abbrev pub leaving_in : ℤ → List Block → ℤ → Option Leaving
-leaving_in lo blocks = λ k. leaving_at blocks (k -ℤ lo)
-
 -- it only widens what was known
 abbrev pub is_widening : Leaving → Bool
 is_widening (Become fact) = false

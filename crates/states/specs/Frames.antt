@@ -1,6 +1,6 @@
 -- What is known of the words of a frame: what was written since the last label, over what the label's row says.
-use Rattle.std.specs.Prelude.{◌≡◌, ◌&&◌, Bool, true, false, if◌then◌else◌, ℕ, ℤ, pos, ◌+ℤ◌, ◌≤ℤ◌, ◌<ℤ◌}
-use Rattle.std.specs.Prelude.{◌<◌, List, length, get_or, vec_len}
+use Rattle.std.specs.Prelude.{◌≡◌, ◌&&◌, Bool, true, false, if◌then◌else◌, ℕ, ℤ, pos, ◌+ℤ◌, ◌-ℤ◌, ◌≤ℤ◌, ◌<ℤ◌}
+use Rattle.std.specs.Prelude.{◌<◌, ◌≤◌, ◌/◌, ◌⊎◌, List, length, get_or, vec_len}
 use Rattle.module_format.specs.Rows.{Fact}
 use Rattle.module_format.specs.declared.rows.Parameter.{Parameter}
 use Rattle.states.specs.declared.frame.Frame.{Frame}
@@ -9,11 +9,14 @@ use Rattle.states.specs.declared.known.LoopWord.TheVariants as words
 use Rattle.states.specs.declared.known.WordFact.{WordFact}
 use Rattle.states.specs.declared.known.WordFact.TheVariants.{Alone, Index, Count}
 use Rattle.states.specs.Lookup.{facts_over}
-use Rattle.states.specs.Blocks.{facts_left, leaving_in}
+use Rattle.states.specs.Blocks.{block_words, facts_left}
 use Rattle.module_format.specs.Rows.{Entry}
+use Rattle.states.specs.declared.recalling.Asking.{Asking}
 use Rattle.states.specs.declared.remembered.Compared.{Compared}
-use Rattle.states.specs.Remembered.{word_time, IsRemembered}
-use Rattle.states.specs.State.{Facts, is_word, by_itself}
+use Rattle.states.specs.Below.{says}
+use Rattle.states.specs.Remembered.{word_written, range_says}
+use Rattle.states.specs.Remembering.{IsRemembered}
+use Rattle.states.specs.State.{Facts, is_word, by_itself, said_of, entry_fact}
 use Rattle.states.specs.declared.span.Leaving.{Leaving}
 use Rattle.states.specs.Spans.{is_in_span, left_of}
 
@@ -26,9 +29,34 @@ frame_facts frame = facts_left frame.lo frame.by_block.kept.items (over_facts fr
 
 -- So it was at the time of a comparison with entries, and is still for what was not changed since.
 abbrev pub IsKnown : Frame → List Entry → Compared → Type 0
-IsKnown frame entries c =
-    IsRemembered (word_time frame.lo frame.remembered.times.items) (word_time frame.lo frame.remembered.written.items)
-    (leaving_in frame.lo frame.by_block.kept.items) (frame_facts frame) entries c
+IsKnown frame entries c = IsRemembered frame.lo frame.remembered (frame_facts frame) entries c
+
+-- so it is still of all comparisons
+abbrev pub StayKnown : Frame → Frame → Type 0
+StayKnown old new = (entries : List Entry) (c : Compared) → IsKnown old entries c → IsKnown new entries c
+
+-- a word need not be asked for this: it was not written since, and how its block was left says it
+abbrev pub IsUnasked : Frame → Asking → ℤ → Fact → Type 0
+IsUnasked frame asking k fact =
+    (range_says asking.range fact ≡ true)
+    × ((asking.is_written ≡ false) ⊎ (word_written frame.lo frame.remembered.words.items k ≤ asking.time))
+
+-- what entries want of a word of a block is known where it need not be asked
+abbrev pub IsAsking : Frame → ℕ → Compared → Asking → Type 0
+IsAsking frame number c asking =
+    (entries : List Entry) → IsKnown frame entries c → (k : ℤ) (n : ℕ) → k -ℤ frame.lo ≡ pos n
+    → n / block_words ≡ number → (fact : Fact) (is_first : Bool) → entry_fact entries k ≡ said_of fact is_first
+    → IsUnasked frame asking k fact → says (frame_facts frame k) (said_of fact is_first) ≡ true
+
+-- what an entry wants of a word is known, or the word need not be asked
+abbrev pub WordIsSaid : Frame → Asking → Entry → ℤ → Type 0
+WordIsSaid frame asking entry k =
+    (says (frame_facts frame k) (said_of entry.fact (is_word entry.word k)) ≡ true)
+    ⊎ IsUnasked frame asking k entry.fact
+
+-- so it is of the words from the first up to the end, which is not included
+abbrev pub EntryIsSaid : Frame → Asking → Entry → ℤ → ℤ → Type 0
+EntryIsSaid frame asking entry first end = (k : ℤ) → first ≤ℤ k → k <ℤ end → WordIsSaid frame asking entry k
 
 -- word k has this fact from now on, and the others what they had
 abbrev pub with_alone : ℤ → Fact → Facts → Facts

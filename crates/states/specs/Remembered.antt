@@ -1,16 +1,16 @@
 -- What is remembered of comparisons with labels: what a label wants is known still of words that were not changed since.
 use Rattle.std.specs.Prelude.{◌≡◌, ◌≤◌, ◌<◌, ℕ, ◌+◌, ◌*◌, ◌/◌, ℤ, pos, negsuc, ◌+ℤ◌, ◌-ℤ◌, Bool, true, false}
-use Rattle.std.specs.Prelude.{◌&&◌, nat_le, is_none, List, get_or, Option, Some, None, sum_by}
+use Rattle.std.specs.Prelude.{◌&&◌, nat_le, nat_lt, is_none, List, get_or, Option, Some, None, sum_by, if◌then◌else◌}
 use Rattle.std.specs.List.{list_all}
 use Rattle.std.proofs.Props.{props}
-use Rattle.module_format.specs.Rows.{Entry}
-use Rattle.module_format.specs.Contents.{Contents, Label, label_at}
-use Rattle.module_format.specs.declared.fact.Fact.TheVariants.{Loop, Number}
+use Rattle.module_format.specs.Rows.{Fact, Entry}
+use Rattle.module_format.specs.declared.fact.Fact.TheVariants.{Loop, Number, Unknown}
 use Rattle.states.specs.declared.known.WordFact.{WordFact}
 use Rattle.states.specs.declared.known.WordFact.TheVariants.{Alone}
+use Rattle.states.specs.declared.remembered.Changes.{Changes}
 use Rattle.states.specs.declared.remembered.Compared.{Compared}
 use Rattle.states.specs.declared.span.Leaving.{Leaving}
-use Rattle.states.specs.declared.span.Leaving.TheVariants.{Widen}
+use Rattle.states.specs.declared.span.Leaving.TheVariants.{Become, Widen}
 use Rattle.states.specs.State.{Facts, entry_fact}
 use Rattle.states.specs.Below.{implies, says, is_whole, price}
 use Rattle.states.specs.Blocks.{block_words}
@@ -40,6 +40,45 @@ index_time times (negsuc n) = 0
 -- when the block of a word was, where word `lo` has index 0
 abbrev pub word_time : ℤ → List ℕ → ℤ → ℕ
 word_time lo times k = index_time times (k -ℤ lo)
+
+-- when the word of an index was last written by itself
+abbrev pub index_written : List ℕ → ℤ → ℕ
+index_written words (pos index) = time_of words index
+index_written words (negsuc n) = 0
+
+-- when a word was
+abbrev pub word_written : ℤ → List ℕ → ℤ → ℕ
+word_written lo words k = index_written words (k -ℤ lo)
+
+-- of a block nothing is kept
+abbrev pub no_changes : Changes
+no_changes = record { written = 0; since = 0; left = None }
+
+-- how a block's words were changed
+abbrev pub changes_of : List Changes → ℕ → Changes
+changes_of blocks number = get_or blocks number no_changes
+
+-- since when it is kept how the block of an index was left
+abbrev pub since_at : List Changes → ℤ → ℕ
+since_at blocks (pos index) = (changes_of blocks (index / block_words)).since
+since_at blocks (negsuc n) = 0
+
+-- and of a word
+abbrev pub since_in : ℤ → List Changes → ℤ → ℕ
+since_in lo blocks k = since_at blocks (k -ℤ lo)
+
+-- how all words of a block were left since then: in no way, if nothing is kept since the state began as a label's
+abbrev pub range_of : ℕ → Changes → Option Leaving
+range_of began changes = if nat_lt changes.since began then None else changes.left
+
+-- so of the block of an index
+abbrev pub range_at : ℕ → List Changes → ℤ → Option Leaving
+range_at began blocks (pos index) = range_of began (changes_of blocks (index / block_words))
+range_at began blocks (negsuc n) = None
+
+-- and of a word
+abbrev pub range_in : ℕ → ℤ → List Changes → ℤ → Option Leaving
+range_in began lo blocks k = range_at began blocks (k -ℤ lo)
 
 -- there is a time for each block of this number of words, also for one that is not whole
 unfoldable pub HasTimes : ℕ → ℕ → Type 0
@@ -89,28 +128,8 @@ allows None wanted = true
 allows (Some (Widen lo hi)) (Alone wanted) = implies (Number lo hi) wanted
 allows _ _ = false
 
--- So it was at the time of a comparison, and is still for the words and loops that were not changed since; and for the
--- words that were not written since, where how they were left allows it.
-pub record IsRemembered (times written : ℤ → ℕ) (left : ℤ → Option Leaving) (facts : Facts) (entries : List Entry)
-    (c : Compared) : Type 0 where
-  pub knows : (k : ℤ) → times k ≤ c.time → says (facts k) (entry_fact entries k) ≡ true
-  pub widened : (k : ℤ) → written k ≤ c.time → allows (left k) (entry_fact entries k) ≡ true
-      → says (facts k) (entry_fact entries k) ≡ true
-  pub whole : loops_stay times c.time entries ≡ true → list_all (is_whole facts) entries ≡ true
-  pub due : loops_stay times c.time entries ≡ true → sum_by (price facts) entries ≡ c.paid
-  pub plain : c.is_plain ≡ true → wants_no_loop entries ≡ true
-
--- So it is of each comparison with a label of a module that was not made before a time. Of words that were last changed
--- before that time, it is known what is said.
-unfoldable pub AreRemembered : Contents → Facts → Facts → (ℤ → Option Leaving) → ℤ → List ℕ → List ℕ → ℕ
-    → List Compared → Type 0
-AreRemembered m said facts left lo times written began compared =
-    ((at : ℕ) (t : Label) → label_at m at ≡ Some t → began ≤ (compared_at compared at).time
-    → IsRemembered (word_time lo times) (word_time lo written) left facts t.entries (compared_at compared at))
-    × ((k : ℤ) → 1 ≤ word_time lo times k → word_time lo times k < began → facts k ≡ said k)
-
-pub AreRemembered-prop : (m : Contents) (said facts : Facts) (left : ℤ → Option Leaving) (lo : ℤ)
-    (times written : List ℕ) (began : ℕ) (compared : List Compared)
-    → IsProp (AreRemembered m said facts left lo times written began compared)
-unfolding AreRemembered
-AreRemembered-prop m said facts left lo times written began compared = hlevel props
+-- so it is of what an entry wants of a word; if that is nothing, however the word was left
+abbrev pub range_says : Option Leaving → Fact → Bool
+range_says None wanted = true
+range_says (Some (Widen lo hi)) wanted = implies (Number lo hi) wanted
+range_says (Some (Become said)) wanted = implies Unknown wanted

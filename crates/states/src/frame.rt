@@ -8,9 +8,9 @@ ghost use Rattle.std.specs.List.{list_all};
 ghost use Rattle.module_format.specs.Contents.{procedure_of};
 ghost use Rattle.module_format.specs.Order.{least_word};
 ghost use Rattle.states.specs.Blocks.{block_words, HaveRoom, HaveRoom-prop, AreSummed, AreSummed-prop, facts_left};
-ghost use Rattle.states.specs.Blocks.{leaving_in};
 ghost use Rattle.states.specs.Lookup.{facts_over};
-ghost use Rattle.states.specs.Remembered.{HasTimes, HasTimes-prop, AreRemembered, AreRemembered-prop};
+ghost use Rattle.states.specs.Remembered.{HasTimes, HasTimes-prop};
+ghost use Rattle.states.specs.Remembering.{AreRemembered, AreRemembered-prop};
 ghost use Rattle.states.specs.Rows.{AreApart, LoopFits, IsRow};
 ghost use Rattle.states.specs.State.{is_silent, entry_fact, parameter_fact};
 
@@ -47,13 +47,12 @@ pub(crate) struct Frame<'a> {
         by_block.kept.items } by { AreSummed-prop (facts_left lo by_block.kept.items
             (facts_over lo row.now overlay.written.items)) lo by_block.kept.items },
     ghost timed: { HasTimes (vec_len overlay.places) (vec_len remembered.times) } by { HasTimes-prop (vec_len overlay.places) (vec_len remembered.times) },
-    ghost compared: { AreRemembered remembered.«module».now (entry_fact row.now)
+    ghost each_timed: { vec_len remembered.words ≡ vec_len overlay.places },
+    ghost compared: { AreRemembered (entry_fact row.now)
         (facts_left lo by_block.kept.items (facts_over lo row.now overlay.written.items))
-        (leaving_in lo by_block.kept.items) lo remembered.times.items remembered.written.items remembered.began
-        remembered.compared.items } by { AreRemembered-prop remembered.«module».now (entry_fact row.now)
+        lo remembered } by { AreRemembered-prop (entry_fact row.now)
             (facts_left lo by_block.kept.items (facts_over lo row.now overlay.written.items))
-            (leaving_in lo by_block.kept.items) lo remembered.times.items remembered.written.items remembered.began
-            remembered.compared.items },
+            lo remembered },
     ghost alike: { claims.«module».now ≡ remembered.«module».now },
 }
 
@@ -197,7 +196,6 @@ impl<'a> Frame<'a> {
         if left.is_some() {
             self.settle_words(number);
             self.by_block.set(number, Block { sum, left: None });
-            self.remembered.change(number, false);
         }
     }
 
@@ -212,7 +210,7 @@ impl<'a> Frame<'a> {
         self.settle(number);
         self.overlay.set(index, fact);
         self.by_block.forget(number);
-        self.remembered.change(number, false);
+        self.remembered.place(index);
     }
 
     /// If the word is this one of a loop, it is what it says by itself from now on.

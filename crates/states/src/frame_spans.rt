@@ -196,7 +196,7 @@ impl Frame<'_> {
             left: Some(leaving.after(left)),
         };
         self.by_block.set(number, block);
-        self.remembered.change(number, leaving.is_widening());
+        self.remembered.leave(number, leaving);
     }
 
     /// The words of the block that begins at a word are left so, and the others what they are.

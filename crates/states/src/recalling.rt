@@ -1,23 +1,26 @@
 //! Comparisons with labels that are remembered: only words that were changed since are asked.
 #![tactic(auto, unfolding(crate::specs::Blocks::HaveRoom, crate::specs::Remembered::HasTimes))]
 
-ghost use Rattle.std.specs.Prelude.{◌≡◌, ◌<◌, ◌≤◌, ◌*◌, ℕ, ℤ, pos, ◌+ℤ◌, ◌<ℤ◌, ◌^◌, IsTrue, IfSome, Some, true, vec_len};
+ghost use Rattle.std.specs.Prelude.{◌≡◌, ◌<◌, ◌≤◌, ◌⊎◌, ◌*◌, ℕ, ℤ, pos, ◌+ℤ◌, ◌≤ℤ◌, ◌<ℤ◌, ◌^◌, IsTrue, IfSome, Some};
+ghost use Rattle.std.specs.Prelude.{true, vec_len};
 ghost use Rattle.module_format.specs.Contents.{label_of, label_at};
 ghost use Rattle.states.specs.Blocks.{block_words, first_of};
 ghost use Rattle.states.specs.Comparing.{BlockSaysAll};
-ghost use Rattle.states.specs.Frames.{frame_facts, IsKnown, SameRoom};
+ghost use Rattle.states.specs.Below.{says};
+ghost use Rattle.states.specs.Frames.{frame_facts, IsKnown, StayKnown, IsAsking, WordIsSaid, EntryIsSaid};
+ghost use Rattle.states.specs.Frames.{SameRoom};
 ghost use Rattle.states.specs.Implied.{BlockImplied};
-ghost use Rattle.states.specs.Remembered.{compared_at, time_of, word_time, loop_stays, loops_stay, wants_no_loop};
-ghost use Rattle.states.specs.Remembered.{IsPaid, IsRecalled, ChangedSay};
+ghost use Rattle.states.specs.Remembered.{compared_at, time_of, word_time, word_written, loop_stays, loops_stay};
+ghost use Rattle.states.specs.Remembered.{wants_no_loop, range_says, IsPaid, IsRecalled, ChangedSay};
 ghost use Rattle.states.specs.Rows.{AreApart};
-ghost use Rattle.states.specs.State.{entry_fact};
+ghost use Rattle.states.specs.State.{entry_fact, is_word, said_of};
 
 use crate::blocks::block_words;
 use crate::frame::Frame;
-use crate::implication::says;
+use crate::implication::{implies, says};
 use crate::implied::{all_implied, from_word, is_row_within};
 use crate::remembered::Compared;
-use crate::row::{loop_of, past_saying, row_fact, start_of};
+use crate::row::{end_of, entry_said, loop_of, past_saying, start_of};
 use crate::span::Leaving;
 use module_format::{Entry, Fact, LabelRow};
 
@@ -28,8 +31,45 @@ pub(crate) fn wants_no_loop(row: &[Entry]) -> bool
     row.iter().all(|entry| loop_of(entry.fact).is_none())
 }
 
-/// How many blocks are asked word by word at most at a jump.
-const MOST_BY_WORDS: u32 = 16;
+/// How many words are asked at most of a pair of labels that is new.
+const MOST_OF_NEW: u64 = 1024;
+
+/// How many words may be asked at a jump that were not written since, before it is looked where that was in vain.
+const FEW: u64 = 64;
+
+/// How many words of a block may be asked that were not written since, before it is kept anew how it is left.
+const FEW_OF_BLOCK: u64 = 8;
+
+/// Which words of a block are asked.
+#[derive(Clone, Copy, Debug)]
+pub(crate) struct Asking {
+    /// Those that were written by themselves after this time are.
+    pub time: u64,
+    /// Some may be.
+    pub is_written: bool,
+    /// How the others were left. They are asked where this does not say what is wanted.
+    pub range: Option<Leaving>,
+}
+
+/// A comparison that tells what is paid, and how many words were asked that were not written since.
+#[derive(Clone, Copy)]
+struct Told {
+    compared: Compared,
+    asked: u64,
+}
+
+/// Whether how a block was left says what an entry wants of a word of which it was known. A block that became one fact
+/// says nothing.
+#[inline(always)]
+fn range_says(range: Option<Leaving>, wanted: Fact) -> bool
+    ensures { result ≡ range_says range wanted }
+{
+    match range {
+        None => true,
+        Some(Leaving::Widen { lo, hi }) => implies(Fact::Number { lo, hi }, wanted),
+        Some(Leaving::Become(_)) => implies(Fact::Unknown, wanted),
+    }
+}
 
 impl Frame<'_> {
     /// When the block of a word was last changed.
@@ -105,16 +145,6 @@ impl Frame<'_> {
         self.fact_says(number, row, all)
     }
 
-    /// Whether a row wants nothing of a block's words.
-    fn wants_nothing(&self, number: usize, row: &[Entry]) -> bool
-        requires some { number < vec_len self.now.remembered.times }
-        requires apart { AreApart row.now }
-        ensures { IsTrue result
-            → BlockSaysAll (first_of self.now.lo number) (frame_facts self.now) (entry_fact row.now) block_words }
-    {
-        self.fact_says(number, row, Fact::Unknown)
-    }
-
     /// Whether no word of a block was changed since the state went on from a label, whose row says of each what is claimed
     /// that the label at a code offset wants.
     fn row_says(&self, offset: u32, number: usize, row: &LabelRow) -> bool
@@ -140,7 +170,8 @@ impl Frame<'_> {
         end <= past_saying(rest, first, end, fact).word
     }
 
-    /// Whether the words of a block were only widened since a comparison, by ranges that say what the row wants.
+    /// Whether no word of a block was written since a comparison, and the block was widened since by a range that says
+    /// what the row wants of each.
     fn widened_says(&self, number: usize, row: &[Entry], compared: Compared) -> bool
         requires some { number < vec_len self.now.remembered.times }
         requires apart { AreApart row.now }
@@ -148,63 +179,139 @@ impl Frame<'_> {
         ensures { IsTrue result
             → BlockSaysAll (first_of self.now.lo number) (frame_facts self.now) (entry_fact row.now) block_words }
     {
-        if compared.time < self.remembered.written_time(number) {
+        let changes = self.remembered.changes(number);
+        if compared.time < changes.since || compared.time < changes.written {
             return false;
         }
-        let Some(Leaving::Widen { lo, hi }) = self.by_block.get(number).left else {
+        let Some(Leaving::Widen { lo, hi }) = self.remembered.range(number) else {
             return false;
         };
         self.fact_says(number, row, Fact::Number { lo, hi })
     }
 
-    /// Whether at least what a row wants is known of each word of a block, which need not be a whole one.
-    fn words_say(&self, number: usize, row: &[Entry]) -> bool
+    /// When a word was last written by itself.
+    #[inline(always)]
+    fn word_written(&self, word: i64) -> u64
+        ensures { result ≡ word_written self.now.lo self.now.remembered.words.items word }
+    {
+        let lo = i64::from(self.lo);
+        if word < lo {
+            return 0;
+        }
+        self.remembered.written(word.abs_diff(lo) as usize)
+    }
+
+    /// Which words of a block are asked behind a comparison: those that were written since, and of the others those of
+    /// which how the block was left does not say what is wanted. That is not known of the time before it is kept.
+    fn asking(&self, number: usize, compared: Compared) -> Asking
+        ensures { IsAsking self.now number compared result }
+    {
+        let changes = self.remembered.changes(number);
+        let time = compared.time;
+        let range = if time < changes.since {
+            Some(Leaving::Become(Fact::Unknown))
+        } else {
+            self.remembered.range(number)
+        };
+        Asking {
+            time,
+            is_written: time < changes.written,
+            range,
+        }
+    }
+
+    /// Whether what an entry wants of a word is known, if it is asked: where it was written, or how its block was left
+    /// does not say it. `most` words may be asked that were not written. Returns how many may be asked after that.
+    #[inline(always)]
+    fn word_says(
+        &self,
+        entry: &Entry,
+        word: i64,
+        asking: Asking,
+        is_said: bool,
+        most: u64,
+    ) -> Option<u64>
+        requires { is_said ≡ range_says asking.range entry.now.fact }
+        ensures { IfSome result (λ _. WordIsSaid self.now asking entry.now word) }
+    {
+        let is_written = asking.time < self.word_written(word);
+        if is_said && !is_written {
+            return Some(most);
+        }
+        if !says(self.fact_at(word), entry_said(entry, word)) {
+            return None;
+        }
+        if is_written {
+            return Some(most);
+        }
+        most.checked_sub(1)
+    }
+
+    /// The same of some words. None is asked where how their block was left says what the entry wants, and none was
+    /// written.
+    fn words_say(
+        &self,
+        entry: &Entry,
+        first: i64,
+        end: i64,
+        asking: Asking,
+        most: u64,
+    ) -> Option<u64>
+        ensures { IfSome result (λ _. EntryIsSaid self.now asking entry.now first end) }
+    {
+        let is_said = range_says(asking.range, entry.fact);
+        if is_said && !asking.is_written {
+            return Some(most);
+        }
+        let mut left = most;
+        for word in first..end {
+            left = self.word_says(entry, word, asking, is_said, left)?;
+        }
+        Some(left)
+    }
+
+    /// Whether at least what a row wants is known of each word of a block, which need not be a whole one. `most` words
+    /// may be asked that were not written since a comparison. Returns how many may be asked after that.
+    fn entries_say(
+        &self,
+        number: usize,
+        row: &[Entry],
+        compared: Compared,
+        most: u64,
+    ) -> Option<u64>
         requires some { number < vec_len self.now.remembered.times }
         requires apart { AreApart row.now }
-        ensures { IsTrue result
-            → BlockSaysAll (first_of self.now.lo number) (frame_facts self.now) (entry_fact row.now) block_words }
+        requires known { IsKnown self.now row.now compared }
+        ensures { IfSome result (λ _. BlockSaysAll (first_of self.now.lo number) (frame_facts self.now)
+            (entry_fact row.now) block_words) }
     {
-        let first = number * block_words();
-        for i in 0..block_words() {
-            let word = self.word_of(first + i);
-            if !says(self.fact_at(word), row_fact(row, word)) {
-                return false;
+        let asking = self.asking(number, compared);
+        let index = number * block_words();
+        let first = self.word_of(index);
+        let end = self.word_of(index + block_words());
+        let mut left = most;
+        let mut rest = from_word(row, first);
+        while let Some((entry, later)) = rest.split_first() {
+            if end <= start_of(entry) {
+                return Some(left);
             }
+            let from = start_of(entry).max(first);
+            left = self.words_say(entry, from, end_of(entry).min(end), asking, left)?;
+            rest = later;
         }
-        true
+        Some(left)
     }
 
-    /// The same, where it follows from what is known of all words of the block.
-    fn all_say(&self, offset: u32, number: usize, row: &LabelRow, compared: Compared) -> bool
-        requires some { number < vec_len self.now.remembered.times }
-        requires label { label_at self.now.remembered.«module».now offset ≡ Some (label_of row.now) }
-        requires apart { AreApart row.now.entries.items }
-        requires known { IsKnown self.now row.now.entries.items compared }
-        ensures { IsTrue result → BlockSaysAll (first_of self.now.lo number) (frame_facts self.now)
-            (entry_fact row.now.entries.items) block_words }
-    {
-        if self.widened_says(number, &row.entries, compared) {
-            return true;
-        }
-        if self.row_says(offset, number, row) {
-            return true;
-        }
-        if self.sum_says(number, &row.entries) {
-            return true;
-        }
-        self.wants_nothing(number, &row.entries)
-    }
-
-    /// The same, or else word by word, if some blocks may still be asked so. Returns how many may be asked after that,
-    /// or `None` if less is known.
+    /// Whether at least what a row wants is known of each word of a block. `most` words may be asked that were not
+    /// written since a comparison. Returns how many may be asked after that.
     fn block_says(
         &self,
         offset: u32,
         number: usize,
         row: &LabelRow,
         compared: Compared,
-        by_words: u32,
-    ) -> Option<u32>
+        most: u64,
+    ) -> Option<u64>
         requires some { number < vec_len self.now.remembered.times }
         requires label { label_at self.now.remembered.«module».now offset ≡ Some (label_of row.now) }
         requires apart { AreApart row.now.entries.items }
@@ -212,35 +319,79 @@ impl Frame<'_> {
         ensures { IfSome result (λ _. BlockSaysAll (first_of self.now.lo number) (frame_facts self.now)
             (entry_fact row.now.entries.items) block_words) }
     {
-        if self.all_say(offset, number, row, compared) {
-            return Some(by_words);
+        if self.widened_says(number, &row.entries, compared) {
+            return Some(most);
         }
-        let left = by_words.checked_sub(1)?;
-        if !self.words_say(number, &row.entries) {
-            return None;
+        if self.row_says(offset, number, row) {
+            return Some(most);
+        }
+        if self.sum_says(number, &row.entries) {
+            return Some(most);
+        }
+        self.entries_say(number, &row.entries, compared, most)
+    }
+
+    /// Whether at least what a row wants is known of each word of the blocks that were changed since a comparison.
+    /// `most` words may be asked that were not written since. Returns how many may be asked after that.
+    fn changed_say(&self, offset: u32, row: &LabelRow, compared: Compared, most: u64) -> Option<u64>
+        requires label { label_at self.now.remembered.«module».now offset ≡ Some (label_of row.now) }
+        requires apart { AreApart row.now.entries.items }
+        requires known { IsKnown self.now row.now.entries.items compared }
+        ensures { IfSome result (λ _. ChangedSay self.now.lo self.now.remembered.times.items (frame_facts self.now)
+            (entry_fact row.now.entries.items) compared.time) }
+    {
+        let mut left = most;
+        for number in 0..self.remembered.times.len() {
+            if compared.time < self.remembered.times[number] {
+                left = self.block_says(offset, number, row, compared, left)?;
+            }
         }
         Some(left)
     }
 
-    /// Whether at least what a row wants is known of each word of the blocks that were changed since a comparison. Few
-    /// blocks are asked word by word.
-    fn changed_say(&self, offset: u32, row: &LabelRow, compared: Compared) -> bool
+    /// Whether too many words of a block are asked that were not written since a comparison, because of how it was left
+    /// before that.
+    fn is_stale(&self, offset: u32, number: usize, row: &LabelRow, compared: Compared) -> bool
+        requires some { number < vec_len self.now.remembered.times }
         requires label { label_at self.now.remembered.«module».now offset ≡ Some (label_of row.now) }
         requires apart { AreApart row.now.entries.items }
         requires known { IsKnown self.now row.now.entries.items compared }
-        ensures { IsTrue result → ChangedSay self.now.lo self.now.remembered.times.items (frame_facts self.now)
-            (entry_fact row.now.entries.items) compared.time }
     {
-        let mut by_words = MOST_BY_WORDS;
+        if self.remembered.time_of(number) <= compared.time {
+            return false;
+        }
+        if compared.time < self.remembered.changes(number).since {
+            return false;
+        }
+        self.block_says(offset, number, row, compared, FEW_OF_BLOCK)
+            .is_none()
+    }
+
+    /// How a block is left is kept from now on, and not since before.
+    fn renew(&mut self, number: usize)
+        requires { number < vec_len self.old.remembered.times }
+        ensures facts { frame_facts self.new ≡ frame_facts self.old }
+        ensures room { SameRoom self.old self.new }
+        ensures len { vec_len self.new.remembered.times ≡ vec_len self.old.remembered.times }
+        ensures known { StayKnown self.old self.new }
+    {
+        self.remembered.renew(number);
+    }
+
+    /// How blocks are left is kept from now on where too many of their words are asked that were not written since a
+    /// comparison, because of how they were left before it.
+    fn renew_some(&mut self, offset: u32, row: &LabelRow, compared: Compared)
+        requires label { label_at self.old.remembered.«module».now offset ≡ Some (label_of row.now) }
+        requires apart { AreApart row.now.entries.items }
+        requires known { IsKnown self.old row.now.entries.items compared }
+        ensures facts { frame_facts self.new ≡ frame_facts self.old }
+        ensures room { SameRoom self.old self.new }
+    {
         for number in 0..self.remembered.times.len() {
-            if compared.time < self.remembered.times[number] {
-                let Some(left) = self.block_says(offset, number, row, compared, by_words) else {
-                    return false;
-                };
-                by_words = left;
+            if self.is_stale(offset, number, row, compared) {
+                self.renew(number);
             }
         }
-        true
     }
 
     /// Whether the label at a code offset wants no loop. Where claims were made of it, its entries are not passed.
@@ -299,22 +450,28 @@ impl Frame<'_> {
     }
 
     /// That comparison, if what was changed since is not less than the label wants.
-    fn known(&self, offset: u32, row: &LabelRow) -> Option<Compared>
+    fn known(&self, offset: u32, row: &LabelRow) -> Option<Told>
         requires label { label_at self.now.remembered.«module».now offset ≡ Some (label_of row.now) }
         requires apart { AreApart row.now.entries.items }
-        ensures { IfSome result (IsRecalled (frame_facts self.now) row.now.entries.items) }
+        ensures known { IfSome result (λ told. IsKnown self.now row.now.entries.items told.compared) }
+        ensures recalled { IfSome result
+            (λ told. IsRecalled (frame_facts self.now) row.now.entries.items told.compared) }
     {
         let compared = self.last(offset, row)?;
         if compared.time == self.remembered.time {
-            return Some(compared);
+            return Some(Told { compared, asked: 0 });
         }
         if !compared.is_plain && !self.loops_stay(compared.time, &row.entries) {
             return None;
         }
-        if !self.changed_say(offset, row, compared) {
-            return None;
-        }
-        Some(compared)
+        let most = if compared.time == 0 {
+            MOST_OF_NEW
+        } else {
+            u64::MAX
+        };
+        let left = self.changed_say(offset, row, compared, most)?;
+        let asked = most.saturating_sub(left);
+        Some(Told { compared, asked })
     }
 
     /// It is remembered what was paid at the label at a code offset.
@@ -365,7 +522,11 @@ impl Frame<'_> {
         ensures room { SameRoom self.old self.new }
     {
         self.prepare(offset, row);
-        let Compared { paid, is_plain, .. } = self.known(offset, row)?;
+        let Told { compared, asked } = self.known(offset, row)?;
+        if asked > FEW {
+            self.renew_some(offset, row, compared);
+        }
+        let Compared { paid, is_plain, .. } = compared;
         self.put(offset, row, paid, is_plain);
         Some(paid)
     }

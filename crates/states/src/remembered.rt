@@ -1,10 +1,12 @@
 //! What is remembered of comparisons with labels, and when words were last changed.
 #![tactic(auto, unfolding(crate::specs::Remembered::HasTimes))]
 
-ghost use Rattle.std.specs.Prelude.{◌≡◌, ◌<◌, ◌≤◌, ◌⊎◌, ◌^◌, ℕ, vec_len, IfOk};
-ghost use Rattle.states.specs.Remembered.{never, compared_at, time_of, HasTimes};
+ghost use Rattle.std.specs.Prelude.{◌≡◌, ◌<◌, ◌≤◌, ◌/◌, ◌⊎◌, ◌^◌, ℕ, vec_len, IfOk};
+ghost use Rattle.states.specs.Blocks.{block_words};
+ghost use Rattle.states.specs.Remembered.{never, compared_at, time_of, changes_of, range_of, HasTimes, HasTimes-prop};
 
 use crate::blocks::block_words;
+use crate::span::Leaving;
 use certificate::Module;
 use std::alloc::{AllocError, Global};
 
@@ -28,15 +30,70 @@ impl Compared {
     };
 }
 
-/// The last comparison with the label at each code offset, and when the words of each block were last changed. All that
-/// it needs is allocated when it is made.
+/// How the words of a block were changed.
+#[derive(Clone, Copy, Debug)]
+pub(crate) struct Changes {
+    /// When one of them was last written by itself.
+    pub written: u64,
+    /// Since when it is kept how all of them were left. What is kept since before the state became that of a label
+    /// means nothing.
+    pub since: u64,
+    /// How they were left since then, if they were: widened by a range.
+    pub left: Option<Leaving>,
+}
+
+impl Changes {
+    /// Nothing is kept.
+    const NONE: Changes = Changes {
+        written: 0,
+        since: 0,
+        left: None,
+    };
+
+    /// All words were written when time began.
+    const FIRST: Changes = Changes {
+        written: 1,
+        since: 1,
+        left: None,
+    };
+}
+
+/// So many times, each when time begins.
+fn first_times(alloc: Global, count: usize) -> Result<Vec<u64>, AllocError>
+    ensures len { IfOk result (λ v. vec_len v ≡ count) }
+    ensures early { IfOk result (λ v. (n : ℕ) → time_of v.items n ≤ 1) }
+    ensures some { IfOk result (λ v. (n : ℕ) → n < count → 1 ≤ time_of v.items n) }
+{
+    vec![in alloc; 1; count]
+}
+
+/// What is kept of so many blocks when time begins.
+fn first_changes(alloc: Global, count: usize) -> Result<Vec<Changes>, AllocError>
+    ensures len { IfOk result (λ v. vec_len v ≡ count) }
+    ensures early { IfOk result (λ v. (n : ℕ) → (changes_of v.items n).written ≤ 1) }
+    ensures since { IfOk result (λ v. (n : ℕ) → n < count → 1 ≤ (changes_of v.items n).since) }
+    ensures written { IfOk result (λ v. (n : ℕ) → n < count → 1 ≤ (changes_of v.items n).written) }
+{
+    vec![in alloc; Changes::FIRST; count]
+}
+
+/// No comparison with the label at each of so many offsets.
+fn none_compared(alloc: Global, count: usize) -> Result<Vec<Compared>, AllocError>
+    ensures { IfOk result (λ v. (at : ℕ) → compared_at v.items at ≡ never) }
+{
+    vec![in alloc; Compared::NEVER; count]
+}
+
+/// The last comparison with the label at each code offset, and when words were last changed. All that it needs is
+/// allocated when it is made.
 #[derive(Drop)]
 pub(crate) struct Remembered<'a> {
     pub module: &'a Module<'a>,
     /// For each block of words when one of them was last changed.
     pub times: Vec<u64>,
-    /// For each block when one of them was last changed but by widening all of them.
-    pub written: Vec<u64>,
+    /// For each word when it was last written by itself.
+    pub words: Vec<u64>,
+    pub by_block: Vec<Changes>,
     /// When the last change was.
     pub time: u64,
     /// When the state became that of a label. What was compared before means nothing.
@@ -46,13 +103,16 @@ pub(crate) struct Remembered<'a> {
     ghost order: { began ≤ time },
     ghost changed: { (n : ℕ) → time_of times.items n ≤ time },
     ghost past: { (at : ℕ) → (compared_at compared.items at).time ≤ time },
-    ghost alike: { vec_len written ≡ vec_len times },
+    ghost alike: { vec_len by_block ≡ vec_len times },
     ghost each: { (n : ℕ) → n < vec_len times → 1 ≤ time_of times.items n },
-    ghost each_written: { (n : ℕ) → n < vec_len times → 1 ≤ time_of written.items n },
+    ghost each_since: { (n : ℕ) → n < vec_len times → 1 ≤ (changes_of by_block.items n).since },
+    ghost recent: { (n : ℕ) → (changes_of by_block.items n).written ≤ time },
+    ghost placed: { (n : ℕ) → time_of words.items n ≤ (changes_of by_block.items (n / block_words)).written },
+    ghost timed: { HasTimes (vec_len words) (vec_len times) } by { HasTimes-prop (vec_len words) (vec_len times) },
 }
 
 impl<'a> Remembered<'a> {
-    ghost use Rattle.states.specs.Remembering.{IsKept, IsChanged};
+    ghost use Rattle.states.specs.Remembering.{IsKept, IsPlaced, IsLeftSo, IsRenewed};
 
     /// Nothing is remembered, of a frame with this number of words.
     pub(crate) fn new(
@@ -62,18 +122,20 @@ impl<'a> Remembered<'a> {
     ) -> Result<Self, AllocError>
         requires { words < 2 ^ 40 }
         ensures same { IfOk result (λ r. r.«module».now ≡ «module».now) }
-        ensures times { IfOk result (λ r. HasTimes words (vec_len r.times)) }
+        ensures words { IfOk result (λ r. vec_len r.words ≡ words) }
         ensures none { IfOk result (λ r. (at : ℕ) → compared_at r.compared.items at ≡ never) }
         ensures late { IfOk result (λ r. (n : ℕ) → n < vec_len r.times → r.began ≤ time_of r.times.items n) }
     {
         let blocks = words / block_words() + 1;
-        let times = vec![in alloc; 1; blocks]?;
-        let written = vec![in alloc; 1; blocks]?;
-        let compared = vec![in alloc; Compared::NEVER; module.tables().code.len()]?;
+        let times = first_times(alloc, blocks)?;
+        let words = first_times(alloc, words)?;
+        let by_block = first_changes(alloc, blocks)?;
+        let compared = none_compared(alloc, module.tables().code.len())?;
         Ok(Remembered {
             module,
             times,
-            written,
+            words,
+            by_block,
             time: 1,
             began: 1,
             compared,
@@ -100,21 +162,44 @@ impl<'a> Remembered<'a> {
         self.times[number]
     }
 
-    /// When a block of words was last changed but by widening all of its words.
-    pub(crate) fn written_time(&self, number: usize) -> u64
-        ensures { result ≡ time_of self.now.written.items number }
+    /// When the word of an index was last written by itself.
+    #[inline(always)]
+    pub(crate) fn written(&self, index: usize) -> u64
+        ensures { result ≡ time_of self.now.words.items index }
     {
-        if number >= self.written.len() {
+        if index >= self.words.len() {
             return 0;
         }
-        self.written[number]
+        self.words[index]
+    }
+
+    /// How the words of a block were changed.
+    pub(crate) fn changes(&self, number: usize) -> Changes
+        ensures { result ≡ changes_of self.now.by_block.items number }
+    {
+        if number >= self.by_block.len() {
+            return Changes::NONE;
+        }
+        self.by_block[number]
+    }
+
+    /// How all words of a block were left since that is kept.
+    pub(crate) fn range(&self, number: usize) -> Option<Leaving>
+        ensures { result ≡ range_of self.now.began (changes_of self.now.by_block.items number) }
+    {
+        let changes = self.changes(number);
+        if changes.since < self.began {
+            return None;
+        }
+        changes.left
     }
 
     /// What is changed from now on is later than all comparisons. If times run out, these are forgotten.
     fn tick(&mut self)
         ensures kept { IsKept self.old self.new }
         ensures times { self.new.times ≡ self.old.times }
-        ensures written { self.new.written ≡ self.old.written }
+        ensures words { self.new.words ≡ self.old.words }
+        ensures blocks { self.new.by_block ≡ self.old.by_block }
         ensures began { self.new.began ≡ self.old.began }
         ensures later { (at : ℕ) → (compared_at self.new.compared.items at).time < self.new.time }
     {
@@ -124,16 +209,67 @@ impl<'a> Remembered<'a> {
         }
     }
 
-    /// A word of a block is changed, or all of its words are widened.
-    pub(crate) fn change(&mut self, number: usize, is_widened: bool)
-        requires { number < vec_len self.old.times }
-        ensures { IsChanged number is_widened self.old self.new }
+    /// The word of an index, which is one of this block, is written by itself.
+    fn write(&mut self, index: usize, number: usize)
+        requires word { index < vec_len self.old.words }
+        requires block { number < vec_len self.old.times }
+        requires is { number ≡ index / block_words }
+        ensures { IsPlaced index number self.old self.new }
     {
+        let Changes { since, left, .. } = self.changes(number);
         self.tick();
         self.times[number] = self.time;
-        if !is_widened {
-            self.written[number] = self.time;
-        }
+        self.words[index] = self.time;
+        self.by_block[number] = Changes {
+            written: self.time,
+            since,
+            left,
+        };
+    }
+
+    /// The word of an index is written by itself.
+    pub(crate) fn place(&mut self, index: usize)
+        requires { index < vec_len self.old.words }
+        ensures { IsPlaced index (index / block_words) self.old self.new }
+    {
+        self.write(index, index / block_words());
+    }
+
+    /// All words of a block are left so.
+    pub(crate) fn leave(&mut self, number: usize, leaving: Leaving)
+        requires { number < vec_len self.old.times }
+        ensures { IsLeftSo number leaving self.old self.new }
+    {
+        let left = leaving.after(self.range(number));
+        self.tick();
+        self.times[number] = self.time;
+        let Changes { written, since, .. } = self.by_block[number];
+        self.by_block[number] = if leaving.is_widening() {
+            Changes {
+                written,
+                since: since.max(self.began),
+                left: Some(left),
+            }
+        } else {
+            Changes {
+                written,
+                since: self.time,
+                left: None,
+            }
+        };
+    }
+
+    /// How a block is left is kept from now on, and not since before.
+    pub(crate) fn renew(&mut self, number: usize)
+        requires { number < vec_len self.old.times }
+        ensures { IsRenewed number self.old self.new }
+    {
+        let written = self.changes(number).written;
+        self.by_block[number] = Changes {
+            written,
+            since: self.time,
+            left: None,
+        };
     }
 
     /// The state becomes that of a label: what was compared means nothing from now on.
@@ -148,9 +284,9 @@ impl<'a> Remembered<'a> {
     /// The state was compared with the label at a code offset, and this was paid.
     pub(crate) fn put(&mut self, offset: usize, paid: u64, is_plain: bool)
         ensures same { self.new.«module».now ≡ self.old.«module».now }
-        ensures times { self.new.times.items ≡ self.old.times.items }
-        ensures written { self.new.written.items ≡ self.old.written.items }
-        ensures len { vec_len self.new.times ≡ vec_len self.old.times }
+        ensures times { self.new.times ≡ self.old.times }
+        ensures words { self.new.words ≡ self.old.words }
+        ensures blocks { self.new.by_block ≡ self.old.by_block }
         ensures began { self.new.began ≡ self.old.began }
         ensures each { (at : ℕ) → (compared_at self.new.compared.items at ≡ compared_at self.old.compared.items at)
             ⊎ ((at ≡ offset) × (compared_at self.new.compared.items at

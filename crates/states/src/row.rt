@@ -136,6 +136,13 @@ pub(crate) fn row_fact(row: &[Entry], word: i64) -> WordFact
     }
 }
 
+/// What an entry says of one of its words.
+pub(crate) fn entry_said(entry: &Entry, word: i64) -> WordFact
+    ensures { result ≡ said_of entry.now.fact (is_word entry.now.word word) }
+{
+    said_of(entry.fact, start_of(entry) == word)
+}
+
 /// Whether what is known of a word by itself says at least what an entry wants of its first word or of another one.
 #[inline(always)]
 fn says_alone(fact: Fact, wanted: Fact, is_first: bool) -> bool

@@ -1,5 +1,5 @@
 use Rattle.std.proofs.Common.{rules, arith, to_z, of_z}
-use Rattle.std.proofs.lemmas.Int.{ints, to_z-of_z}
+use Rattle.std.proofs.lemmas.Int.{ints}
 use Rattle.std.specs.Int.{w64}
 use Rattle.states.proofs.RowFacts.{le-from}
 use Rattle.states.proofs.Hulls.{within-ends}

@@ -2,7 +2,7 @@ use Rattle.std.proofs.Common.{◌≡◌, ◌*◌, ℕ, ℤ, pos, ◌+ℤ◌, rul
 use Rattle.std.proofs.lemmas.Int.{ints, to_z-of_z}
 use Rattle.std.specs.Int.{w64}
 use Rattle.module_format.specs.Rows.{Entry}
-use Rattle.states.specs.Blocks.{block_words, leaving_in}
+use Rattle.states.specs.Blocks.{block_words}
 use Rattle.states.specs.Frames.{frame_facts}
 use Rattle.states.specs.Implied.{IsWithin}
 use Rattle.states.specs.State.{entry_fact}
@@ -25,8 +25,6 @@ returns c =
     let inside : IsWithin (entry_fact entries) frame.lo end =
     subst (λ (es : List Entry). IsWithin (entry_fact es) frame.lo end) c.deref.ensures.value
     (subst (λ (lo : ℤ). IsWithin (entry_fact c.deref.result.now) lo end) from_is within) in
-    remembered-first frame.lo end kept.times.items kept.written.items (leaving_in frame.lo frame.by_block.kept.items)
-    (frame_facts frame) entries (λ n h. kept.each n (omega (arith, h)))
-    (let same = kept.alike in omega (arith, same)) (λ n h. kept.each_written n (omega (arith, h)))
+    remembered-first frame.lo end kept (frame_facts frame) entries
     (at ∙ ap (λ (n : ℕ). frame.lo +ℤ pos (n * block_words)) (c.len.ensures ∙ len)) inside
     (c.is_plain.ensures c.if-not-is_plain.false)

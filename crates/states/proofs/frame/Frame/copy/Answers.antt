@@ -1,4 +1,4 @@
-use Rattle.std.proofs.Common.{List, ℕ, ap, sym, subst, ◌∙◌, pos, ◌+ℤ◌, ◌<ℤ◌, SFits, rules, arith}
+use Rattle.std.proofs.Common.{List, ℕ, ap, sym, subst, ◌∙◌, pos, ◌+ℤ◌, ◌<ℤ◌, SFits, rules}
 use Rattle.std.proofs.lemmas.Int.{to_z-of_z}
 use Rattle.std.specs.Int.{w32}
 use Rattle.states.specs.declared.blocks.Block.{Block}
@@ -32,5 +32,4 @@ invariant_of-result-clause-summed c =
 
 pub invariant_of-result-clause-compared : goal.invariant_of-result-clause-compared
 invariant_of-result-clause-compared c =
-    remembered-never _ _ _ _ _ _ _ _ _ c.in_ok-new.field-0.begun (λ n h. c.in_ok-new.ensures.late n (omega (arith, h)))
-    c.in_ok-new.ensures.none
+    remembered-never _ _ _ _ c.in_ok-new.ensures.late c.in_ok-new.ensures.none

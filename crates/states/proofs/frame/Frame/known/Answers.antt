@@ -1,7 +1,5 @@
-use Rattle.std.proofs.Common.{◌≡◌, arith, true, refl, sym, ap, ◌∙◌}
-use Rattle.states.specs.Blocks.{leaving_in}
+use Rattle.std.proofs.Common.{◌≡◌, arith, true, sym, ap, ◌∙◌}
 use Rattle.states.specs.Frames.{frame_facts}
-use Rattle.states.specs.State.{entry_fact}
 use Rattle.states.specs.Remembered.{word_time, loops_stay}
 use Rattle.states.proofs.Hulls.{not-no}
 use Rattle.states.proofs.Remembering.{recalled-all, recalled-some, no-loop-stays}
@@ -9,17 +7,16 @@ use Rattle.states.proofs.frame.Frame.known.Goals.{else-not-compared-via-then-not
 use Rattle.states.proofs.frame.Frame.known.Goals.{else-not-compared-via-else-not-compared}
 use Rattle.states.proofs.frame.Frame.known.Goals as goal
 
-pub returns-then-compared-self : goal.returns-then-compared-self
-returns-then-compared-self c =
+pub returns-then-compared-self-clause-recalled : goal.returns-then-compared-self-clause-recalled
+returns-then-compared-self-clause-recalled c =
     let frame = c.args.self.now in
     let kept = frame.remembered in
     let now = c.if-compared-self.true in
-    recalled-all frame.lo kept.times.items (word_time frame.lo kept.written.items)
-    (leaving_in frame.lo frame.by_block.kept.items) (frame_facts frame) c.args.row.now.entries.items
-    c.in_ok-compared.compared (λ n. let h = kept.changed n in omega (arith, h, now)) c.in_ok-compared.ensures
+    recalled-all frame.lo kept (frame_facts frame) c.args.row.now.entries.items c.in_ok-compared.compared
+    (λ n. let h = kept.changed n in omega (arith, h, now)) c.in_ok-compared.ensures
 
-pub returns : goal.returns
-returns c =
+pub returns-clause-recalled : goal.returns-clause-recalled
+returns-clause-recalled c =
     let frame = c.args.self.now in
     let kept = frame.remembered in
     let entries = c.args.row.now.entries.items in
@@ -34,7 +31,4 @@ returns c =
           no-loop-stays (word_time frame.lo times) time entries (known.plain
           (not-no c.in_ok-compared.compared.is_plain w.if-not-compared.false))
     ] in
-    recalled-some frame.lo times (word_time frame.lo kept.written.items)
-    (leaving_in frame.lo frame.by_block.kept.items) (frame_facts frame) entries c.in_ok-compared.compared stays
-    (c.if-not-changed_say.ensures refl)
-    known
+    recalled-some frame.lo kept (frame_facts frame) entries c.in_ok-compared.compared stays c.in_ok-left.ensures known

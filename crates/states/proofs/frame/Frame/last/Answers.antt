@@ -1,6 +1,5 @@
 use Rattle.std.proofs.Common.{arith}
 use Rattle.module_format.specs.Contents.{label_of}
-use Rattle.states.specs.Blocks.{leaving_in}
 use Rattle.states.specs.Frames.{frame_facts}
 use Rattle.states.specs.State.{entry_fact}
 use Rattle.states.proofs.Remembering.{remembered-at}
@@ -11,7 +10,5 @@ returns c =
     let frame = c.args.self.now in
     let kept = frame.remembered in
     let began = c.if-compared-self.false in
-    remembered-at kept.«module».now (entry_fact frame.row.now) (frame_facts frame)
-    (leaving_in frame.lo frame.by_block.kept.items) frame.lo kept.times.items kept.written.items kept.began
-    kept.compared.items c.args.offset (label_of c.args.row.now) c.at-compared.result frame.compared
-    c.at-compared.ensures c.requires.label (omega (arith, began))
+    remembered-at (entry_fact frame.row.now) (frame_facts frame) frame.lo kept c.args.offset (label_of c.args.row.now)
+    c.at-compared.result frame.compared c.at-compared.ensures c.requires.label (omega (arith, began))

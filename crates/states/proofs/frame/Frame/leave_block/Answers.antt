@@ -1,13 +1,12 @@
 use Rattle.std.proofs.Common.{◌≡◌, ap, ◌∙◌, sym, Some, vec_len}
 use Rattle.states.specs.declared.blocks.Block.{Block}
-use Rattle.states.specs.Blocks.{block_words, block_at, first_of, left_after, facts_left, leaving_in}
+use Rattle.states.specs.Blocks.{block_words, block_at, first_of, left_after, facts_left}
 use Rattle.states.specs.State.{Facts, entry_fact}
 use Rattle.states.specs.Spans.{together}
 use Rattle.states.specs.Frames.{frame_facts, over_facts, with_span}
 use Rattle.states.proofs.BlockSums.{sum-is}
-use Rattle.states.proofs.Leavings.{block-left, summed-left, sum-right, left-outside}
-use Rattle.states.proofs.Widenings.{block-widened}
-use Rattle.states.proofs.Remembering.{block-there, outside-block, remembered-changed}
+use Rattle.states.proofs.Leavings.{block-left, summed-left, sum-right}
+use Rattle.states.proofs.Remembering.{block-there, outside-block, remembered-changed, left-held}
 use Rattle.states.proofs.frame.Frame.leave_block.Goals as goal
 use Rattle.states.proofs.frame.Frame.leave_block.Goals.{After-set}
 
@@ -43,8 +42,8 @@ invariant_of-self-clause-summed c =
 pub returns-clause-facts : goal.returns-clause-facts
 returns-clause-facts c = left-so (goal.at.returns-clause-facts c).After-set
 
-pub change-requires : goal.change-requires
-change-requires c =
+pub leave-requires : goal.leave-requires
+leave-requires c =
     let frame = c.args.self.now in
     block-there (vec_len frame.overlay.places) frame.by_block.room (vec_len frame.remembered.times) c.args.number
     c.requires frame.whole frame.timed
@@ -53,12 +52,9 @@ pub invariant_of-self-clause-compared : goal.invariant_of-self-clause-compared
 invariant_of-self-clause-compared c =
     let frame = c.args.self.now in
     let after = (goal.at.invariant_of-self-clause-compared c).After-set in
-    remembered-changed (entry_fact frame.row.now) (frame_facts frame) _ (leaving_in frame.lo frame.by_block.kept.items)
-    (leaving_in frame.lo c.set.new.self.kept.items) frame.lo c.args.number c.is_widening.result frame.remembered
-    c.change.new.self c.change.ensures
+    remembered-changed (entry_fact frame.row.now) (frame_facts frame) _ frame.lo c.args.number frame.remembered
+    c.leave.new.self c.leave.ensures.changed
     (outside-block frame.lo c.args.number c.args.leaving (frame_facts frame) _ (left-so after))
-    (left-outside frame.lo frame.by_block.kept.items c.set.new.self.kept.items c.args.number (kept after)
-    c.set.ensures.kept)
-    (λ h. block-widened frame.lo frame.by_block.kept.items c.set.new.self.kept.items (frame_facts frame) _ c.args.number
-    c.args.leaving (kept after) (left-so after) (kept-left after) c.set.ensures.kept (sym c.is_widening.ensures ∙ h))
+    (left-held frame.lo c.args.number c.args.leaving (frame_facts frame) _ frame.remembered c.leave.new.self
+    c.leave.ensures (left-so after))
     frame.compared

@@ -1,4 +1,4 @@
-use Rattle.std.proofs.Common.{[], arith}
+use Rattle.std.proofs.Common.{[]}
 use Rattle.states.proofs.BlockSums.{none-summed}
 use Rattle.states.proofs.Leavings.{facts-cleared}
 use Rattle.states.proofs.Remembering.{remembered-never}
@@ -14,5 +14,4 @@ returns-clause-facts c =
 
 pub invariant_of-result-clause-compared : goal.invariant_of-result-clause-compared
 invariant_of-result-clause-compared c =
-    remembered-never _ _ _ _ _ _ _ _ _ c.in_ok-new-3.field-0.begun
-    (λ n h. c.in_ok-new-3.ensures.late n (omega (arith, h))) c.in_ok-new-3.ensures.none
+    remembered-never _ _ _ _ c.in_ok-new-3.ensures.late c.in_ok-new-3.ensures.none

@@ -1,14 +1,14 @@
-use Rattle.std.proofs.Common.{rules, arith, ◌≡◌, ℕ, ◌/◌, ◌-ℤ◌, pos, ◌+ℤ◌, nat_abs, vec_len, ◌<◌}
-use Rattle.std.proofs.Common.{◌<ℤ◌, ◌≤ℤ◌, ◌^◌, false, subst, sym, ap, ◌∙◌}
+use Rattle.std.proofs.Common.{rules, arith, ◌≡◌, ℕ, ◌/◌, ◌-ℤ◌, pos, ◌+ℤ◌, nat_abs}
+use Rattle.std.proofs.Common.{◌<ℤ◌, ◌≤ℤ◌, ◌^◌, subst, sym, ap, ◌∙◌, refl}
 use Rattle.std.proofs.lemmas.Int.{ints}
-use Rattle.states.specs.Blocks.{no_block, facts_left, leaving_in}
+use Rattle.states.specs.Blocks.{block_words, facts_left}
 use Rattle.states.specs.Frames.{frame_facts, over_facts, with_alone}
 use Rattle.states.specs.Lookup.{facts_over}
 use Rattle.states.specs.State.{entry_fact}
 use Rattle.states.proofs.FrameFacts.{facts_over-write, distance}
 use Rattle.states.proofs.BlockSums.{summed-write}
-use Rattle.states.proofs.Leavings.{word-placed, left-outside}
-use Rattle.states.proofs.Remembering.{time-there, outside-word, remembered-changed}
+use Rattle.states.proofs.Leavings.{word-placed}
+use Rattle.states.proofs.Remembering.{outside-word, remembered-changed, placed-held}
 use Rattle.states.proofs.frame.Frame.place.Goals as goal
 use Rattle.states.proofs.frame.Frame.place.Goals.{After-forget}
 
@@ -56,31 +56,27 @@ returns-clause-facts c =
     placed (goal.at.returns-clause-facts c).After-forget
     ∙ ap (with_alone c.args.word c.args.fact) c.settle.ensures.facts
 
-pub change-requires : goal.change-requires
-change-requires c =
+pub place-requires : goal.place-requires
+place-requires c =
     let index = c.abs_diff-index.result in
-    let after = (goal.at.change-requires c).After-forget in
+    let after = (goal.at.place-requires c).After-forget in
     let word = word-is after in
     let high = c.requires.high in
     let same = c.settle.ensures.room in
     let lo = same.lo in
     let len = same.len in
-    let below : index < vec_len c.settle.new.self.overlay.places = omega (arith, ints, word, high, lo, len) in
-    rw (ap (λ (n : ℕ). index / n) c.block_words.ensures.value)
-    (time-there (vec_len c.settle.new.self.overlay.places) (vec_len c.settle.new.self.remembered.times) index below
-    c.settle.new.self.timed)
+    let each = c.settle.new.self.each_timed in
+    omega (arith, ints, word, high, lo, len, each)
 
 pub invariant_of-self-clause-compared : goal.invariant_of-self-clause-compared
 invariant_of-self-clause-compared c =
     let frame = c.settle.new.self in
     let index = c.abs_diff-index.result in
     let after = (goal.at.invariant_of-self-clause-compared c).After-forget in
-    remembered-changed (entry_fact frame.row.now) (frame_facts frame) _ (leaving_in frame.lo frame.by_block.kept.items)
-    (leaving_in frame.lo c.forget.new.self.kept.items) frame.lo (index / c.block_words.result) false frame.remembered
-    c.change.new.self c.change.ensures
-    (outside-word frame.lo c.args.word index (index / c.block_words.result) c.args.fact (frame_facts frame) _
-    (placed after) (word-is after) (sym (ap (λ (n : ℕ). index / n) c.block_words.ensures.value)))
-    (left-outside frame.lo frame.by_block.kept.items c.forget.new.self.kept.items (index / c.block_words.result)
-    no_block c.forget.ensures.kept)
-    (λ h. absurd (cc))
+    remembered-changed (entry_fact frame.row.now) (frame_facts frame) _ frame.lo (index / block_words) frame.remembered
+    c.place.new.self c.place.ensures.changed
+    (outside-word frame.lo c.args.word index (index / block_words) c.args.fact (frame_facts frame) _
+    (placed after) (word-is after) refl)
+    (placed-held frame.lo c.args.word index (index / block_words) c.args.fact (frame_facts frame) _ frame.remembered
+    c.place.new.self c.place.ensures (placed after) (word-is after))
     frame.compared

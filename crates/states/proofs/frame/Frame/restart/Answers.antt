@@ -16,7 +16,7 @@ returns-clause-facts c =
 
 pub invariant_of-self-clause-compared : goal.invariant_of-self-clause-compared
 invariant_of-self-clause-compared c =
-    remembered-none _ _ _ _ _ _ _ _ _
+    remembered-none _ _ _ _
     (facts-cleared c.args.self.now.lo c.clear-2.new.self.kept.items c.args.row.now c.clear.new.self.written.items
     c.clear-2.ensures.none c.clear.ensures.empty)
     c.restart.ensures.none

@@ -1,8 +1,8 @@
-use Rattle.std.proofs.Common.{◌≡◌, rules, arith, ℤ, pos, ◌+ℤ◌, ◌≤ℤ◌, SFits, ap, sym, ◌∙◌, to_z, of_z}
+use Rattle.std.proofs.Common.{◌≡◌, rules, arith, pos, ◌+ℤ◌, ◌≤ℤ◌, SFits, ap, sym, ◌∙◌, to_z, of_z}
 use Rattle.std.proofs.lemmas.Int.{ints, to_z-of_z}
 use Rattle.std.specs.Int.{w64}
 use Rattle.module_format.specs.Contents.{Contents, label_of, label_at}
-use Rattle.states.specs.Blocks.{block_words, first_of, leaving_in}
+use Rattle.states.specs.Blocks.{block_words, first_of}
 use Rattle.states.specs.Frames.{frame_facts}
 use Rattle.states.specs.State.{entry_fact}
 use Rattle.states.proofs.RowFacts.{le-from}
@@ -36,9 +36,7 @@ returns c = λ yes.
     row-says (frame_facts frame) frame.row.now c.from_word-rest.result.now c.past_saying.result.row.now
     (entry_fact c.args.row.now.entries.items) frame.lo first end next kept.times.items kept.began c.args.number
     c.in-Some.fact
-    (remembered-said kept.«module».now (entry_fact frame.row.now) (frame_facts frame)
-    (leaving_in frame.lo frame.by_block.kept.items) frame.lo kept.times.items kept.written.items kept.began
-    kept.compared.items frame.compared)
+    (remembered-said (entry_fact frame.row.now) (frame_facts frame) frame.lo kept frame.compared)
     some (omega (arith, time, early)) first_is end_is same past ends
     (sym c.loop_of.ensures ∙ no-loop-there c.loop_of.result (sym c.is_some.ensures ∙ c.if-is_some.false))
     (claim (label_of c.args.row.now) (ap (λ (m : Contents). label_at m c.args.offset) frame.alike

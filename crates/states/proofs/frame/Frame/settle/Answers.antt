@@ -1,11 +1,11 @@
-use Rattle.std.proofs.Common.{arith, ◌≡◌, ℤ, subst, pos, ◌+ℤ◌, ◌∙◌, None, refl, sym, ap, false, vec_len}
+use Rattle.std.proofs.Common.{◌≡◌, ℤ, subst, pos, ◌+ℤ◌, ◌∙◌, None, refl, sym, ap}
 use Rattle.states.specs.declared.blocks.Block.{Block}
 use Rattle.states.specs.declared.blocks.Blocks.{Blocks}
-use Rattle.states.specs.Blocks.{block_at, first_of, facts_left, leaving_in}
+use Rattle.states.specs.Blocks.{block_at, first_of, facts_left}
 use Rattle.states.specs.State.{Facts, entry_fact}
 use Rattle.states.specs.Frames.{frame_facts, over_facts}
-use Rattle.states.proofs.Leavings.{block-settled, summed-same, sums-set, left-outside, left-low}
-use Rattle.states.proofs.Remembering.{block-there, remembered-changed}
+use Rattle.states.proofs.Leavings.{block-settled, summed-same, sums-set}
+use Rattle.states.proofs.Remembering.{remembered-same}
 use Rattle.states.proofs.frame.Frame.settle.Goals as goal
 use Rattle.states.proofs.frame.Frame.settle.Goals.{After-set}
 
@@ -40,22 +40,5 @@ returns-then-is_some-clause-facts c =
 pub invariant_of-self-clause-compared : goal.invariant_of-self-clause-compared
 invariant_of-self-clause-compared c =
     let frame = c.settle_words.new.self in
-    let same = same-facts (goal.at.invariant_of-self-clause-compared c).After-set in
-    remembered-changed (entry_fact frame.row.now) (frame_facts frame) _ (leaving_in frame.lo frame.by_block.kept.items)
-    (leaving_in frame.lo c.set.new.self.kept.items) frame.lo c.args.number false frame.remembered c.change.new.self
-    c.change.ensures (record { same = λ k far. ap (λ (f : Facts). f k) same })
-    (left-outside frame.lo frame.by_block.kept.items c.set.new.self.kept.items c.args.number
-    (record { sum = c.get-sum.result.sum; left = None }) c.set.ensures.kept)
-    (λ h. absurd (cc))
-    frame.compared
-
-pub change-requires : goal.change-requires
-change-requires c =
-    let frame = c.settle_words.new.self in
-    let blocks = c.args.self.now.by_block in
-    let low = left-low blocks.kept.items c.args.number c.get-sum.result c.get-sum.ensures
-    (sym c.is_some.ensures ∙ c.if-is_some.true) in
-    let few = blocks.few in
-    let room = ap (λ (b : Blocks). b.room) c.settle_words.ensures.blocks in
-    block-there (vec_len frame.overlay.places) frame.by_block.room (vec_len frame.remembered.times) c.args.number
-    (omega (arith, low, few, room)) frame.whole frame.timed
+    remembered-same (entry_fact frame.row.now) (frame_facts frame) _ frame.lo frame.remembered
+    (same-facts (goal.at.invariant_of-self-clause-compared c).After-set) frame.compared

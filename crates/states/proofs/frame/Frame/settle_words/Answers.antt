@@ -4,7 +4,7 @@ use Rattle.std.proofs.lemmas.Int.{ints, to_z-of_z}
 use Rattle.std.specs.Int.{w64}
 use Rattle.states.specs.declared.blocks.Blocks.{Blocks}
 use Rattle.states.specs.declared.span.Leaving.{Leaving}
-use Rattle.states.specs.Blocks.{block_words, block_at, first_of, facts_left, leaving_in}
+use Rattle.states.specs.Blocks.{block_words, block_at, first_of, facts_left}
 use Rattle.states.specs.Lookup.{facts_over}
 use Rattle.states.specs.State.{Facts, entry_fact}
 use Rattle.states.specs.Frames.{frame_facts, over_facts, with_alone}
@@ -98,8 +98,6 @@ loop-i-preserved c =
 pub invariant_of-self-clause-compared : goal.invariant_of-self-clause-compared
 invariant_of-self-clause-compared c =
     let frame = c.loop-i.self in
-    let left = leaving_in frame.lo frame.by_block.kept.items in
-    remembered-same frame.remembered.«module».now (entry_fact frame.row.now) (frame_facts frame)
-    (facts_left frame.lo frame.by_block.kept.items (new-facts c)) left left frame.lo frame.remembered.times.items
-    frame.remembered.written.items frame.remembered.began frame.remembered.compared.items (same-facts c) refl
+    remembered-same (entry_fact frame.row.now) (frame_facts frame)
+    (facts_left frame.lo frame.by_block.kept.items (new-facts c)) frame.lo frame.remembered (same-facts c)
     frame.compared

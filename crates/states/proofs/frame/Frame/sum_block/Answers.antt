@@ -3,11 +3,11 @@ use Rattle.std.proofs.lemmas.Int.{to_z-of_z}
 use Rattle.std.specs.Int.{w32}
 use Rattle.states.specs.declared.blocks.Block.{Block}
 use Rattle.states.specs.State.{Facts, entry_fact}
-use Rattle.states.specs.Blocks.{block_at, AreSummed, facts_left, leaving_in}
+use Rattle.states.specs.Blocks.{block_at, AreSummed, facts_left}
 use Rattle.states.specs.Frames.{frame_facts, over_facts}
 use Rattle.states.specs.Spans.{together}
 use Rattle.states.proofs.BlockSums.{summed-more}
-use Rattle.states.proofs.Leavings.{left-same, lefts-set, leaving-same}
+use Rattle.states.proofs.Leavings.{left-same, lefts-set}
 use Rattle.states.proofs.Remembering.{remembered-same}
 use Rattle.states.proofs.frame.Frame.sum_block.Goals as goal
 use Rattle.states.proofs.frame.Frame.sum_block.Goals.{After-set}
@@ -45,8 +45,5 @@ returns-then-is_none-clause-facts c =
 pub invariant_of-self-clause-compared : goal.invariant_of-self-clause-compared
 invariant_of-self-clause-compared c =
     let frame = c.args.self.now in
-    remembered-same frame.remembered.«module».now (entry_fact frame.row.now) (frame_facts frame) _
-    (leaving_in frame.lo frame.by_block.kept.items) (leaving_in frame.lo c.set.new.self.kept.items) frame.lo
-    frame.remembered.times.items frame.remembered.written.items frame.remembered.began
-    frame.remembered.compared.items (same-facts c)
-    (leaving-same frame.lo frame.by_block.kept.items c.set.new.self.kept.items (same-left c)) frame.compared
+    remembered-same (entry_fact frame.row.now) (frame_facts frame) _ frame.lo frame.remembered (same-facts c)
+    frame.compared

@@ -1,9 +1,10 @@
-use Rattle.std.proofs.Common.{rules, arith, ap, ◌∙◌, SFits}
+use Rattle.std.proofs.Common.{◌≡◌, rules, arith, SFits, Some, sym, ◌∙◌, ap}
 use Rattle.std.proofs.lemmas.Int.{to_z-of_z}
 use Rattle.std.specs.Int.{w32}
-use Rattle.states.specs.declared.blocks.Block.{Block}
+use Rattle.states.specs.declared.remembered.Changes.{Changes}
+use Rattle.states.specs.declared.span.Leaving.TheVariants.{Widen}
 use Rattle.states.specs.Frames.{frame_facts}
-use Rattle.states.specs.Remembered.{word_time}
+use Rattle.states.specs.Remembered.{changes_of, range_of}
 use Rattle.states.proofs.Remembering.{widened-says}
 use Rattle.states.proofs.frame.Frame.widened_says.Goals as goal
 
@@ -15,9 +16,12 @@ returns c = λ yes.
     let hi = c.in-Some-Widen.hi in
     let lo_fits : SFits w32 lo = search rules in
     let hi_fits : SFits w32 hi = search rules in
-    let early = c.if-compared-written_time.false in
-    let time = c.written_time.ensures in
-    widened-says frame.lo (word_time frame.lo kept.times.items) kept.written.items frame.by_block.kept.items
-    (frame_facts frame) c.args.row.now c.args.compared c.args.number lo hi c.get.result.left c.requires.known
-    (omega (arith, early, time)) (ap (λ (b : Block). b.left) c.get.ensures) (search rules)
+    let since = ap (λ (x : Changes). x.since) c.changes-changes.ensures in
+    let written = ap (λ (x : Changes). x.written) c.changes-changes.ensures in
+    let first = c.if-compared-changes.false in
+    let second = c.if-compared-changes-2.false in
+    let range : range_of kept.began (changes_of kept.by_block.items c.args.number) ≡ Some (Widen lo hi) =
+    sym c.range.ensures ∙ search rules in
+    widened-says frame.lo kept (frame_facts frame) c.args.row.now c.args.compared c.args.number lo hi c.requires.known
+    (omega (arith, first, since)) (omega (arith, second, written)) range
     (rw (to_z-of_z w32 lo lo_fits, to_z-of_z w32 hi hi_fits) at (c.fact_says.ensures yes))

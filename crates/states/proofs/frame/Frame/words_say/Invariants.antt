@@ -1,8 +1,5 @@
-use Rattle.states.specs.State.{entry_fact}
-use Rattle.states.specs.Blocks.{first_of}
-use Rattle.states.specs.Frames.{frame_facts}
-use Rattle.states.specs.Comparing.{BlockSaysAll}
+use Rattle.states.specs.Frames.{EntryIsSaid}
 use Rattle.states.proofs.frame.Frame.words_say.Given as goal
 
-abbrev pub invariant-loop-i : goal.invariant-loop-i
-invariant-loop-i l = BlockSaysAll (first_of l.self.lo l.number) (frame_facts l.self) (entry_fact l.row) l.i
+abbrev pub invariant-loop-word : goal.invariant-loop-word
+invariant-loop-word l = EntryIsSaid l.self l.asking l.entry l.first l.word
