@@ -10,9 +10,11 @@ pub mod ItemsPassed
 pub mod LinksNumbered
 pub mod LoopsWritten
 pub mod NamesTold
+pub mod OffsetsFound
 pub mod OperandsBelow
 pub mod OutermostNames
 pub mod PartsWritten
+pub mod RegistersCounted
 pub mod RowsSay
 pub mod SpreadOut
 pub mod TablesRead

@@ -1,4 +1,4 @@
--- An operand that is no leaf finds the one before it in a temporary.
+-- An operand that takes three registers finds the one before it in a temporary.
 use Rattle.std.proofs.Common.{◌≡◌, ◌+◌, Bool, false, List, [], ◌∷◌, ◌++◌, Result, Ok, Err, IfOk, sym, ap, ◌∙◌}
 use Rattle.std.proofs.lemmas.List.{append_assoc}
 use Rattle.occam_parser.specs.Expressions.{Term}
@@ -6,14 +6,14 @@ use Rattle.scalar_ranges.specs.Scopes.{entries_of}
 use Rattle.code_generator.specs.declared.setting.Setting.{Setting}
 use Rattle.code_pieces.specs.Pieces.{Piece, stores}
 use Rattle.code_generator.specs.HomeViews.{homes_seen}
-use Rattle.code_generator.specs.Expressions.{term_code, is_leaf_term, onto, back}
+use Rattle.code_generator.specs.Expressions.{term_code, is_small_term, onto, back}
 use Rattle.code_generator.specs.SettingViews.{entries_in, term_in, term_above, onto_in}
 
-onto_written : (in_order : Bool) (s a : Setting) (x : Term) (leaf : Bool) (old stored pushed new : List Piece)
-    → leaf ≡ false → leaf ≡ is_leaf_term (entries_in s) x → a.scope ≡ s.scope → a.homes ≡ s.homes → a.top ≡ s.top + 1
+onto_written : (in_order : Bool) (s a : Setting) (x : Term) (small : Bool) (old stored pushed new : List Piece)
+    → small ≡ false → small ≡ is_small_term (entries_in s) x → a.scope ≡ s.scope → a.homes ≡ s.homes → a.top ≡ s.top + 1
     → stored ≡ old ++ stores s.top ∷ [] → pushed ≡ stored ++ term_in a x → new ≡ pushed ++ back in_order s.top
     → new ≡ old ++ onto_in in_order s x
-onto_written in_order s a x leaf old stored pushed new other is scope homes top k p n =
+onto_written in_order s a x small old stored pushed new other is scope homes top k p n =
     n ∙ ap (λ c. c ++ back in_order s.top)
     (p ∙ (λ j. k j ++ term_code (homes_seen (homes j).now) (entries_of (scope j).now) (top j) x))
     ∙ append_assoc (old ++ stores s.top ∷ []) (term_above s x) (back in_order s.top)
@@ -21,10 +21,10 @@ onto_written in_order s a x leaf old stored pushed new other is scope homes top 
     ∙ ap (λ l. old ++ onto in_order s.top l (term_above s x)) (sym other ∙ is)
 
 -- if the temporary could be pushed below it
-pub onto_written_if : {A E : Type 0} (r : Result A E) (in_order : Bool) (s a : Setting) (x : Term) (leaf : Bool)
-    (old stored pushed new : List Piece) → leaf ≡ false → leaf ≡ is_leaf_term (entries_in s) x → a.scope ≡ s.scope
+pub onto_written_if : {A E : Type 0} (r : Result A E) (in_order : Bool) (s a : Setting) (x : Term) (small : Bool)
+    (old stored pushed new : List Piece) → small ≡ false → small ≡ is_small_term (entries_in s) x → a.scope ≡ s.scope
     → a.homes ≡ s.homes → a.top ≡ s.top + 1 → stored ≡ old ++ stores s.top ∷ [] → pushed ≡ stored ++ term_in a x
     → IfOk r (λ _. new ≡ pushed ++ back in_order s.top) → IfOk r (λ _. new ≡ old ++ onto_in in_order s x)
-onto_written_if (Ok v) in_order s a x leaf old stored pushed new other is scope homes top k p n =
-    onto_written in_order s a x leaf old stored pushed new other is scope homes top k p n
-onto_written_if (Err v) in_order s a x leaf old stored pushed new other is scope homes top k p n = n
+onto_written_if (Ok v) in_order s a x small old stored pushed new other is scope homes top k p n =
+    onto_written in_order s a x small old stored pushed new other is scope homes top k p n
+onto_written_if (Err v) in_order s a x small old stored pushed new other is scope homes top k p n = n

@@ -1,6 +1,6 @@
 -- The code of actions and tests: assignments, inputs and outputs, and the jump of a condition.
 use Rattle.std.specs.Prelude.{ℕ, ◌+◌, ℤ, pos, unsigned_abs, List, [], ◌∷◌, ◌++◌}
-use Rattle.std.specs.Prelude.{nat_eq, if◌then◌else◌, Option, Some, None}
+use Rattle.std.specs.Prelude.{nat_eq, if◌then◌else◌, Bool, true, false, Option, Some, None}
 use Rattle.prefix_decoder.specs.declared.function.Fun.TheVariants as fun
 use Rattle.occam_parser.specs.declared.tree.ValueType.{ValueType}
 use Rattle.occam_parser.specs.declared.tree.ValueType.TheVariants as value_type
@@ -15,17 +15,18 @@ use Rattle.code_pieces.specs.Pieces.{Piece, Direct, JumpUnless, Row, operates, s
 use Rattle.code_pieces.specs.Pieces.{moves, below, Code, written}
 use Rattle.code_generator.specs.Homes.{Home, Word, Link, Passed, home_of}
 use Rattle.code_generator.specs.Declarations.{Frame, facts_in}
-use Rattle.code_generator.specs.Expressions.{expression_code, known_address, subscript_code, single}
+use Rattle.code_generator.specs.Expressions.{expression_code, known_address, subscript_code, single, Subscript}
+use Rattle.code_generator.specs.Expressions.{subscript_of, without, or_zero}
 
 -- ---- what a place is
 
 -- A place that is stored into: a scalar's own word; an element of an array, of words from this one on, by its number or
--- else by the code of its subscript. What a checked program doesn't have is no target.
+-- else by its subscript. What a checked program doesn't have is no target.
 pub data Target : Type 0 where
   NoTarget : Target
   OwnWord : (type : ValueType) → (word : ℕ) → Target
   KnownElement : (type : ValueType) → (word number : ℕ) → Target
-  OtherElement : (type : ValueType) → (word : ℕ) → (subscript : List Piece) → Target
+  OtherElement : (type : ValueType) → (word : ℕ) → (subscript : Subscript) → Target
 
 -- A parameter that is a variable is an array of one element.
 abbrev pub whole_target : Option Home → Option Meaning → Target
@@ -33,45 +34,61 @@ whole_target (Some (Word w)) (Some (Scalar kind type range)) = OwnWord type w
 whole_target (Some (Passed w)) (Some (Scalar kind type range)) = KnownElement type w 0
 whole_target h m = NoTarget
 
-abbrev pub by_number : ValueType → ℕ → Option ℤ → List Piece → Target
-by_number type w (Some c) subscript = KnownElement type w (unsigned_abs c)
-by_number type w None subscript = OtherElement type w subscript
+abbrev pub by_number : ValueType → ℕ → Option ℤ → Subscript → Target
+by_number type w (Some c) s = KnownElement type w (unsigned_abs c)
+by_number type w None s = OtherElement type w s
 
-abbrev pub element_target : Option Home → Option Meaning → Option ℤ → List Piece → Target
-element_target (Some (Word w)) (Some (Array kind type size range)) value subscript = by_number type w value subscript
-element_target (Some (Passed w)) (Some (Array kind type size range)) value subscript = by_number type w value subscript
-element_target h m value subscript = NoTarget
+abbrev pub element_target : Option Home → Option Meaning → Option ℤ → Subscript → Target
+element_target (Some (Word w)) (Some (Array kind type size range)) value s = by_number type w value s
+element_target (Some (Passed w)) (Some (Array kind type size range)) value s = by_number type w value s
+element_target h m value s = NoTarget
 
 -- where the words from t on are free
 abbrev pub target_of : List Home → List Entry → ℕ → Place → Target
 target_of hs es t p = elim p.subscript [
   | None ↦ whole_target (home_of hs es p.name) (meaning_in p.name es)
   | Some e ↦ element_target (home_of hs es p.name) (meaning_in p.name es) (single (range_found (bound_of es e)))
-      (expression_code hs es t e)
+      (subscript_of hs es t e)
 ]
 
 -- ---- assignments
 
-abbrev pub stores_at : ValueType → Piece
-stores_at value_type.Int = Direct fun.StoreNonLocal (pos 0)
-stores_at value_type.Byte = operates STORE_BYTE
+-- what is in B goes so many words behind the address in A, or a byte to that
+abbrev pub stores_at : ValueType → ℤ → Piece
+stores_at value_type.Int n = Direct fun.StoreNonLocal n
+stores_at value_type.Byte n = operates STORE_BYTE
 
--- What is in a temporary goes to the address in A.
-abbrev pub stores_below : ValueType → ℕ → List Piece
-stores_below type t = below t ++ stores_at type ∷ []
+-- what is in a temporary goes there
+abbrev pub stores_below : ValueType → ℤ → ℕ → List Piece
+stores_below type n t = below t ++ stores_at type n ∷ []
 
 -- What is in a temporary is stored in an element. A word that is known is moved: so no more is known of it afterwards.
 abbrev pub store_known : ValueType → ℕ → ℕ → ℕ → List Piece
 store_known value_type.Int w n t = moves 1 t (w + n)
-store_known value_type.Byte w n t = known_address value_type.Byte w n ++ stores_below value_type.Byte t
+store_known value_type.Byte w n t = known_address value_type.Byte w n ++ stores_below value_type.Byte (pos 0) t
 
--- what is in A is stored, by way of the temporary t if it is an element
+-- the constant that a subscript ends with, for words
+abbrev pub stored_offset : ValueType → Option ℤ → Option ℤ
+stored_offset value_type.Int offset = offset
+stored_offset value_type.Byte offset = None
+
+-- What is in A is stored in an element, after the code of its subscript. If that takes three registers, it waits in a
+-- temporary.
+abbrev pub store_after : ValueType → ℕ → (small : Bool) → (offset : ℤ) → (subscript : List Piece) → ℕ → List Piece
+store_after type w true n subscript t = subscript ++ subscript_code type w ++ stores_at type n ∷ []
+store_after type w false n subscript t = stores t ∷ subscript ++ subscript_code type w ++ stores_below type n t
+
+abbrev pub store_other : ValueType → ℕ → Subscript → ℕ → List Piece
+store_other type w s t =
+    store_after type w s.small (or_zero (stored_offset type s.offset))
+    (without (stored_offset type s.offset) s.whole s.first) t
+
+-- what is in A is stored, maybe by way of the temporary t if it is an element
 abbrev pub store_code : Target → ℕ → List Piece
 store_code NoTarget t = []
 store_code (OwnWord type w) t = stores w ∷ []
 store_code (KnownElement type w n) t = stores t ∷ store_known type w n t
-store_code (OtherElement type w subscript) t =
-    stores t ∷ subscript ++ subscript_code type w ++ stores_below type t
+store_code (OtherElement type w s) t = store_other type w s t
 
 abbrev pub assign_code : List Home → List Entry → ℕ → Place → Expression → List Piece
 assign_code hs es t target value = expression_code hs es t value ++ store_code (target_of hs es (t + 1) target) t
@@ -120,7 +137,7 @@ abbrev pub target_address : Target → List Piece
 target_address NoTarget = []
 target_address (OwnWord type w) = points w ∷ []
 target_address (KnownElement type w n) = known_address type w n
-target_address (OtherElement type w subscript) = subscript ++ subscript_code type w
+target_address (OtherElement type w s) = s.whole ++ subscript_code type w
 
 -- A byte that came in leaves unknown what is beside it in the word of a scalar. So it is loaded and stored again.
 abbrev pub cleaned : Target → List Piece

@@ -1,6 +1,6 @@
 -- The code of expressions: it pushes the value, and keeps nothing that was in the registers.
-use Rattle.std.specs.Prelude.{ℕ, ◌+◌, ◌/◌, ◌%◌, nat_eq, nat_le, ℤ, pos, unsigned_abs, Bool, true, false, List, []}
-use Rattle.std.specs.Prelude.{◌∷◌, ◌++◌, if◌then◌else◌, Option, Some, None, Result, Ok, Err}
+use Rattle.std.specs.Prelude.{ℕ, ◌+◌, ◌/◌, ◌%◌, nat_eq, nat_le, int_le, ℤ, pos, unsigned_abs, Bool, true, false, List, []}
+use Rattle.std.specs.Prelude.{◌∷◌, ◌++◌, if◌then◌else◌, ◌&&◌, Option, Some, None, Result, Ok, Err}
 use Rattle.std.specs.Ordering.{int_eq}
 use Rattle.prefix_decoder.specs.declared.function.Fun.TheVariants as fun
 use Rattle.word_arithmetic.specs.Word.{least_word, greatest_word, checked_sum, checked_difference}
@@ -99,7 +99,7 @@ abbrev pub is_pushed : Option Meaning → Bool
 is_pushed (Some (Scalar kinds.Reference value_type.Byte range)) = false
 is_pushed m = true
 
--- Whether an operand is one push. Then the operand before it may stay in a register.
+-- whether an operand is one push
 abbrev mutual
   pub is_leaf : List Entry → Expression → Bool
   is_leaf es (Alone x) = is_leaf_term es x
@@ -118,7 +118,88 @@ abbrev mutual
   is_leaf_term es (Bracketed e) = is_leaf es e
   is_leaf_term es (Converted to x) = is_leaf_term es x
 
+abbrev pub are_leaves : List Entry → List Term → Bool
+are_leaves es [] = true
+are_leaves es (x ∷ xs) = is_leaf_term es x && are_leaves es xs
+
+-- Whether nothing is pushed before the left operand of an operator between two, whatever both are.
+abbrev pub is_left_first : PairOperator → Bool
+is_left_first (pair.Arithmetic op) = true
+is_left_first (pair.Comparison comparison.Greater) = true
+is_left_first (pair.Comparison comparison.Equal) = true
+is_left_first (pair.Comparison comparison.NotEqual) = true
+is_left_first (pair.Comparison op) = false
+
+-- Whether an operand takes two registers at most. Then what is pushed before it may stay in the third one. So is an
+-- element, if its subscript takes no more: below the address of the array is the subscript alone.
+abbrev mutual
+  pub is_small : List Entry → Expression → Bool
+  is_small es (Alone x) = is_small_term es x
+  is_small es (Prefixed op x) = is_small_term es x
+  is_small es (Paired op x y) =
+      if is_left_first op then is_small_term es x && is_leaf_term es y else is_leaf_term es x && is_leaf_term es y
+  is_small es (Chained op xs) = are_small es xs
+
+  -- the first operand, if all others are one push
+  pub are_small : List Entry → Terms → Bool
+  are_small es (Two x y) = is_small_term es x && is_leaf_term es y
+  are_small es (Then xs x) = are_small es xs && is_leaf_term es x
+
+  pub is_small_term : List Entry → Term → Bool
+  is_small_term es (Number value) = true
+  is_small_term es (Byte byte) = true
+  is_small_term es (Truth holds) = true
+  is_small_term es MostPos = true
+  is_small_term es MostNeg = true
+  is_small_term es (Named name) = true
+  is_small_term es (Element name e) = is_small es e
+  is_small_term es (Bracketed e) = is_small es e
+  is_small_term es (Converted to x) = is_small_term es x
+
 -- ---- elements
+
+-- the constant that an operand of a chain adds; to push the least word takes fewer bytes
+abbrev pub added_by : ChainOperator → Option ℤ → Option ℤ
+added_by (chain.Arithmetic arithmetic_chain.Add) (Some v) = if int_eq v least_word then None else Some v
+added_by op v = None
+
+-- the most words that an element may be behind the address of another one
+abbrev pub greatest_offset : ℤ
+greatest_offset = pos 16383
+
+abbrev pub offset_or_none : Option ℤ → Option ℤ
+offset_or_none None = None
+offset_or_none (Some c) = if int_le (pos 0) c && int_le c greatest_offset then Some c else None
+
+-- The constant that is added to the first operand of two: the element that the sum selects is so many words behind the
+-- one that the first operand would select.
+abbrev pub offset_of_terms : List Entry → ChainOperator → Terms → Option ℤ
+offset_of_terms es op (Two x y) = offset_or_none (added_by op (exact_value (bound_of_term es y)))
+offset_of_terms es op (Then xs x) = None
+
+abbrev pub offset_of : List Entry → Expression → Option ℤ
+offset_of es (Chained op xs) = offset_of_terms es op xs
+offset_of es e = None
+
+-- A subscript: its code, the constant that it ends with, the code before that, and whether it takes two registers at
+-- most.
+pub record Subscript : Type 0 where
+  pub whole : List Piece
+  pub offset : Option ℤ
+  pub first : List Piece
+  pub small : Bool
+
+-- the code of a subscript without its constant
+abbrev pub without : Option ℤ → (whole first : List Piece) → List Piece
+without None whole first = whole
+without (Some c) whole first = first
+
+abbrev pub before_offset : Subscript → List Piece
+before_offset s = without s.offset s.whole s.first
+
+abbrev pub or_zero : Option ℤ → ℤ
+or_zero None = pos 0
+or_zero (Some c) = c
 
 -- the byte of an array with this number, in words from w on
 abbrev pub byte_address : ℕ → ℕ → List Piece
@@ -137,22 +218,24 @@ subscript_code value_type.Byte w = points w ∷ operates BYTE_SUBSCRIPT ∷ []
 
 -- The address of an element of an array whose words begin with w: of one whose subscript has a single value, or else by
 -- the code of the subscript.
-abbrev pub address_code : ValueType → ℕ → Option ℤ → List Piece → List Piece
+abbrev pub address_code : ValueType → ℕ → Option ℤ → (subscript : List Piece) → List Piece
 address_code type w (Some c) subscript = known_address type w (unsigned_abs c)
 address_code type w None subscript = subscript ++ subscript_code type w
 
 abbrev pub loads_at : ℤ → Piece
 loads_at n = Direct fun.LoadNonLocal n
 
-abbrev pub element_of_words : ValueType → ℕ → Option ℤ → List Piece → List Piece
-element_of_words value_type.Int w (Some c) subscript = loads (w + unsigned_abs c) ∷ []
-element_of_words value_type.Int w None subscript = address_code value_type.Int w None subscript ++ loads_at (pos 0) ∷ []
-element_of_words value_type.Byte w c subscript = address_code value_type.Byte w c subscript ++ operates LOAD_BYTE ∷ []
+-- A word is read by the address of one before it, if the subscript ends with a constant.
+abbrev pub element_of_words : ValueType → ℕ → Option ℤ → Subscript → List Piece
+element_of_words value_type.Int w (Some c) s = loads (w + unsigned_abs c) ∷ []
+element_of_words value_type.Int w None s =
+    before_offset s ++ subscript_code value_type.Int w ++ loads_at (or_zero s.offset) ∷ []
+element_of_words value_type.Byte w c s = address_code value_type.Byte w c s.whole ++ operates LOAD_BYTE ∷ []
 
-abbrev pub element_of_table : List ℤ → Option ℤ → List Piece → List Piece
-element_of_table values (Some c) subscript = TableAddress values ∷ loads_at c ∷ []
-element_of_table values None subscript =
-    subscript ++ TableAddress values ∷ operates WORD_SUBSCRIPT ∷ loads_at (pos 0) ∷ []
+abbrev pub element_of_table : List ℤ → Option ℤ → Subscript → List Piece
+element_of_table values (Some c) s = TableAddress values ∷ loads_at c ∷ []
+element_of_table values None s =
+    before_offset s ++ TableAddress values ∷ operates WORD_SUBSCRIPT ∷ loads_at (or_zero s.offset) ∷ []
 
 -- the lowest byte of an element
 abbrev pub byte_of_table : List ℤ → Option ℤ → List Piece → List Piece
@@ -166,30 +249,30 @@ abbrev pub are_passed_bytes : Option Meaning → Bool
 are_passed_bytes (Some (Array arrays.Value value_type.Byte size range)) = true
 are_passed_bytes m = false
 
-abbrev pub table_element : (bytes : Bool) → List ℤ → Option ℤ → List Piece → List Piece
-table_element true values c subscript = byte_of_table values c subscript
-table_element false values c subscript = element_of_table values c subscript
+abbrev pub table_element : (bytes : Bool) → List ℤ → Option ℤ → Subscript → List Piece
+table_element true values c s = byte_of_table values c s.whole
+table_element false values c s = element_of_table values c s
 
-abbrev pub element_code : Option Home → Option Meaning → Option ℤ → List Piece → List Piece
-element_code (Some (Word w)) (Some (Array kind type size range)) c subscript = element_of_words type w c subscript
-element_code (Some (Passed w)) (Some (Array kind type size range)) c subscript = element_of_words type w c subscript
-element_code (Some (Table values)) m c subscript = table_element (are_passed_bytes m) values c subscript
-element_code h m c subscript = []
+abbrev pub element_code : Option Home → Option Meaning → Option ℤ → Subscript → List Piece
+element_code (Some (Word w)) (Some (Array kind type size range)) c s = element_of_words type w c s
+element_code (Some (Passed w)) (Some (Array kind type size range)) c s = element_of_words type w c s
+element_code (Some (Table values)) m c s = table_element (are_passed_bytes m) values c s
+element_code h m c s = []
 
 -- ---- two operands
 
--- An operand beside another one: its code where a temporary is free and where the next one is, and whether it is one
--- push.
+-- An operand beside another one: its code where a temporary is free and where the next one is, and whether it takes two
+-- registers at most.
 pub record Operand : Type 0 where
   pub first : List Piece
   pub second : List Piece
-  pub leaf : Bool
+  pub small : Bool
 
 abbrev pub beside : List Entry → Term → List Piece → List Piece → Operand
 beside es x first second = record {
   first = first;
   second = second;
-  leaf = is_leaf_term es x;
+  small = is_small_term es x;
 }
 
 -- A left operand that waited in a temporary is pushed, below the right one, or on it if their order does not matter.
@@ -197,13 +280,13 @@ abbrev pub back : (in_order : Bool) → ℕ → List Piece
 back true t = below t
 back false t = loads t ∷ []
 
--- The right operand is pushed on the left one. If it is no leaf, the left one waits for it in a temporary.
-abbrev pub onto : (in_order : Bool) → ℕ → (leaf : Bool) → List Piece → List Piece
+-- The right operand is pushed on the left one. If it takes three registers, the left one waits for it in a temporary.
+abbrev pub onto : (in_order : Bool) → ℕ → (small : Bool) → List Piece → List Piece
 onto in_order t true right = right
 onto in_order t false right = stores t ∷ right ++ back in_order t
 
--- A constant is pushed below an operand. If that is no leaf, it comes first.
-abbrev pub after_constant : ℤ → (leaf : Bool) → List Piece → List Piece
+-- A constant is pushed below an operand. If that takes three registers, it comes first.
+abbrev pub after_constant : ℤ → (small : Bool) → List Piece → List Piece
 after_constant v true code = constant v ∷ code
 after_constant v false code = code ++ constant v ∷ operates REVERSE ∷ []
 
@@ -211,11 +294,6 @@ after_constant v false code = code ++ constant v ∷ operates REVERSE ∷ []
 abbrev pub added_for : ArithmeticPair → Option ℤ → Option ℤ
 added_for arithmetic.Subtract (Some v) = checked_difference (pos 0) v
 added_for op v = None
-
--- the constant that an operand of a chain adds; to push the least word takes fewer bytes
-abbrev pub added_by : ChainOperator → Option ℤ → Option ℤ
-added_by (chain.Arithmetic arithmetic_chain.Add) (Some v) = if int_eq v least_word then None else Some v
-added_by op v = None
 
 -- a constant is added, or else this code is there
 abbrev pub adds_or : Option ℤ → List Piece → List Piece
@@ -263,12 +341,12 @@ pushes_of (pair.Arithmetic op) a b = arithmetic_pushes (added_for op b)
 pushes_of (pair.Comparison op) a b = comparison_pushes op a b
 
 abbrev pub pushed : Pushes → ℕ → Operand → Operand → List Piece
-pushed pushes.Both t x y = x.first ++ onto true t y.leaf y.second
-pushed pushes.Either t x y = x.first ++ onto false t y.leaf y.second
-pushed pushes.Exchanged t x y = y.first ++ onto true t x.leaf x.second
+pushed pushes.Both t x y = x.first ++ onto true t y.small y.second
+pushed pushes.Either t x y = x.first ++ onto false t y.small y.second
+pushed pushes.Exchanged t x y = y.first ++ onto true t x.small x.second
 pushed pushes.Left t x y = x.first
 pushed pushes.Right t x y = y.first
-pushed (pushes.OnConstant v) t x y = after_constant v x.leaf x.first
+pushed (pushes.OnConstant v) t x y = after_constant v x.small x.first
 pushed (pushes.BelowConstant v) t x y = x.first ++ constant v ∷ []
 
 -- What is pushed is compared with a constant, or two numbers are equal if they differ by 0.
@@ -295,9 +373,9 @@ pair_code (pair.Arithmetic op) a b = adds_or (added_for op b) (operates (pair_op
 pair_code (pair.Comparison op) a b = comparison_code op a b
 
 -- An operand more of a chain, by its value if it is a constant. The order of the operands of a chain does not matter.
-abbrev pub joined : ℕ → ChainOperator → Option ℤ → (leaf : Bool) → List Piece → List Piece
-joined t op value leaf right =
-    adds_or (added_by op value) (onto false t leaf right ++ operates (chain_operation op) ∷ [])
+abbrev pub joined : ℕ → ChainOperator → Option ℤ → (small : Bool) → List Piece → List Piece
+joined t op value small right =
+    adds_or (added_by op value) (onto false t small right ++ operates (chain_operation op) ∷ [])
 
 -- the value of this number of operands, if they belong to the front
 abbrev pub covered : Option Front → ℕ → Option ℤ
@@ -329,16 +407,25 @@ abbrev mutual
   expression_code hs es t (Chained op xs) =
       constant_or (exact_value (bound_of es (Chained op xs))) (terms_code hs es t op (front_in es op xs) xs)
 
+  -- the first operand of a chain
+  pub first_code : List Home → List Entry → ℕ → Expression → List Piece
+  first_code hs es t (Chained op xs) = first_of_terms hs es t xs
+  first_code hs es t e = []
+
+  pub first_of_terms : List Home → List Entry → ℕ → Terms → List Piece
+  first_of_terms hs es t (Two x y) = term_code hs es t x
+  first_of_terms hs es t (Then xs x) = first_of_terms hs es t xs
+
   -- operand by operand, with one constant for those at the front that are together a constant
   pub terms_code : List Home → List Entry → ℕ → ChainOperator → Option Front → Terms → List Piece
   terms_code hs es t op front (Two x y) =
       constant_or (covered front 2)
       (term_code hs es t x
-      ++ joined t op (exact_value (bound_of_term es y)) (is_leaf_term es y) (term_code hs es (t + 1) y))
+      ++ joined t op (exact_value (bound_of_term es y)) (is_small_term es y) (term_code hs es (t + 1) y))
   terms_code hs es t op front (Then xs x) =
       terms_code hs es t op front xs
       ++ unless (is_known (covered front (count_of xs + 1)))
-      (joined t op (exact_value (bound_of_term es x)) (is_leaf_term es x) (term_code hs es (t + 1) x))
+      (joined t op (exact_value (bound_of_term es x)) (is_small_term es x) (term_code hs es (t + 1) x))
 
   pub term_code : List Home → List Entry → ℕ → Term → List Piece
   term_code hs es t (Number value) = constant value ∷ []
@@ -350,7 +437,19 @@ abbrev mutual
       constant_or (exact_value (bound_of_term es (Named name)))
       (scalar_code (is_byte_reference (meaning_in name es)) (home_of hs es name))
   term_code hs es t (Element name e) =
-      element_code (home_of hs es name) (meaning_in name es) (single (range_found (bound_of es e)))
-      (expression_code hs es t e)
+      element_code (home_of hs es name) (meaning_in name es) (single (range_found (bound_of es e))) (record {
+        whole = expression_code hs es t e;
+        offset = offset_of es e;
+        first = first_code hs es t e;
+        small = is_small es e;
+      })
   term_code hs es t (Bracketed e) = expression_code hs es t e
   term_code hs es t (Converted to x) = term_code hs es t x
+
+abbrev pub subscript_of : List Home → List Entry → ℕ → Expression → Subscript
+subscript_of hs es t e = record {
+  whole = expression_code hs es t e;
+  offset = offset_of es e;
+  first = first_code hs es t e;
+  small = is_small es e;
+}

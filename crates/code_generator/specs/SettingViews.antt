@@ -12,7 +12,8 @@ use Rattle.code_pieces.specs.Pieces.{Piece}
 use Rattle.code_generator.specs.Homes.{Home}
 use Rattle.code_generator.specs.HomeViews.{homes_seen}
 use Rattle.code_generator.specs.Expressions.{expression_code, term_code, terms_code, onto, joined, pushed, beside}
-use Rattle.code_generator.specs.Expressions.{is_leaf_term, unless, is_known, covered, after_constant}
+use Rattle.code_generator.specs.Expressions.{is_small_term, unless, is_known, covered, after_constant}
+use Rattle.code_generator.specs.Expressions.{Subscript, subscript_of, first_code}
 
 abbrev pub entries_in : Setting → List Entry
 entries_in s = entries_of s.scope.now
@@ -22,6 +23,13 @@ homes_in s = homes_seen s.homes.now
 
 abbrev pub expression_in : Setting → Expression → List Piece
 expression_in s e = expression_code (homes_in s) (entries_in s) s.top e
+
+abbrev pub subscript_in : Setting → Expression → Subscript
+subscript_in s e = subscript_of (homes_in s) (entries_in s) s.top e
+
+-- the first operand of a chain
+abbrev pub first_in : Setting → Expression → List Piece
+first_in s e = first_code (homes_in s) (entries_in s) s.top e
 
 abbrev pub term_in : Setting → Term → List Piece
 term_in s x = term_code (homes_in s) (entries_in s) s.top x
@@ -34,17 +42,17 @@ abbrev pub term_above : Setting → Term → List Piece
 term_above s x = term_code (homes_in s) (entries_in s) (s.top + 1) x
 
 abbrev pub onto_in : (in_order : Bool) → Setting → Term → List Piece
-onto_in in_order s x = onto in_order s.top (is_leaf_term (entries_in s) x) (term_above s x)
+onto_in in_order s x = onto in_order s.top (is_small_term (entries_in s) x) (term_above s x)
 
 -- an operand on a constant
 abbrev pub on_constant_in : Setting → ℤ → Term → List Piece
-on_constant_in s v x = after_constant v (is_leaf_term (entries_in s) x) (term_in s x)
+on_constant_in s v x = after_constant v (is_small_term (entries_in s) x) (term_in s x)
 
 -- an operand of a chain, on those before it; nothing if its value is that of the front
 abbrev pub joined_in : Setting → ChainOperator → Option ℤ → Term → List Piece
 joined_in s op known x =
     unless (is_known known)
-    (joined s.top op (exact_value (bound_of_term (entries_in s) x)) (is_leaf_term (entries_in s) x) (term_above s x))
+    (joined s.top op (exact_value (bound_of_term (entries_in s) x)) (is_small_term (entries_in s) x) (term_above s x))
 
 -- the operands of a chain after this number of others
 abbrev pub others_in : Setting → ChainOperator → Option Front → ℕ → List Term → List Piece

@@ -4,14 +4,14 @@ use Rattle.occam_parser.specs.Views.{expression_of}
 use Rattle.code_generator.specs.declared.setting.Setting.{Setting}
 use Rattle.code_generator.specs.declared.targets.Target as code_target
 use Rattle.code_generator.specs.declared.targets.Target.TheVariants as targets
-use Rattle.code_generator.specs.SettingViews.{entries_in, homes_in, expression_in}
+use Rattle.code_generator.specs.SettingViews.{entries_in, homes_in, subscript_in}
 use Rattle.code_generator.specs.Actions.{Target, NoTarget, OwnWord, KnownElement, OtherElement, target_of}
 
 abbrev pub target_seen : Setting → code_target.Target → Target
 target_seen s targets.Nothing = NoTarget
 target_seen s (targets.Word type w) = OwnWord type w
 target_seen s (targets.Known type w n) = KnownElement type w n
-target_seen s (targets.Other type w subscript) = OtherElement type w (expression_in s (expression_of subscript.now))
+target_seen s (targets.Other type w subscript) = OtherElement type w (subscript_in s (expression_of subscript.now))
 
 abbrev pub target_in : Setting → Place → Target
 target_in s p = target_of (homes_in s) (entries_in s) s.top p

@@ -1,6 +1,6 @@
 //! Writing the code of assignments, inputs, outputs and tests. If a function fails, some pieces more may have come.
 
-ghost use Rattle.std.specs.Prelude.{◌≡◌, ◌++◌, ◌*◌, IfOk, option_map, pos};
+ghost use Rattle.std.specs.Prelude.{◌≡◌, ◌++◌, ◌∷◌, [], ◌*◌, IfOk, option_map, pos};
 ghost use Rattle.occam_parser.specs.LineViews.{place_of};
 ghost use Rattle.occam_parser.specs.Views.{expression_of};
 ghost use Rattle.scalar_ranges.specs.Scopes.{meaning_of};
@@ -8,12 +8,13 @@ ghost use Rattle.code_generator.specs.HomeViews.{home_seen};
 ghost use Rattle.code_pieces.specs.Pieces.{moves};
 ghost use Rattle.code_generator.specs.Actions.{stores_below, store_known, store_code, assign_code, target_address};
 ghost use Rattle.code_generator.specs.Actions.{channel_code, element_home, channel_home, length_of, carried, exchange};
+ghost use Rattle.code_generator.specs.Actions.{stores_at, store_other, stored_offset};
 ghost use Rattle.code_generator.specs.Actions.{link_code, cleaned, input_code, output_code, test_code};
 ghost use Rattle.code_generator.specs.Noted.{place_code};
-ghost use Rattle.code_generator.specs.SettingViews.{entries_in, homes_in};
+ghost use Rattle.code_generator.specs.SettingViews.{entries_in, homes_in, subscript_in};
 ghost use Rattle.code_generator.specs.TargetViews.{target_seen};
 
-use crate::expressions::single;
+use crate::expressions::{is_small, offset_of, or_zero, single};
 use crate::home::Home;
 use crate::listing::Listing;
 use crate::noting::{ChannelEnd, ChannelPlace, Way};
@@ -37,15 +38,27 @@ impl Listing {
         self.operate(operations::MOVE)
     }
 
-    /// What is in a temporary goes to the address in A.
-    fn write_store_below(&mut self, value_type: ValueType, temporary: u32) -> Result<(), GenFault>
-        ensures { IfOk result (λ _. self.new ≡ self.old ++ stores_below value_type temporary) }
+    /// What is in B goes so many words behind the address in A, or a byte to that.
+    fn write_store_at(&mut self, value_type: ValueType, offset: i32) -> Result<(), GenFault>
+        ensures { IfOk result (λ _. self.new ≡ self.old ++ stores_at value_type offset ∷ []) }
     {
-        self.push_below(temporary)?;
         match value_type {
-            ValueType::Int => self.direct(Fun::StoreNonLocal, 0),
+            ValueType::Int => self.direct(Fun::StoreNonLocal, offset),
             ValueType::Byte => self.operate(operations::STORE_BYTE),
         }
+    }
+
+    /// What is in a temporary goes there.
+    fn write_store_below(
+        &mut self,
+        value_type: ValueType,
+        offset: i32,
+        temporary: u32,
+    ) -> Result<(), GenFault>
+        ensures { IfOk result (λ _. self.new ≡ self.old ++ stores_below value_type offset temporary) }
+    {
+        self.push_below(temporary)?;
+        self.write_store_at(value_type, offset)
     }
 
     /// What is in a temporary is stored in an element.
@@ -62,12 +75,37 @@ impl Listing {
             ValueType::Int => self.write_moves(1, temporary, word_after(word, number)?),
             ValueType::Byte => {
                 self.write_known_address(value_type, word, number)?;
-                self.write_store_below(value_type, temporary)
+                self.write_store_below(value_type, 0, temporary)
             }
         }
     }
 
-    /// What is in A is stored, by way of a temporary if the target is an element.
+    /// What is in A is stored in an element whose number varies. If its subscript takes three registers, it waits in a
+    /// temporary.
+    fn write_store_other(
+        &mut self,
+        setting: Setting,
+        value_type: ValueType,
+        word: u32,
+        subscript: &Expr,
+        temporary: u32,
+    ) -> Result<(), GenFault>
+        ensures { IfOk result (λ _. self.new ≡ self.old ++ store_other value_type word
+            (subscript_in setting.entry (expression_of subscript.now)) temporary) }
+    {
+        let offset = stored_offset(value_type, offset_of(setting.scope, subscript));
+        if is_small(setting.scope, subscript) {
+            self.write_without(setting, offset, subscript)?;
+            self.write_subscript(value_type, word)?;
+            return self.write_store_at(value_type, or_zero(offset));
+        }
+        self.store(temporary)?;
+        self.write_without(setting, offset, subscript)?;
+        self.write_subscript(value_type, word)?;
+        self.write_store_below(value_type, or_zero(offset), temporary)
+    }
+
+    /// What is in A is stored, maybe by way of a temporary if the target is an element.
     fn write_store(
         &mut self,
         setting: Setting,
@@ -92,12 +130,7 @@ impl Listing {
                 value_type,
                 word,
                 subscript,
-            } => {
-                self.store(temporary)?;
-                self.write_expression(setting, subscript)?;
-                self.write_subscript(value_type, word)?;
-                self.write_store_below(value_type, temporary)
-            }
+            } => self.write_store_other(setting, value_type, word, subscript, temporary),
         }
     }
 
@@ -292,6 +325,16 @@ fn channel_at(setting: Setting, channel: &Place) -> Result<Option<ChannelPlace>,
             }
         }
         _ => Ok(None),
+    }
+}
+
+/// The constant that a subscript ends with, for words.
+fn stored_offset(value_type: ValueType, offset: Option<i32>) -> Option<i32>
+    ensures { result ≡ stored_offset value_type offset }
+{
+    match value_type {
+        ValueType::Int => offset,
+        ValueType::Byte => None,
     }
 }
 

@@ -1,6 +1,6 @@
 //! The code of expressions: it pushes the value, and keeps nothing that was in the registers.
 
-ghost use Rattle.std.specs.Prelude.{◌≡◌, ◌++◌, ◌∷◌, [], IfOk, ◌+◌, suc, option_map, unsigned_abs};
+ghost use Rattle.std.specs.Prelude.{◌≡◌, ◌++◌, ◌∷◌, [], IfOk, ◌+◌, ◌&&◌, suc, map, option_map, unsigned_abs};
 ghost use Rattle.prefix_decoder.specs.declared.function.Fun.TheVariants as fun;
 ghost use Rattle.occam_parser.specs.Views.{expression_of, term_of};
 ghost use Rattle.scalar_ranges.specs.Scopes.{entries_of, meaning_of};
@@ -12,6 +12,8 @@ ghost use Rattle.code_generator.specs.Homes.{home_of};
 ghost use Rattle.scalar_ranges.specs.FrontViews.{seen_front};
 ghost use Rattle.code_generator.specs.Expressions.{covered, pair_operation, chain_operation, prefix_code, single};
 ghost use Rattle.code_generator.specs.Expressions.{is_byte_reference, scalar_code, is_leaf, is_leaf_term, is_pushed};
+ghost use Rattle.code_generator.specs.Expressions.{offset_of, offset_or_none, or_zero};
+ghost use Rattle.code_generator.specs.Expressions.{are_leaves, is_left_first, is_small, is_small_term};
 ghost use Rattle.code_generator.specs.Expressions.{byte_address, address_code, element_of_words, element_of_table};
 ghost use Rattle.code_generator.specs.Expressions.{element_code, expression_code, term_code, truth, known_address};
 ghost use Rattle.code_generator.specs.Expressions.{subscript_code, pushes_of, pair_code, equality_code};
@@ -28,7 +30,7 @@ use occam_parser::{
     PairOperator, PrefixOperator, ValueType,
 };
 use prefix_decoder::Fun;
-use scalar_ranges::{ArrayKind, Front, Meaning, ScalarKind, Scope, value_of};
+use scalar_ranges::{ArrayKind, Front, Meaning, ScalarKind, Scope, read_operand, value_of};
 use word_arithmetic::{Range, checked_add, checked_sub};
 
 /// The operation that an operator between two numbers is.
@@ -186,6 +188,51 @@ pub(crate) fn single(range: Result<Range, u8>) -> Option<i32>
     }
 }
 
+/// The most words that an element may be behind the address of another one.
+const GREATEST_OFFSET: i32 = 16_383;
+
+/// The constant that an expression adds to the first operand of two: the element that the sum selects is so many words
+/// behind the one that the first operand would select.
+pub(crate) fn offset_of(scope: &Scope, expr: &Expr) -> Option<i32>
+    ensures { result ≡ offset_of (entries_of scope.now) (expression_of expr.now) }
+{
+    match &*expr.operation {
+        Operation::Chain {
+            operator,
+            second,
+            others,
+            ..
+        } => {
+            if !others.is_empty() {
+                return None;
+            }
+            let value = read_operand(scope, second).value();
+            offset_or_none(added_by(*operator, value))
+        }
+        Operation::Operand(_) | Operation::Prefix { .. } | Operation::Pair { .. } => None,
+    }
+}
+
+/// A constant, if it may be an offset.
+fn offset_or_none(value: Option<i32>) -> Option<i32>
+    ensures { result ≡ offset_or_none value }
+{
+    match value {
+        Some(value) if 0 <= value && value <= GREATEST_OFFSET => Some(value),
+        _ => None,
+    }
+}
+
+/// The words of an offset, or none.
+pub(crate) fn or_zero(offset: Option<i32>) -> i32
+    ensures { result ≡ or_zero offset }
+{
+    match offset {
+        Some(words) => words,
+        None => 0,
+    }
+}
+
 /// Whether what has this meaning is a parameter that is a BYTE variable.
 pub(crate) fn is_byte_reference(meaning: Option<Meaning>) -> bool
     ensures { result ≡ is_byte_reference (option_map meaning_of meaning) }
@@ -238,9 +285,9 @@ fn is_leaf(scope: &Scope, expr: &Expr) -> bool
     }
 }
 
-/// Whether an operand is one push. Then the operand before it may stay in a register.
+/// Whether an operand is one push.
 #[cycle(leaf)]
-pub(crate) fn is_leaf_term(scope: &Scope, operand: &Operand) -> bool
+fn is_leaf_term(scope: &Scope, operand: &Operand) -> bool
     ensures { result ≡ is_leaf_term (entries_of scope.now) (term_of operand.now) }
 {
     match operand {
@@ -253,6 +300,94 @@ pub(crate) fn is_leaf_term(scope: &Scope, operand: &Operand) -> bool
         Operand::Element { .. } => false,
         Operand::Bracketed(inner) => is_leaf(scope, inner),
         Operand::Converted { operand, .. } => is_leaf_term(scope, operand),
+    }
+}
+
+/// Whether operands are one push each.
+fn are_leaves(scope: &Scope, operands: &[Operand]) -> bool
+    ensures { result ≡ are_leaves (entries_of scope.now) (map term_of operands.now) }
+{
+    for operand in operands {
+        if !is_leaf_term(scope, operand) {
+            return false;
+        }
+    }
+    true
+}
+
+/// Whether all three are so.
+fn all_three(first: bool, second: bool, third: bool) -> bool
+    ensures { result ≡ (first && second && third) }
+{
+    first && second && third
+}
+
+/// Whether nothing is pushed before the left operand of this operator, whatever both are.
+fn is_left_first(operator: PairOperator) -> bool
+    ensures { result ≡ is_left_first operator }
+{
+    match operator {
+        PairOperator::Arithmetic(_)
+        | PairOperator::Comparison(
+            Comparison::Greater | Comparison::Equal | Comparison::NotEqual,
+        ) => true,
+        PairOperator::Comparison(
+            Comparison::Less | Comparison::LessOrEqual | Comparison::GreaterOrEqual,
+        ) => false,
+    }
+}
+
+/// Whether an expression takes two registers at most.
+#[cycle(small)]
+pub(crate) fn is_small(scope: &Scope, expr: &Expr) -> bool
+    ensures { result ≡ is_small (entries_of scope.now) (expression_of expr.now) }
+{
+    match &*expr.operation {
+        Operation::Operand(operand) => is_small_term(scope, operand),
+        Operation::Prefix { operand, .. } => is_small_term(scope, operand),
+        Operation::Pair {
+            operator,
+            left,
+            right,
+        } => {
+            let second = is_leaf_term(scope, right);
+            if is_left_first(*operator) {
+                let first = is_small_term(scope, left);
+                first && second
+            } else {
+                let first = is_leaf_term(scope, left);
+                first && second
+            }
+        }
+        Operation::Chain {
+            first,
+            second,
+            others,
+            ..
+        } => {
+            let first = is_small_term(scope, first);
+            let second = is_leaf_term(scope, second);
+            let others = are_leaves(scope, others);
+            all_three(first, second, others)
+        }
+    }
+}
+
+/// Whether an operand takes two registers at most. Then what is pushed before it may stay in the third one.
+#[cycle(small)]
+pub(crate) fn is_small_term(scope: &Scope, operand: &Operand) -> bool
+    ensures { result ≡ is_small_term (entries_of scope.now) (term_of operand.now) }
+{
+    match operand {
+        Operand::Integer(_)
+        | Operand::Character(_)
+        | Operand::Truth(_)
+        | Operand::MostPos
+        | Operand::MostNeg
+        | Operand::Name(_) => true,
+        Operand::Element { subscript, .. } => is_small(scope, subscript),
+        Operand::Bracketed(inner) => is_small(scope, inner),
+        Operand::Converted { operand, .. } => is_small_term(scope, operand),
     }
 }
 

@@ -8,16 +8,14 @@ ghost use Rattle.scalar_ranges.specs.Bounds.{bound_of, range_found};
 ghost use Rattle.scalar_ranges.specs.FrontViews.{seen_front};
 ghost use Rattle.code_generator.specs.Homes.{home_of};
 ghost use Rattle.code_generator.specs.SettingViews.{entries_in, homes_in, expression_in, term_in, onto_in, joined_in};
-ghost use Rattle.code_generator.specs.SettingViews.{on_constant_in};
+ghost use Rattle.code_generator.specs.SettingViews.{on_constant_in, subscript_in, first_in};
 ghost use Rattle.code_generator.specs.SettingViews.{others_in, operands_in, value_in, front_at};
 ghost use Rattle.code_generator.specs.Expressions.{single, address_code, element_of_words, table_element};
-ghost use Rattle.code_generator.specs.Expressions.{element_code};
-ghost use Rattle.code_pieces.specs.declared.operations.TheConstants.{WORD_SUBSCRIPT};
-ghost use Rattle.code_pieces.specs.Pieces.{TableAddress, operates};
+ghost use Rattle.code_generator.specs.Expressions.{element_code, without};
 
 use crate::expressions::{
-    Pushes, added_by, are_passed_bytes, chain_operation, covered, is_byte_reference, is_leaf_term,
-    pushes_of, single,
+    Pushes, added_by, are_passed_bytes, chain_operation, covered, is_byte_reference, is_small_term,
+    offset_of, or_zero, pushes_of, single,
 };
 use crate::home::Home;
 use crate::listing::Listing;
@@ -139,7 +137,7 @@ impl Listing {
     ) -> Result<(), GenFault>
         ensures { IfOk result (λ _. self.new ≡ self.old ++ on_constant_in setting.entry value (term_of operand.now)) }
     {
-        if is_leaf_term(setting.scope, operand) {
+        if is_small_term(setting.scope, operand) {
             self.constant(value)?;
             return self.write_operand(setting, operand);
         }
@@ -159,7 +157,7 @@ impl Listing {
         ensures { IfOk result (λ _. self.new ≡ self.old ++ onto_in in_order setting.entry (term_of right.now)) }
     {
         let above = setting.above()?;
-        if is_leaf_term(setting.scope, right) {
+        if is_small_term(setting.scope, right) {
             return self.write_operand(above, right);
         }
         self.store(setting.top)?;
@@ -245,7 +243,7 @@ impl Listing {
             ++ element_code (home_of (homes_in setting.entry) (entries_in setting.entry) name.now)
             (meaning_in name.now (entries_in setting.entry))
             (single (range_found (bound_of (entries_in setting.entry) (expression_of subscript.now))))
-            (expression_in setting.entry (expression_of subscript.now))) }
+            (subscript_in setting.entry (expression_of subscript.now))) }
     {
         match (setting.home(name), setting.scope.meaning(name)) {
             (
@@ -270,7 +268,7 @@ impl Listing {
     ) -> Result<(), GenFault>
         ensures { IfOk result (λ _. self.new ≡ self.old ++ table_element is_byte values.now.value.items
             (single (range_found (bound_of (entries_in setting.entry) (expression_of subscript.now))))
-            (expression_in setting.entry (expression_of subscript.now))) }
+            (subscript_in setting.entry (expression_of subscript.now))) }
     {
         match (single(range_of(setting.scope, subscript)), is_byte) {
             (Some(number), false) => {
@@ -283,30 +281,51 @@ impl Listing {
                 self.operate(operations::LOAD_BYTE)
             }
             (None, false) => {
-                self.write_table_address(setting, values, subscript)?;
-                self.direct(Fun::LoadNonLocal, 0)
+                let offset = offset_of(setting.scope, subscript);
+                self.write_without(setting, offset, subscript)?;
+                self.table(values)?;
+                self.operate(operations::WORD_SUBSCRIPT)?;
+                self.direct(Fun::LoadNonLocal, or_zero(offset))
             }
             (None, true) => {
-                self.write_table_address(setting, values, subscript)?;
+                self.write_expression(setting, subscript)?;
+                self.table(values)?;
+                self.operate(operations::WORD_SUBSCRIPT)?;
                 self.operate(operations::LOAD_BYTE)
             }
         }
     }
 
-    /// The address of an element of a table.
+    /// A subscript without the constant that it ends with, if there is one.
     #[cycle(write)]
-    fn write_table_address(
+    pub(crate) fn write_without(
         &mut self,
         setting: Setting,
-        values: &Rc<Vec<i32>>,
+        offset: Option<i32>,
         subscript: &Expr,
     ) -> Result<(), GenFault>
-        ensures { IfOk result (λ _. self.new ≡ self.old ++ (expression_in setting.entry (expression_of subscript.now)
-            ++ TableAddress values.now.value.items ∷ operates WORD_SUBSCRIPT ∷ [])) }
+        ensures { IfOk result (λ _. self.new ≡ self.old ++ without offset
+            (expression_in setting.entry (expression_of subscript.now))
+            (first_in setting.entry (expression_of subscript.now))) }
     {
-        self.write_expression(setting, subscript)?;
-        self.table(values)?;
-        self.operate(operations::WORD_SUBSCRIPT)
+        match offset {
+            Some(_) => {
+                self.read(subscript)?;
+                self.write_first(setting, &subscript.operation)
+            }
+            None => self.write_expression(setting, subscript),
+        }
+    }
+
+    /// The first operand of a chain. Another operation has none.
+    #[cycle(write)]
+    fn write_first(&mut self, setting: Setting, operation: &Operation) -> Result<(), GenFault>
+        ensures { IfOk result (λ _. self.new ≡ self.old ++ first_in setting.entry (operation_of operation.now)) }
+    {
+        match operation {
+            Operation::Chain { first, .. } => self.write_operand(setting, first),
+            Operation::Operand(_) | Operation::Prefix { .. } | Operation::Pair { .. } => Ok(()),
+        }
     }
 
     /// An element of an array whose words begin with this one.
@@ -320,7 +339,7 @@ impl Listing {
     ) -> Result<(), GenFault>
         ensures { IfOk result (λ _. self.new ≡ self.old ++ element_of_words value_type word
             (single (range_found (bound_of (entries_in setting.entry) (expression_of subscript.now))))
-            (expression_in setting.entry (expression_of subscript.now))) }
+            (subscript_in setting.entry (expression_of subscript.now))) }
     {
         self.reads(word)?;
         match (value_type, single(range_of(setting.scope, subscript))) {
@@ -328,8 +347,10 @@ impl Listing {
                 self.load(word_after(word, number.unsigned_abs())?)
             }
             (ValueType::Int, None) => {
-                self.write_address(setting, value_type, word, subscript)?;
-                self.direct(Fun::LoadNonLocal, 0)
+                let offset = offset_of(setting.scope, subscript);
+                self.write_without(setting, offset, subscript)?;
+                self.write_subscript(value_type, word)?;
+                self.direct(Fun::LoadNonLocal, or_zero(offset))
             }
             (ValueType::Byte, _) => {
                 self.write_address(setting, value_type, word, subscript)?;

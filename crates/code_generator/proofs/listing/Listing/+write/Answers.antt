@@ -6,6 +6,7 @@ use Rattle.occam_parser.specs.Views.{operation_of, term_of, with_others}
 use Rattle.occam_parser.proofs.Seen.{view-Chain}
 use Rattle.scalar_ranges.specs.FrontViews.{seen_front}
 use Rattle.code_generator.proofs.ChainCode.{others_next, others_done, front_known, front_pushed, chain_written_if}
+use Rattle.code_generator.proofs.OffsetsFound.{first_written}
 use Rattle.code_generator.proofs.OperandsBelow.{onto_written_if}
 use Rattle.code_generator.proofs.listing.Listing.+write.Goals as goal
 
@@ -54,9 +55,16 @@ pub write_onto-returns : goal.write_onto-returns
 write_onto-returns t c =
     let above = c.in_ok-above in
     onto_written_if c.push_back.result c.args.in_order c.args.setting above.above (term_of c.args.right.now)
-    c.is_leaf_term.result c.args.self.now c.store.new.self c.write_operand-2.new.self c.push_back.new.self c.if-is_leaf_term.false
-    c.is_leaf_term.ensures above.ensures.scope above.ensures.homes above.ensures.top c.in_ok-store.ensures
+    c.is_small_term.result c.args.self.now c.store.new.self c.write_operand-2.new.self c.push_back.new.self c.if-is_small_term.false
+    c.is_small_term.ensures above.ensures.scope above.ensures.homes above.ensures.top c.in_ok-store.ensures
     c.in_ok-write_operand.ensures c.push_back.ensures
+
+pub write_first-returns-in-Chain : goal.write_first-returns-in-Chain
+write_first-returns-in-Chain t c =
+    let chain = c.in-Chain in
+    first_written c.write_operand.result c.args.setting chain.operator chain.first chain.second chain.others
+    (operation_of c.args.operation.now) c.args.self.now c.write_operand.new.self (ap operation_of chain.is)
+    c.write_operand.ensures
 
 pub write_others-loop-place-init : goal.write_others-loop-place-init
 write_others-loop-place-init t c = sym (append-nil c.args.self.now)
