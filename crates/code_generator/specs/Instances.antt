@@ -129,7 +129,15 @@ abbrev pub is_own_word : Target → Bool
 is_own_word (OwnWord type w) = true
 is_own_word other = false
 
--- whether the machine knows more of a scalar after an action than its range
+abbrev pub place_reads_table : List Home → List Entry → Place → Bool
+place_reads_table hs es p = elim p.subscript [
+  | None ↦ false
+  | Some e ↦ reads_table hs es e
+]
+
+-- Whether the machine knows more after an action than is known of scalars and elements: the range of the value, or which
+-- element has it.
 abbrev pub is_finer : List Home → List Entry → ℕ → Action → Bool
-is_finer hs es t (Assign target value) = is_own_word (target_of hs es t target) && reads_table hs es value
+is_finer hs es t (Assign target value) =
+    (is_own_word (target_of hs es t target) && reads_table hs es value) || place_reads_table hs es target
 is_finer hs es t action = false

@@ -1,4 +1,4 @@
-//! The code of expressions: it pushes the value, and keeps nothing that was in the registers.
+//! The code of expressions: it pushes the value. Of the registers it keeps at most A, below the value, if it is small.
 
 ghost use Rattle.std.specs.Prelude.{◌≡◌, ◌++◌, ◌∷◌, [], IfOk, ◌+◌, ◌&&◌, suc, map, option_map, unsigned_abs};
 ghost use Rattle.prefix_decoder.specs.declared.function.Fun.TheVariants as fun;

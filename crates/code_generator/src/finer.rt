@@ -1,11 +1,13 @@
-//! Where the machine knows more of a scalar than its range.
+//! Where the machine knows more of a scalar than its range, or more of an array than is known of its elements.
 
 ghost use Rattle.std.specs.Prelude.{◌≡◌, ◌||◌, option_map};
 ghost use Rattle.occam_parser.specs.Views.{expression_of, term_of};
 ghost use Rattle.occam_parser.specs.LineViews.{action_of};
 ghost use Rattle.scalar_ranges.specs.Scopes.{meaning_of};
 ghost use Rattle.code_generator.specs.HomeViews.{home_seen};
-ghost use Rattle.code_generator.specs.Instances.{is_passed_table, reads_table, reads_table_term, is_own_word, is_finer};
+ghost use Rattle.program_uses.specs.PlaceViews.{place_at};
+ghost use Rattle.code_generator.specs.Instances.{is_passed_table, reads_table, reads_table_term, place_reads_table};
+ghost use Rattle.code_generator.specs.Instances.{is_own_word, is_finer};
 ghost use Rattle.code_generator.specs.SettingViews.{entries_in, homes_in};
 ghost use Rattle.code_generator.specs.TargetViews.{target_seen};
 
@@ -13,7 +15,7 @@ use crate::home::Home;
 use crate::setting::Setting;
 use crate::targets::{Target, target_of};
 use occam_parser::{Action, Expr, Operand, Operation, ValueType};
-use program_uses::place_ref;
+use program_uses::{PlaceRef, place_ref};
 use scalar_ranges::{ArrayKind, Meaning};
 
 /// Whether this is a table of INT that is passed, of whose elements the machine knows more than their type.
@@ -105,7 +107,18 @@ fn is_own_word(setting: Setting, target: Target) -> bool
     }
 }
 
-/// Whether the machine knows more of a scalar after an action than its range.
+/// Whether the subscript of a place reads an element of such a table.
+fn place_reads_table(setting: Setting, place: PlaceRef) -> bool
+    ensures { result ≡ place_reads_table (homes_in setting.entry) (entries_in setting.entry) (place_at place.entry) }
+{
+    match place.subscript {
+        None => false,
+        Some(subscript) => reads_table(setting, subscript),
+    }
+}
+
+/// Whether the machine knows more after an action than is known of scalars and elements: the range of the value, or
+/// which element has it.
 pub(crate) fn is_finer(setting: Setting, action: &Action) -> bool
     ensures { result ≡ is_finer (homes_in setting.entry) (entries_in setting.entry) setting.entry.top
         (action_of action.now) }
@@ -114,7 +127,8 @@ pub(crate) fn is_finer(setting: Setting, action: &Action) -> bool
         Action::Assign { target, value } => {
             let is_own = is_own_word(setting, target_of(setting, place_ref(target)));
             let reads = reads_table(setting, value);
-            is_own && reads
+            let reads_in_place = place_reads_table(setting, place_ref(target));
+            either(is_own && reads, reads_in_place)
         }
         Action::Skip
         | Action::Stop
