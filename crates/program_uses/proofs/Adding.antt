@@ -1,16 +1,15 @@
 -- What a set of uses has after one use more, after several in turn, and after a loop.
-use Rattle.std.proofs.Common.{◌≡◌, ℕ, suc, ◌+◌, ◌<◌, ◌≤◌, Bool, true, false, cond, ◌&&◌, ◌||◌, List, [], ◌∷◌, ◌++◌}
+use Rattle.std.proofs.Common.{◌≡◌, ℕ, suc, ◌+◌, ◌<◌, ◌≤◌, Bool, true, false, ◌&&◌, ◌||◌, List, [], ◌∷◌, ◌++◌}
 use Rattle.std.proofs.Common.{length, take, get_or, nat_eq, refl, sym, ap, subst, ◌∙◌, arith, append_assoc}
 use Rattle.std.proofs.Common.{add-zero}
 use Rattle.std.proofs.lemmas.List.{take_more, take_all, length-take, append-nil}
-use Rattle.std.proofs.lemmas.Bool.{and_parts}
 use Rattle.std.proofs.lemmas.Bool.Decides.{nat_tests}
 use Rattle.program_uses.specs.declared.uses.Direction.{Direction}
 use Rattle.program_uses.specs.declared.uses.Direction.TheVariants as direction
 use Rattle.program_uses.specs.declared.uses.Use.{Use}
 use Rattle.program_uses.specs.declared.uses.Use.TheVariants as used
 use Rattle.program_uses.specs.declared.uses.Uses.{Uses}
-use Rattle.program_uses.specs.Sets.{is_same_way, is_same, is_among, members_of, has, Adds, Joins}
+use Rattle.program_uses.specs.Sets.{is_same_way, is_same, is_among, has, Adds}
 
 flips_number : (a b : ℕ) → nat_eq a b ≡ nat_eq b a
 flips_number a b = grind (arith, nat_tests)
@@ -39,12 +38,6 @@ or_none : (a : Bool) → a ≡ (a || false)
 or_none true = refl
 or_none false = refl
 
-one_more : (a b : Bool) → cond a true b ≡ (b || (a || false))
-one_more true true = refl
-one_more true false = refl
-one_more false true = refl
-one_more false false = refl
-
 or_assoc : (a b c : Bool) → ((a || b) || c) ≡ (a || (b || c))
 or_assoc true b c = refl
 or_assoc false b c = refl
@@ -55,13 +48,6 @@ among_both (w ∷ us) vs u =
     ap (λ t. is_same u w || t) (among_both us vs u) ∙ sym (or_assoc (is_same u w) (is_among us u) (is_among vs u))
 
 -- ---- sets
-
-pub adds_one : (old new : Uses) (item : Use) → (new.complete ≡ true → old.complete ≡ true)
-    → ((u : Use) → has new u ≡ cond (is_same item u) true (has old u)) → Adds old new (item ∷ [])
-adds_one old new item complete h = record {
-  complete = complete;
-  has = λ e u. h u ∙ ap (λ t. cond t true (has old u)) (flips item u) ∙ one_more (is_same u item) (has old u);
-}
 
 pub adds_none : (s : Uses) → Adds s s []
 adds_none s = record { complete = λ e. e; has = λ e u. or_none (has s u) }
@@ -80,52 +66,6 @@ adds_as {s = s} {t = t} e a = subst (Adds s t) e a
 pub has_exactly : {s t : Uses} {us : List Use} → ((u : Use) → has s u ≡ false) → Adds s t us → t.complete ≡ true
     → has t ≡ is_among us
 has_exactly {us = us} nothing a complete = λ i u. (a.has complete u ∙ ap (λ b. b || is_among us u) (nothing u)) i
-
--- ---- a set that another one joins
-
-or_turned : (a b : Bool) → (a || b) ≡ (b || a)
-or_turned true true = refl
-or_turned true false = refl
-or_turned false true = refl
-or_turned false false = refl
-
-pub joins_turned : {s t w : Uses} → Joins s w t → Joins t w s
-joins_turned {s} {t} joins = record {
-  complete = λ e. (let both = joins.complete e in (both.1, both.0));
-  has = λ e u. joins.has e u ∙ or_turned (has s u) (has t u);
-}
-
--- With the items that are left a set has what it will have in the end.
-pub record JoinsWith (s t other : Uses) (rest : List Use) : Type 0 where
-  pub complete : t.complete ≡ true → (s.complete ≡ true) × (other.complete ≡ true)
-  pub has : t.complete ≡ true → (u : Use) → (has t u || is_among rest u) ≡ (has s u || has other u)
-
-pub joins_first : (s t other : Uses) (rest : List Use) → t.set ≡ s.set
-    → t.complete ≡ (s.complete && other.complete) → rest ≡ members_of other → JoinsWith s t other rest
-joins_first s t other rest same complete all = record {
-  complete = λ e. and_parts s.complete other.complete (sym complete ∙ e);
-  has = λ e u i. is_among (same i).keys u || is_among (all i) u;
-}
-
-moved_on : (a b c : Bool) → ((a || (b || false)) || c) ≡ (a || (b || c))
-moved_on true b c = refl
-moved_on false true c = refl
-moved_on false false c = refl
-
-pub joins_next : {s t w other : Uses} (rest items : List Use) (item : Use) → rest ≡ item ∷ items
-    → JoinsWith s t other rest → Adds t w (item ∷ []) → JoinsWith s w other items
-joins_next {t = t} rest items item is before one = record {
-  complete = λ e. before.complete (one.complete e);
-  has = λ e u. ap (λ k. k || is_among items u) (one.has e u)
-      ∙ moved_on (has t u) (is_same u item) (is_among items u)
-      ∙ ap (λ xs. has t u || is_among xs u) (sym is) ∙ before.has (one.complete e) u;
-}
-
-pub joins_all : {s t other : Uses} (rest : List Use) → rest ≡ [] → JoinsWith s t other rest → Joins s t other
-joins_all {t = t} rest none all = record {
-  complete = all.complete;
-  has = λ e u. or_none (has t u) ∙ ap (λ xs. has t u || is_among xs u) (sym none) ∙ all.has e u;
-}
 
 -- ---- loops
 

@@ -19,7 +19,7 @@ use Rattle.program_uses.specs.declared.uses.Direction.{Direction}
 use Rattle.program_uses.specs.declared.uses.Direction.TheVariants as direction
 use Rattle.program_uses.specs.declared.uses.Use.{Use}
 use Rattle.program_uses.specs.declared.uses.Use.TheVariants as used
-use Rattle.program_uses.specs.Sets.{is_same_way, is_same, is_among}
+use Rattle.program_uses.specs.Sets.{is_same_way, is_same, is_among, use_of}
 use Rattle.program_uses.specs.Ends.{way_place, end_order, with_use, sorted_ends, is_parameter, of_parameters}
 
 -- ---- the order
@@ -67,9 +67,6 @@ is_eq_way direction.Input direction.Input = refl
 is_eq_way direction.Input direction.Output = refl
 is_eq_way direction.Output direction.Input = refl
 is_eq_way direction.Output direction.Output = refl
-
-abbrev use_of : ChannelEnd → Use
-use_of d = used.Channel d.channel d.end.element d.end.direction
 
 is_at_end : (d e : ChannelEnd) → is_at (end_order d) e ≡ is_same (use_of d) (use_of e)
 is_at_end d e =

@@ -1,4 +1,7 @@
+pub mod Words
+pub mod Numbers
 pub mod Sets
+pub mod InCommon
 pub mod Constants
 pub mod Mentions
 pub mod Places

@@ -1,11 +1,14 @@
 -- What a set of uses has.
-use Rattle.std.specs.Prelude.{◌≡◌, Bool, true, false, ◌&&◌, ◌||◌, List, nat_eq}
+use Rattle.std.specs.Prelude.{◌≡◌, Bool, true, false, ◌&&◌, ◌||◌, List, ◌++◌, map, nat_eq}
 use Rattle.std.specs.List.{list_any}
+use Rattle.program_uses.specs.declared.ends.ChannelEnd.{ChannelEnd}
+use Rattle.program_uses.specs.declared.used_ends.UsedEnds.{UsedEnds}
 use Rattle.program_uses.specs.declared.uses.Direction.{Direction}
 use Rattle.program_uses.specs.declared.uses.Direction.TheVariants as direction
 use Rattle.program_uses.specs.declared.uses.Use.{Use}
 use Rattle.program_uses.specs.declared.uses.Use.TheVariants as used
 use Rattle.program_uses.specs.declared.uses.Uses.{Uses}
+use Rattle.program_uses.specs.Numbers.{numbers_of}
 
 abbrev pub is_same_way : Direction → Direction → Bool
 is_same_way direction.Input direction.Input = true
@@ -21,9 +24,15 @@ is_same u v = false
 abbrev pub is_among : List Use → Use → Bool
 is_among us u = list_any (is_same u) us
 
+abbrev pub use_of : ChannelEnd → Use
+use_of d = used.Channel d.channel d.end.element d.end.direction
+
+abbrev pub uses_at : UsedEnds → List Use
+uses_at s = map use_of s.set.keys
+
 -- each use that a set has
-abbrev pub members_of : Uses → List Use
-members_of s = s.set.keys
+unfoldable pub members_of : Uses → List Use
+members_of s = map used.Read (numbers_of s.reads) ++ (map used.Change (numbers_of s.changes) ++ uses_at s.ends)
 
 abbrev pub has : Uses → Use → Bool
 has s u = is_among (members_of s) u

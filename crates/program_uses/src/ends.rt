@@ -6,7 +6,7 @@ ghost use Rattle.program_uses.specs.Sets.{members_of};
 ghost use Rattle.program_uses.specs.Signatures.{parameter_of, parameters_of};
 
 use crate::signature::{Parameter, Signature};
-use crate::uses::{End, Use, Uses};
+use crate::uses::{End, Uses};
 use std::alloc::{AllocError, Global};
 use std::collections::BTreeSet;
 
@@ -32,21 +32,13 @@ fn sorted_ends(
     first: usize,
     count: usize,
 ) -> Result<BTreeSet<ChannelEnd>, AllocError>
-    ensures { IfOk result (λ ends. ends.keys ≡ sorted_ends (of_parameters first count uses.now.set.keys)) }
+    ensures { IfOk result (λ ends. ends.keys ≡ sorted_ends (of_parameters first count (members_of uses.now))) }
 {
     let mut ends = BTreeSet::new(alloc);
-    let mut rest = uses.iter();
-    while let Some(item) = rest.next() {
-        if let Use::Channel {
-            channel,
-            element,
-            direction,
-        } = *item
-        {
-            if is_parameter(first, count, channel) {
-                let end = End { element, direction };
-                ends.insert(ChannelEnd { channel, end })?;
-            }
+    let mut rest = uses.ends();
+    while let Some(end) = rest.next() {
+        if is_parameter(first, count, end.channel) {
+            ends.insert(*end)?;
         }
     }
     Ok(ends)

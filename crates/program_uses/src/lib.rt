@@ -16,11 +16,13 @@ mod laws;
 mod link_names;
 mod listing;
 mod mentions;
+mod numbers;
 mod par_rules;
 mod places;
 mod processes;
 mod signature;
 mod telling;
+mod used_ends;
 mod uses;
 
 pub use actions::{Around, is_before};

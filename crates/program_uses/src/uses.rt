@@ -1,11 +1,12 @@
 //! What a process uses of what is declared around it.
 
-ghost use Rattle.std.specs.Prelude.{◌≡◌, [], ◌∷◌, false};
+ghost use Rattle.std.specs.Prelude.{◌≡◌, [], ◌∷◌, false, IsTrue, ◌↔◌};
 
+use crate::ends::ChannelEnd;
+use crate::numbers::Numbers;
+use crate::used_ends::UsedEnds;
 use std::alloc::Global;
-use std::collections::BTreeSet;
 use std::collections::btree_set::Iter;
-use std::mem;
 
 /// Which end of a channel is used.
 #[derive(Clone, Copy, PartialEq, Eq, PartialOrd, Ord)]
@@ -36,16 +37,18 @@ pub enum Use {
     },
 }
 
-/// What is used. It remembers whether memory ran out while something was added. It is in order, since whoever writes a
-/// source could choose uses that collide in a set that is hashed with a fixed seed.
+/// What is used. It remembers whether memory ran out while something was added.
 #[derive(Drop)]
 pub struct Uses {
     alloc: Global,
-    set: BTreeSet<Use>,
+    reads: Numbers,
+    changes: Numbers,
+    ends: UsedEnds,
     complete: bool,
 }
 
 impl Uses {
+    ghost use Rattle.program_uses.specs.InCommon.{AreBoth, ChangesUsed};
     ghost use Rattle.program_uses.specs.Sets.{has, Adds, Joins};
 
     /// Nothing.
@@ -54,7 +57,9 @@ impl Uses {
     {
         Uses {
             alloc,
-            set: BTreeSet::new(alloc),
+            reads: Numbers::new(alloc),
+            changes: Numbers::new(alloc),
+            ends: UsedEnds::new(alloc),
             complete: true,
         }
     }
@@ -63,9 +68,20 @@ impl Uses {
     pub fn add(&mut self, item: Use)
         ensures { Adds self.old self.new (item ∷ []) }
     {
-        match self.set.insert(item) {
-            Ok(_) => {}
-            Err(_) => self.complete = false,
+        let added = match item {
+            Use::Read(number) => self.reads.add(number),
+            Use::Change(number) => self.changes.add(number),
+            Use::Channel {
+                channel,
+                element,
+                direction,
+            } => {
+                let end = End { element, direction };
+                self.ends.add(ChannelEnd { channel, end })
+            }
+        };
+        if added.is_err() {
+            self.complete = false;
         }
     }
 
@@ -76,31 +92,19 @@ impl Uses {
         Uses::new(self.alloc)
     }
 
-    /// What another set has besides. The smaller of the two joins the larger.
+    /// What another set has besides.
     pub(crate) fn join(&mut self, other: Uses)
         ensures { Joins self.old self.new other }
     {
-        let mut other = other;
-        if self.set.len() < other.set.len() {
-            mem::swap(self, &mut other);
-        }
-        self.add_all(&other);
-    }
-
-    /// Each use of another set.
-    fn add_all(&mut self, other: &Uses)
-        ensures { Joins self.old self.new other.now }
-    {
-        self.complete &= other.complete;
-        let mut rest = other.iter();
-        while let Some(item) = rest.next() {
-            self.add(*item);
-        }
+        let has_reads = self.reads.join(other.reads).is_ok();
+        let has_changes = self.changes.join(other.changes).is_ok();
+        let has_ends = self.ends.join(other.ends).is_ok();
+        self.complete &= other.complete & has_reads & has_changes & has_ends;
     }
 
     /// Memory ran out, so that something is missing.
     pub(crate) fn fail(&mut self)
-        ensures same { self.new.set ≡ self.old.set }
+        ensures same { (u : Use) → has self.new u ≡ has self.old u }
         ensures complete { self.new.complete ≡ false }
     {
         self.complete = false;
@@ -113,22 +117,44 @@ impl Uses {
         self.complete
     }
 
-    /// How many uses it has.
-    pub(crate) fn len(&self) -> usize {
-        self.set.len()
-    }
-
     /// Whether this is used.
     pub fn contains(&self, item: Use) -> bool
         ensures { result ≡ has self.now item }
     {
-        self.set.contains(&item)
+        match item {
+            Use::Read(number) => self.reads.contains(number),
+            Use::Change(number) => self.changes.contains(number),
+            Use::Channel {
+                channel,
+                element,
+                direction,
+            } => {
+                let end = End { element, direction };
+                self.ends.contains(ChannelEnd { channel, end })
+            }
+        }
     }
 
-    /// Each use that it has.
-    pub(crate) fn iter(&self) -> Iter<'_, Use>
-        ensures { result ≡ self.now.set.keys }
+    /// Whether one of two sets changes a variable that the other one uses, of the `count` names around.
+    pub(crate) fn shares_variable(&self, count: usize, other: &Uses) -> bool
+        ensures { IsTrue result ↔ ChangesUsed count self.now other.now }
     {
-        self.set.iter()
+        self.changes.meets(count, &other.changes)
+            || self.changes.meets(count, &other.reads)
+            || self.reads.meets(count, &other.changes)
+    }
+
+    /// Whether two sets use one end of a channel, of the `count` names around.
+    pub(crate) fn shares_end(&self, count: usize, other: &Uses) -> bool
+        ensures { IsTrue result ↔ AreBoth count self.now.ends other.now.ends }
+    {
+        self.ends.meets(count, &other.ends)
+    }
+
+    /// Each end of a channel that it has.
+    pub(crate) fn ends(&self) -> Iter<'_, ChannelEnd>
+        ensures { result ≡ self.now.ends.set.keys }
+    {
+        self.ends.iter()
     }
 }

@@ -1,16 +1,11 @@
-use Rattle.std.proofs.Common.{◌≡◌, subst, ◌∙◌}
-use Rattle.program_uses.specs.declared.uses.Uses.{Uses}
-use Rattle.program_uses.specs.Sets.{Joins}
-use Rattle.program_uses.proofs.Adding.{joins_turned}
-use Rattle.program_uses.proofs.uses.Uses.join.Goals.{then-len, else-len}
+use Rattle.program_uses.proofs.PartsJoined.{all_done, where_done, joins_parts}
 use Rattle.program_uses.proofs.uses.Uses.join.Goals as goal
 
 pub returns : goal.returns
 returns c =
-    let at : (x y : Uses) → c.if-len.self ≡ x → c.if-len.other ≡ y → Joins x c.add_all.new.self y =
-    λ x y p q. subst (λ (z : Uses × Uses). Joins z.0 c.add_all.new.self z.1) (λ i. (p i, q i)) c.add_all.ensures in
-    elim c.if-len.branch [
-      | then-len w ↦ joins_turned (at c.args.other c.args.self.now (w.self-is ∙ w.swap.ensures.x_after)
-          (w.other-is ∙ w.swap.ensures.y_after))
-      | else-len w ↦ at c.args.self.now c.args.other w.self-is w.other-is
-    ]
+    let all = all_done c.args.self.now.complete c.args.other.complete c.is_ok-has_reads.result
+    c.is_ok-has_changes.result c.is_ok-has_ends.result in
+    joins_parts c.args.self.now _ c.args.other (λ e. (let done = all e in (done.before, done.other)))
+    (λ e. where_done c.join.result _ c.is_ok-has_reads.ensures.value (all e).has_reads c.join.ensures)
+    (λ e. where_done c.join-2.result _ c.is_ok-has_changes.ensures.value (all e).has_changes c.join-2.ensures)
+    (λ e. where_done c.join-3.result _ c.is_ok-has_ends.ensures.value (all e).has_ends c.join-3.ensures)

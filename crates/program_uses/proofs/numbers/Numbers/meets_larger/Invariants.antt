@@ -1,0 +1,9 @@
+use Rattle.std.proofs.Common.{length}
+use Rattle.program_uses.proofs.NumbersJoined.{LeftIn}
+use Rattle.program_uses.proofs.numbers.Numbers.meets_larger.Given as goal
+
+abbrev pub decreases-loop-block : goal.decreases-loop-block
+decreases-loop-block l = length l.rest
+
+abbrev pub invariant-loop-block : goal.invariant-loop-block
+invariant-loop-block l = LeftIn l.count l.self l.other l.rest
