@@ -1,8 +1,7 @@
 //! Names in the order of their declarations, of which the innermost one is found at once.
 
-ghost use Rattle.std.specs.BTreeMap.{get};
-ghost use Rattle.std.specs.Ordering.{nat_cmp};
-ghost use Rattle.std.specs.Prelude.{◌≡◌, ◌<◌, ℕ, List, [], ◌∷◌, map, Some, None, vec_len, IfOk, OnOk, OnErr};
+ghost use Rattle.std.specs.List.{All};
+ghost use Rattle.std.specs.Prelude.{◌≡◌, ◌<◌, ℕ, List, [], ◌∷◌, map, true, Some, None, vec_len, IfOk, OnOk, OnErr};
 ghost use Rattle.scalar_ranges.specs.Moves.{outermost};
 ghost use Rattle.scalar_ranges.specs.Naming.{number_of, hidden_by, names_from, hides_from, without_first};
 ghost use Rattle.scalar_ranges.specs.Naming.{spelling_of, spellings_from, innermost_of};
@@ -21,7 +20,37 @@ pub(crate) struct Row<'a> {
     pub(crate) hides: Option<usize>,
 }
 
-/// How many bytes a number is made of by which spellings are found.
+/// Which byte values are told apart where a spelling of one or two bytes is found.
+const SHORT_BYTES: usize = 128;
+
+/// The place of a spelling of one or two bytes in the list of these.
+fn short_place(name: &[u8]) -> Option<usize> {
+    match name.len() {
+        1 => Some(usize::from(name[0]) % SHORT_BYTES),
+        2 => {
+            let first = usize::from(name[0]) % SHORT_BYTES;
+            Some(first * SHORT_BYTES + usize::from(name[1]) % SHORT_BYTES)
+        }
+        _ => None,
+    }
+}
+
+/// A number is kept in its place, if memory does not run out.
+fn keep_at(list: &mut Vec<Option<usize>>, place: usize, number: usize) {
+    let lacking = place.saturating_sub(list.len());
+    for _ in 0..lacking {
+        if list.push(None).is_err() {
+            return;
+        }
+    }
+    if place < list.len() {
+        list[place] = Some(number);
+    } else {
+        let _ = list.push(Some(number));
+    }
+}
+
+/// How many bytes a number is made of by which longer spellings are found.
 const HEAD_LENGTH: usize = 8;
 
 /// A number that is made of the first bytes of a spelling.
@@ -46,17 +75,24 @@ pub(crate) struct Spelling<'a> {
 /// declaration looks up no name, and a spelling that is declared again is not put into the maps again. The maps never
 /// shrink: they take memory linear in the names of the source. They are in order, since whoever writes a source could
 /// choose names that collide in a table that is hashed with a fixed seed.
+///
+/// Comparing bytes takes long, so a number is guessed first: that of the spelling that was declared last, or the one
+/// that is kept for its first bytes. Whatever is guessed, its spelling is compared with the name.
 #[derive(Drop)]
 pub(crate) struct Names<'a> {
     pub(crate) rows: Vec<Row<'a>>,
     /// The number of each spelling.
     pub(crate) spellings: BTreeMap<&'a [u8], usize>,
-    /// By its first bytes a spelling of these, the last one that got a number. Numbers are compared faster than bytes.
-    pub(crate) heads: BTreeMap<u64, Spelling<'a>>,
+    /// Each spelling with its number, by that number, unless memory ran out for one.
+    pub(crate) by_number: Vec<Spelling<'a>>,
+    /// By its first bytes the number of a spelling that is longer than two, the last one that got a number.
+    pub(crate) heads: BTreeMap<u64, usize>,
+    /// The numbers of spellings of one or two bytes, by their place.
+    pub(crate) short: Vec<Option<usize>>,
     /// The number of the innermost declaration of each spelling, by the spelling's number.
     pub(crate) innermost: Vec<Option<usize>>,
-    /// The spelling that was declared last. The index of a replicator is declared again in each turn.
-    pub(crate) last: Option<Spelling<'a>>,
+    /// The number of the spelling that was declared last. The index of a replicator is declared again in each turn.
+    pub(crate) last: Option<usize>,
     ghost found: { (q : List ℕ)
         → innermost_of (spelling_of q spellings) innermost.items ≡ number_of q (names_from rows.items) },
     ghost apart: { (p q : List ℕ) (n : ℕ)
@@ -65,9 +101,7 @@ pub(crate) struct Names<'a> {
     ghost spelled: { map (λ q. spelling_of q spellings) (names_from rows.items)
         ≡ map Some (spellings_from rows.items) },
     ghost hides: { hides_from rows.items ≡ hidden_by (names_from rows.items) },
-    ghost latest: { (s : Spelling) → last ≡ Some s → spelling_of s.name.now spellings ≡ Some s.number },
-    ghost headed: { (n : ℕ) (s : Spelling) → get nat_cmp heads n ≡ Some s
-        → spelling_of s.name.now spellings ≡ Some s.number },
+    ghost numbered: { All (λ (s : Spelling). spelling_of s.name.now spellings ≡ Some s.number) by_number.items },
 }
 
 impl<'a> Names<'a> {
@@ -78,7 +112,9 @@ impl<'a> Names<'a> {
         Names {
             rows: Vec::new(alloc),
             spellings: BTreeMap::new(alloc),
+            by_number: Vec::new(alloc),
             heads: BTreeMap::new(alloc),
+            short: Vec::new(alloc),
             innermost: Vec::new(alloc),
             last: None,
         }
@@ -107,7 +143,7 @@ impl<'a> Names<'a> {
     {
         match self.known_spelling(name) {
             Some(number) => {
-                self.last = Some(Spelling { name, number });
+                self.last = Some(number);
                 Ok(number)
             }
             None => self.new_spelling(name),
@@ -119,7 +155,7 @@ impl<'a> Names<'a> {
         ensures { result ≡ spelling_of name.now self.now.spellings }
     {
         match self.last {
-            Some(last) if last.name == name => Some(last.number),
+            Some(number) if self.is_spelled(number, name) => Some(number),
             _ => self.number_of(name),
         }
     }
@@ -128,10 +164,30 @@ impl<'a> Names<'a> {
     fn number_of(&self, name: &[u8]) -> Option<usize>
         ensures { result ≡ spelling_of name.now self.now.spellings }
     {
-        match self.heads.get(&head_of(name)) {
-            Some(spelling) if spelling.name == name => Some(spelling.number),
+        match self.guess(name) {
+            Some(number) if self.is_spelled(number, name) => Some(number),
             _ => self.spellings.get(name).copied(),
         }
+    }
+
+    /// The number that is kept for the first bytes of a name.
+    fn guess(&self, name: &[u8]) -> Option<usize> {
+        match short_place(name) {
+            Some(place) if place < self.short.len() => self.short[place],
+            Some(_) => None,
+            None => self.heads.get(&head_of(name)).copied(),
+        }
+    }
+
+    /// Whether this name has this number.
+    fn is_spelled(&self, number: usize, name: &[u8]) -> bool
+        ensures { result ≡ true → spelling_of name.now self.now.spellings ≡ Some number }
+    {
+        if number >= self.by_number.len() {
+            return false;
+        }
+        let spelling = self.by_number[number];
+        spelling.number == number && spelling.name == name
     }
 
     /// The next number for a spelling that has none.
@@ -148,15 +204,33 @@ impl<'a> Names<'a> {
         Ok(number)
     }
 
-    /// A spelling that has just got its number is found by its first bytes. If memory runs out for that, it is
-    /// found by all of them.
+    /// A spelling that has just got its number is listed, if memory does not run out.
+    fn list(&mut self, spelling: Spelling<'a>)
+        requires { spelling_of spelling.name.now self.old.spellings ≡ Some spelling.number }
+        ensures spellings { self.new.spellings ≡ self.old.spellings }
+        ensures rows { self.new.rows ≡ self.old.rows }
+    {
+        if self.by_number.reserve(1).is_err() {
+            return;
+        }
+        self.by_number.push_reserved(spelling);
+    }
+
+    /// A spelling that has just got its number is found by its first bytes. If memory runs out for that, it is found by
+    /// all of them.
     fn remember(&mut self, spelling: Spelling<'a>)
         requires { spelling_of spelling.name.now self.old.spellings ≡ Some spelling.number }
         ensures spellings { self.new.spellings ≡ self.old.spellings }
         ensures rows { self.new.rows ≡ self.old.rows }
     {
-        let _ = self.heads.insert(head_of(spelling.name), spelling);
-        self.last = Some(spelling);
+        self.list(spelling);
+        match short_place(spelling.name) {
+            Some(place) => keep_at(&mut self.short, place, spelling.number),
+            None => {
+                let _ = self.heads.insert(head_of(spelling.name), spelling.number);
+            }
+        }
+        self.last = Some(spelling.number);
     }
 
     /// The innermost declaration is left, if there is one.

@@ -19,6 +19,5 @@ invariant_of-self c =
       within = old.within;
       spelled = known.spelled;
       hides = known.further;
-      latest = old.latest;
-      headed = old.headed;
+      numbered = old.numbered;
     }

@@ -40,7 +40,6 @@ invariant_of-self-2 c =
       within = old.within;
       spelled = ap (map number) names ∙ (λ i. has i ∷ old.spelled i)
           ∙ ap (map Some) (sym (ap spellings_from longer ∙ spellings_more rows row));
-      latest = old.latest;
-      headed = old.headed;
+      numbered = old.numbered;
       hides = ap hides_from longer ∙ hides_more rows row ∙ (λ i. hides i ∷ old.hides i) ∙ ap hidden_by (sym names);
     }
