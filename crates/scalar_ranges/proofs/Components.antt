@@ -11,7 +11,7 @@ use Rattle.scalar_ranges.specs.Changes.{Slot, Branching, Tracked, modify, entry_
 use Rattle.scalar_ranges.specs.Changes.{ends_seen, block_in, blocks_in, known_in, numbers_of, AreListed, is_recent}
 use Rattle.scalar_ranges.specs.Changes.{AreMarked, AreSettled, AreTracked, IsWithin, noted, with_start, with_end}
 use Rattle.scalar_ranges.specs.Changes.{put_start, restarted, each, took, component_slots, component_block}
-use Rattle.scalar_ranges.specs.Changes.{component_in, Follows, changed_start}
+use Rattle.scalar_ranges.specs.Changes.{component_in, Follows, changed_start, with_ends, put_ends, changed_ends}
 use Rattle.scalar_ranges.proofs.Rows.{same_number}
 use Rattle.scalar_ranges.proofs.Numbered.{modify_long, take_modify, map_modify, map_unmodified, reverse_modify}
 use Rattle.scalar_ranges.proofs.Numbered.{each_maps, map_again, numbers_alike, items_modified}
@@ -59,6 +59,53 @@ start_follows n f t tracked =
       blocks = start_blocks f n listed.slots listed.blocks well.noted well.tracked
           ∙ ap (changed_start f n) well.blocks;
       tracked = put_tracked (with_start f) n t (start_within f) tracked;
+    }
+
+-- ---- the ends so far change
+
+pub ends_within : (f : Meaning → Meaning) → IsWithin (with_ends f)
+ends_within f = record { names = λ s. refl; marks = λ s. refl; recents = λ s. refl }
+
+other_end : (d : ℕ) (f : Meaning → Meaning) (s : Slot) → nat_eq s.mark d ≡ true
+    → end_in d (with_ends f s) ≡ with_meaning f (end_in d s)
+other_end d f s noted =
+    (λ i. record { name = s.name; meaning = cond (noted i) (f s.ends) s.meaning })
+    ∙ (λ i. record { name = s.name; meaning = f (cond (sym noted i) s.ends s.meaning) })
+
+seen_ends : (ended : Bool) (f : Meaning → Meaning) (n : ℕ) (es : List Entry)
+    → ends_seen ended (at_number (with_meaning f) n es)
+    ≡ option_map (λ ds. at_number (with_meaning f) n ds) (ends_seen ended es)
+seen_ends true f n es = refl
+seen_ends false f n es = refl
+
+end_blocks : (f : Meaning → Meaning) (n : ℕ) (ss : List Slot) (bs : List Branching) → IsNoted n ss bs
+    → AreTracked ss bs → blocks_in (modify (with_ends f) n ss) bs ≡ changed_ends f n (blocks_in ss bs)
+end_blocks f n ss [] noted tracked = refl
+end_blocks f n ss (b ∷ bs) noted tracked =
+    let d = suc (length bs) in
+    let at = take_modify (with_ends f) b.count n ss in
+    let start = ap (map (start_in d)) at
+    ∙ map_unmodified (start_in d) (with_ends f) n (take b.count ss) (λ s is. refl) in
+    let all = ap (map (end_in d)) at
+    ∙ map_modify (end_in d) (with_ends f) (with_meaning f) n (take b.count ss)
+    (λ s is. other_end d f s (noted s is).0) in
+    let ends = ap (ends_seen b.ended)
+    (ap reverse all ∙ reverse_modify (with_meaning f) n (map (end_in d) (take b.count ss)))
+    ∙ seen_ends b.ended f n (seen (end_in d) (take b.count ss)) in
+    let behind = before_same (with_ends f) n ss b bs (λ s. refl) (λ s is. (noted s is).0) tracked.0 in
+    λ i. record { start = reverse (start i); ends = ends i } ∷ blocks_in (behind i) bs
+
+pub ends_follow : (n : ℕ) (f : Meaning → Meaning) (t : Tracked) → AreTracked t.slots t.blocks
+    → Follows (put_ends n f t)
+    (record { entries = (known_in t).entries; blocks = changed_ends f n (known_in t).blocks })
+ends_follow n f t tracked =
+    let listed = noted n t.slots t.blocks in
+    let well = notes_well n t.slots t.blocks tracked in
+    record {
+      entries = ap reverse (map_unmodified entry_in (with_ends f) n listed.slots (λ s is. refl) ∙ well.entries);
+      blocks = end_blocks f n listed.slots listed.blocks well.noted well.tracked
+          ∙ ap (changed_ends f n) well.blocks;
+      tracked = put_tracked (with_ends f) n t (ends_within f) tracked;
     }
 
 -- ---- a component ends

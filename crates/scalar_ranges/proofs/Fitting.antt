@@ -11,13 +11,13 @@ use Rattle.occam_parser.specs.Expressions.{Expression}
 use Rattle.scalar_ranges.specs.Narrowing.{Tested, test_of}
 use Rattle.scalar_ranges.specs.Changes.{begin_with}
 use Rattle.scalar_ranges.specs.Changes.{Tracked, put, put_start, begun, declared, cut, Follows, changed_to}
-use Rattle.scalar_ranges.specs.Changes.{changed_start}
+use Rattle.scalar_ranges.specs.Changes.{changed_start, put_ends, changed_ends}
 use Rattle.scalar_ranges.specs.TrackedViews.{tracked_of, known_by}
 use Rattle.scalar_ranges.specs.Scopes.{entries_of, blocks_of}
 use Rattle.scalar_ranges.specs.Naming.{names_from}
 use Rattle.scalar_ranges.proofs.Nesting.{Fit}
 use Rattle.scalar_ranges.proofs.Following.{put_follows, begun_follows}
-use Rattle.scalar_ranges.proofs.Components.{start_follows}
+use Rattle.scalar_ranges.proofs.Components.{start_follows, ends_follow}
 use Rattle.scalar_ranges.proofs.Cutting.{declared_follows, cut_follows}
 use Rattle.scalar_ranges.proofs.Turning.{followed, known_is}
 
@@ -76,11 +76,17 @@ module _ (old new : code_tracked.Tracked) where
       (record { entries = changed_to m n (known_by old).entries; blocks = (known_by old).blocks }) is
       (put_follows n m was old.tracked)
 
-  start_known : (n : ℕ) (f : Meaning → Meaning) → tracked_of new ≡ put_start n f was → known_by new
+  pub start_known : (n : ℕ) (f : Meaning → Meaning) → tracked_of new ≡ put_start n f was → known_by new
       ≡ record { entries = (known_by old).entries; blocks = changed_start f n (known_by old).blocks }
   start_known n f is = known_after new (put_start n f was)
       (record { entries = (known_by old).entries; blocks = changed_start f n (known_by old).blocks }) is
       (start_follows n f was old.tracked)
+
+  pub ends_known : (n : ℕ) (f : Meaning → Meaning) → tracked_of new ≡ put_ends n f was → known_by new
+      ≡ record { entries = (known_by old).entries; blocks = changed_ends f n (known_by old).blocks }
+  ends_known n f is = known_after new (put_ends n f was)
+      (record { entries = (known_by old).entries; blocks = changed_ends f n (known_by old).blocks }) is
+      (ends_follow n f was old.tracked)
 
   pub begun_known : (ended : Bool) → tracked_of new ≡ begun ended was
       → known_by new ≡ begin_with ended (known_by old)
@@ -115,12 +121,13 @@ all_excluded condition n t es (b ∷ bs) test number =
     (sym (excluded_to condition es b.start t (Some n) test number))
 
 -- a condition that compares a scalar with a constant is excluded
-pub excluded_known : (old new : code_tracked.Tracked) (condition : Expression) (n : ℕ) (t : Tested)
-    → test_of (known_by old).entries condition ≡ Some t → number_in t.name (known_by old).entries ≡ Some n
-    → tracked_of new ≡ put_start n (not_so t) (tracked_of old) → known_by new ≡ exclude condition (known_by old)
+pub excluded_known : (old new : Known) (condition : Expression) (n : ℕ) (t : Tested)
+    → test_of old.entries condition ≡ Some t → number_in t.name old.entries ≡ Some n
+    → new ≡ record { entries = old.entries; blocks = changed_start (not_so t) n old.blocks }
+    → new ≡ exclude condition old
 excluded_known old new condition n t test number moved =
-    start_known old new n (not_so t) moved
+    moved
     ∙ (λ i. record {
-      entries = (known_by old).entries;
-      blocks = all_excluded condition n t (known_by old).entries (known_by old).blocks test number i;
+      entries = old.entries;
+      blocks = all_excluded condition n t old.entries old.blocks test number i;
     })

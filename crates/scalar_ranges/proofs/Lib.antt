@@ -29,3 +29,7 @@ pub mod Cutting
 pub mod SlotLoops
 pub mod Noting
 pub mod Turning
+pub mod Deferring
+pub mod Standing
+pub mod Postponing
+pub mod LeftLists

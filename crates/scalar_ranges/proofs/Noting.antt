@@ -67,7 +67,7 @@ last_apart blocks lent b same some found =
     ∙ ap (λ k. take (length blocks - 1) blocks ++ k ∷ []) (sym is)
 
 -- the same of the block that is seen as the last one
-innermost_seen : (blocks lent : List code_branching.Branching) (b : code_branching.Branching) (depth : ℕ)
+pub innermost_seen : (blocks lent : List code_branching.Branching) (b : code_branching.Branching) (depth : ℕ)
     → lent ≡ blocks → 0 < length lent → b ≡ get_or lent (length lent - 1) b → depth ≡ length blocks
     → Innermost blocks (take (length blocks - 1) blocks) b depth
 innermost_seen blocks lent b depth same some found deep =

@@ -12,8 +12,10 @@ use Rattle.scalar_ranges.specs.declared.slots.Branching as code_branching
 use Rattle.scalar_ranges.specs.Entries.{Meaning}
 use Rattle.scalar_ranges.specs.Environments.{item_at}
 use Rattle.scalar_ranges.specs.Changes.{Slot, Change, Branching, Tracked, before, AreTracked, numbers_of, put_if}
-use Rattle.scalar_ranges.specs.Changes.{with_new, with_start, with_end, with_restart, marked, touched, known_if}
+use Rattle.scalar_ranges.specs.Changes.{with_new, with_start, with_ends, with_end, with_restart, marked, touched}
+use Rattle.scalar_ranges.specs.Changes.{known_if}
 use Rattle.scalar_ranges.specs.Changes.{handed_slot}
+use Rattle.scalar_ranges.specs.Deferring.{of_form}
 use Rattle.scalar_ranges.specs.Narrowing.{left_of, with_range}
 use Rattle.scalar_ranges.specs.Moves.{hull_meaning, Known}
 
@@ -42,6 +44,7 @@ updated (updates.Mark depth) = marked depth
 updated updates.Touch = touched
 updated (updates.Mean m) = with_new (meaning_of m)
 updated (updates.Begin comparison constant) = with_start (with_range (left_of comparison constant))
+updated (updates.Leave form left) = with_ends (λ m. of_form form m (meaning_of left))
 updated (updates.End depth turn) = turned depth turn
 updated (updates.HandOver inner outer ended before) = handed_slot inner outer ended (meaning_of before)
 

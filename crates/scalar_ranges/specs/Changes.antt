@@ -1,6 +1,6 @@
 -- How a program has the blocks of branches around a place: by lists of what changed in them.
 use Rattle.std.specs.Prelude.{ℕ, zero, suc, ◌<◌, ◌≤◌, ◌+◌, ◌≡◌, Bool, true, false, List, [], ◌∷◌, ◌++◌, length, map}
-use Rattle.std.specs.Prelude.{reverse, take, nat_eq, not, if◌then◌else◌, Option, Some, None}
+use Rattle.std.specs.Prelude.{reverse, take, nat_eq, not, if◌then◌else◌, Option, Some, None, option_map}
 use Rattle.scalar_ranges.specs.Entries.{Meaning, Entry}
 use Rattle.scalar_ranges.specs.Environments.{item_at}
 use Rattle.scalar_ranges.specs.Moves.{outermost, at_number, with_meaning, is_one_of, hull_meaning, Block, Known}
@@ -180,6 +180,10 @@ with_new m s = record s { meaning = m }
 abbrev pub with_start : (Meaning → Meaning) → Slot → Slot
 with_start f s = record s { start = f s.start }
 
+-- the ends so far are what a change makes of them
+abbrev pub with_ends : (Meaning → Meaning) → Slot → Slot
+with_ends f s = record s { ends = f s.ends }
+
 abbrev pub marked : ℕ → Slot → Slot
 marked d s = record s { mark = d; recent = false; start = s.meaning; ends = s.meaning }
 
@@ -290,6 +294,10 @@ next_in ss (b ∷ bs) =
 -- The branches from here on begin with an entry that means something else.
 abbrev pub put_start : ℕ → (Meaning → Meaning) → Tracked → Tracked
 put_start n f t = put_by (with_start f) n t
+
+-- The ends of an entry so far are something else.
+abbrev pub put_ends : ℕ → (Meaning → Meaning) → Tracked → Tracked
+put_ends n f t = put_by (with_ends f) n t
 
 -- what a component changed is as its end says
 abbrev pub took : ℕ → Slot → Slot
@@ -413,6 +421,12 @@ known_if (Some m) n k = known_with n m k
 abbrev pub changed_start : (Meaning → Meaning) → ℕ → List Block → List Block
 changed_start f n [] = []
 changed_start f n (b ∷ bs) = record { start = at_number (with_meaning f) n b.start; ends = b.ends } ∷ bs
+
+-- an entry that means something else at the ends of the innermost block so far
+abbrev pub changed_ends : (Meaning → Meaning) → ℕ → List Block → List Block
+changed_ends f n [] = []
+changed_ends f n (b ∷ bs) =
+    record { start = b.start; ends = option_map (λ ds. at_number (with_meaning f) n ds) b.ends } ∷ bs
 
 -- Each move of the lists is the move of what is known; and where a block began with an entry that is not in its list,
 -- or its branch does not have it, that list is shorter than the entries that the block began with.

@@ -13,9 +13,12 @@ pub mod Fronts
 pub mod FrontViews
 pub mod Moves
 pub mod Changes
+pub mod Deferring
 pub mod EntryViews
 pub mod ChangeViews
 pub mod TrackedViews
+pub mod Lefts
+pub mod LeftViews
 pub mod Scopes
 pub mod Naming
 pub mod Nesting

@@ -1,12 +1,12 @@
 -- The entries and the blocks of branches at a place belong together: each block begins with the outermost entries.
 use Rattle.std.specs.Prelude.{◌≡◌, ℕ, List, [], ◌∷◌, length, map, Option, Some, None}
 use Rattle.std.proofs.Props.{props}
-use Rattle.scalar_ranges.specs.declared.changes.Tracked as code_tracked
+use Rattle.scalar_ranges.specs.declared.deferred.Deferred as code_deferred
 use Rattle.scalar_ranges.specs.Entries.{Entry}
 use Rattle.scalar_ranges.specs.Moves.{outermost, Block, end_of, ends_with}
 use Rattle.scalar_ranges.specs.Environments.{Environment, Meets}
 use Rattle.scalar_ranges.specs.MoveLaws.{shape}
-use Rattle.scalar_ranges.specs.TrackedViews.{known_by}
+use Rattle.scalar_ranges.specs.LeftViews.{known_now}
 
 abbrev pub names_of : List Entry → List (List ℕ)
 names_of es = map (λ e. e.name) es
@@ -30,11 +30,11 @@ pub AreNested-prop : (es : List Entry) (bs : List Block) → IsProp (AreNested e
 AreNested-prop es [] = hlevel props
 AreNested-prop es (b ∷ bs) = hlevel (props, EndsFit-prop, AreNested-prop b.start bs)
 
-abbrev pub FitTogether : code_tracked.Tracked → Type 0
-FitTogether t = AreNested (known_by t).entries (known_by t).blocks
+abbrev pub FitTogether : code_deferred.Deferred → Type 0
+FitTogether t = AreNested (known_now t).entries (known_now t).blocks
 
-pub FitTogether-prop : (t : code_tracked.Tracked) → IsProp (FitTogether t)
-FitTogether-prop t = AreNested-prop (known_by t).entries (known_by t).blocks
+pub FitTogether-prop : (t : code_deferred.Deferred) → IsProp (FitTogether t)
+FitTogether-prop t = AreNested-prop (known_now t).entries (known_now t).blocks
 
 -- In nested blocks an environment that meets the end of a branch meets what is known after it.
 abbrev pub NestedEndsHold : Type 0

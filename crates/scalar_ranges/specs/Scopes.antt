@@ -4,10 +4,10 @@ use Rattle.std.specs.Prelude.{List}
 use Rattle.scalar_ranges.specs.declared.scope.Scope as code_scope
 use Rattle.scalar_ranges.specs.Entries.{Entry}
 use Rattle.scalar_ranges.specs.Moves.{Block, Known}
-use Rattle.scalar_ranges.specs.TrackedViews.{known_by}
+use Rattle.scalar_ranges.specs.LeftViews.{known_now}
 
 abbrev pub known_of : code_scope.Scope → Known
-known_of scope = known_by scope.known
+known_of scope = known_now scope.known
 
 abbrev pub entries_of : code_scope.Scope → List Entry
 entries_of scope = (known_of scope).entries

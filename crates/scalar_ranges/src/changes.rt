@@ -1,7 +1,7 @@
 //! The blocks of branches around a place, by lists of what changed in them.
 
 ghost use Rattle.std.specs.Prelude.{◌≡◌, ◌≤◌, ◌+◌, ◌++◌, true, [], OnOk, OnErr, map, length, option_map};
-ghost use Rattle.std.specs.Prelude.{vec_capacity};
+ghost use Rattle.std.specs.Prelude.{vec_capacity, MatchOption};
 ghost use Rattle.scalar_ranges.specs.Environments.{item_at};
 ghost use Rattle.scalar_ranges.specs.Changes.{modify, numbers_of, each, turned_slots, joined_by, component_slots};
 ghost use Rattle.scalar_ranges.specs.Changes.{undone, restored, meaning_after, known_with, IsWithin, AreForeign};
@@ -12,7 +12,7 @@ ghost use Rattle.scalar_ranges.specs.ChangeViews.{AfterBlock, BelongTogether, Be
 
 use crate::moves::is_same;
 use crate::scope::{Entry, Meaning};
-use crate::slots::{Branching, Change, Slot, Turn, Update};
+use crate::slots::{Branching, Change, Form, Slot, Turn, Update};
 use occam_parser::Comparison;
 use std::alloc::{AllocError, Global};
 
@@ -31,6 +31,8 @@ impl<'a> Tracked<'a> {
     ghost use Rattle.scalar_ranges.specs.Entries.{entry_at};
     ghost use Rattle.scalar_ranges.specs.MoveLaws.{meaning_at};
     ghost use Rattle.scalar_ranges.specs.Changes.{is_new, note, is_open, touch, put_by, put, put_start, begun};
+    ghost use Rattle.scalar_ranges.specs.Changes.{put_ends};
+    ghost use Rattle.scalar_ranges.specs.Deferring.{of_form, is_inside, has_ends};
     ghost use Rattle.scalar_ranges.specs.Changes.{declared, cut};
     ghost use Rattle.scalar_ranges.specs.Narrowing.{left_of, with_range};
     ghost use Rattle.scalar_ranges.specs.TrackedViews.{tracked_of, known_by};
@@ -189,6 +191,14 @@ impl<'a> Tracked<'a> {
         self.update(number, update);
     }
 
+    /// The ends of the innermost block so far are joined with what a block that has ended left of the entry.
+    pub(crate) fn put_end(&mut self, number: usize, form: Form, left: Meaning)
+        ensures { tracked_of self.new
+            ≡ put_ends number (λ m. of_form form m (meaning_of left)) (tracked_of self.old) }
+    {
+        self.update(number, Update::Leave(form, left));
+    }
+
     /// A block begins, which has ends if it is a `PAR`. Its lists get the capacity for all entries. If memory runs out,
     /// all is as it was.
     pub(crate) fn begin(&mut self, alloc: Global, ended: bool) -> Result<(), AllocError>
@@ -284,22 +294,71 @@ impl<'a> Tracked<'a> {
     fn put_back(&mut self)
         ensures { known_by self.new ≡ end (known_by self.old) }
     {
-        let depth = self.blocks.len();
-        if let Some(block) = self.blocks.pop() {
-            let Branching {
-                count,
-                ended,
-                mut changes,
-                ..
-            } = block;
-            self.slots.truncate(count);
-            take_back(&mut self.slots, &mut changes, depth, ended);
+        if let Some(changes) = self.end_apart() {
             self.put_afters(&changes);
         }
     }
 
+    /// A block ends: its changes are taken back, and each says what its entry means after the block.
+    pub(crate) fn end_apart(&mut self) -> Option<Vec<Change<'a>>>
+        ensures { MatchOption result (known_by self.new ≡ end (known_by self.old))
+            (λ changes. known_afters changes.items (known_by self.new) ≡ end (known_by self.old)) }
+    {
+        let depth = self.blocks.len();
+        match self.blocks.pop() {
+            None => None,
+            Some(block) => {
+                let Branching {
+                    count,
+                    ended,
+                    mut changes,
+                    ..
+                } = block;
+                self.slots.truncate(count);
+                take_back(&mut self.slots, &mut changes, depth, ended);
+                Some(changes)
+            }
+        }
+    }
+
+    /// Whether there is a block.
+    pub(crate) fn is_inside(&self) -> bool
+        ensures { result ≡ is_inside (known_by self.now).blocks }
+    {
+        match self.blocks.last() {
+            None => false,
+            Some(_) => true,
+        }
+    }
+
+    /// Whether the innermost block has ends.
+    pub(crate) fn has_ends(&self) -> bool
+        ensures { result ≡ has_ends (known_by self.now).blocks }
+    {
+        match self.blocks.last() {
+            None => false,
+            Some(block) => block.ended,
+        }
+    }
+
+    /// The number of an entry in the innermost block's list.
+    pub(crate) fn changed_at(&self, place: usize) -> Option<usize> {
+        match self.blocks.last() {
+            Some(block) if place < block.changes.len() => Some(block.changes[place].number),
+            _ => None,
+        }
+    }
+
+    /// How many entries the innermost block has in its list.
+    pub(crate) fn changed(&self) -> usize {
+        match self.blocks.last() {
+            None => 0,
+            Some(block) => block.changes.len(),
+        }
+    }
+
     /// The entries mean what the changes say of the end of a block.
-    fn put_afters(&mut self, changes: &[Change])
+    pub(crate) fn put_afters(&mut self, changes: &[Change])
         ensures { known_by self.new ≡ known_afters changes.now (known_by self.old) }
     {
         for change in changes {
@@ -310,7 +369,7 @@ impl<'a> Tracked<'a> {
     }
 
     /// An entry means this. What it means already takes no place in the lists of blocks.
-    fn put_other(&mut self, number: usize, meaning: Meaning)
+    pub(crate) fn put_other(&mut self, number: usize, meaning: Meaning)
         ensures { known_by self.new ≡ known_with number (meaning_of meaning) (known_by self.old) }
     {
         if let Some(before) = self.meaning(number) {

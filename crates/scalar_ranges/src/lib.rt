@@ -4,6 +4,7 @@
 mod bounds;
 mod branches;
 mod changes;
+mod deferred;
 mod entries;
 mod fronts;
 mod laws;

@@ -4,10 +4,10 @@ ghost use Rattle.std.specs.Prelude.{◌≡◌, [], ◌∷◌, option_map, OnOk, 
 ghost use Rattle.scalar_ranges.specs.Entries.{meaning_in, number_in, entry_at};
 ghost use Rattle.scalar_ranges.specs.EntryViews.{meaning_of, entry_of};
 ghost use Rattle.scalar_ranges.specs.Naming.{names_from};
-ghost use Rattle.scalar_ranges.specs.TrackedViews.{known_by};
+ghost use Rattle.scalar_ranges.specs.LeftViews.{known_now};
 ghost use Rattle.scalar_ranges.specs.Nesting.{names_of, FitTogether, FitTogether-prop};
 
-use crate::changes::Tracked;
+use crate::deferred::Deferred;
 use crate::names::Names;
 use occam_parser::ValueType;
 use std::alloc::{AllocFailed, Global};
@@ -88,10 +88,10 @@ pub struct Declared {
 pub struct Scope<'a> {
     pub(crate) alloc: Global,
     /// The entries, and the blocks of branches around.
-    pub(crate) known: Tracked<'a>,
+    pub(crate) known: Deferred<'a>,
     /// Where each name is among the entries.
     pub(crate) names: Names<'a>,
-    ghost named: { names_from names.rows.items ≡ names_of (known_by known).entries },
+    ghost named: { names_from names.rows.items ≡ names_of (known_now known).entries },
     /// Each block begins with the outermost of the entries in it, and each of its ends is such entries, but for ranges.
     pub ghost nested: { FitTogether known } by { FitTogether-prop known },
 }
@@ -106,7 +106,7 @@ impl<'a> Scope<'a> {
     {
         Scope {
             alloc,
-            known: Tracked::new(alloc),
+            known: Deferred::new(alloc),
             names: Names::new(alloc),
         }
     }

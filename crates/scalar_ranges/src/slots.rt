@@ -68,6 +68,8 @@ pub(crate) enum Update {
         comparison: Comparison,
         constant: i32,
     },
+    /// Its ends so far are joined with what a block that has ended left of it.
+    Leave(Form, Meaning),
     /// A branch of the block of this depth ends, which matters if the block has it in its list.
     End(usize, Turn),
     /// A block of the depth `inner` ends, and the block around it, of the depth `outer`, has it in its lists from now
@@ -78,6 +80,17 @@ pub(crate) enum Update {
         ended: bool,
         before: Meaning,
     },
+}
+
+/// How what a block left of an entry is joined with what the entry meant before.
+#[derive(Clone, Copy)]
+pub(crate) enum Form {
+    /// It means what the block left.
+    Whole,
+    /// The hull of both, of which the block left the second one.
+    Ahead,
+    /// The hull of both, of which the block left the first one.
+    Behind,
 }
 
 /// What becomes of an entry that changed in a branch, where the branch ends.
@@ -127,6 +140,22 @@ impl<'a> Branching<'a> {
     }
 }
 
+impl Form {
+    ghost use Rattle.scalar_ranges.specs.EntryViews.{meaning_of};
+    ghost use Rattle.scalar_ranges.specs.Deferring.{of_form};
+
+    /// What an entry means that meant something before and of which a block left something.
+    pub(crate) fn join(self, before: Meaning, left: Meaning) -> Meaning
+        ensures { meaning_of result ≡ of_form self (meaning_of before) (meaning_of left) }
+    {
+        match self {
+            Form::Whole => left,
+            Form::Ahead => hull_meaning(before, left),
+            Form::Behind => hull_meaning(left, before),
+        }
+    }
+}
+
 impl<'a> Slot<'a> {
     ghost use Rattle.scalar_ranges.specs.Changes.{fresh, meaning_after, is_open_in, handed_slot};
     ghost use Rattle.scalar_ranges.specs.ChangeViews.{meaning_of, entry_of, slot_of, updated, turned, turned_to};
@@ -162,6 +191,7 @@ impl<'a> Slot<'a> {
                 comparison,
                 constant,
             } => self.start = narrowed(self.start, comparison, constant),
+            Update::Leave(form, left) => self.ends = form.join(self.ends, left),
             Update::End(depth, turn) => self.turn(depth, turn),
             Update::HandOver {
                 inner,

@@ -4,26 +4,30 @@ use Rattle.std.proofs.lemmas.Int.{to_z-of_z}
 use Rattle.occam_parser.specs.Views.{expression_of}
 use Rattle.scalar_ranges.specs.Narrowing.{left_of, with_range}
 use Rattle.scalar_ranges.specs.Moves.{exclude}
-use Rattle.scalar_ranges.specs.Changes.{put_start}
+use Rattle.scalar_ranges.specs.Changes.{changed_start}
 use Rattle.scalar_ranges.specs.Scopes.{entries_of, blocks_of}
 use Rattle.scalar_ranges.specs.Naming.{names_from}
 use Rattle.scalar_ranges.specs.Tests.{tested_of}
-use Rattle.scalar_ranges.specs.TrackedViews.{tracked_of, known_by}
+use Rattle.scalar_ranges.specs.LeftViews.{known_now}
 use Rattle.scalar_ranges.proofs.Nesting.{fit_excluded}
 use Rattle.scalar_ranges.proofs.Fitting.{fit_of, fit_at, excluded_known}
 use Rattle.scalar_ranges.proofs.scope.Scope.exclude.Goals as goal
 use Rattle.scalar_ranges.proofs.scope.Scope.exclude.Goals.{After-put_start}
 
-known : (c : After-put_start) → known_by c.put_start.new.self
-    ≡ exclude (expression_of c.args.condition.now) (known_by c.args.self.now.known)
+known : (c : After-put_start) → known_now c.put_start.new.self
+    ≡ exclude (expression_of c.args.condition.now) (known_now c.args.self.now.known)
 known c =
-    let old = c.args.self.now.known in
+    let old = known_now c.args.self.now.known in
     let test = c.in-Some.test in
+    let n = c.in-Some-find.number in
     let fits : FitsSigned w32 test.constant = search rules in
-    excluded_known old c.put_start.new.self (expression_of c.args.condition.now) c.in-Some-find.number
-    (tested_of test) (sym c.in-Some.ensures) (sym c.in-Some-find.ensures.number)
-    (c.put_start.ensures ∙ (λ i. put_start c.in-Some-find.number (with_range (left_of
-    (c.as_holds-comparison.ensures i) (to_z-of_z w32 test.constant fits i))) (tracked_of old)))
+    excluded_known old (known_now c.put_start.new.self) (expression_of c.args.condition.now) n (tested_of test)
+    (sym c.in-Some.ensures) (sym c.in-Some-find.ensures.number)
+    (c.put_start.ensures ∙ (λ i. record {
+      entries = old.entries;
+      blocks = changed_start (with_range (left_of (c.as_holds-comparison.ensures i)
+          (to_z-of_z w32 test.constant fits i))) n old.blocks;
+    }))
 
 pub invariant_of-self : goal.invariant_of-self
 invariant_of-self c =

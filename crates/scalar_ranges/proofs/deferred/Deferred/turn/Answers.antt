@@ -1,0 +1,50 @@
+use Rattle.std.proofs.Common.{ap, sym, subst, ◌∙◌}
+use Rattle.scalar_ranges.specs.Lefts.{turned_stage, known_left, left_at, IsKept}
+use Rattle.scalar_ranges.specs.TrackedViews.{known_by}
+use Rattle.scalar_ranges.specs.Moves.{next}
+use Rattle.scalar_ranges.proofs.Standing.{has_whole}
+use Rattle.scalar_ranges.proofs.Postponing.{next_now, next_outside}
+use Rattle.scalar_ranges.proofs.deferred.Deferred.turn.Goals as goal
+use Rattle.scalar_ranges.proofs.deferred.Deferred.turn.Goals.{then-is_still+then-is_inside, else-is_still}
+use Rattle.scalar_ranges.proofs.deferred.Deferred.turn.Goals.{then-is_still+else-is_inside}
+
+pub invariant_of-self : goal.invariant_of-self
+invariant_of-self c =
+    let old = c.args.self.now in
+    record {
+      kept = elim c.if-is_still.branch [
+        | then-is_still+then-is_inside w ↦
+            subst (λ t. IsKept t.1.1.1.0 t.1.1.0.items t.1.1.1.1.1.0.items) (sym w.self-is) old.kept
+        | then-is_still+else-is_inside w ↦
+            subst (λ t. IsKept t.1.1.1.0 t.1.1.0.items t.1.1.1.1.1.0.items) (sym w.self-is) old.kept
+        | else-is_still w ↦
+            subst (λ t. IsKept t.1.1.1.0 t.1.1.0.items t.1.1.1.1.1.0.items) (sym w.self-is) w.settle.new.self.kept
+      ];
+    }
+
+pub returns : goal.returns
+returns c =
+    let old = c.args.self.now in
+    let k = known_by old.tracked in
+    let p = left_at old.mark old.lefts.items in
+    ap (known_left c.if-is_still.self.1.1.1.1.0 (left_at c.if-is_still.self.1.1.1.0 c.if-is_still.self.1.1.0.items))
+    c.next.ensures
+    ∙ elim c.if-is_still.branch [
+      | then-is_still+then-is_inside w ↦
+          ap (λ t. known_left t.1.1.1.1.0 (left_at t.1.1.1.0 t.1.1.0.items) (next (known_by t.1.0))) w.self-is
+          ∙ ap (λ s. known_left s p (next k)) (w.turned-self.ensures
+          ∙ ap (λ t. turned_stage t old.stage) w.has_ends.ensures)
+          ∙ next_now old.stage p k.entries k.blocks (sym w.is_inside.ensures ∙ w.if-is_inside.true)
+          (c.is_still.ensures w.if-is_still.true) (has_whole old.tracked)
+      | then-is_still+else-is_inside w ↦
+          ap (λ t. known_left t.1.1.1.1.0 (left_at t.1.1.1.0 t.1.1.0.items) (next (known_by t.1.0))) w.self-is
+          ∙ next_outside old.stage p k.entries k.blocks (sym w.is_inside.ensures ∙ w.if-is_inside.false)
+      | else-is_still w ↦
+          let now = w.settle.new.self in
+          let none = w.settle.ensures.stage in
+          let q = left_at now.mark now.lefts.items in
+          let j = known_by now.tracked in
+          ap (λ t. known_left t.1.1.1.1.0 (left_at t.1.1.1.0 t.1.1.0.items) (next (known_by t.1.0))) w.self-is
+          ∙ (λ i. known_left (none i) q (next j))
+          ∙ ap next ((λ i. known_left (sym none i) q j) ∙ w.settle.ensures.known)
+    ]

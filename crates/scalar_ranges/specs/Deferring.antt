@@ -1,0 +1,67 @@
+-- What blocks that have ended left of entries, which is put off.
+use Rattle.std.specs.Prelude.{◌≡◌, ℕ, Bool, true, false, List, [], ◌∷◌, length, Option, Some, None}
+use Rattle.std.specs.Prelude.{option_map, ◌⊎◌}
+use Rattle.scalar_ranges.specs.declared.slots.Form.{Form}
+use Rattle.scalar_ranges.specs.declared.slots.Form.TheVariants as forms
+use Rattle.scalar_ranges.specs.Entries.{Meaning, Entry}
+use Rattle.scalar_ranges.specs.Changes.{Change}
+use Rattle.scalar_ranges.specs.Moves.{with_meaning, hull_meaning, Block, end_of}
+
+-- what an entry means that meant something before and of which a block left something
+abbrev pub of_form : Form → Meaning → Meaning → Meaning
+of_form forms.Whole m left = left
+of_form forms.Ahead m left = hull_meaning m left
+of_form forms.Behind m left = hull_meaning left m
+
+-- the same where a further branch ends that does not change the entry
+abbrev pub further : Form → Form
+further forms.Whole = forms.Behind
+further forms.Ahead = forms.Ahead
+further forms.Behind = forms.Behind
+
+-- an entry of which a block left something, or nothing
+abbrev pub entry_left : Form → Option Meaning → Entry → Entry
+entry_left f None e = e
+entry_left f (Some left) e = with_meaning (λ m. of_form f m left) e
+
+-- the same of all entries, by their numbers from the outermost one on
+abbrev pub entries_left : Form → (ℕ → Option Meaning) → List Entry → List Entry
+entries_left f p [] = []
+entries_left f p (e ∷ es) = entry_left f (p (length es)) e ∷ entries_left f p es
+
+-- the ends of the innermost block
+abbrev pub ends_left : Form → (ℕ → Option Meaning) → List Block → List Block
+ends_left f p [] = []
+ends_left f p (b ∷ bs) = record { start = b.start; ends = option_map (λ ds. entries_left f p ds) b.ends } ∷ bs
+
+-- whether there is a block, and whether the innermost one has ends
+abbrev pub is_inside : List Block → Bool
+is_inside [] = false
+is_inside (b ∷ bs) = true
+
+abbrev pub is_some : {A : Type 0} → Option A → Bool
+is_some None = false
+is_some (Some x) = true
+
+abbrev pub has_ends : List Block → Bool
+has_ends [] = false
+has_ends (b ∷ bs) = is_some b.ends
+
+-- The ends so far are what is known here, but for entries of which nothing is put off.
+abbrev pub AreAlike : (ℕ → Option Meaning) → List Entry → List Entry → Type 0
+AreAlike p [] es = Unit {0}
+AreAlike p (d ∷ ds) [] = ⊥
+AreAlike p (d ∷ ds) (e ∷ es) = ((p (length ds) ≡ None) ⊎ (d ≡ e)) × AreAlike p ds es
+
+-- of none of the entries in a list anything is put off
+abbrev pub AreNone : (ℕ → Option Meaning) → List Change → Type 0
+AreNone p [] = Unit {0}
+AreNone p (c ∷ cs) = (p c.number ≡ None) × AreNone p cs
+
+abbrev pub AreStill : (ℕ → Option Meaning) → Option (List Entry) → List Entry → Type 0
+AreStill p None es = Unit {0}
+AreStill p (Some ds) es = AreAlike p ds es
+
+abbrev pub IsStill : (ℕ → Option Meaning) → List Entry → List Block → Type 0
+IsStill p es [] = Unit {0}
+IsStill p es (b ∷ bs) = AreStill p b.ends (end_of b es)

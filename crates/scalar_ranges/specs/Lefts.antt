@@ -1,0 +1,88 @@
+-- What the program puts off.
+use Rattle.std.specs.Prelude.{◌≡◌, ℕ, ◌<◌, ◌≤◌, Bool, true, List, [], ◌∷◌, map, nat_eq, if◌then◌else◌, Option}
+use Rattle.std.specs.Prelude.{Some, None}
+use Rattle.std.proofs.Props.{props}
+use Rattle.scalar_ranges.specs.declared.deferred.Left as code_left
+use Rattle.scalar_ranges.specs.declared.deferred.Stage.{Stage}
+use Rattle.scalar_ranges.specs.declared.deferred.Stage.TheVariants as stages
+use Rattle.scalar_ranges.specs.declared.scope.Meaning as code_meaning
+use Rattle.scalar_ranges.specs.declared.slots.Change as code_change
+use Rattle.scalar_ranges.specs.declared.slots.Form.TheVariants as forms
+use Rattle.scalar_ranges.specs.EntryViews.{meaning_of}
+use Rattle.scalar_ranges.specs.Entries.{Meaning}
+use Rattle.scalar_ranges.specs.Environments.{item_at}
+use Rattle.scalar_ranges.specs.Moves.{Known, is_one_of}
+use Rattle.scalar_ranges.specs.Changes.{modify}
+use Rattle.scalar_ranges.specs.Deferring.{of_form, further, entries_left, ends_left}
+
+-- what is put off of an entry
+abbrev pub left_if : ℕ → Option code_left.Left → Option Meaning
+left_if mark None = None
+left_if mark (Some l) = if nat_eq l.mark mark then Some (meaning_of l.meaning) else None
+
+abbrev pub left_at : ℕ → List code_left.Left → ℕ → Option Meaning
+left_at mark ls n = left_if mark (item_at n ls)
+
+-- what is known, with what is put off
+abbrev pub known_left : Stage → (ℕ → Option Meaning) → Known → Known
+known_left stages.Nothing p k = k
+known_left (stages.Going f) p k = record { entries = entries_left f p k.entries; blocks = k.blocks }
+known_left (stages.Ended f) p k = record { entries = k.entries; blocks = ends_left f p k.blocks }
+
+-- where a branch ends, of a block that had ends before or not
+abbrev pub turned_stage : Bool → Stage → Stage
+turned_stage ended stages.Nothing = stages.Nothing
+turned_stage ended (stages.Going f) = stages.Ended (if ended then forms.Ahead else f)
+turned_stage ended (stages.Ended f) = if ended then stages.Ended (further f) else stages.Nothing
+
+-- where a component ends
+abbrev pub taken_stage : Stage → Stage
+taken_stage stages.Nothing = stages.Nothing
+taken_stage (stages.Going f) = stages.Ended f
+taken_stage (stages.Ended f) = stages.Ended f
+
+-- where a block ends, that had ends or not
+abbrev pub ended_stage : Bool → Stage → Stage
+ended_stage ended stages.Nothing = stages.Nothing
+ended_stage ended (stages.Going f) = stages.Nothing
+ended_stage ended (stages.Ended f) = if ended then stages.Going f else stages.Nothing
+
+-- what an entry means, of which this is put off
+abbrev pub meant_left : Stage → Option Meaning → Meaning → Meaning
+meant_left (stages.Going f) (Some w) m = of_form f m w
+meant_left s o m = m
+
+abbrev pub with_mark : ℕ → code_left.Left → code_left.Left
+with_mark mark l = record l { mark = mark }
+
+-- what is put off with one mark has another one
+abbrev pub moved_mark : ℕ → ℕ → code_left.Left → code_left.Left
+moved_mark from to l = if nat_eq l.mark from then with_mark to l else l
+
+-- what is left of an entry is put off
+abbrev pub set_if : ℕ → ℕ → Option code_meaning.Meaning → List code_left.Left → List code_left.Left
+set_if mark n None ls = ls
+set_if mark n (Some m) ls = modify (λ l. record { mark = mark; meaning = m }) n ls
+
+-- the same of each change in a list
+abbrev pub set_all : ℕ → List code_change.Change → List code_left.Left → List code_left.Left
+set_all mark [] ls = ls
+set_all mark (c ∷ cs) ls = set_all mark cs (set_if mark c.number c.after ls)
+
+-- all changes are of entries below a number
+abbrev pub AreBelow : ℕ → List code_change.Change → Type 0
+AreBelow count [] = Unit {0}
+AreBelow count (c ∷ cs) = (c.number < count) × AreBelow count cs
+
+abbrev pub numbers_in : List code_change.Change → List ℕ
+numbers_in cs = map (λ (c : code_change.Change). c.number) cs
+
+-- No mark is higher than the list's, and what has it is in the list.
+abbrev pub IsKept : ℕ → List code_left.Left → List code_change.Change → Type 0
+IsKept mark ls cs =
+    (0 < mark)
+    × ((i : ℕ) (l : code_left.Left) → item_at i ls ≡ Some l
+    → (l.mark ≤ mark) × (nat_eq l.mark mark ≡ true → is_one_of (numbers_in cs) i ≡ true))
+
+pub IsKept-prop : (mark : ℕ) (ls : List code_left.Left) (cs : List code_change.Change) → IsProp (IsKept mark ls cs)
+IsKept-prop mark ls cs = hlevel props
