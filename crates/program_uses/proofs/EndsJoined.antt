@@ -15,7 +15,7 @@ use Rattle.program_uses.specs.declared.uses.Use.{Use}
 use Rattle.program_uses.specs.declared.uses.Use.TheVariants as used
 use Rattle.program_uses.specs.InCommon.{AreBoth}
 use Rattle.program_uses.specs.Sets.{is_same_way, is_same, is_among, use_of, uses_at}
-use Rattle.program_uses.proofs.Adding.{flips}
+use Rattle.program_uses.proofs.Adding.{flips, or_none, or_assoc}
 use Rattle.program_uses.proofs.EndsInOrder.{is_eq_then, is_eq_number}
 use Rattle.program_uses.proofs.HasByParts.{no_read, no_change}
 
@@ -53,14 +53,6 @@ one_more true true = refl
 one_more true false = refl
 one_more false true = refl
 one_more false false = refl
-
-or_none : (a : Bool) → a ≡ (a || false)
-or_none true = refl
-or_none false = refl
-
-or_assoc : (a b c : Bool) → ((a || b) || c) ≡ (a || (b || c))
-or_assoc true b c = refl
-or_assoc false b c = refl
 
 -- after an insertion
 pub has_end_more : (old new : List ChannelEnd) (d : ChannelEnd)
