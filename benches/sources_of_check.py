@@ -318,16 +318,25 @@ def branches_changing():
     return in_branches(1_000, levels, lambda body: under(["PAR"] * levels, body))
 
 
-def branches_of_levels():
-    """The same where another variable is assigned to at each level, before the block in it."""
-    levels = 29
+def of_levels(before=(), behind=(), levels=29):
+    """The same where each level has other lines before the block in it, or behind."""
 
     def nest(body):
         for _ in range(levels):
-            body = ["SEQ", "  other := 1", "  PAR", *deeper(body, 2)]
+            body = ["SEQ", *deeper(before), "  PAR", *deeper(body, 2), *deeper(behind)]
         return body
 
     return in_branches(1_000, 10 * levels, nest)
+
+
+def branches_of_levels():
+    """Another variable is assigned to at each level."""
+    return of_levels(before=["other := 1"])
+
+
+def branches_of_blocks():
+    """That is in a block of its own, behind the other one."""
+    return of_levels(behind=["PAR", "  other := 1"])
 
 
 def loops_declaring(count, levels):
@@ -411,4 +420,5 @@ NESTS = {
     "pars-alone-changing": (pars_alone_changing, 2, "instances that pass 52 variables in 60 PARs of one component"),
     "branches-changing": (branches_changing, 2, "instances that pass 1,000 variables in 59 PARs, in turns of an IF"),
     "branches-of-levels": (branches_of_levels, 2, "the same in 29 PARs, with an assignment before each"),
+    "branches-of-blocks": (branches_of_blocks, 2, "the same with the assignment in a PAR behind each"),
 }
