@@ -7,10 +7,10 @@ use Rattle.module_format.specs.declared.fact.Step.{Step}
 use Rattle.module_format.specs.Contents.{Contents}
 use Rattle.states.specs.declared.rule.Rule.{Rule}
 use Rattle.states.specs.declared.rule.Rule.TheVariants as rules
-use Rattle.rulings.specs.Pointers.{are_near, reads_bytes, pointer_of, writes_bytes}
+use Rattle.rulings.specs.Pointers.{are_near, reads_bytes, pointer_of, writes_bytes, leaves_words}
 use Rattle.rulings.specs.Rulings.{settles, in_bounds, Ruling, Site, uses}
 use Rattle.local_rules.specs.MemoryRules.{word_fact, near_fact, shifted, place_fact, words_at, words_behind}
-use Rattle.local_rules.specs.MemoryRules.{may_store_word, stored_word, writes_through, stores_word}
+use Rattle.local_rules.specs.MemoryRules.{may_store_word, stored_word, pops_two, writes_through, stores_word}
 use Rattle.local_rules.specs.MoveRules.{come, moves_some}
 use Rattle.states.specs.declared.span.Leaving.{Leaving}
 use Rattle.states.specs.State.{State}
@@ -58,6 +58,16 @@ pub words_told : (r : Result Pointed Rule) (region : ℕ) (lo hi a b : ℤ) → 
 words_told r region lo hi a b a_is b_is told =
     subst (λ (z : ℤ). PointsTo r (words_at region lo z)) b_is
     (subst (λ (z : ℤ). PointsTo r (words_at region z b)) a_is told)
+
+pub written_told : (r : Result Continuation Rule) (after : State) (site : Site) (p : Pointed) (size end : ℤ)
+    (leaving : Leaving) (s left : State) → end ≡ p.hi +ℤ size
+    → ((k : Ruling) → writes_bytes site s p.region p.lo end k ≡ k) → left ≡ leaves_words p end leaving s
+    → Advances r after (pops_two site left) → Advances r after (writes_through site p size leaving s)
+written_told r after site p size end leaving s left end_is passes left_is told =
+    subst (λ (z : ℤ). Advances r after (writes_bytes site s p.region p.lo z (pops_two site (leaves_words p z leaving s))))
+    end_is
+    (subst (λ (t : Ruling). Advances r after t) (sym (passes (pops_two site (leaves_words p end leaving s))))
+    (subst (λ (t : State). Advances r after (pops_two site t)) left_is told))
 
 -- B is stored, where each test passes
 pub stores_told : (r : Result Continuation Rule) (after : State) (site : Site) (e d : ℤ) (s : State) (a b : Fact)
