@@ -1,6 +1,6 @@
 //! The rules of `in` and `out`.
 
-ghost use Rattle.std.specs.Prelude.{◌≡◌, ◌≤ℤ◌, ◌<ℤ◌, ◌+ℤ◌, pos, negsuc, true, IfOk};
+ghost use Rattle.std.specs.Prelude.{◌≡◌, ◌==◌, ◌||◌, not, ◌≤ℤ◌, ◌<ℤ◌, ◌+ℤ◌, pos, negsuc, true, IfOk};
 ghost use Rattle.module_format.specs.Contents.{Contents};
 ghost use Rattle.module_format.specs.Keeping.{Keeps};
 ghost use Rattle.states.specs.Views.{state_of, BelongsTo, CanWriteSpan};
@@ -79,14 +79,21 @@ fn begins_behind(depth: i32, first: i32) -> bool
     depth <= word_of_byte(first)
 }
 
+/// Whether bytes from the first to which a pointer may lead up to `end` are outside the frame, or in none of the three
+/// words below a depth.
+fn lies_off(depth: i32, pointer: Pointed, end: i32) -> bool
+    requires { negsuc 2147483646 ≤ℤ end }
+    ensures { result ≡ (not (pointer.region == 0) || (ends_before depth end || begins_behind depth pointer.lo)) }
+{
+    pointer.region != 0 || ends_before(depth, end) || begins_behind(depth, pointer.lo)
+}
+
 /// Whether the buffer of a message lies in none of the three words below the workspace.
 fn is_off_scheduling(state: &State, message: Message) -> bool
     ensures { result
         ≡ is_off_scheduling (state_of state.now) message.buffer (message.buffer.hi +ℤ message.count) }
 {
-    message.buffer.region != 0
-        || ends_before(state.depth, message.end())
-        || begins_behind(state.depth, message.buffer.lo)
+    lies_off(state.depth, message.buffer, message.end())
 }
 
 /// Whether a pointer leads to one place alone.
