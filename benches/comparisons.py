@@ -4,6 +4,7 @@ Each is code of a procedure with the largest frame, as long as code may be: a la
 jumps to one label at the end; or many labels, each with such jumps to many labels at the end.
 """
 
+import itertools
 import struct
 
 from inputs import (
@@ -94,13 +95,13 @@ def compared_with_each(rows, wanted, labels, ends, changes=""):
     return in_procedure(body, [*befores, *at_the_end(first, ends, wanted)])
 
 
-def compared_in_turns(rows, wanted, ends, changes):
+def compared_in_turns(rows, wanted, ends, *changes):
     """A label with these entries, and then, over and over, words that are changed and jumps to so many labels in turn,
-    with those that are wanted. These labels are at the end."""
+    with those that are wanted. Several ways to change words take turns. These labels are at the end."""
     jump, last = FUNCTIONS.index("cj"), LOAD_CONSTANT * ends + STOP_PROCESS
-    start, changing = 2 * STOP_PROCESS, code(changes)
+    start = 2 * STOP_PROCESS
     pieces, distance, room = [], 0, MAX_CODE_2 - len(start) - len(last)
-    while True:
+    for changing in itertools.cycle([code(change) for change in reversed(changes)]):
         turn, size = [], 0
         for end in reversed(range(ends)):
             turn.append(LOAD_CONSTANT + spelled(jump, distance + size + end))
@@ -232,6 +233,47 @@ def to_labels_in_turns(ends=256, before=""):
 def to_labels_behind_stores(ends=256):
     """The same, where a store through a pointer to any word comes before each of these."""
     return to_labels_in_turns(ends, THROUGH_POINTER)
+
+
+def to_labels_behind_moves(ends=1_000):
+    """To labels with three entries for each block of half the frame, over and over, each time once a move has made all
+    words of that half any numbers, and a word of each block is written."""
+    middle = (FRAME_LO + FRAME_HI) // 2
+    blocks = range(middle + BLOCK, FRAME_HI - BLOCK, BLOCK)
+    half = BLOCK // 2
+    wanted = [
+        entry
+        for word in blocks
+        for entry in (
+            number_entry(word, half, LEAST, GREATEST),
+            number_entry(word + half, 1, 0, 50),
+            number_entry(word + half + 1, half - 1, LEAST, GREATEST),
+        )
+    ]
+    size = 4 * (FRAME_HI - middle - BLOCK // 2)
+    move = f"ldlp {FRAME_LO}, ldlp {middle}, ldc {size}, move"
+    rows = [number_entry(FRAME_LO, FRAME_HI - FRAME_LO, LEAST, GREATEST)]
+    return compared_in_turns(rows, wanted, ends, f"{move}, {written(word + half for word in blocks)}")
+
+
+def to_labels_behind_many_writes(ends=900, writes=9):
+    """To labels with two entries for each block, over and over: behind a store to any word and some words of each block
+    that are written after it, and then behind a word of each block that is written."""
+    half = BLOCK // 2
+    blocks = [word for word in range(FRAME_LO + BLOCK, FRAME_HI - BLOCK, BLOCK) if abs(word) > BLOCK]
+
+    def halves(span, first, second):
+        return [
+            entry
+            for word in blocks
+            for entry in (number_entry(word, span, *first), number_entry(word + half, half, *second))
+        ]
+
+    known, wanted = halves(half, (0, 9), (100, 110)), halves(writes, (0, 9), (5, 200))
+    store = "ldc 50, ldl 1, stnl 0"
+    behind = written(word + number for word in blocks for number in range(writes))
+    rows = after([pointer_to(range(2, FRAME_HI)), *known])
+    return compared_in_turns(rows, wanted, ends, f"{store}, {behind}", written(blocks))
 
 
 # ---- loops
