@@ -410,15 +410,15 @@ SLOW = {
     "loops-lines": (loops_of_lines, 1, "7,000 short lines in 60 SEQs, in turns"),
     "loops-assigning": (loops_assigning, 1, "52 variables that are assigned to in 60 SEQs, in turns"),
     "late-blocks": (late_blocks, 1, "blocks that declare two names, made to collide with 80,000 others, in 60 SEQs"),
-}
-
-# Nests that take longer: where many variables change at each level, each end of a block goes over them.
-NESTS = {
     "loops-passing": (loops_passing, 2, "100 instances that pass 52 variables in 60 SEQs, in turns"),
     "pars-changing": (pars_changing, 2, "instances that pass 52 variables in 60 PARs of one turn, in turns"),
     "ifs-changing": (ifs_changing, 2, "instances that pass 52 variables in 30 IFs, in turns"),
     "pars-alone-changing": (pars_alone_changing, 2, "instances that pass 52 variables in 60 PARs of one component"),
     "branches-changing": (branches_changing, 2, "instances that pass 1,000 variables in 59 PARs, in turns of an IF"),
     "branches-of-levels": (branches_of_levels, 2, "the same in 29 PARs, with an assignment before each"),
-    "branches-of-blocks": (branches_of_blocks, 2, "the same with the assignment in a PAR behind each"),
+}
+
+# Nests that take longer: another block at each level has what is put off put into lists.
+NESTS = {
+    "branches-of-blocks": (branches_of_blocks, 2, "1,000 in 29 PARs, with an assignment in a PAR behind each"),
 }
