@@ -20,8 +20,8 @@ pub(crate) struct Row<'a> {
     pub(crate) hides: Option<usize>,
 }
 
-/// Which byte values are told apart where a spelling of one or two bytes is found.
-const SHORT_BYTES: usize = 128;
+/// Bytes of short spellings share a place where they are equal modulo this. No two letters are.
+const SHORT_BYTES: usize = 64;
 
 /// The place of a spelling of one or two bytes in the list of these.
 fn short_place(name: &[u8]) -> Option<usize> {
