@@ -126,6 +126,16 @@ pub owned_room : (m : Contents) (s : InMemory) (context : ℕ) (first : ℤ) (co
 owned_room m s context first count belongs owns =
     record { each = λ k low high. belongs.room context k (owns.each k low high) }
 
+-- the words of what was lent of the frame to be written can be written
+pub lent_room : (m : Contents) (s : InMemory) (context : ℕ) (l : Lent) (o : Option Lent) (w : ℤ) (count : ℕ) → o ≡ Some l
+    → l.is_written ≡ true → l.region ≡ 0 → w ≡ word_of_byte l.first → count ≡ l.size / 4
+    → BelongsTo m s → OwnsLent m context o → CanWriteSpan s w count
+lent_room m s context l o w count o_is writes zero_is w_is count_is belongs owns =
+    subst (λ (z : ℤ). CanWriteSpan s z count) (sym w_is)
+    (subst (λ (n : ℕ). CanWriteSpan s (word_of_byte l.first) n) (sym count_is)
+    (owned_room m s context (word_of_byte l.first) (l.size / 4) belongs
+    (subst (λ (x : Option Lent). OwnsLent m context x) o_is owns writes zero_is)))
+
 -- ---- the procedure's row
 
 -- a row is valid

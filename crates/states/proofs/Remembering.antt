@@ -18,16 +18,17 @@ use Rattle.module_format.specs.declared.fact.Fact.TheVariants.{Unknown, Number, 
 use Rattle.module_format.specs.declared.fact.Fact.TheVariants.{ReturnAddress}
 use Rattle.states.specs.declared.known.WordFact.{WordFact}
 use Rattle.states.specs.declared.known.WordFact.TheVariants.{Alone}
+use Rattle.states.specs.declared.remembered.Became.{Became}
 use Rattle.states.specs.declared.remembered.Changes.{Changes}
 use Rattle.states.specs.declared.remembered.Compared.{Compared}
 use Rattle.states.specs.declared.remembered.Remembered.{Remembered}
 use Rattle.states.specs.declared.span.Leaving.{Leaving}
-use Rattle.states.specs.declared.span.Leaving.TheVariants.{Widen}
+use Rattle.states.specs.declared.span.Leaving.TheVariants.{Become, Widen}
 use Rattle.states.specs.declared.rule.Rule.{Rule}
 use Rattle.states.specs.declared.rule.Rule.TheVariants as rules
-use Rattle.states.specs.State.{State, Facts, by_itself, is_alone, entry_fact}
+use Rattle.states.specs.State.{State, Facts, by_itself, is_alone, said_of, entry_fact}
 use Rattle.states.specs.Spans.{left_of}
-use Rattle.states.specs.Below.{View, says, are_alike, is_whole, holds_constant, price, entries_hold, agrees, cost}
+use Rattle.states.specs.Below.{View, implies, says, are_alike, is_whole, holds_constant, price, entries_hold, agrees, cost}
 use Rattle.states.specs.Below.{view, below, below_at}
 use Rattle.states.specs.Blocks.{block_words, first_of, is_widening, HaveRoom}
 use Rattle.states.specs.Implied.{BlockImplied, IsWithin}
@@ -36,8 +37,8 @@ use Rattle.states.specs.Frames.{with_alone, with_span}
 use Rattle.states.specs.Remembered.{never, compared_at, time_of, index_time, word_time, HasTimes, loop_stays, loops_stay}
 use Rattle.states.specs.Remembered.{wants_no_loop, IsPaid, IsRecalled, ChangedSay, allows, index_written}
 use Rattle.states.specs.Remembered.{word_written, no_changes, changes_of, since_at, since_in, range_of, range_at}
-use Rattle.states.specs.Remembered.{range_in}
-use Rattle.states.specs.Remembering.{IsRemembered, AreRemembered, IsChanged, IsPlaced, IsLeftSo, IsRenewed}
+use Rattle.states.specs.Remembered.{range_in, became_until}
+use Rattle.states.specs.Remembering.{IsRemembered, AreFixed, AreRemembered, IsChanged, IsPlaced, IsLeftSo, IsRenewed}
 use Rattle.states.proofs.BlockSums.{number-of}
 use Rattle.states.proofs.RowFacts.{and-parts, and-both}
 use Rattle.states.proofs.Comparisons.{entries_hold-says, says-unknown}
@@ -288,28 +289,36 @@ pub remembered-same : (said facts others : Facts) (lo : ℤ) (r : Remembered) �
 remembered-same said facts others lo r same old =
     subst (λ (f : Facts). AreRemembered said f lo r) (sym same) old
 
+-- nothing became one fact since the state became that of a label
+unfixed : (facts : Facts) (lo : ℤ) (r : Remembered) → r.time ≤ r.began → AreFixed facts lo r
+unfixed facts lo r now = λ k n at late early.
+    let past = r.became (n / block_words) in
+    absurd (omega (arith, past, late, now))
+
 -- none is of the label that the state goes on from, and what that label says is known
 pub remembered-none : (said facts : Facts) (lo : ℤ) (r : Remembered) → facts ≡ said
-    → ((at : ℕ) → (compared_at r.compared.items at).time < r.began) → AreRemembered said facts lo r
+    → ((at : ℕ) → (compared_at r.compared.items at).time < r.began) → r.time ≤ r.began → AreRemembered said facts lo r
 unfolding AreRemembered
-remembered-none said facts lo r is none = (
+remembered-none said facts lo r is none now = (
   λ at t found later.
       let before = none at in
       absurd (omega (arith, before, later)),
   λ k some early. ap (λ (f : Facts). f k) is,
+  unfixed facts lo r now,
 )
 
 -- nothing is remembered, and all blocks were changed since
 pub remembered-never : (said facts : Facts) (lo : ℤ) (r : Remembered)
     → ((n : ℕ) → n < vec_len r.times → r.began ≤ time_of r.times.items n)
-    → ((at : ℕ) → compared_at r.compared.items at ≡ never) → AreRemembered said facts lo r
+    → ((at : ℕ) → compared_at r.compared.items at ≡ never) → r.time ≤ r.began → AreRemembered said facts lo r
 unfolding AreRemembered
-remembered-never said facts lo r late none = (
+remembered-never said facts lo r late none now = (
   λ at t found later.
       let time = ap (λ (c : Compared). c.time) (none at) in
       let begun = r.begun in
       absurd (omega (arith, time, begun, later)),
   λ k some early. on k (k -ℤ lo) some early,
+  unfixed facts lo r now,
 )
   where
     on : (k z : ℤ) → 1 ≤ index_time r.times.items z → index_time r.times.items z < r.began → facts k ≡ said k
@@ -337,9 +346,10 @@ away lo k n number at d i e =
 pub remembered-changed : (said facts others : Facts) (lo : ℤ) (number : ℕ) (old new : Remembered)
     → IsChanged number old new → AreOutside lo number facts others
     → ((time : ℕ) → time < time_of new.times.items number → StayHeld lo old new facts others time)
+    → (AreFixed facts lo old → AreFixed others lo new)
     → AreRemembered said facts lo old → AreRemembered said others lo new
 unfolding AreRemembered
-remembered-changed said facts others lo number old new change far held remembered = (
+remembered-changed said facts others lo number old new change far held fixed remembered = (
   λ at t found later.
       elim (change.kept.each at) [
         | inl same ↦
@@ -360,6 +370,7 @@ remembered-changed said facts others lo number old new change far held remembere
   λ k some early.
       let before = fresh k (k -ℤ lo) refl some early in
       before.2 ∙ remembered.1 k before.0 before.1,
+  fixed remembered.2,
 )
   where
     on : (time : ℕ) (k z : ℤ) → k -ℤ lo ≡ z → time < time_of new.times.items number
@@ -420,6 +431,130 @@ outside-block lo number leaving facts others is = record {
     | outside e far ↦ ap (λ (b : Bool). cond b (Alone (left_of leaving (by_itself (facts k)))) (facts k)) e
   ];
 }
+
+-- ---- how blocks that became one fact change
+
+-- the words that were not written are what they were, and so is what their block became
+fixed-kept : (lo : ℤ) (old new : Remembered) (facts others : Facts) (k : ℤ) (n : ℕ) → k -ℤ lo ≡ pos n
+    → new.began ≡ old.began → time_of new.words.items n ≡ time_of old.words.items n
+    → (changes_of new.by_block.items (n / block_words)).became ≡ (changes_of old.by_block.items (n / block_words)).became
+    → others k ≡ facts k → AreFixed facts lo old
+    → new.began < (changes_of new.by_block.items (n / block_words)).became.time
+    → time_of new.words.items n < (changes_of new.by_block.items (n / block_words)).became.time
+    → others k ≡ Alone (changes_of new.by_block.items (n / block_words)).became.fact
+fixed-kept lo old new facts others k n at began words became same fixed late early =
+    let time = ap (λ (b : Became). b.time) became in
+    same ∙ (fixed k n at (omega (arith, began, time, late)) (omega (arith, words, time, early))
+    ∙ ap (λ (b : Became). Alone b.fact) (sym became))
+
+-- a word is written
+pub placed-fixed : (lo word : ℤ) (index number : ℕ) (fact : Fact) (facts others : Facts) (old new : Remembered)
+    → IsPlaced index number old new → others ≡ with_alone word fact facts → word ≡ lo +ℤ pos index
+    → AreFixed facts lo old → AreFixed others lo new
+placed-fixed lo word index number fact facts others old new placed is at fixed = λ k n here late early.
+    elim (cases_eq n index) [
+      | inl e ↦
+          let now = ap (time_of new.words.items) e in
+          let all = placed.now (n / block_words) in
+          absurd (omega (arith, now, all, early))
+      | inr d ↦
+          let same : others k ≡ facts k = elim (word-cases k word) [
+            | inl same ↦
+                let equal = same.0 in
+                absurd (d (omega (arith, ints, equal, at, here)))
+            | inr other ↦
+                ap (λ (f : Facts). f k) is ∙ ap (λ (b : Bool). cond b (Alone fact) (facts k)) other
+          ] in
+          fixed-kept lo old new facts others k n here placed.changed.began (placed.words n d)
+          (placed.became (n / block_words)) same fixed late early
+    ]
+
+-- what is left of a word that is known to be what its block became, or that becomes one fact
+left-fact : (leaving : Leaving) (fact : WordFact) (said : Fact)
+    → (is_widening leaving ≡ true → fact ≡ Alone said) → left_of leaving (by_itself fact) ≡ left_of leaving said
+left-fact (Become fact) word said is = refl
+left-fact (Widen lo hi) word said is = ap (λ (f : WordFact). left_of (Widen lo hi) (by_itself f)) (is refl)
+
+-- a block is left
+pub left-fixed : (lo : ℤ) (number : ℕ) (leaving : Leaving) (facts others : Facts) (old new : Remembered)
+    → IsLeftSo number leaving old new → others ≡ with_span (first_of lo number) block_words leaving facts
+    → AreFixed facts lo old → AreFixed others lo new
+left-fixed lo number leaving facts others old new left is fixed = λ k n here late early.
+    elim (cases_eq (n / block_words) number) [
+      | inl e ↦ elim (in-block lo number k) [
+        | inside j less at in_it ↦
+            let new_is = ap (changes_of new.by_block.items) e in
+            let old_is = ap (changes_of old.by_block.items) e in
+            let new_time = ap (λ (c : Changes). c.became.time) new_is in
+            let old_time = ap (λ (c : Changes). c.became.time) old_is in
+            let words = ap (λ (ws : List ℕ). time_of ws n) left.words in
+            let began = left.changed.began in
+            let before : is_widening leaving ≡ true
+            → facts k ≡ Alone (changes_of old.by_block.items number).became.fact = λ w.
+            let time = left.time w in
+            fixed k n here (omega (arith, new_time, old_time, began, time, late))
+            (omega (arith, new_time, old_time, words, time, early))
+            ∙ ap (λ (c : Changes). Alone c.became.fact) old_is in
+            ap (λ (f : Facts). f k) is
+            ∙ (ap (λ (b : Bool). cond b (Alone (left_of leaving (by_itself (facts k)))) (facts k)) in_it
+            ∙ (ap (λ (f : Fact). Alone f)
+            (left-fact leaving (facts k) (changes_of old.by_block.items number).became.fact before ∙ sym left.fact)
+            ∙ ap (λ (c : Changes). Alone c.became.fact) (sym new_is)))
+        | outside out far ↦ absurd (far n here e)
+      ]
+      | inr d ↦
+          fixed-kept lo old new facts others k n here left.changed.began
+          (ap (λ (ws : List ℕ). time_of ws n) left.words)
+          (ap (λ (c : Changes). c.became) (left.others (n / block_words) d))
+          ((outside-block lo number leaving facts others is).same k (away lo k n number here d)) fixed late early
+    ]
+
+-- what the words of a block became says what an entry wants of one that was not written since
+became-implies : (began : ℕ) (became : Became) (wanted : Fact) (written : ℕ) → written < became_until began became wanted
+    → (began < became.time) × ((written < became.time) × (implies became.fact wanted ≡ true))
+became-implies began became wanted written l =
+    on (nat_lt began became.time) (implies became.fact wanted) refl refl l
+  where
+    on : (a b : Bool) → nat_lt began became.time ≡ a → implies became.fact wanted ≡ b
+        → written < (if a && b then became.time else 0)
+        → (began < became.time) × ((written < became.time) × (implies became.fact wanted ≡ true))
+    on true true a b l = (grind (arith, nat_tests), (l, b))
+    on true false a b l = absurd (omega arith)
+    on false true a b l = absurd (omega arith)
+    on false false a b l = absurd (omega arith)
+
+alone-says : (fact wanted : Fact) (is_first : Bool) → implies fact wanted ≡ true
+    → says (Alone fact) (said_of wanted is_first) ≡ true
+alone-says fact Unknown is_first h = h
+alone-says fact (Number lo hi) is_first h = h
+alone-says fact (Pointer region lo hi step) is_first h = h
+alone-says fact (CodeAddress offset) is_first h = h
+alone-says fact ReturnAddress is_first h = h
+alone-says Unknown (Loop base count weight) is_first h = absurd (cc)
+alone-says (Number low high) (Loop base count weight) is_first h = absurd (cc)
+alone-says (Pointer region low high step) (Loop base count weight) is_first h = absurd (cc)
+alone-says (CodeAddress offset) (Loop base count weight) is_first h = absurd (cc)
+alone-says ReturnAddress (Loop base count weight) is_first h = absurd (cc)
+alone-says (Loop b c w) (Loop base count weight) is_first h = absurd (cc)
+
+pub fixed-says : (said facts : Facts) (lo : ℤ) (r : Remembered) (became : Became) (number : ℕ)
+    → became ≡ (changes_of r.by_block.items number).became → AreRemembered said facts lo r
+    → (k : ℤ) (n : ℕ) → k -ℤ lo ≡ pos n → n / block_words ≡ number → (wanted : Fact) (is_first : Bool)
+    → word_written lo r.words.items k < became_until r.began became wanted
+    → says (facts k) (said_of wanted is_first) ≡ true
+unfolding AreRemembered
+fixed-says said facts lo r became number is remembered k n at here wanted is_first l =
+    let both = became-implies r.began became wanted (word_written lo r.words.items k) l in
+    let late = both.0 in
+    let early = both.1.0 in
+    let same : became ≡ (changes_of r.by_block.items (n / block_words)).became =
+    is ∙ ap (λ (i : ℕ). (changes_of r.by_block.items i).became) (sym here) in
+    let time = ap (λ (b : Became). b.time) same in
+    let word = ap (index_written r.words.items) at in
+    let fact = remembered.2 k n at (omega (arith, time, late)) (omega (arith, time, word, early)) in
+    ap (λ (f : WordFact). says f (said_of wanted is_first))
+    (fact ∙ ap (λ (b : Became). Alone b.fact) (sym same))
+    ∙ alone-says became.fact wanted is_first both.1.1
 
 -- ---- how what is kept of words that were not written changes
 
@@ -597,6 +732,8 @@ remembered-renewed said facts lo number old new renewed before = (
       let time = ap (λ (ts : List ℕ). word_time lo ts k) renewed.times in
       let began = renewed.began in
       before.1 k (omega (arith, time, some)) (omega (arith, time, began, early)),
+  λ k n here. fixed-kept lo old new facts facts k n here renewed.began
+      (ap (λ (ws : List ℕ). time_of ws n) renewed.words) (renewed.became (n / block_words)) refl before.2,
 )
 
 -- a comparison more
@@ -638,6 +775,9 @@ remembered-put said facts lo old new t offset paid is_plain same times_is words_
       λ k some early.
           let time = ap (λ (ts : List ℕ). word_time lo ts k) times_is in
           remembered.1 k (omega (arith, time, some)) (omega (arith, time, began, early)),
+      λ k n here. fixed-kept lo old new facts facts k n here began
+          (ap (λ (ws : List ℕ). time_of ws n) words_is)
+          (ap (λ (bs : List Changes). (changes_of bs (n / block_words)).became) blocks_is) refl remembered.2,
     )
   where
     still : (entries : List Entry) (c : Compared) → IsRemembered lo old facts entries c

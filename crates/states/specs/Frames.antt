@@ -14,7 +14,7 @@ use Rattle.module_format.specs.Rows.{Entry}
 use Rattle.states.specs.declared.recalling.Asking.{Asking}
 use Rattle.states.specs.declared.remembered.Compared.{Compared}
 use Rattle.states.specs.Below.{says}
-use Rattle.states.specs.Remembered.{word_written, range_says}
+use Rattle.states.specs.Remembered.{word_written, range_says, became_until}
 use Rattle.states.specs.Remembering.{IsRemembered}
 use Rattle.states.specs.State.{Facts, is_word, by_itself, said_of, entry_fact}
 use Rattle.states.specs.declared.span.Leaving.{Leaving}
@@ -41,6 +41,11 @@ IsUnasked frame asking k fact =
     (range_says asking.range fact ≡ true)
     × ((asking.is_written ≡ false) ⊎ (word_written frame.lo frame.remembered.words.items k ≤ asking.time))
 
+-- nor for this: it was not written since its block became what says it
+abbrev pub IsFixed : Frame → Asking → ℤ → Fact → Type 0
+IsFixed frame asking k fact =
+    word_written frame.lo frame.remembered.words.items k < became_until frame.remembered.began asking.became fact
+
 -- what entries want of a word of a block is known where it need not be asked
 abbrev pub IsAsking : Frame → ℕ → Compared → Asking → Type 0
 IsAsking frame number c asking =
@@ -52,7 +57,7 @@ IsAsking frame number c asking =
 abbrev pub WordIsSaid : Frame → Asking → Entry → ℤ → Type 0
 WordIsSaid frame asking entry k =
     (says (frame_facts frame k) (said_of entry.fact (is_word entry.word k)) ≡ true)
-    ⊎ IsUnasked frame asking k entry.fact
+    ⊎ (IsUnasked frame asking k entry.fact ⊎ IsFixed frame asking k entry.fact)
 
 -- so it is of the words from the first up to the end, which is not included
 abbrev pub EntryIsSaid : Frame → Asking → Entry → ℤ → ℤ → Type 0

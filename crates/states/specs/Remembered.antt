@@ -7,6 +7,7 @@ use Rattle.module_format.specs.Rows.{Fact, Entry}
 use Rattle.module_format.specs.declared.fact.Fact.TheVariants.{Loop, Number, Unknown}
 use Rattle.states.specs.declared.known.WordFact.{WordFact}
 use Rattle.states.specs.declared.known.WordFact.TheVariants.{Alone}
+use Rattle.states.specs.declared.remembered.Became.{Became}
 use Rattle.states.specs.declared.remembered.Changes.{Changes}
 use Rattle.states.specs.declared.remembered.Compared.{Compared}
 use Rattle.states.specs.declared.span.Leaving.{Leaving}
@@ -52,7 +53,7 @@ word_written lo words k = index_written words (k -ℤ lo)
 
 -- of a block nothing is kept
 abbrev pub no_changes : Changes
-no_changes = record { written = 0; since = 0; left = None }
+no_changes = record { written = 0; since = 0; left = None; became = record { time = 0; fact = Unknown } }
 
 -- how a block's words were changed
 abbrev pub changes_of : List Changes → ℕ → Changes
@@ -133,3 +134,9 @@ abbrev pub range_says : Option Leaving → Fact → Bool
 range_says None wanted = true
 range_says (Some (Widen lo hi)) wanted = implies (Number lo hi) wanted
 range_says (Some (Become said)) wanted = implies Unknown wanted
+
+-- A word that was last written by itself before this time is what its block became, and so says what an entry wants of
+-- it. What the block became means nothing once the state is that of a label.
+abbrev pub became_until : ℕ → Became → Fact → ℕ
+became_until began became wanted =
+    if nat_lt began became.time && implies became.fact wanted then became.time else 0

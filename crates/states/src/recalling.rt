@@ -10,8 +10,8 @@ ghost use Rattle.states.specs.Below.{says};
 ghost use Rattle.states.specs.Frames.{frame_facts, IsKnown, StayKnown, IsAsking, WordIsSaid, EntryIsSaid};
 ghost use Rattle.states.specs.Frames.{SameRoom};
 ghost use Rattle.states.specs.Implied.{BlockImplied};
-ghost use Rattle.states.specs.Remembered.{compared_at, time_of, word_time, word_written, loop_stays, loops_stay};
-ghost use Rattle.states.specs.Remembered.{wants_no_loop, range_says, IsPaid, IsRecalled, ChangedSay};
+ghost use Rattle.states.specs.Remembered.{compared_at, time_of, changes_of, word_time, word_written, loop_stays, loops_stay};
+ghost use Rattle.states.specs.Remembered.{wants_no_loop, range_says, became_until, IsPaid, IsRecalled, ChangedSay};
 ghost use Rattle.states.specs.Rows.{AreApart};
 ghost use Rattle.states.specs.State.{entry_fact, is_word, said_of};
 
@@ -19,7 +19,7 @@ use crate::blocks::block_words;
 use crate::frame::Frame;
 use crate::implication::{implies, says};
 use crate::implied::{all_implied, from_word, is_row_within};
-use crate::remembered::Compared;
+use crate::remembered::{Became, Compared};
 use crate::row::{end_of, entry_said, loop_of, past_saying, start_of};
 use crate::span::Leaving;
 use module_format::{Entry, Fact, LabelRow};
@@ -49,6 +49,8 @@ pub(crate) struct Asking {
     pub is_written: bool,
     /// How the others were left. They are asked where this does not say what is wanted.
     pub range: Option<Leaving>,
+    /// What all words of the block became. Those that were not written since are not asked where it says what is wanted.
+    pub became: Became,
 }
 
 /// A comparison that tells what is paid, and how many words were asked that were not written since.
@@ -69,6 +71,18 @@ fn range_says(range: Option<Leaving>, wanted: Fact) -> bool
         Some(Leaving::Widen { lo, hi }) => implies(Fact::Number { lo, hi }, wanted),
         Some(Leaving::Become(_)) => implies(Fact::Unknown, wanted),
     }
+}
+
+/// Words of a block that were last written by themselves before this time say what an entry wants of them, by what all
+/// words of the block became.
+#[inline(always)]
+fn became_until(began: u64, became: Became, wanted: Fact) -> u64
+    ensures { result ≡ became_until began became wanted }
+{
+    if began < became.time && implies(became.fact, wanted) {
+        return became.time;
+    }
+    0
 }
 
 impl Frame<'_> {
@@ -204,7 +218,8 @@ impl Frame<'_> {
     /// Which words of a block are asked behind a comparison: those that were written since, and of the others those of
     /// which how the block was left does not say what is wanted. That is not known of the time before it is kept.
     fn asking(&self, number: usize, compared: Compared) -> Asking
-        ensures { IsAsking self.now number compared result }
+        ensures asking { IsAsking self.now number compared result }
+        ensures became { result.became ≡ (changes_of self.now.remembered.by_block.items number).became }
     {
         let changes = self.remembered.changes(number);
         let time = compared.time;
@@ -217,6 +232,7 @@ impl Frame<'_> {
             time,
             is_written: time < changes.written,
             range,
+            became: changes.became,
         }
     }
 
@@ -229,13 +245,16 @@ impl Frame<'_> {
         word: i64,
         asking: Asking,
         is_said: bool,
+        until: u64,
         most: u64,
     ) -> Option<u64>
-        requires { is_said ≡ range_says asking.range entry.now.fact }
+        requires said { is_said ≡ range_says asking.range entry.now.fact }
+        requires until { until ≡ became_until self.now.remembered.began asking.became entry.now.fact }
         ensures { IfSome result (λ _. WordIsSaid self.now asking entry.now word) }
     {
-        let is_written = asking.time < self.word_written(word);
-        if is_said && !is_written {
+        let written = self.word_written(word);
+        let is_written = asking.time < written;
+        if written < until || is_said && !is_written {
             return Some(most);
         }
         if !says(self.fact_at(word), entry_said(entry, word)) {
@@ -263,9 +282,10 @@ impl Frame<'_> {
         if is_said && !asking.is_written {
             return Some(most);
         }
+        let until = became_until(self.remembered.began, asking.became, entry.fact);
         let mut left = most;
         for word in first..end {
-            left = self.word_says(entry, word, asking, is_said, left)?;
+            left = self.word_says(entry, word, asking, is_said, until, left)?;
         }
         Some(left)
     }

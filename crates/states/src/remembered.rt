@@ -8,6 +8,7 @@ ghost use Rattle.states.specs.Remembered.{never, compared_at, time_of, changes_o
 use crate::blocks::block_words;
 use crate::span::Leaving;
 use certificate::Module;
+use module_format::Fact;
 use std::alloc::{AllocError, Global};
 
 /// A comparison of the state with the label at a code offset.
@@ -30,6 +31,23 @@ impl Compared {
     };
 }
 
+/// What all words of a block became.
+#[derive(Clone, Copy, Debug)]
+pub(crate) struct Became {
+    /// When they did. It means nothing if the state became that of a label then or later.
+    pub time: u64,
+    /// What each of them is that was not written by itself since.
+    pub fact: Fact,
+}
+
+impl Became {
+    /// They became nothing.
+    const NEVER: Became = Became {
+        time: 0,
+        fact: Fact::Unknown,
+    };
+}
+
 /// How the words of a block were changed.
 #[derive(Clone, Copy, Debug)]
 pub(crate) struct Changes {
@@ -40,6 +58,8 @@ pub(crate) struct Changes {
     pub since: u64,
     /// How they were left since then, if they were: widened by a range.
     pub left: Option<Leaving>,
+    /// What they became.
+    pub became: Became,
 }
 
 impl Changes {
@@ -48,6 +68,7 @@ impl Changes {
         written: 0,
         since: 0,
         left: None,
+        became: Became::NEVER,
     };
 
     /// All words were written when time began.
@@ -55,6 +76,7 @@ impl Changes {
         written: 1,
         since: 1,
         left: None,
+        became: Became::NEVER,
     };
 }
 
@@ -71,6 +93,7 @@ fn first_times(alloc: Global, count: usize) -> Result<Vec<u64>, AllocError>
 fn first_changes(alloc: Global, count: usize) -> Result<Vec<Changes>, AllocError>
     ensures len { IfOk result (λ v. vec_len v ≡ count) }
     ensures early { IfOk result (λ v. (n : ℕ) → (changes_of v.items n).written ≤ 1) }
+    ensures became { IfOk result (λ v. (n : ℕ) → (changes_of v.items n).became.time ≤ 1) }
     ensures since { IfOk result (λ v. (n : ℕ) → n < count → 1 ≤ (changes_of v.items n).since) }
     ensures written { IfOk result (λ v. (n : ℕ) → n < count → 1 ≤ (changes_of v.items n).written) }
 {
@@ -106,6 +129,7 @@ pub(crate) struct Remembered<'a> {
     ghost alike: { vec_len by_block ≡ vec_len times },
     ghost each: { (n : ℕ) → n < vec_len times → 1 ≤ time_of times.items n },
     ghost each_since: { (n : ℕ) → n < vec_len times → 1 ≤ (changes_of by_block.items n).since },
+    ghost became: { (n : ℕ) → (changes_of by_block.items n).became.time ≤ time },
     ghost recent: { (n : ℕ) → (changes_of by_block.items n).written ≤ time },
     ghost placed: { (n : ℕ) → time_of words.items n ≤ (changes_of by_block.items (n / block_words)).written },
     ghost timed: { HasTimes (vec_len words) (vec_len times) } by { HasTimes-prop (vec_len words) (vec_len times) },
@@ -124,6 +148,7 @@ impl<'a> Remembered<'a> {
         ensures same { IfOk result (λ r. r.«module».now ≡ «module».now) }
         ensures words { IfOk result (λ r. vec_len r.words ≡ words) }
         ensures none { IfOk result (λ r. (at : ℕ) → compared_at r.compared.items at ≡ never) }
+        ensures began { IfOk result (λ r. r.time ≤ r.began) }
         ensures late { IfOk result (λ r. (n : ℕ) → n < vec_len r.times → r.began ≤ time_of r.times.items n) }
     {
         let blocks = words / block_words() + 1;
@@ -216,7 +241,12 @@ impl<'a> Remembered<'a> {
         requires is { number ≡ index / block_words }
         ensures { IsPlaced index number self.old self.new }
     {
-        let Changes { since, left, .. } = self.changes(number);
+        let Changes {
+            since,
+            left,
+            became,
+            ..
+        } = self.changes(number);
         self.tick();
         self.times[number] = self.time;
         self.words[index] = self.time;
@@ -224,6 +254,7 @@ impl<'a> Remembered<'a> {
             written: self.time,
             since,
             left,
+            became,
         };
     }
 
@@ -243,18 +274,29 @@ impl<'a> Remembered<'a> {
         let left = leaving.after(self.range(number));
         self.tick();
         self.times[number] = self.time;
-        let Changes { written, since, .. } = self.by_block[number];
+        let Changes {
+            written,
+            since,
+            became: Became { time, fact },
+            ..
+        } = self.by_block[number];
+        let fact = leaving.left_of(fact);
         self.by_block[number] = if leaving.is_widening() {
             Changes {
                 written,
                 since: since.max(self.began),
                 left: Some(left),
+                became: Became { time, fact },
             }
         } else {
             Changes {
                 written,
                 since: self.time,
                 left: None,
+                became: Became {
+                    time: self.time,
+                    fact,
+                },
             }
         };
     }
@@ -264,11 +306,16 @@ impl<'a> Remembered<'a> {
         requires { number < vec_len self.old.times }
         ensures { IsRenewed number self.old self.new }
     {
-        let written = self.changes(number).written;
+        let Changes {
+            written,
+            became,
+            ..
+        } = self.changes(number);
         self.by_block[number] = Changes {
             written,
             since: self.time,
             left: None,
+            became,
         };
     }
 
@@ -276,6 +323,7 @@ impl<'a> Remembered<'a> {
     pub(crate) fn restart(&mut self)
         ensures kept { IsKept self.old self.new }
         ensures none { (at : ℕ) → (compared_at self.new.compared.items at).time < self.new.began }
+        ensures began { self.new.time ≤ self.new.began }
     {
         self.tick();
         self.began = self.time;

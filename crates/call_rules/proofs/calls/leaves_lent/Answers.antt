@@ -1,8 +1,14 @@
 use Rattle.std.proofs.Common.{arith}
 use Rattle.std.proofs.lemmas.Int.{ints}
 use Rattle.states.specs.Views.{state_of}
-use Rattle.call_rules.proofs.Touching.{lent_told}
+use Rattle.call_rules.proofs.Touching.{lent_room, lent_told}
 use Rattle.call_rules.proofs.calls.leaves_lent.Goals as goal
+
+pub change_span-requires-clause-room : goal.change_span-requires-clause-room
+change_span-requires-clause-room c =
+    lent_room c.args.place.now.module.now c.args.state.now c.args.state.now.context c.in-Some.lent c.args.lent _ _
+    c.in-Some.is c.if-lent.true (omega arith) (omega (arith, ints)) c.word_count.ensures c.requires.belongs
+    c.requires.own
 
 pub returns-then-lent-eq0-clause-state : goal.returns-then-lent-eq0-clause-state
 returns-then-lent-eq0-clause-state c =

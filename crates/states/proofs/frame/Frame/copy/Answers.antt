@@ -32,4 +32,4 @@ invariant_of-result-clause-summed c =
 
 pub invariant_of-result-clause-compared : goal.invariant_of-result-clause-compared
 invariant_of-result-clause-compared c =
-    remembered-never _ _ _ _ c.in_ok-new.ensures.late c.in_ok-new.ensures.none
+    remembered-never _ _ _ _ c.in_ok-new.ensures.late c.in_ok-new.ensures.none c.in_ok-new.ensures.began

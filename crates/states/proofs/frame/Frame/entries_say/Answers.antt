@@ -5,6 +5,7 @@ use Rattle.states.specs.Blocks.{block_words, first_of}
 use Rattle.states.specs.Frames.{frame_facts}
 use Rattle.states.specs.State.{entry_fact, is_word}
 use Rattle.states.proofs.RowFacts.{segment-apart}
+use Rattle.states.proofs.Remembering.{fixed-says}
 use Rattle.states.proofs.SaidWords.{EntrySays, said-more, said-before, block-said, index-in}
 use Rattle.states.proofs.frame.Frame.entries_say.Goals as goal
 
@@ -33,11 +34,18 @@ loop-entry-preserved c =
     elim (said k (omega (arith, ints, clamps, from, starts, low, begun))
     (omega (arith, ints, clamps, to, ends, high, within))) [
       | inl h ↦ h
-      | inr unasked ↦
+      | inr known ↦
           let index = index-in frame.lo k c.args.number (omega (arith, ints, first_is, low))
           (omega (arith, ints, first_is, end_is, high)) in
-          c.asking-asking.ensures row c.requires.known k index.0 index.1 index.2 entry.fact (is_word entry.word k)
-          wanted unasked
+          elim known [
+            | inl unasked ↦
+                c.asking-asking.ensures.asking row c.requires.known k index.0 index.1 index.2 entry.fact
+                (is_word entry.word k) wanted unasked
+            | inr fixed ↦
+                fixed-says (entry_fact frame.row.now) (frame_facts frame) frame.lo frame.remembered
+                c.asking-asking.result.became c.args.number c.asking-asking.ensures.became frame.compared k index.0
+                index.1 index.2 entry.fact (is_word entry.word k) fixed
+          ]
     ] in
     record {
       apart = segment-apart c.loop-entry.rest.now entry c.in-Some.later.now c.loop-entry.invariant.apart (search rules);

@@ -6,7 +6,7 @@ use Rattle.states.specs.Spans.{together}
 use Rattle.states.specs.Frames.{frame_facts, over_facts, with_span}
 use Rattle.states.proofs.BlockSums.{sum-is}
 use Rattle.states.proofs.Leavings.{block-left, summed-left, sum-right}
-use Rattle.states.proofs.Remembering.{block-there, outside-block, remembered-changed, left-held}
+use Rattle.states.proofs.Remembering.{block-there, outside-block, remembered-changed, left-held, left-fixed}
 use Rattle.states.proofs.frame.Frame.leave_block.Goals as goal
 use Rattle.states.proofs.frame.Frame.leave_block.Goals.{After-set}
 
@@ -56,5 +56,7 @@ invariant_of-self-clause-compared c =
     c.leave.new.self c.leave.ensures.changed
     (outside-block frame.lo c.args.number c.args.leaving (frame_facts frame) _ (left-so after))
     (left-held frame.lo c.args.number c.args.leaving (frame_facts frame) _ frame.remembered c.leave.new.self
+    c.leave.ensures (left-so after))
+    (left-fixed frame.lo c.args.number c.args.leaving (frame_facts frame) _ frame.remembered c.leave.new.self
     c.leave.ensures (left-so after))
     frame.compared

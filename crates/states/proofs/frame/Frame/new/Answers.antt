@@ -14,4 +14,4 @@ returns-clause-facts c =
 
 pub invariant_of-result-clause-compared : goal.invariant_of-result-clause-compared
 invariant_of-result-clause-compared c =
-    remembered-never _ _ _ _ c.in_ok-new-3.ensures.late c.in_ok-new-3.ensures.none
+    remembered-never _ _ _ _ c.in_ok-new-3.ensures.late c.in_ok-new-3.ensures.none c.in_ok-new-3.ensures.began

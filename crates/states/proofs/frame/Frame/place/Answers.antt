@@ -8,7 +8,7 @@ use Rattle.states.specs.State.{entry_fact}
 use Rattle.states.proofs.FrameFacts.{facts_over-write, distance}
 use Rattle.states.proofs.BlockSums.{summed-write}
 use Rattle.states.proofs.Leavings.{word-placed}
-use Rattle.states.proofs.Remembering.{outside-word, remembered-changed, placed-held}
+use Rattle.states.proofs.Remembering.{outside-word, remembered-changed, placed-held, placed-fixed}
 use Rattle.states.proofs.frame.Frame.place.Goals as goal
 use Rattle.states.proofs.frame.Frame.place.Goals.{After-forget}
 
@@ -78,5 +78,7 @@ invariant_of-self-clause-compared c =
     (outside-word frame.lo c.args.word index (index / block_words) c.args.fact (frame_facts frame) _
     (placed after) (word-is after) refl)
     (placed-held frame.lo c.args.word index (index / block_words) c.args.fact (frame_facts frame) _ frame.remembered
+    c.place.new.self c.place.ensures (placed after) (word-is after))
+    (placed-fixed frame.lo c.args.word index (index / block_words) c.args.fact (frame_facts frame) _ frame.remembered
     c.place.new.self c.place.ensures (placed after) (word-is after))
     frame.compared
