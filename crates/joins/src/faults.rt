@@ -1,4 +1,5 @@
 //! What may be wrong with a start.
+#![tactic(auto, using(crate::proofs::Mapped::all_of_mapped))]
 
 ghost use Rattle.std.specs.Prelude.{◌≡◌, ◌&&◌, ◌+◌, ◌*◌, ◌%◌, ◌^◌, ◌++◌, ℕ, ℤ, Option, [], true, pos, length};
 ghost use Rattle.std.specs.Prelude.{IfOk};
@@ -129,7 +130,6 @@ fn may_take(holding: &Holding, base: u32, channels: &[ChannelRow]) -> bool
 }
 
 /// Whether the words of the block and of the channels of a PAR may be written.
-#[tactic(auto, using(crate::proofs::Mapped::all_of_mapped))]
 pub(crate) fn may_open(holding: &Holding, base: u32, par: &ParRow) -> bool
     ensures { let h = holding_view holding.now in
         let p = par_of par.now in
@@ -166,7 +166,6 @@ fn are_defined(store: &TaggedStore, base: u32, channels: &[ChannelRow]) -> bool
 }
 
 /// Whether the words of the block and of the channels of a PAR are defined.
-#[tactic(auto, using(crate::proofs::Mapped::all_of_mapped))]
 pub(crate) fn is_defined(store: &TaggedStore, base: u32, par: &ParRow) -> bool
     ensures { let p = par_of par.now in
         result ≡ list_all (word_is_defined store.now.cells) (block_addresses base p ++ channel_addresses base p) }
@@ -237,7 +236,6 @@ fn points_at(store: &TaggedStore, tables: &Tables, block: u32, offset: u32) -> b
 }
 
 /// Whether the channels of a PAR are empty, by their addresses.
-#[tactic(auto, using(crate::proofs::Mapped::all_of_mapped))]
 fn channels_are_empty(store: &TaggedStore, base: u32, par: &ParRow) -> bool
     ensures { let addresses = channel_addresses base (par_of par.now) in
         result ≡ list_all (λ a. is_word store.now.cells a least_word) addresses }

@@ -1,4 +1,5 @@
 //! The rules of the instructions on words.
+#![tactic(auto, unfolding(crate::specs::LocalRules::local_rule, crate::specs::LocalRules::local_operation_rule))]
 
 ghost use Rattle.std.specs.Prelude.{◌≡◌, ◌&&◌, int_le, if◌then◌else◌, Some, None, pos, negsuc, ◌≤ℤ◌, ◌+◌, ℤ, IfOk};
 ghost use Rattle.module_format.specs.Contents.{Contents};
@@ -43,7 +44,6 @@ fn between(number: i64, lo: i64, hi: i64) -> Option<i32>
     Some(number as i32)
 }
 
-#[tactic(auto, unfolding(crate::specs::LocalRules::local_rule))]
 pub(crate) fn load_constant(
     place: &Place,
     state: &mut State,
@@ -60,7 +60,6 @@ pub(crate) fn load_constant(
     place.goes_on(state)
 }
 
-#[tactic(auto, unfolding(crate::specs::LocalRules::local_rule))]
 pub(crate) fn load_local(
     place: &Place,
     state: &mut State,
@@ -78,7 +77,6 @@ pub(crate) fn load_local(
     place.goes_on(state)
 }
 
-#[tactic(auto, unfolding(crate::specs::LocalRules::local_rule))]
 pub(crate) fn store_local(
     place: &Place,
     state: &mut State,
@@ -115,7 +113,6 @@ fn becomes(
     place.goes_on(state)
 }
 
-#[tactic(auto, unfolding(crate::specs::LocalRules::local_rule))]
 pub(crate) fn with_constant(
     place: &Place,
     state: &mut State,
@@ -136,7 +133,6 @@ pub(crate) fn with_constant(
     becomes(place, state, result_fact(op, left, right), source)
 }
 
-#[tactic(auto, unfolding(crate::specs::LocalRules::local_operation_rule))]
 pub(crate) fn reverse(place: &Place, state: &mut State) -> Result<Continuation, Rule>
     ensures ruling { let ruling = local_operation_rule (site_of place.now) Reverse (state_of state.old) in
         Advances result (state_of state.new) ruling }
@@ -147,7 +143,6 @@ pub(crate) fn reverse(place: &Place, state: &mut State) -> Result<Continuation, 
     place.goes_on(state)
 }
 
-#[tactic(auto, unfolding(crate::specs::LocalRules::local_operation_rule))]
 pub(crate) fn minimum_integer(place: &Place, state: &mut State) -> Result<Continuation, Rule>
     ensures ruling { let ruling = local_operation_rule (site_of place.now) MinimumInteger (state_of state.old) in
         Advances result (state_of state.new) ruling }
@@ -161,7 +156,6 @@ pub(crate) fn minimum_integer(place: &Place, state: &mut State) -> Result<Contin
     place.goes_on(state)
 }
 
-#[tactic(auto, unfolding(crate::specs::LocalRules::local_operation_rule))]
 pub(crate) fn binary(
     place: &Place,
     state: &mut State,
@@ -178,7 +172,6 @@ pub(crate) fn binary(
     becomes(place, state, result_fact(op, left, right), source)
 }
 
-#[tactic(auto, unfolding(crate::specs::LocalRules::local_operation_rule))]
 pub(crate) fn unary(
     place: &Place,
     state: &mut State,
@@ -197,7 +190,6 @@ pub(crate) fn unary(
     )
 }
 
-#[tactic(auto, unfolding(crate::specs::LocalRules::local_operation_rule))]
 pub(crate) fn shift(
     place: &Place,
     state: &mut State,
@@ -229,7 +221,6 @@ fn has_long_operations(place: &Place) -> Result<(), Rule>
     Ok(())
 }
 
-#[tactic(auto, unfolding(crate::specs::LocalRules::local_operation_rule))]
 pub(crate) fn long(place: &Place, state: &mut State, op: LongOp) -> Result<Continuation, Rule>
     ensures ruling { let ruling = local_operation_rule (site_of place.now) (Long op) (state_of state.old) in
         Advances result (state_of state.new) ruling }
@@ -259,7 +250,6 @@ pub(crate) fn check(place: &Place, state: &mut State, check: Check) -> Result<Co
     place.goes_on(state)
 }
 
-#[tactic(auto, unfolding(crate::specs::LocalRules::local_rule))]
 pub(crate) fn load_local_pointer(
     place: &Place,
     state: &mut State,
@@ -293,7 +283,6 @@ fn in_frame(place: &Place, state: &State, depth: i64) -> Result<i32, Rule>
     }
 }
 
-#[tactic(auto, unfolding(crate::specs::LocalRules::local_rule))]
 pub(crate) fn adjust_workspace(
     place: &Place,
     state: &mut State,
@@ -311,7 +300,6 @@ pub(crate) fn adjust_workspace(
     place.goes_on(state)
 }
 
-#[tactic(auto, unfolding(crate::specs::LocalRules::local_rule))]
 pub(crate) fn conditional_jump(
     place: &Place,
     state: &mut State,

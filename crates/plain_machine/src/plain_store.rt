@@ -174,6 +174,7 @@ impl PlainStore {
     }
 }
 
+#[tactic(auto, using(crate::proofs::PlainBytes::tests, crate::proofs::PlainBytes::bounds))]
 impl LoadStore for PlainStore {
     ghost use Rattle.plain_machine.specs.Plain.{defined, all_memory, no_roles};
 
@@ -183,32 +184,26 @@ impl LoadStore for PlainStore {
 
     ghost roles = { λ s. no_roles };
 
-    #[tactic(auto, using(crate::proofs::PlainBytes::tests))]
     fn can_load_byte(&self, address: u32) -> bool {
         self.has(place_of(address) as usize)
     }
 
-    #[tactic(auto, using(crate::proofs::PlainBytes::tests))]
     fn can_store_byte(&self, address: u32) -> bool {
         self.has(place_of(address) as usize)
     }
 
-    #[tactic(auto, using(crate::proofs::PlainBytes::tests))]
     fn can_load_word(&self, address: u32) -> bool {
         self.has(place_of(address) as usize + 3)
     }
 
-    #[tactic(auto, using(crate::proofs::PlainBytes::tests))]
     fn can_store_word(&self, address: u32) -> bool {
         self.has(place_of(address) as usize + 3)
     }
 
-    #[tactic(auto, using(crate::proofs::PlainBytes::tests))]
     fn can_load_bytes(&self, address: u32, count: u32) -> bool {
         self.has_all(place_of(address), count)
     }
 
-    #[tactic(auto, using(crate::proofs::PlainBytes::tests))]
     fn can_store_bytes(&self, address: u32, count: u32) -> bool {
         self.has_all(place_of(address), count)
     }
@@ -217,31 +212,26 @@ impl LoadStore for PlainStore {
         false
     }
 
-    #[tactic(auto, using(crate::proofs::PlainBytes::tests))]
     fn defines_bytes(&self, address: u32, count: u32) -> bool {
         self.has_all(place_of(address), count)
     }
 
     #[inline]
-    #[tactic(auto, using(crate::proofs::PlainBytes::bounds))]
     fn load_byte(&self, address: u32) -> Option<u8> {
         Some(bytes::byte_at(&self.bytes, place_of(address) as usize))
     }
 
     #[inline]
-    #[tactic(auto, using(crate::proofs::PlainBytes::bounds))]
     fn write_byte(&mut self, address: u32, byte: u8) {
         bytes::set_byte(&mut self.bytes, place_of(address) as usize, byte);
     }
 
     #[inline]
-    #[tactic(auto, using(crate::proofs::PlainBytes::bounds))]
     fn load_word(&self, address: u32) -> Word {
         Some(bytes::word_at(&self.bytes, place_of(address) as usize))
     }
 
     #[inline]
-    #[tactic(auto, using(crate::proofs::PlainBytes::bounds))]
     fn write_word(&mut self, address: u32, value: i32) {
         bytes::set_word(&mut self.bytes, place_of(address) as usize, value);
     }

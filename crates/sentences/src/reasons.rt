@@ -1,4 +1,5 @@
 //! Why a module is refused.
+#![tactic(auto, unfolding(crate::specs::Sights::refused_text, crate::specs::Sights::line_text))]
 
 ghost use Rattle.std.specs.Prelude.{◌≡◌, ◌+◌, ◌<◌, ◌^◌, ◌++◌, length, OnOk, string_bytes};
 ghost use Rattle.states.specs.Views.{state_of};
@@ -112,7 +113,6 @@ fn push_reason(
 }
 
 /// Appends a line.
-#[tactic(auto, unfolding(crate::specs::Sights::line_text))]
 fn push_line_of(text: &mut String, why: &str) -> Result<(), AllocError>
     ensures { OnOk result (string_bytes text.new ≡ string_bytes text.old ++ line_text why.now) }
 {
@@ -122,7 +122,6 @@ fn push_line_of(text: &mut String, why: &str) -> Result<(), AllocError>
 }
 
 /// Appends a refusal with a reason that is known as a text.
-#[tactic(auto, unfolding(crate::specs::Sights::refused_text))]
 fn push_refusal(text: &mut String, rule: Rule, at: usize, why: &str) -> Result<(), AllocError>
     ensures { OnOk result (string_bytes text.new ≡ string_bytes text.old ++ refused_text rule at why.now) }
 {
@@ -141,7 +140,6 @@ pub struct Broken {
 }
 
 /// Appends why the rule is broken, and a line feed.
-#[tactic(auto, unfolding(crate::specs::Sights::line_text))]
 fn push_reason_line(
     text: &mut String,
     module: &Module,
@@ -158,7 +156,6 @@ fn push_reason_line(
 }
 
 /// Appends the refusal.
-#[tactic(auto, unfolding(crate::specs::Sights::refused_text))]
 fn push_refused_reason(
     text: &mut String,
     module: &Module,
@@ -249,7 +246,6 @@ fn push_within(text: &mut String, at: usize) -> Result<(), AllocError>
 }
 
 /// Appends the same, and a line feed.
-#[tactic(auto, unfolding(crate::specs::Sights::line_text))]
 fn push_within_line(text: &mut String, at: usize) -> Result<(), AllocError>
     ensures { OnOk result (string_bytes text.new ≡ string_bytes text.old ++ line_text (within_text at)) }
 {
@@ -259,7 +255,6 @@ fn push_within_line(text: &mut String, at: usize) -> Result<(), AllocError>
 }
 
 /// Appends the refusal of a start within the instruction at an offset.
-#[tactic(auto, unfolding(crate::specs::Sights::refused_text))]
 pub fn push_hidden(text: &mut String, at: usize, inside: usize) -> Result<(), AllocError>
     ensures { OnOk result (string_bytes text.new ≡ string_bytes text.old ++ hidden_text at inside) }
 {
