@@ -243,6 +243,9 @@ form_hull forms.Behind m w = sym (meaning_again w m)
 abbrev hull_entry : Entry → Entry → Entry
 hull_entry a b = record { name = a.name; meaning = hull_meaning a.meaning b.meaning }
 
+hull_itself : (e : Entry) → hull_entry e e ≡ e
+hull_itself e = ap (λ m. record { name = e.name; meaning = m }) (meaning_itself e.meaning)
+
 going_one : (f : Form) (o : Option Meaning) (e : Entry)
     → entry_left forms.Ahead o (hull_entry e e) ≡ hull_entry e (entry_left f o e)
 going_one f None e = refl
@@ -300,6 +303,27 @@ ended_hulls f p (d ∷ ds) (e ∷ es) alike =
     λ i. (ap (λ k. entry_left (further f) (p k) (hull_entry d e)) (hulls_long ds es)
     ∙ pair_ended f (p (length ds)) d e alike.0) i ∷ ended_hulls f p ds es alike.1 i
 
+around_one : (f : Form) (o : Option Meaning) (d e : Entry) → (o ≡ None) ⊎ (d ≡ e)
+    → entry_left f o (hull_entry d e) ≡ hull_entry (entry_left f o d) (entry_left f o e)
+around_one f o d e (inl none) =
+    ap (λ k. entry_left f k (hull_entry d e)) none
+    ∙ ap (λ k. hull_entry (entry_left f k d) (entry_left f k e)) (sym none)
+around_one f o d e (inr same) =
+    ap (λ k. entry_left f o (hull_entry k e)) same ∙ ap (entry_left f o) (hull_itself e)
+    ∙ sym (hull_itself (entry_left f o e)) ∙ ap (λ k. hull_entry (entry_left f o k) (entry_left f o e)) (sym same)
+
+-- a branch of a block that began behind
+pub around_hulls : (f : Form) (p : ℕ → Option Meaning) (ds es : List Entry) → length ds ≡ length es → AreAlike p ds es
+    → entries_left f p (hulls ds es) ≡ hulls (entries_left f p ds) (entries_left f p es)
+around_hulls f p [] es long alike = refl
+around_hulls f p (d ∷ ds) [] long alike = absurd alike
+around_hulls f p (d ∷ ds) (e ∷ es) long alike =
+    let same : length ds ≡ length es = omega arith in
+    λ i. (ap (λ k. entry_left f (p k) (hull_entry d e)) (hulls_long ds es)
+    ∙ around_one f (p (length ds)) d e alike.0
+    ∙ ap (λ k. hull_entry (entry_left f (p (length ds)) d) (entry_left f (p k) e)) same) i
+    ∷ around_hulls f p ds es same alike.1 i
+
 -- ---- where a component ends
 
 taken_long : (ns : List ℕ) (ds es : List Entry) → length (taken ns ds es) ≡ length ds
@@ -343,3 +367,22 @@ ended_taken f p q ns (d ∷ ds) (e ∷ es) long is =
     ∙ ap (λ o. entry_left f o (of_both t d e)) (is (length ds)) ∙ keep_one t f (p (length ds)) d e
     ∙ ap (λ k. of_both (is_one_of ns k) (entry_left f (p (length ds)) d) e) (sym (left_long f p ds))) i
     ∷ ended_taken f p q ns ds es same is i
+
+both_one : (t : Bool) (f : Form) (o : Option Meaning) (d e : Entry)
+    → entry_left f o (of_both t d e) ≡ of_both t (entry_left f o d) (entry_left f o e)
+both_one true f o d e = refl
+both_one false f o d e = refl
+
+-- one of a block that began behind
+pub around_taken : (f : Form) (p : ℕ → Option Meaning) (ns : List ℕ) (ds es : List Entry) → length ds ≡ length es
+    → entries_left f p (taken ns ds es) ≡ taken ns (entries_left f p ds) (entries_left f p es)
+around_taken f p ns [] es long = refl
+around_taken f p ns (d ∷ ds) [] long = absurd (omega arith)
+around_taken f p ns (d ∷ ds) (e ∷ es) long =
+    let same : length ds ≡ length es = omega arith in
+    let t = is_one_of ns (length ds) in
+    λ i. (ap (λ k. entry_left f (p k) (of_both t d e)) (taken_long ns ds es)
+    ∙ both_one t f (p (length ds)) d e
+    ∙ (λ j. of_both (is_one_of ns (sym (left_long f p ds) j)) (entry_left f (p (length ds)) d)
+    (entry_left f (p (same j)) e))) i
+    ∷ around_taken f p ns ds es same i

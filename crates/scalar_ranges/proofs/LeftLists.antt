@@ -1,7 +1,7 @@
 -- What is put off of entries, by the program's list.
 use Rattle.std.proofs.Common.{◌≡◌, ℕ, zero, suc, ◌+◌, ◌<◌, ◌≤◌, Bool, true, false, cond, List, [], ◌∷◌, ◌++◌, length}
 use Rattle.std.proofs.Common.{Option, Some, None, refl, sym, ap, subst, arith, ◌∙◌, nat_eq, option_map, take}
-use Rattle.std.proofs.Common.{set, get_or, drop, Result, Ok, Err, OnErr}
+use Rattle.std.proofs.Common.{set, get_or, drop, Result, Ok, Err, OnErr, ◌⊎◌, inl, inr}
 use Rattle.std.proofs.lemmas.List.{drop_more, drop_all, length-take, take_more, take_all}
 use Rattle.std.proofs.lemmas.Bool.Decides.{nat_tests}
 use Rattle.scalar_ranges.specs.declared.deferred.Left as code_left
@@ -20,17 +20,18 @@ use Rattle.scalar_ranges.specs.Lefts.{numbers_in, IsKept}
 use Rattle.scalar_ranges.proofs.Widening.{one_more}
 use Rattle.scalar_ranges.proofs.Rows.{same_number}
 use Rattle.scalar_ranges.proofs.Numbered.{modify_long, item_modified, other_item, items_modified}
-use Rattle.scalar_ranges.proofs.Numbered.{numbers_alike, item_taken}
+use Rattle.scalar_ranges.proofs.Numbered.{numbers_alike, item_taken, which}
 use Rattle.scalar_ranges.proofs.SlotLoops.{item_beyond, item_within}
 use Rattle.scalar_ranges.specs.declared.deferred.Stage.{Stage}
 use Rattle.scalar_ranges.specs.declared.slots.Form.{Form}
 use Rattle.scalar_ranges.specs.MoveLaws.{meaning_at}
 use Rattle.scalar_ranges.specs.Moves.{with_meaning}
-use Rattle.scalar_ranges.specs.Changes.{known_with, changed_ends}
+use Rattle.scalar_ranges.specs.Changes.{known_with, known_around, changed_ends}
 use Rattle.scalar_ranges.specs.Deferring.{of_form}
 use Rattle.scalar_ranges.proofs.Named.{changed_by_meaning, none_changed}
 use Rattle.scalar_ranges.proofs.Deferring.{put_left}
-use Rattle.scalar_ranges.proofs.Postponing.{left_alike, released_going, released_ended, none_now}
+use Rattle.scalar_ranges.proofs.Postponing.{left_alike, released_going, released_ended, released_around}
+use Rattle.scalar_ranges.proofs.Postponing.{none_now, MeansSame}
 
 -- ---- one item
 
@@ -242,7 +243,7 @@ kept_taken mark to ns ls cs kept less =
 
 -- ---- what a block leaves
 
-item_there : {A : Type 0} (n : ℕ) (xs : List A) → n < length xs → (x : A) × (item_at n xs ≡ Some x)
+pub item_there : {A : Type 0} (n : ℕ) (xs : List A) → n < length xs → (x : A) × (item_at n xs ≡ Some x)
 item_there n [] less = absurd (omega arith)
 item_there zero (x ∷ xs) less = (x, refl)
 item_there (suc n) (x ∷ xs) less = item_there n xs (omega arith)
@@ -453,6 +454,14 @@ module _ (mark n : ℕ) (ls now : List code_left.Left) (some : 0 < mark) (items 
       ∙ released_ended f p q n w k (sym left) (left_dead mark n ls some) others
       ∙ (λ i. known_left (sym is i) p k)
 
+  pub release_around : (f : Form) (m w : Meaning) → s ≡ stages.Around f → Some w ≡ p n
+      → Some m ≡ meaning_at n k.entries → MeansSame n k.entries k.blocks → after ≡ known_around n (of_form f m w) k
+      → known_left s (left_at mark now) after ≡ known_left s p k
+  release_around f m w is left there same moved =
+      (λ i. known_left (is i) (left_at mark (items i)) (moved i))
+      ∙ released_around f p q n w m k (sym left) (left_dead mark n ls some) others same (sym there)
+      ∙ (λ i. known_left (sym is i) p k)
+
 -- ---- of no entry anything is put off any more
 
 first_or : (t u : Bool) → (t ≡ true → ⊥) → cond t true u ≡ true → u ≡ true
@@ -533,6 +542,25 @@ module _ (mark c : ℕ) (ls cut now : List code_left.Left) (m : code_meaning.Mea
       let size = length-take c ls in
       ap (λ ks. left_at mark ks c) (is ∙ taken) ∙ ap (left_if mark) (item_beyond c (take c ls) (omega arith))
 
+  none_beyond : (t : Bool) → now ≡ cond t (cut ++ none ∷ []) cut → (i : ℕ) → c ≤ i → left_at mark now i ≡ None
+  none_beyond true is i least =
+      let size = length-take c ls in
+      ap (λ ks. left_at mark ks i) (is ∙ ap (λ ks. ks ++ none ∷ []) taken)
+      ∙ last_or mark i (take c ls) none dead (omega arith)
+  none_beyond false is i least =
+      let size = length-take c ls in
+      ap (λ ks. left_at mark ks i) (is ∙ taken) ∙ ap (left_if mark) (item_beyond i (take c ls) (omega arith))
+
+  none_by_order : (t : Bool) → now ≡ cond t (cut ++ none ∷ []) cut → (i : ℕ) → left_at mark ls i ≡ None
+      → (i < c) ⊎ (c ≤ i) → left_at mark now i ≡ None
+  none_by_order t is i before (inl less) = made_same t is i less ∙ before
+  none_by_order t is i before (inr least) = none_beyond t is i least
+
+  -- what was not put off is not
+  pub made_none : (t : Bool) → now ≡ cond t (cut ++ none ∷ []) cut → (i : ℕ) → left_at mark ls i ≡ None
+      → left_at mark now i ≡ None
+  made_none t is i before = none_by_order t is i before (which i c)
+
   cut_kept : (i : ℕ) (l : code_left.Left) → item_at i cut ≡ Some l → IsOne mark cs i l
   cut_kept i l is = kept.1 i l (item_taken c i ls l (ap (item_at i) (sym taken) ∙ is))
 
@@ -548,3 +576,20 @@ module _ (mark c : ℕ) (ls cut now : List code_left.Left) (m : code_meaning.Mea
 pub if_err : {A E : Type 0} {P Q : Type 0} (r : Result A E) → OnErr r P → (P → Q) → OnErr r Q
 if_err (Ok x) err f = err
 if_err (Err e) err f = f err
+
+-- ---- as many as there are entries
+
+pub cut_same : (mark c : ℕ) (ls cut : List code_left.Left) → cut ≡ take c ls → (i : ℕ) → i < c
+    → left_at mark cut i ≡ left_at mark ls i
+cut_same mark c ls cut is i less = ap (λ ks. left_at mark ks i) is ∙ ap (left_if mark) (item_within i c ls less)
+
+pub cut_none : (mark c : ℕ) (ls cut : List code_left.Left) → cut ≡ take c ls → (i : ℕ) → c ≤ i
+    → left_at mark cut i ≡ None
+cut_none mark c ls cut is i least =
+    let size = length-take c ls in
+    ap (λ ks. left_at mark ks i) is ∙ ap (left_if mark) (item_beyond i (take c ls) (omega arith))
+
+pub kept_cut : (mark c : ℕ) (ls cut : List code_left.Left) (cs : List code_change.Change) → cut ≡ take c ls
+    → IsKept mark ls cs → IsKept mark cut cs
+kept_cut mark c ls cut cs is kept =
+    subst (λ ks. IsKept mark ks cs) (sym is) (kept.0, λ i l there. kept.1 i l (item_taken c i ls l there))

@@ -1,6 +1,7 @@
 -- Items that are changed by their number, counted from the first one.
 use Rattle.std.proofs.Common.{◌≡◌, ℕ, zero, suc, Bool, true, false, cond, List, [], ◌∷◌, ◌++◌, length, map, reverse}
-use Rattle.std.proofs.Common.{take, Option, Some, None, option_map, refl, sym, ap, subst, arith, ◌∙◌, nat_eq}
+use Rattle.std.proofs.Common.{take, Option, Some, None, option_map, refl, sym, ap, subst, arith, ◌∙◌, nat_eq, ◌<◌, ◌≤◌}
+use Rattle.std.proofs.Common.{◌⊎◌, inl, inr}
 use Rattle.std.proofs.lemmas.Bool.Decides.{nat_tests}
 use Rattle.std.proofs.lemmas.List.{reverse-append}
 use Rattle.scalar_ranges.specs.Environments.{item_at}
@@ -195,3 +196,13 @@ pub item_mapped : {A B : Type 0} (f : A → B) (i : ℕ) (xs : List A) → item_
 item_mapped f i [] = refl
 item_mapped f zero (x ∷ xs) = refl
 item_mapped f (suc i) (x ∷ xs) = item_mapped f i xs
+
+-- one of two orders
+which_more : (n k : ℕ) → (n < k) ⊎ (k ≤ n) → (suc n < suc k) ⊎ (suc k ≤ suc n)
+which_more n k (inl less) = inl (omega arith)
+which_more n k (inr least) = inr (omega arith)
+
+pub which : (n k : ℕ) → (n < k) ⊎ (k ≤ n)
+which n zero = inr (omega arith)
+which zero (suc k) = inl (omega arith)
+which (suc n) (suc k) = which_more n k (which n k)

@@ -1,6 +1,6 @@
 -- What is known, with what is put off, after each move.
 use Rattle.std.proofs.Common.{◌≡◌, ℕ, ◌<◌, ◌≤◌, true, false, cond, List, [], ◌∷◌, length, refl, ap, arith}
-use Rattle.std.proofs.Common.{Option, Some, None, ◌∙◌, nat_eq, option_map}
+use Rattle.std.proofs.Common.{Option, Some, None, ◌∙◌, nat_eq, option_map, sym, Bool}
 use Rattle.scalar_ranges.specs.declared.slots.Form.{Form}
 use Rattle.scalar_ranges.specs.declared.deferred.Stage.{Stage}
 use Rattle.scalar_ranges.specs.declared.deferred.Stage.TheVariants as stages
@@ -9,14 +9,16 @@ use Rattle.scalar_ranges.specs.Moves.{outermost, at_number, with_meaning, is_one
 use Rattle.scalar_ranges.specs.Moves.{next_from}
 use Rattle.scalar_ranges.specs.Moves.{component_from, after_block, next, next_component, end, end_of, hulls, taken}
 use Rattle.scalar_ranges.specs.MoveLaws.{meaning_at}
-use Rattle.scalar_ranges.specs.Changes.{known_with, changed_start, changed_ends}
-use Rattle.scalar_ranges.specs.Deferring.{of_form, entry_left, entries_left, ends_left, is_inside, is_some}
-use Rattle.scalar_ranges.specs.Deferring.{has_ends, AreStill, IsStill}
+use Rattle.scalar_ranges.specs.Changes.{known_with, changed_start, changed_ends, changed_to, changed_around}
+use Rattle.scalar_ranges.specs.Changes.{known_around, begin_with, ends_seen}
+use Rattle.scalar_ranges.specs.Deferring.{of_form, entry_left, entries_left, ends_left, around_left, is_inside}
+use Rattle.scalar_ranges.specs.Deferring.{has_ends, is_some, AreStill, IsStill}
 use Rattle.scalar_ranges.specs.Lefts.{known_left, turned_stage, ended_stage, meant_left}
 use Rattle.scalar_ranges.proofs.Nesting.{outermost_short}
 use Rattle.scalar_ranges.proofs.Deferring.{left_long, same_below, none_left, released, changed_left, joined}
 use Rattle.scalar_ranges.proofs.Deferring.{entry_found, meaning_left, cut_left, going_hulls, ended_hulls, going_taken}
-use Rattle.scalar_ranges.proofs.Deferring.{ended_taken}
+use Rattle.scalar_ranges.proofs.Deferring.{ended_taken, around_hulls, around_taken}
+use Rattle.scalar_ranges.proofs.Named.{changed_by_meaning}
 
 -- ---- what is read
 
@@ -25,16 +27,22 @@ pub now_long : (s : Stage) (p : ℕ → Option Meaning) (k : Known)
 now_long stages.Nothing p k = refl
 now_long (stages.Going f) p k = left_long f p k.entries
 now_long (stages.Ended f) p k = refl
+now_long (stages.Around f) p k = left_long f p k.entries
 
 begun_left : (f : Form) (p : ℕ → Option Meaning) (bs : List Block) → begun_with (ends_left f p bs) ≡ begun_with bs
 begun_left f p [] = refl
 begun_left f p (b ∷ bs) = refl
+
+begun_around : (f : Form) (p : ℕ → Option Meaning) (bs : List Block) → begun_with (around_left f p bs) ≡ begun_with bs
+begun_around f p [] = refl
+begun_around f p (b ∷ bs) = left_long f p b.start
 
 pub begun_now : (s : Stage) (p : ℕ → Option Meaning) (k : Known)
     → begun_with (known_left s p k).blocks ≡ begun_with k.blocks
 begun_now stages.Nothing p k = refl
 begun_now (stages.Going f) p k = refl
 begun_now (stages.Ended f) p k = begun_left f p k.blocks
+begun_now (stages.Around f) p k = begun_around f p k.blocks
 
 same_if : {A : Type 0} (f : A → A) (x : Option A) → ((a : A) → a ≡ f a) → x ≡ option_map f x
 same_if f None same = refl
@@ -45,11 +53,18 @@ meant_same : (f : Form) (o x : Option Meaning)
 meant_same f None x = refl
 meant_same f (Some w) x = refl
 
+meant_around : (f : Form) (o x : Option Meaning)
+    → option_map (joined f o) x ≡ option_map (meant_left (stages.Around f) o) x
+meant_around f None x = refl
+meant_around f (Some w) x = refl
+
 pub meaning_now : (s : Stage) (p : ℕ → Option Meaning) (n : ℕ) (k : Known)
     → meaning_at n (known_left s p k).entries ≡ option_map (meant_left s (p n)) (meaning_at n k.entries)
 meaning_now stages.Nothing p n k = same_if (meant_left stages.Nothing (p n)) (meaning_at n k.entries) (λ a. refl)
 meaning_now (stages.Going f) p n k = meaning_left f p n k.entries ∙ meant_same f (p n) (meaning_at n k.entries)
 meaning_now (stages.Ended f) p n k = same_if (meant_left (stages.Ended f) (p n)) (meaning_at n k.entries) (λ a. refl)
+meaning_now (stages.Around f) p n k =
+    meaning_left f p n k.entries ∙ meant_around f (p n) (meaning_at n k.entries)
 
 abbrev pub entry_meant : Stage → Option Meaning → Entry → Entry
 entry_meant s o e = record { name = e.name; meaning = meant_left s o e.meaning }
@@ -60,22 +75,30 @@ entry_same : (f : Form) (o : Option Meaning) (x : Option Entry)
 entry_same f None x = refl
 entry_same f (Some w) x = refl
 
+entry_around : (f : Form) (o : Option Meaning) (x : Option Entry)
+    → option_map (λ (k : Entry). record { name = k.name; meaning = joined f o k.meaning }) x
+    ≡ option_map (entry_meant (stages.Around f) o) x
+entry_around f None x = refl
+entry_around f (Some w) x = refl
+
 pub entry_now : (s : Stage) (p : ℕ → Option Meaning) (n : ℕ) (k : Known)
     → entry_at n (known_left s p k).entries ≡ option_map (entry_meant s (p n)) (entry_at n k.entries)
 entry_now stages.Nothing p n k = same_if (entry_meant stages.Nothing (p n)) (entry_at n k.entries) (λ a. refl)
 entry_now (stages.Going f) p n k = entry_found f p n k.entries ∙ entry_same f (p n) (entry_at n k.entries)
 entry_now (stages.Ended f) p n k = same_if (entry_meant (stages.Ended f) (p n)) (entry_at n k.entries) (λ a. refl)
+entry_now (stages.Around f) p n k =
+    entry_found f p n k.entries ∙ entry_around f (p n) (entry_at n k.entries)
 
 -- ---- entries that change
 
--- The ends of the innermost block are as many as it began with.
+-- The ends of the innermost block are as many as it began with, and these are no more than there are.
 abbrev pub AreWhole : Option (List Entry) → List Entry → Type 0
 AreWhole None es = Unit {0}
 AreWhole (Some ds) es = length ds ≡ length es
 
 abbrev pub HasWhole : List Entry → List Block → Type 0
 HasWhole es [] = Unit {0}
-HasWhole es (b ∷ bs) = AreWhole b.ends (end_of b es)
+HasWhole es (b ∷ bs) = AreWhole b.ends (end_of b es) × (length b.start ≤ length es)
 
 same_ends : (f : Form) (p q : ℕ → Option Meaning) (o : Option (List Entry)) (es us : List Entry) → AreWhole o us
     → length us ≤ length es → ((i : ℕ) → i < length es → q i ≡ p i)
@@ -89,7 +112,17 @@ same_blocks : (f : Form) (p q : ℕ → Option Meaning) (es : List Entry) (bs : 
 same_blocks f p q es [] whole same = refl
 same_blocks f p q es (b ∷ bs) whole same =
     ap (λ o. record { start = b.start; ends = o } ∷ bs)
-    (same_ends f p q b.ends es (end_of b es) whole (outermost_short (length b.start) es) same)
+    (same_ends f p q b.ends es (end_of b es) whole.0 (outermost_short (length b.start) es) same)
+
+same_around : (f : Form) (p q : ℕ → Option Meaning) (es : List Entry) (bs : List Block) → HasWhole es bs
+    → ((i : ℕ) → i < length es → q i ≡ p i) → around_left f q bs ≡ around_left f p bs
+same_around f p q es [] whole same = refl
+same_around f p q es (b ∷ bs) whole same =
+    let short = whole.1 in
+    λ i. record {
+      start = same_below f p q b.start (λ k less. same k (omega arith)) i;
+      ends = same_ends f p q b.ends es (end_of b es) whole.0 (outermost_short (length b.start) es) same i;
+    } ∷ bs
 
 pub same_now : (s : Stage) (p q : ℕ → Option Meaning) (k : Known) → HasWhole k.entries k.blocks
     → ((i : ℕ) → i < length k.entries → q i ≡ p i) → known_left s q k ≡ known_left s p k
@@ -98,6 +131,11 @@ same_now (stages.Going f) p q k whole same =
     ap (λ es. record { entries = es; blocks = k.blocks }) (same_below f p q k.entries same)
 same_now (stages.Ended f) p q k whole same =
     ap (λ bs. record { entries = k.entries; blocks = bs }) (same_blocks f p q k.entries k.blocks whole same)
+same_now (stages.Around f) p q k whole same =
+    λ i. record {
+      entries = same_below f p q k.entries same i;
+      blocks = same_around f p q k.entries k.blocks whole same i;
+    }
 
 pub declared_now : (s : Stage) (p : ℕ → Option Meaning) (e : Entry) (k : Known) → p (length k.entries) ≡ None
     → known_left s p (record { entries = e ∷ k.entries; blocks = k.blocks })
@@ -106,6 +144,11 @@ declared_now stages.Nothing p e k none = refl
 declared_now (stages.Going f) p e k none =
     ap (λ o. record { entries = entry_left f o e ∷ entries_left f p k.entries; blocks = k.blocks }) none
 declared_now (stages.Ended f) p e k none = refl
+declared_now (stages.Around f) p e k none =
+    ap (λ o. record {
+      entries = entry_left f o e ∷ entries_left f p k.entries;
+      blocks = around_left f p k.blocks;
+    }) none
 
 pub cut_now : (s : Stage) (p : ℕ → Option Meaning) (count : ℕ) (k : Known)
     → known_left s p (record { entries = outermost count k.entries; blocks = k.blocks })
@@ -114,6 +157,8 @@ cut_now stages.Nothing p count k = refl
 cut_now (stages.Going f) p count k =
     ap (λ es. record { entries = es; blocks = k.blocks }) (cut_left f p count k.entries)
 cut_now (stages.Ended f) p count k = refl
+cut_now (stages.Around f) p count k =
+    ap (λ es. record { entries = es; blocks = around_left f p k.blocks }) (cut_left f p count k.entries)
 
 pub put_now : (s : Stage) (p : ℕ → Option Meaning) (n : ℕ) (m : Meaning) (k : Known) → p n ≡ None
     → known_left s p (known_with n m k) ≡ known_with n m (known_left s p k)
@@ -121,21 +166,53 @@ put_now stages.Nothing p n m k none = refl
 put_now (stages.Going f) p n m k none =
     ap (λ es. record { entries = es; blocks = k.blocks }) (changed_left f p n (with_meaning (λ j. m)) k.entries none)
 put_now (stages.Ended f) p n m k none = refl
+put_now (stages.Around f) p n m k none =
+    ap (λ es. record { entries = es; blocks = around_left f p k.blocks })
+    (changed_left f p n (with_meaning (λ j. m)) k.entries none)
 
 start_left : (f : Form) (p : ℕ → Option Meaning) (g : Meaning → Meaning) (n : ℕ) (bs : List Block)
     → ends_left f p (changed_start g n bs) ≡ changed_start g n (ends_left f p bs)
 start_left f p g n [] = refl
 start_left f p g n (b ∷ bs) = refl
 
-pub start_now : (s : Stage) (p : ℕ → Option Meaning) (g : Meaning → Meaning) (n : ℕ) (k : Known)
+start_around : (f : Form) (p : ℕ → Option Meaning) (g : Meaning → Meaning) (n : ℕ) (bs : List Block) → p n ≡ None
+    → around_left f p (changed_start g n bs) ≡ changed_start g n (around_left f p bs)
+start_around f p g n [] none = refl
+start_around f p g n (b ∷ bs) none =
+    ap (λ ds. record { start = ds; ends = option_map (λ ks. entries_left f p ks) b.ends } ∷ bs)
+    (changed_left f p n (with_meaning g) b.start none)
+
+pub start_now : (s : Stage) (p : ℕ → Option Meaning) (g : Meaning → Meaning) (n : ℕ) (k : Known) → p n ≡ None
     → known_left s p (record { entries = k.entries; blocks = changed_start g n k.blocks })
     ≡ record { entries = (known_left s p k).entries; blocks = changed_start g n (known_left s p k).blocks }
-start_now stages.Nothing p g n k = refl
-start_now (stages.Going f) p g n k = refl
-start_now (stages.Ended f) p g n k =
+start_now stages.Nothing p g n k none = refl
+start_now (stages.Going f) p g n k none = refl
+start_now (stages.Ended f) p g n k none =
     ap (λ bs. record { entries = k.entries; blocks = bs }) (start_left f p g n k.blocks)
+start_now (stages.Around f) p g n k none =
+    ap (λ bs. record { entries = entries_left f p k.entries; blocks = bs }) (start_around f p g n k.blocks none)
+
+begun_ends : (f : Form) (p : ℕ → Option Meaning) (ended : Bool) (es : List Entry)
+    → option_map (λ ds. entries_left f p ds) (ends_seen ended es) ≡ ends_seen ended (entries_left f p es)
+begun_ends f p true es = refl
+begun_ends f p false es = refl
+
+-- a block begins behind the one that has ended
+pub begun_behind : (f : Form) (p : ℕ → Option Meaning) (ended : Bool) (k : Known)
+    → known_left (stages.Around f) p (begin_with ended k) ≡ begin_with ended (known_left (stages.Going f) p k)
+begun_behind f p ended k =
+    ap (λ o. record {
+      entries = entries_left f p k.entries;
+      blocks = record { start = entries_left f p k.entries; ends = o } ∷ k.blocks;
+    }) (begun_ends f p ended k.entries)
 
 -- ---- a branch ends
+
+cut_around : (f : Form) (p : ℕ → Option Meaning) (start es : List Entry)
+    → entries_left f p (outermost (length start) es)
+    ≡ outermost (length (entries_left f p start)) (entries_left f p es)
+cut_around f p start es =
+    cut_left f p (length start) es ∙ ap (λ k. outermost k (entries_left f p es)) (sym (left_long f p start))
 
 next_by : (s : Stage) (p : ℕ → Option Meaning) (es start : List Entry) (o : Option (List Entry)) (bs : List Block)
     → AreStill p o (outermost (length start) es) → AreWhole o (outermost (length start) es)
@@ -154,18 +231,30 @@ next_by (stages.Ended f) p es start (Some ds) bs still whole =
     let us = outermost (length start) es in
     ap (λ ks. record { entries = start; blocks = record { start = start; ends = Some ks } ∷ bs })
     (ended_hulls f p ds us still)
+next_by (stages.Around f) p es start None bs still whole =
+    ap (λ ds. record {
+      entries = entries_left f p start;
+      blocks = record { start = entries_left f p start; ends = Some ds } ∷ bs;
+    }) (cut_around f p start es)
+next_by (stages.Around f) p es start (Some ds) bs still whole =
+    let us = outermost (length start) es in
+    ap (λ ks. record {
+      entries = entries_left f p start;
+      blocks = record { start = entries_left f p start; ends = Some ks } ∷ bs;
+    }) (around_hulls f p ds us whole still ∙ ap (hulls (entries_left f p ds)) (cut_around f p start es))
 
 pub next_now : (s : Stage) (p : ℕ → Option Meaning) (es : List Entry) (bs : List Block) → is_inside bs ≡ true
     → IsStill p es bs → HasWhole es bs → known_left (turned_stage (has_ends bs) s) p (next_from es bs)
     ≡ next (known_left s p (record { entries = es; blocks = bs }))
 next_now s p es [] inside still whole = absurd (cc)
-next_now s p es (b ∷ bs) inside still whole = next_by s p es b.start b.ends bs still whole
+next_now s p es (b ∷ bs) inside still whole = next_by s p es b.start b.ends bs still whole.0
 
 pub next_outside : (s : Stage) (p : ℕ → Option Meaning) (es : List Entry) (bs : List Block) → is_inside bs ≡ false
     → known_left s p (next_from es bs) ≡ next (known_left s p (record { entries = es; blocks = bs }))
 next_outside stages.Nothing p es [] inside = refl
 next_outside (stages.Going f) p es [] inside = refl
 next_outside (stages.Ended f) p es [] inside = refl
+next_outside (stages.Around f) p es [] inside = refl
 next_outside s p es (b ∷ bs) inside = absurd (cc)
 
 -- ---- a component ends
@@ -176,6 +265,7 @@ outside_by : (s : Stage) (p : ℕ → Option Meaning) (ns : List ℕ) (es : List
 outside_by stages.Nothing p ns es [] inside = refl
 outside_by (stages.Going f) p ns es [] inside = refl
 outside_by (stages.Ended f) p ns es [] inside = refl
+outside_by (stages.Around f) p ns es [] inside = refl
 outside_by s p ns es (b ∷ bs) inside = absurd (cc)
 
 pub component_outside : (s : Stage) (p : ℕ → Option Meaning) (ns : List ℕ) (k : Known) → is_inside k.blocks ≡ false
@@ -197,7 +287,7 @@ pub going_now : (f : Form) (p q : ℕ → Option Meaning) (ns : List ℕ) (es : 
 going_now f p q ns es [] inside whole is = absurd (cc)
 going_now f p q ns es (b ∷ bs) inside whole is =
     ap (λ o. record { entries = b.start; blocks = record { start = b.start; ends = o } ∷ bs })
-    (going_by f p q ns es b.start b.ends whole is)
+    (going_by f p q ns es b.start b.ends whole.0 is)
 
 taken_by : (f : Form) (p q : ℕ → Option Meaning) (ns : List ℕ) (us : List Entry) (o : Option (List Entry))
     → AreWhole o us → ((i : ℕ) → q i ≡ cond (is_one_of ns i) None (p i))
@@ -212,7 +302,28 @@ pub taken_now : (f : Form) (p q : ℕ → Option Meaning) (ns : List ℕ) (es : 
 taken_now f p q ns es [] whole is = refl
 taken_now f p q ns es (b ∷ bs) whole is =
     ap (λ o. record { entries = b.start; blocks = record { start = b.start; ends = o } ∷ bs })
-    (taken_by f p q ns (end_of b es) b.ends whole is)
+    (taken_by f p q ns (end_of b es) b.ends whole.0 is)
+
+around_by : (f : Form) (p : ℕ → Option Meaning) (ns : List ℕ) (es start : List Entry) (o : Option (List Entry))
+    → AreWhole o (outermost (length start) es)
+    → option_map (λ ds. entries_left f p ds) (option_map (λ ds. taken ns ds (outermost (length start) es)) o)
+    ≡ option_map (λ ds. taken ns ds (outermost (length (entries_left f p start)) (entries_left f p es)))
+    (option_map (λ ds. entries_left f p ds) o)
+around_by f p ns es start None whole = refl
+around_by f p ns es start (Some ds) whole =
+    ap Some (around_taken f p ns ds (outermost (length start) es) whole
+    ∙ ap (taken ns (entries_left f p ds)) (cut_around f p start es))
+
+pub around_now : (f : Form) (p : ℕ → Option Meaning) (ns : List ℕ) (es : List Entry) (bs : List Block)
+    → HasWhole es bs
+    → known_left (stages.Around f) p (component_from ns es bs)
+    ≡ component_from ns (entries_left f p es) (around_left f p bs)
+around_now f p ns es [] whole = refl
+around_now f p ns es (b ∷ bs) whole =
+    ap (λ o. record {
+      entries = entries_left f p b.start;
+      blocks = record { start = entries_left f p b.start; ends = o } ∷ bs;
+    }) (around_by f p ns es b.start b.ends whole.0)
 
 -- ---- a block ends
 
@@ -223,6 +334,8 @@ end_by stages.Nothing p es start o bs = refl
 end_by (stages.Going f) p es start o bs = refl
 end_by (stages.Ended f) p es start None bs = refl
 end_by (stages.Ended f) p es start (Some ds) bs = refl
+end_by (stages.Around f) p es start None bs = refl
+end_by (stages.Around f) p es start (Some ds) bs = refl
 
 pub end_now : (s : Stage) (p : ℕ → Option Meaning) (es : List Entry) (bs : List Block) → is_inside bs ≡ true
     → known_left (ended_stage (has_ends bs) s) p (after_block es bs)
@@ -236,6 +349,7 @@ pub end_outside : (s : Stage) (p : ℕ → Option Meaning) (es : List Entry) (bs
 end_outside stages.Nothing p es [] inside = refl
 end_outside (stages.Going f) p es [] inside = refl
 end_outside (stages.Ended f) p es [] inside = refl
+end_outside (stages.Around f) p es [] inside = refl
 end_outside s p es (b ∷ bs) inside = absurd (cc)
 
 -- ---- nothing more is put off of an entry
@@ -273,6 +387,62 @@ pub released_ended : (f : Form) (p q : ℕ → Option Meaning) (n : ℕ) (w : Me
 released_ended f p q n w k is none others =
     ap (λ bs. record { entries = k.entries; blocks = bs }) (released_blocks f p q n w k.blocks is none others)
 
+-- the same in a block that began behind
+abbrev number_around : (Entry → Entry) → ℕ → List Block → List Block
+number_around h n [] = []
+number_around h n (b ∷ bs) =
+    record { start = at_number h n b.start; ends = option_map (λ ds. at_number h n ds) b.ends } ∷ bs
+
+released_both : (f : Form) (p q : ℕ → Option Meaning) (n : ℕ) (w : Meaning) (bs : List Block) → p n ≡ Some w
+    → q n ≡ None → ((i : ℕ) → nat_eq n i ≡ false → q i ≡ p i)
+    → around_left f q (number_around (with_meaning (λ m. of_form f m w)) n bs) ≡ around_left f p bs
+released_both f p q n w [] is none others = refl
+released_both f p q n w (b ∷ bs) is none others =
+    λ i. record {
+      start = released f p q n w b.start is none others i;
+      ends = released_ends f p q n w b.ends is none others i;
+    } ∷ bs
+
+-- an entry means the same where the innermost block began, and at its ends so far
+abbrev pub EndsMean : ℕ → Option (List Entry) → List Entry → Type 0
+EndsMean n None es = Unit {0}
+EndsMean n (Some ds) es = meaning_at n ds ≡ meaning_at n es
+
+abbrev pub MeansSame : ℕ → List Entry → List Block → Type 0
+MeansSame n es [] = Unit {0}
+MeansSame n es (b ∷ bs) = (meaning_at n b.start ≡ meaning_at n es) × EndsMean n b.ends es
+
+ends_to : (g : Meaning → Meaning) (n : ℕ) (m j : Meaning) (es : List Entry) (o : Option (List Entry))
+    → EndsMean n o es → meaning_at n es ≡ Some j → m ≡ g j
+    → option_map (λ ds. changed_to m n ds) o ≡ option_map (λ ds. at_number (with_meaning g) n ds) o
+ends_to g n m j es None same there is = refl
+ends_to g n m j es (Some ds) same there is = ap Some (changed_by_meaning g n m j ds (same ∙ there) is)
+
+blocks_to : (g : Meaning → Meaning) (n : ℕ) (m j : Meaning) (es : List Entry) (bs : List Block)
+    → MeansSame n es bs → meaning_at n es ≡ Some j → m ≡ g j
+    → changed_around m n bs ≡ number_around (with_meaning g) n bs
+blocks_to g n m j es [] same there is = refl
+blocks_to g n m j es (b ∷ bs) same there is =
+    λ i. record {
+      start = changed_by_meaning g n m j b.start (same.0 ∙ there) is i;
+      ends = ends_to g n m j es b.ends same.1 there is i;
+    } ∷ bs
+
+pub released_around : (f : Form) (p q : ℕ → Option Meaning) (n : ℕ) (w j : Meaning) (k : Known) → p n ≡ Some w
+    → q n ≡ None → ((i : ℕ) → nat_eq n i ≡ false → q i ≡ p i) → MeansSame n k.entries k.blocks
+    → meaning_at n k.entries ≡ Some j
+    → known_left (stages.Around f) q (known_around n (of_form f j w) k) ≡ known_left (stages.Around f) p k
+released_around f p q n w j k is none others same there =
+    let g : Meaning → Meaning = λ m. of_form f m w in
+    (λ i. record {
+      entries = entries_left f q (changed_by_meaning g n (of_form f j w) j k.entries there refl i);
+      blocks = around_left f q (blocks_to g n (of_form f j w) j k.entries k.blocks same there refl i);
+    })
+    ∙ (λ i. record {
+      entries = released f p q n w k.entries is none others i;
+      blocks = released_both f p q n w k.blocks is none others i;
+    })
+
 -- the same function of numbers
 pub left_alike : (s : Stage) (p q : ℕ → Option Meaning) (k : Known) → ((i : ℕ) → q i ≡ p i)
     → known_left s q k ≡ known_left s p k
@@ -289,9 +459,17 @@ none_blocks f p [] none = refl
 none_blocks f p (b ∷ bs) none =
     ap (λ o. record { start = b.start; ends = o } ∷ bs) (none_ends f p b.ends none)
 
+none_around : (f : Form) (p : ℕ → Option Meaning) (bs : List Block) → ((i : ℕ) → p i ≡ None)
+    → around_left f p bs ≡ bs
+none_around f p [] none = refl
+none_around f p (b ∷ bs) none =
+    λ i. record { start = none_left f p b.start none i; ends = none_ends f p b.ends none i } ∷ bs
+
 pub none_now : (s : Stage) (p : ℕ → Option Meaning) (k : Known) → ((i : ℕ) → p i ≡ None) → known_left s p k ≡ k
 none_now stages.Nothing p k none = refl
 none_now (stages.Going f) p k none =
     ap (λ es. record { entries = es; blocks = k.blocks }) (none_left f p k.entries none)
 none_now (stages.Ended f) p k none =
     ap (λ bs. record { entries = k.entries; blocks = bs }) (none_blocks f p k.blocks none)
+none_now (stages.Around f) p k none =
+    λ i. record { entries = none_left f p k.entries none i; blocks = none_around f p k.blocks none i }

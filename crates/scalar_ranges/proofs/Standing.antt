@@ -1,9 +1,9 @@
 -- What the innermost block has, where nothing changed in it.
 use Rattle.std.proofs.Common.{◌≡◌, ℕ, zero, suc, ◌<◌, ◌≤◌, ◌+◌, ◌-◌, Bool, true, false, cond, List, [], ◌∷◌, ◌++◌}
 use Rattle.std.proofs.Common.{length, take, drop, reverse, map, option_map, ◌⊎◌, inl, inr, Option, Some, None}
-use Rattle.std.proofs.Common.{get_or, refl, sym, ap, subst, ◌∙◌, nat_eq}
+use Rattle.std.proofs.Common.{get_or, refl, sym, ap, subst, arith, ◌∙◌, nat_eq}
 use Rattle.std.specs.Option.{is_some}
-use Rattle.std.proofs.lemmas.List.{length-map, length-reverse, reverse-reverse, drop_more, drop_all}
+use Rattle.std.proofs.lemmas.List.{length-map, length-reverse, length-take, reverse-reverse, drop_more, drop_all}
 use Rattle.scalar_ranges.specs.declared.slots.Slot as code_slot
 use Rattle.scalar_ranges.specs.declared.slots.Branching as code_branching
 use Rattle.scalar_ranges.specs.declared.slots.Change as code_change
@@ -12,8 +12,8 @@ use Rattle.scalar_ranges.specs.declared.changes.Tracked as code_tracked
 use Rattle.scalar_ranges.specs.Entries.{Meaning}
 use Rattle.scalar_ranges.specs.Environments.{item_at}
 use Rattle.scalar_ranges.specs.Moves.{end_of, is_one_of}
-use Rattle.scalar_ranges.specs.Changes.{Slot, Branching, entry_in, end_in, seen, ends_seen, block_in, blocks_in}
-use Rattle.scalar_ranges.specs.Changes.{Change, AreTracked, numbers_of}
+use Rattle.scalar_ranges.specs.Changes.{Slot, Branching, entry_in, start_in, end_in, seen, ends_seen, block_in}
+use Rattle.scalar_ranges.specs.Changes.{Change, AreTracked, numbers_of, blocks_in}
 use Rattle.scalar_ranges.specs.ChangeViews.{meaning_of, slots_from, changes_from, branching_of, branchings_from}
 use Rattle.scalar_ranges.specs.ChangeViews.{BelongTogether}
 use Rattle.scalar_ranges.specs.TrackedViews.{tracked_of, known_by}
@@ -29,7 +29,7 @@ none_by : (t : Bool) (p : ℕ → Option Meaning) (c : Change) (cs : List Change
 none_by true p c cs i test listed here others = ap p (sym (numbers_alike c.number i test)) ∙ here
 none_by false p c cs i test listed here others = others listed
 
-none_of : (p : ℕ → Option Meaning) (i : ℕ) (cs : List Change) → AreNone p cs → is_one_of (numbers_of cs) i ≡ true
+pub none_of : (p : ℕ → Option Meaning) (i : ℕ) (cs : List Change) → AreNone p cs → is_one_of (numbers_of cs) i ≡ true
     → p i ≡ None
 none_of p i [] none listed = absurd (cc)
 none_of p i (c ∷ cs) none listed =
@@ -107,10 +107,20 @@ whole_by true ss b bs tracked =
     ∙ sym (length-map base entry_in) ∙ sym (length-reverse (map entry_in base))
     ∙ ap length (sym (end_is d b ss tracked.0.0))
 
+starts_short : (ss : List Slot) (b : Branching) (bs : List Branching) → AreTracked ss (b ∷ bs)
+    → length (block_in (suc (length bs)) b ss).start ≤ length (seen entry_in ss)
+starts_short ss b bs tracked =
+    let d = suc (length bs) in
+    let base = take b.count ss in
+    let first = length-reverse (map (start_in d) base) ∙ length-map base (start_in d) in
+    let cut = length-take b.count ss in
+    let all = length-reverse (map entry_in ss) ∙ length-map ss entry_in in
+    omega arith
+
 whole_in : (ss : List Slot) (bs : List Branching) → AreTracked ss bs
     → HasWhole (seen entry_in ss) (blocks_in ss bs)
 whole_in ss [] tracked = tt
-whole_in ss (b ∷ bs) tracked = whole_by b.ended ss b bs tracked
+whole_in ss (b ∷ bs) tracked = (whole_by b.ended ss b bs tracked, starts_short ss b bs tracked)
 
 -- The ends of the innermost block are as many as it began with.
 pub has_whole : (t : code_tracked.Tracked) → HasWhole (known_by t).entries (known_by t).blocks

@@ -14,7 +14,7 @@ use Rattle.scalar_ranges.specs.Environments.{item_at}
 use Rattle.scalar_ranges.specs.Changes.{Slot, Change, Branching, Tracked, before, AreTracked, numbers_of, put_if}
 use Rattle.scalar_ranges.specs.Changes.{with_new, with_start, with_ends, with_end, with_restart, marked, touched}
 use Rattle.scalar_ranges.specs.Changes.{known_if}
-use Rattle.scalar_ranges.specs.Changes.{handed_slot}
+use Rattle.scalar_ranges.specs.Changes.{handed_slot, noted_slot}
 use Rattle.scalar_ranges.specs.Deferring.{of_form}
 use Rattle.scalar_ranges.specs.Narrowing.{left_of, with_range}
 use Rattle.scalar_ranges.specs.Moves.{hull_meaning, Known}
@@ -41,6 +41,7 @@ turned d turn s = if nat_eq s.mark d then turned_to turn s else s
 -- a slot after what the program makes of it
 abbrev pub updated : code_update.Update → Slot → Slot
 updated (updates.Mark depth) = marked depth
+updated (updates.List depth) = noted_slot depth
 updated updates.Touch = touched
 updated (updates.Mean m) = with_new (meaning_of m)
 updated (updates.Begin comparison constant) = with_start (with_range (left_of comparison constant))

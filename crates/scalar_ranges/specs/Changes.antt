@@ -378,6 +378,51 @@ HandsOver [] = ⊥
 HandsOver (b ∷ []) = ⊥
 HandsOver (b ∷ o ∷ bs) = (o.changes ≡ []) × (o.recent ≡ []) × AreForeign o.count (suc (length bs)) b.changes
 
+-- ---- the block around the innermost one
+
+-- an entry that a block of this depth has in both of its lists
+abbrev pub noted_slot : ℕ → Slot → Slot
+noted_slot d s = touched (if nat_eq s.mark d then s else marked d s)
+
+abbrev pub listing_if : Bool → ℕ → Slot → Branching → Branching
+listing_if t n s b = if t then b else listing n s b
+
+abbrev pub touching_if : Bool → ℕ → Branching → Branching
+touching_if t n b = if t then b else touching n b
+
+-- the block with the lists that have it
+abbrev pub noted_block : ℕ → ℕ → Slot → Branching → Branching
+noted_block d n s b = touching_if (is_recent d s) n (listing_if (nat_eq s.mark d) n s b)
+
+-- A block has capacity for an entry that comes to its lists.
+abbrev pub HasRoom : ℕ → Slot → ℕ → ℕ → Branching → Type 0
+HasRoom d s listed recent b =
+    (nat_eq s.mark d ≡ false → length b.changes < listed) × (is_recent d s ≡ false → length b.recent < recent)
+
+-- the same of an entry that there is or is not
+abbrev pub HasRoomFor : ℕ → Option Slot → ℕ → ℕ → Branching → Type 0
+HasRoomFor d None listed recent b = Unit {0}
+HasRoomFor d (Some s) listed recent b = HasRoom d s listed recent b
+
+abbrev pub noted_slots : ℕ → ℕ → Option Slot → List Slot → List Slot
+noted_slots d n None ss = ss
+noted_slots d n (Some s) ss = modify (noted_slot d) n ss
+
+abbrev pub noted_in : ℕ → ℕ → Option Slot → Branching → Branching
+noted_in d n None b = b
+noted_in d n (Some s) b = noted_block d n s b
+
+-- the innermost block, if there is one around it
+abbrev pub inner_of : List Branching → Option Branching
+inner_of [] = None
+inner_of (b ∷ []) = None
+inner_of (b ∷ o ∷ bs) = Some b
+
+-- The innermost block began with an entry that it does not have in its list, and there is a block around it.
+abbrev pub IsOutside : ℕ → Option Branching → Type 0
+IsOutside n None = ⊥
+IsOutside n (Some b) = (n < b.count) × (is_one_of (numbers_of b.changes) n ≡ false)
+
 -- an entry that no block has in its list
 abbrev pub fresh : Entry → Slot
 fresh e = record {
@@ -427,6 +472,16 @@ abbrev pub changed_ends : (Meaning → Meaning) → ℕ → List Block → List 
 changed_ends f n [] = []
 changed_ends f n (b ∷ bs) =
     record { start = b.start; ends = option_map (λ ds. at_number (with_meaning f) n ds) b.ends } ∷ bs
+
+-- an entry that means something else where the branches of the innermost block begin, and at their ends so far
+abbrev pub changed_around : Meaning → ℕ → List Block → List Block
+changed_around m n [] = []
+changed_around m n (b ∷ bs) =
+    record { start = changed_to m n b.start; ends = option_map (λ ds. changed_to m n ds) b.ends } ∷ bs
+
+-- an entry that means something else where the innermost block began, and here
+abbrev pub known_around : ℕ → Meaning → Known → Known
+known_around n m k = record { entries = changed_to m n k.entries; blocks = changed_around m n k.blocks }
 
 -- Each move of the lists is the move of what is known; and where a block began with an entry that is not in its list,
 -- or its branch does not have it, that list is shorter than the entries that the block began with.

@@ -1,10 +1,11 @@
 -- What blocks that have ended left of entries, which is put off.
-use Rattle.std.specs.Prelude.{◌≡◌, ℕ, Bool, true, false, List, [], ◌∷◌, length, Option, Some, None}
+use Rattle.std.specs.Prelude.{◌≡◌, ◌≤◌, ℕ, Bool, true, false, List, [], ◌∷◌, length, Option, Some, None}
 use Rattle.std.specs.Prelude.{option_map, ◌⊎◌}
+use Rattle.std.proofs.Props.{props}
 use Rattle.scalar_ranges.specs.declared.slots.Form.{Form}
 use Rattle.scalar_ranges.specs.declared.slots.Form.TheVariants as forms
 use Rattle.scalar_ranges.specs.Entries.{Meaning, Entry}
-use Rattle.scalar_ranges.specs.Changes.{Change}
+use Rattle.scalar_ranges.specs.Changes.{Change, Branching}
 use Rattle.scalar_ranges.specs.Moves.{with_meaning, hull_meaning, Block, end_of}
 
 -- what an entry means that meant something before and of which a block left something
@@ -33,6 +34,15 @@ entries_left f p (e ∷ es) = entry_left f (p (length es)) e ∷ entries_left f 
 abbrev pub ends_left : Form → (ℕ → Option Meaning) → List Block → List Block
 ends_left f p [] = []
 ends_left f p (b ∷ bs) = record { start = b.start; ends = option_map (λ ds. entries_left f p ds) b.ends } ∷ bs
+
+-- the beginning and the ends of the innermost block
+abbrev pub block_left : Form → (ℕ → Option Meaning) → Block → Block
+block_left f p b =
+    record { start = entries_left f p b.start; ends = option_map (λ ds. entries_left f p ds) b.ends }
+
+abbrev pub around_left : Form → (ℕ → Option Meaning) → List Block → List Block
+around_left f p [] = []
+around_left f p (b ∷ bs) = block_left f p b ∷ bs
 
 -- whether there is a block, and whether the innermost one has ends
 abbrev pub is_inside : List Block → Bool
@@ -65,3 +75,16 @@ AreStill p (Some ds) es = AreAlike p ds es
 abbrev pub IsStill : (ℕ → Option Meaning) → List Entry → List Block → Type 0
 IsStill p es [] = Unit {0}
 IsStill p es (b ∷ bs) = AreStill p b.ends (end_of b es)
+
+-- Of what the innermost block changed nothing is put off, nor of what it did not begin with.
+abbrev pub IsApart : (ℕ → Option Meaning) → Option Branching → Type 0
+IsApart p None = ⊥
+IsApart p (Some b) = AreNone p b.changes × ((i : ℕ) → b.count ≤ i → p i ≡ None)
+
+AreNone-prop : (p : ℕ → Option Meaning) (cs : List Change) → IsProp (AreNone p cs)
+AreNone-prop p [] = hlevel props
+AreNone-prop p (c ∷ cs) = hlevel (props, AreNone-prop p cs)
+
+pub IsApart-prop : (p : ℕ → Option Meaning) (o : Option Branching) → IsProp (IsApart p o)
+IsApart-prop p None = hlevel props
+IsApart-prop p (Some b) = hlevel (props, AreNone-prop p b.changes)

@@ -1,11 +1,11 @@
 //! The blocks of branches around a place, by lists of what changed in them.
 
 ghost use Rattle.std.specs.Prelude.{◌≡◌, ◌≤◌, ◌+◌, ◌++◌, true, [], OnOk, OnErr, map, length, option_map};
-ghost use Rattle.std.specs.Prelude.{vec_capacity, MatchOption};
+ghost use Rattle.std.specs.Prelude.{vec_capacity, MatchOption, take};
 ghost use Rattle.scalar_ranges.specs.Environments.{item_at};
 ghost use Rattle.scalar_ranges.specs.Changes.{modify, numbers_of, each, turned_slots, joined_by, component_slots};
 ghost use Rattle.scalar_ranges.specs.Changes.{undone, restored, meaning_after, known_with, IsWithin, AreForeign};
-ghost use Rattle.scalar_ranges.specs.Changes.{handed, handed_block, HandsOver};
+ghost use Rattle.scalar_ranges.specs.Changes.{handed, handed_block, HandsOver, HasRoomFor, noted_slots, noted_in};
 ghost use Rattle.scalar_ranges.specs.ChangeViews.{meaning_of, entry_of, slot_of, updated, slots_from, changes_from};
 ghost use Rattle.scalar_ranges.specs.ChangeViews.{branching_of, known_afters};
 ghost use Rattle.scalar_ranges.specs.ChangeViews.{AfterBlock, BelongTogether, BelongTogether-prop};
@@ -31,7 +31,8 @@ impl<'a> Tracked<'a> {
     ghost use Rattle.scalar_ranges.specs.Entries.{entry_at};
     ghost use Rattle.scalar_ranges.specs.MoveLaws.{meaning_at};
     ghost use Rattle.scalar_ranges.specs.Changes.{is_new, note, is_open, touch, put_by, put, put_start, begun};
-    ghost use Rattle.scalar_ranges.specs.Changes.{put_ends};
+    ghost use Rattle.scalar_ranges.specs.Changes.{put_ends, inner_of, IsOutside, known_around};
+    ghost use Rattle.scalar_ranges.specs.Changes.{turned_block, component_block};
     ghost use Rattle.scalar_ranges.specs.Deferring.{of_form, is_inside, has_ends};
     ghost use Rattle.scalar_ranges.specs.Changes.{declared, cut};
     ghost use Rattle.scalar_ranges.specs.Narrowing.{left_of, with_range};
@@ -178,6 +179,23 @@ impl<'a> Tracked<'a> {
         self.update(number, Update::Mean(meaning));
     }
 
+    /// An entry means something else where the innermost block began, and here. The block around has it in its lists.
+    pub(crate) fn put_around(&mut self, number: usize, meaning: Meaning)
+        requires { IsOutside number (inner_of (tracked_of self.old).blocks) }
+        ensures known { known_by self.new ≡ known_around number (meaning_of meaning) (known_by self.old) }
+        ensures inner { inner_of (tracked_of self.new).blocks ≡ inner_of (tracked_of self.old).blocks }
+    {
+        let depth = self.blocks.len();
+        if let Some(block) = self.blocks.pop() {
+            if let Some(outer) = self.blocks.pop() {
+                let outer = noted(outer, &mut self.slots, number, depth - 1);
+                modify(&mut self.slots, number, Update::Mean(meaning));
+                self.blocks.push_reserved(outer);
+                self.blocks.push_reserved(block);
+            }
+        }
+    }
+
     /// The branches of the innermost block begin from here on with what a comparison with a constant leaves of the
     /// entry.
     pub(crate) fn put_start(&mut self, number: usize, comparison: Comparison, constant: i32)
@@ -222,7 +240,9 @@ impl<'a> Tracked<'a> {
 
     /// A branch ends, and the next one begins.
     pub(crate) fn next(&mut self)
-        ensures { known_by self.new ≡ next (known_by self.old) }
+        ensures known { known_by self.new ≡ next (known_by self.old) }
+        ensures inner { inner_of (tracked_of self.new).blocks
+            ≡ option_map turned_block (inner_of (tracked_of self.old).blocks) }
     {
         let depth = self.blocks.len();
         if let Some(block) = self.blocks.pop() {
@@ -234,7 +254,9 @@ impl<'a> Tracked<'a> {
 
     /// A component ends, which changed the variables with these numbers, and the next one begins.
     pub(crate) fn next_component(&mut self, numbers: &[usize])
-        ensures { known_by self.new ≡ next_component numbers.now (known_by self.old) }
+        ensures known { known_by self.new ≡ next_component numbers.now (known_by self.old) }
+        ensures inner { inner_of (tracked_of self.new).blocks
+            ≡ option_map component_block (inner_of (tracked_of self.old).blocks) }
     {
         let depth = self.blocks.len();
         if let Some(block) = self.blocks.pop() {
@@ -462,6 +484,30 @@ fn handed_block<'a>(outer: Branching<'a>, changes: Vec<Change<'a>>) -> Branching
         earlier,
         recent,
     }
+}
+
+/// A block of this depth with this entry in its lists, if it began with it.
+fn noted<'a>(
+    block: Branching<'a>,
+    slots: &mut [Slot<'a>],
+    number: usize,
+    depth: usize,
+) -> Branching<'a>
+    requires { HasRoomFor depth (item_at number (take block.count (slots_from slots.old)))
+        (vec_capacity block.changes) (vec_capacity block.recent) (branching_of block) }
+    ensures slots { slots_from slots.new
+        ≡ noted_slots depth number (item_at number (take block.entry.count (slots_from slots.old)))
+        (slots_from slots.old) }
+    ensures block { branching_of result
+        ≡ noted_in depth number (item_at number (take block.entry.count (slots_from slots.old)))
+        (branching_of block.entry) }
+{
+    if number >= block.count || number >= slots.len() {
+        return block;
+    }
+    let before = slots[number];
+    modify(slots, number, Update::List { depth });
+    block.noted(number, before, depth)
 }
 
 /// The numbers of the entries in a list come to other numbers.

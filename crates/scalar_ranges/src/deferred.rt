@@ -3,6 +3,7 @@
 ghost use Rattle.std.specs.Prelude.{◌≡◌, ◌≤◌, ◌<◌, ◌∷◌, true, [], OnOk, OnErr, length, option_map};
 ghost use Rattle.scalar_ranges.specs.EntryViews.{meaning_of, entry_of};
 ghost use Rattle.scalar_ranges.specs.Lefts.{IsKept, IsKept-prop, with_mark, moved_mark, set_all, AreBelow};
+ghost use Rattle.scalar_ranges.specs.Lefts.{KeepsApart, KeepsApart-prop};
 ghost use Rattle.scalar_ranges.specs.Changes.{modify, each};
 
 use crate::changes::Tracked;
@@ -13,6 +14,9 @@ use std::alloc::{AllocError, Global};
 
 /// How many changes are looked at where a branch ends.
 const FEW: usize = 64;
+
+/// How many times as many entries are in a list that stays put off around a block, as the block changed.
+const FEWER: usize = 8;
 
 /// What a block that has ended left of an entry.
 #[derive(Clone, Copy)]
@@ -31,6 +35,8 @@ pub(crate) enum Stage {
     Going(Form),
     /// It is in a branch of the innermost block that has ended.
     Ended(Form),
+    /// It is in the branch that goes on of the block around the innermost one, which began behind it.
+    Around(Form),
 }
 
 /// Entries and blocks, where what the last block left is not yet in the slots: it is joined with what they say where
@@ -46,6 +52,7 @@ pub(crate) struct Deferred<'a> {
     /// The list: it has each entry of which something is put off.
     pub(crate) listed: Vec<Change<'a>>,
     ghost kept: { IsKept mark lefts.items listed.items } by { IsKept-prop mark lefts.items listed.items },
+    ghost apart: { KeepsApart stage mark lefts.items tracked } by { KeepsApart-prop stage mark lefts.items tracked },
 }
 
 impl Left {
@@ -76,6 +83,7 @@ impl Stage {
             Stage::Ended(Form::Whole) if ended => Stage::Ended(Form::Behind),
             Stage::Ended(form) if ended => Stage::Ended(form),
             Stage::Ended(_) => Stage::Nothing,
+            Stage::Around(form) => Stage::Around(form),
         }
     }
 
@@ -85,6 +93,7 @@ impl Stage {
     {
         match self {
             Stage::Ended(form) if ended => Stage::Going(form),
+            Stage::Around(form) => Stage::Going(form),
             _ => Stage::Nothing,
         }
     }
@@ -95,6 +104,7 @@ impl Stage {
     {
         match (self, left) {
             (Stage::Going(form), Some(left)) => form.join(meaning, left),
+            (Stage::Around(form), Some(left)) => form.join(meaning, left),
             _ => meaning,
         }
     }
@@ -109,9 +119,9 @@ impl<'a> Deferred<'a> {
     ghost use Rattle.scalar_ranges.specs.LeftViews.{known_now, left_by};
     ghost use Rattle.scalar_ranges.specs.TrackedViews.{known_by};
     ghost use Rattle.scalar_ranges.specs.ChangeViews.{changes_from};
-    ghost use Rattle.scalar_ranges.specs.Deferring.{AreNone, IsStill};
+    ghost use Rattle.scalar_ranges.specs.Deferring.{AreNone, IsStill, is_inside};
     ghost use Rattle.scalar_ranges.specs.Lefts.{left_at};
-    ghost use Rattle.scalar_ranges.specs.declared.deferred.Stage.TheVariants.{Nothing};
+    ghost use Rattle.scalar_ranges.specs.declared.deferred.Stage.TheVariants.{Nothing, Going};
 
     /// No entries, and no blocks.
     pub(crate) fn new(alloc: Global) -> Deferred<'a>
@@ -220,6 +230,11 @@ impl<'a> Deferred<'a> {
                     }
                 }
                 Stage::Ended(form) => self.tracked.put_end(number, form, left),
+                Stage::Around(form) => {
+                    if let Some(meaning) = self.tracked.meaning(number) {
+                        self.tracked.put_around(number, form.join(meaning, left));
+                    }
+                }
             }
         }
         set_mark(&mut self.lefts, number, 0);
@@ -256,6 +271,7 @@ impl<'a> Deferred<'a> {
           blocks = changed_start (with_range (left_of comparison constant)) number (known_now self.old).blocks;
         } }
     {
+        self.release(number);
         self.tracked.put_start(number, comparison, constant);
     }
 
@@ -264,8 +280,30 @@ impl<'a> Deferred<'a> {
         ensures ok { OnOk result (known_now self.new ≡ begin_with ended (known_now self.old)) }
         ensures err { OnErr result (known_now self.new ≡ known_now self.old) }
     {
-        self.settle();
-        self.tracked.begin(alloc, ended)
+        match self.stage {
+            Stage::Going(form) if self.tracked.is_inside() => self.begin_beside(alloc, ended, form),
+            _ => {
+                self.settle();
+                self.tracked.begin(alloc, ended)
+            }
+        }
+    }
+
+    /// A block begins behind the one that has ended, whose list is put off around the new one from now on.
+    fn begin_beside(&mut self, alloc: Global, ended: bool, form: Form) -> Result<(), AllocError>
+        requires stage { self.old.stage ≡ Going form }
+        requires inside { is_inside (known_by self.old.tracked).blocks ≡ true }
+        ensures ok { OnOk result (known_now self.new ≡ begin_with ended (known_now self.old)) }
+        ensures err { OnErr result (known_now self.new ≡ known_now self.old) }
+    {
+        match self.tracked.begin(alloc, ended) {
+            Ok(()) => {
+                self.lefts.truncate(self.tracked.len());
+                self.stage = Stage::Around(form);
+                Ok(())
+            }
+            Err(error) => Err(error),
+        }
     }
 
     /// Whether the innermost block has no ends, or few changes, of entries of which nothing is put off.
@@ -339,6 +377,7 @@ impl<'a> Deferred<'a> {
         }
         match self.stage {
             Stage::Nothing => (),
+            Stage::Around(_) => (),
             Stage::Ended(_) => move_marks(&mut self.lefts, numbers, self.mark, 0),
             Stage::Going(form) => {
                 if self.mark < usize::MAX {
@@ -360,16 +399,23 @@ impl<'a> Deferred<'a> {
         if !self.tracked.is_inside() {
             return;
         }
-        if let Stage::Ended(_) = self.stage {
-            if self.listed.len() < self.tracked.changed() {
-                self.settle();
-            }
+        if self.is_short() {
+            self.settle();
         }
         if let Stage::Nothing = self.stage {
             self.defer();
         } else {
             self.stage = self.stage.ended(self.tracked.has_ends());
             self.tracked.end();
+        }
+    }
+
+    /// Whether what is put off is little beside what the innermost block changed.
+    fn is_short(&self) -> bool {
+        match self.stage {
+            Stage::Ended(_) => self.listed.len() < self.tracked.changed(),
+            Stage::Around(_) => self.listed.len() / FEWER < self.tracked.changed(),
+            _ => false,
         }
     }
 

@@ -61,6 +61,10 @@ pub(crate) enum Update {
     },
     /// Its branch has it in its list from now on.
     Touch,
+    /// The block of this depth and its branch have it in their lists from now on.
+    List {
+        depth: usize,
+    },
     /// It means something else.
     Mean(Meaning),
     /// Where the further branches begin, its range is what this comparison with a constant leaves of it.
@@ -105,8 +109,8 @@ pub(crate) enum Turn {
 }
 
 impl<'a> Branching<'a> {
-    ghost use Rattle.scalar_ranges.specs.Changes.{turned_block, component_block};
-    ghost use Rattle.scalar_ranges.specs.ChangeViews.{branching_of};
+    ghost use Rattle.scalar_ranges.specs.Changes.{turned_block, component_block, noted_block, HasRoom};
+    ghost use Rattle.scalar_ranges.specs.ChangeViews.{branching_of, slot_of};
 
     /// The block where its next branch begins.
     pub(crate) fn turned(self) -> Branching<'a>
@@ -128,6 +132,25 @@ impl<'a> Branching<'a> {
             earlier: recent,
             recent: earlier,
         }
+    }
+
+    /// The block and its branch have an entry in their lists, whose slot was this one before.
+    pub(crate) fn noted(mut self, number: usize, before: Slot<'a>, depth: usize) -> Branching<'a>
+        requires { HasRoom depth (slot_of before) (vec_capacity self.changes) (vec_capacity self.recent)
+            (branching_of self) }
+        ensures { branching_of result ≡ noted_block depth number (slot_of before.entry) (branching_of self.entry) }
+    {
+        if before.mark != depth {
+            self.changes.push_reserved(Change {
+                number,
+                before,
+                after: None,
+            });
+        }
+        if before.mark != depth || !before.recent {
+            self.recent.push_reserved(number);
+        }
+        self
     }
 
     /// The block where its next component begins.
@@ -157,7 +180,7 @@ impl Form {
 }
 
 impl<'a> Slot<'a> {
-    ghost use Rattle.scalar_ranges.specs.Changes.{fresh, meaning_after, is_open_in, handed_slot};
+    ghost use Rattle.scalar_ranges.specs.Changes.{fresh, meaning_after, is_open_in, handed_slot, noted_slot};
     ghost use Rattle.scalar_ranges.specs.ChangeViews.{meaning_of, entry_of, slot_of, updated, turned, turned_to};
 
     /// An entry that no block has in its list.
@@ -186,6 +209,7 @@ impl<'a> Slot<'a> {
                 self.ends = self.meaning;
             }
             Update::Touch => self.recent = true,
+            Update::List { depth } => self.list(depth),
             Update::Mean(meaning) => self.meaning = meaning,
             Update::Begin {
                 comparison,
@@ -200,6 +224,18 @@ impl<'a> Slot<'a> {
                 before,
             } => self.hand_over(inner, outer, ended, before),
         }
+    }
+
+    /// The block of this depth and its branch have the entry in their lists.
+    fn list(&mut self, depth: usize)
+        ensures { slot_of self.new ≡ noted_slot depth (slot_of self.old) }
+    {
+        if self.mark != depth {
+            self.mark = depth;
+            self.start = self.meaning;
+            self.ends = self.meaning;
+        }
+        self.recent = true;
     }
 
     /// A block of the depth `inner` ends, and the block around has the entry in its lists, where it began as `before`.

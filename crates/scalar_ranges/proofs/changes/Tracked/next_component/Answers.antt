@@ -31,5 +31,5 @@ turned c =
 pub invariant_of-self : goal.invariant_of-self
 invariant_of-self c = record { tracked = (turned (goal.at.invariant_of-self c).After-push_reserved).tracked }
 
-pub returns-in-Some : goal.returns-in-Some
-returns-in-Some c = known_is (turned (goal.at.returns-in-Some c).After-push_reserved)
+pub returns-in-Some-clause-known : goal.returns-in-Some-clause-known
+returns-in-Some-clause-known c = known_is (turned (goal.at.returns-in-Some-clause-known c).After-push_reserved)

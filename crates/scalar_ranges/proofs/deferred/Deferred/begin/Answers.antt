@@ -6,8 +6,8 @@ use Rattle.scalar_ranges.specs.Changes.{begin_with}
 use Rattle.scalar_ranges.proofs.Fitting.{begun_known, if_ok}
 use Rattle.scalar_ranges.proofs.deferred.Deferred.begin.Goals as goal
 
-pub returns-clause-ok : goal.returns-clause-ok
-returns-clause-ok c =
+pub returns-in_default-clause-ok : goal.returns-in_default-clause-ok
+returns-in_default-clause-ok c =
     let now = c.settle.new.self in
     let still = c.settle.ensures.stage in
     if_ok c.begin.result c.begin.ensures.ok (λ is.

@@ -7,6 +7,11 @@ use Rattle.scalar_ranges.proofs.Fitting.{cut_known}
 use Rattle.scalar_ranges.proofs.Postponing.{cut_now, begun_now}
 use Rattle.scalar_ranges.proofs.deferred.Deferred.cut.Goals as goal
 
+pub cut-requires : goal.cut-requires
+cut-requires c =
+    let old = c.args.self.now in
+    subst (λ n. n ≤ c.args.count) (begun_now old.stage (left_by old) (known_by old.tracked)) c.requires
+
 pub returns : goal.returns
 returns c =
     let old = c.args.self.now in

@@ -1,11 +1,14 @@
-use Rattle.std.proofs.Common.{◌≡◌, ◌<◌, ap, sym, subst, ◌∙◌, is_ok, None, ◌∷◌}
+use Rattle.std.proofs.Common.{◌≡◌, ◌<◌, ap, sym, subst, ◌∙◌, is_ok, None, ◌∷◌, List, refl}
 use Rattle.scalar_ranges.specs.EntryViews.{entry_of}
-use Rattle.scalar_ranges.specs.Lefts.{known_left, left_at, IsKept}
+use Rattle.scalar_ranges.specs.Lefts.{known_left, left_at, IsKept, IsKeptApart}
+use Rattle.scalar_ranges.specs.ChangeViews.{branchings_from}
+use Rattle.scalar_ranges.specs.Deferring.{IsApart}
 use Rattle.scalar_ranges.specs.TrackedViews.{known_by}
-use Rattle.scalar_ranges.specs.Changes.{known_in}
-use Rattle.scalar_ranges.proofs.Fitting.{declared_known, if_ok}
+use Rattle.scalar_ranges.specs.Changes.{known_in, Branching, Tracked, inner_of}
+use Rattle.scalar_ranges.proofs.Fitting.{declared_known, if_ok, in_both}
+use Rattle.scalar_ranges.proofs.KeepingApart.{kept_if, fewer_apart}
 use Rattle.scalar_ranges.proofs.Standing.{has_whole}
-use Rattle.scalar_ranges.proofs.LeftLists.{made_same, made_last, made_kept, if_err}
+use Rattle.scalar_ranges.proofs.LeftLists.{made_same, made_last, made_none, made_kept, if_err}
 use Rattle.scalar_ranges.proofs.Postponing.{same_now, declared_now}
 use Rattle.scalar_ranges.proofs.deferred.Deferred.declare.Goals as goal
 use Rattle.scalar_ranges.proofs.deferred.Deferred.declare.Goals.{After-push}
@@ -29,11 +32,33 @@ same c =
     c.args.entry.meaning old.listed.items old.kept c.truncate.ensures.items (is_ok c.push.result) c.push.ensures.items
     i (subst (λ n. i < n) (sym c.len.ensures) less))
 
+apart : (c : After-push) (bs : List Branching)
+    → bs ≡ branchings_from c.args.self.now.tracked.blocks.items
+    → IsKeptApart c.args.self.now.stage (left_at c.args.self.now.mark c.push.new.self.items) bs
+apart c bs same =
+    let old = c.args.self.now in
+    let p = left_at old.mark old.lefts.items in
+    let q = left_at old.mark c.push.new.self.items in
+    let was = branchings_from old.tracked.blocks.items in
+    kept_if old.stage p q was bs (λ kept. subst (λ ks. IsApart q (inner_of ks)) (sym same)
+    (fewer_apart p q (inner_of was) (made_none old.mark c.len.result old.lefts.items c.truncate.new.self.items
+    c.push.new.self.items c.args.entry.meaning old.listed.items old.kept c.truncate.ensures.items
+    (is_ok c.push.result) c.push.ensures.items) kept)) old.apart
+
 pub invariant_of-self : goal.invariant_of-self
-invariant_of-self c = record { kept = kept (goal.at.invariant_of-self c).After-push }
+invariant_of-self c =
+    let at = (goal.at.invariant_of-self c).After-push in
+    record { kept = kept at; apart = apart at (branchings_from c.args.self.now.tracked.blocks.items) refl }
 
 pub invariant_of-self-2 : goal.invariant_of-self-2
-invariant_of-self-2 c = record { kept = kept (goal.at.invariant_of-self-2 c).After-push }
+invariant_of-self-2 c =
+    let at = (goal.at.invariant_of-self-2 c).After-push in
+    record {
+      kept = kept at;
+      apart = apart at (branchings_from c.declare.new.self.blocks.items)
+          (in_both c.declare.result c.declare.ensures.ok c.declare.ensures.err
+          (λ is. ap (λ (t : Tracked). t.blocks) is) (λ is. ap (λ (t : Tracked). t.blocks) is));
+    }
 
 pub returns-clause-ok : goal.returns-clause-ok
 returns-clause-ok c =

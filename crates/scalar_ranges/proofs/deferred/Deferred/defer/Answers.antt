@@ -26,6 +26,7 @@ invariant_of-self c =
     record {
       kept = subst (λ ls. IsKept (old.mark + 1) ls cs) (sym (items (goal.at.invariant_of-self c).After-set_all))
           (kept_set old.mark (old.mark + 1) cs old.listed.items old.lefts.items old.kept (omega arith));
+      apart = tt;
     }
 
 pub returns-then-are_below : goal.returns-then-are_below

@@ -1,15 +1,18 @@
-use Rattle.std.proofs.Common.{◌+◌, ap, sym, subst, ◌∙◌, rules, arith}
+use Rattle.std.proofs.Common.{◌≡◌, ◌+◌, option_map, ap, sym, subst, ◌∙◌, rules, arith}
 use Rattle.std.proofs.lemmas.List.{with_items_is, places}
-use Rattle.scalar_ranges.specs.Lefts.{known_left, left_at, IsKept, moved_mark}
+use Rattle.std.specs.Vec.{with_items}
+use Rattle.scalar_ranges.specs.Lefts.{known_left, left_at, IsKept, IsKeptApart, moved_mark}
 use Rattle.scalar_ranges.specs.TrackedViews.{known_by}
 use Rattle.scalar_ranges.specs.Moves.{next_component}
-use Rattle.scalar_ranges.specs.Changes.{each}
+use Rattle.scalar_ranges.specs.Changes.{each, inner_of, component_block}
+use Rattle.scalar_ranges.specs.ChangeViews.{branchings_from}
 use Rattle.scalar_ranges.specs.declared.deferred.Stage.TheVariants.{Ended}
 use Rattle.scalar_ranges.proofs.Standing.{has_whole}
 use Rattle.scalar_ranges.proofs.LeftLists.{left_dropped, left_taken, kept_dropped, kept_taken}
-use Rattle.scalar_ranges.proofs.Postponing.{going_now, taken_now}
+use Rattle.scalar_ranges.proofs.Postponing.{going_now, taken_now, around_now}
+use Rattle.scalar_ranges.proofs.KeepingApart.{kept_component}
 use Rattle.scalar_ranges.proofs.deferred.Deferred.next_component.Goals as goal
-use Rattle.scalar_ranges.proofs.deferred.Deferred.next_component.Goals.{in-Nothing, in-Ended}
+use Rattle.scalar_ranges.proofs.deferred.Deferred.next_component.Goals.{in-Nothing, in-Around, in-Ended}
 use Rattle.scalar_ranges.proofs.deferred.Deferred.next_component.Goals.{in-Going+then-self-lt18446744073709551615}
 use Rattle.scalar_ranges.proofs.deferred.Deferred.next_component.Goals.{in-Going+else-self-lt18446744073709551615}
 
@@ -17,9 +20,13 @@ pub invariant_of-self : goal.invariant_of-self
 invariant_of-self c =
     let old = c.args.self.now in
     let ns = c.args.numbers.now in
+    let p = left_at old.mark old.lefts.items in
+    let bs = branchings_from old.tracked.blocks.items in
+    let cs = branchings_from c.next_component.new.self.blocks.items in
     record {
       kept = elim c.match-self.branch [
         | in-Nothing w ↦ subst (λ t. IsKept t.1.1.1.0 t.1.1.0.items t.1.1.1.1.1.0.items) (sym w.self-is) old.kept
+        | in-Around w ↦ subst (λ t. IsKept t.1.1.1.0 t.1.1.0.items t.1.1.1.1.1.0.items) (sym w.self-is) old.kept
         | in-Ended w ↦
             let items = with_items_is old.lefts w.move_marks.new.lefts (search (rules, places)) ∙ w.move_marks.ensures
             ∙ ap (each (moved_mark old.mark 0) ns) w.deref_mut.ensures.value in
@@ -37,6 +44,31 @@ invariant_of-self c =
         | in-Going+else-self-lt18446744073709551615 w ↦
             subst (λ t. IsKept t.1.1.1.0 t.1.1.0.items t.1.1.1.1.1.0.items) (sym w.self-is) w.settle.new.self.kept
       ];
+      apart = elim c.match-self.branch [
+        | in-Nothing w ↦
+            subst (λ t. inner_of cs ≡ option_map component_block (inner_of (branchings_from t.1.0.blocks.items))
+            → IsKeptApart t.1.1.1.1.0 (left_at t.1.1.1.0 t.1.1.0.items) cs) (sym w.self-is)
+            (λ inner. kept_component old.stage p bs cs inner old.apart) c.next_component.ensures.inner
+        | in-Around w ↦
+            subst (λ t. inner_of cs ≡ option_map component_block (inner_of (branchings_from t.1.0.blocks.items))
+            → IsKeptApart t.1.1.1.1.0 (left_at t.1.1.1.0 t.1.1.0.items) cs) (sym w.self-is)
+            (λ inner. kept_component old.stage p bs cs inner old.apart) c.next_component.ensures.inner
+        | in-Ended w ↦
+            subst (λ t. inner_of cs ≡ option_map component_block (inner_of (branchings_from t.1.0.blocks.items))
+            → IsKeptApart t.1.1.1.1.0 (left_at t.1.1.1.0 t.1.1.0.items) cs) (sym w.self-is)
+            (λ inner. subst (λ s. IsKeptApart s
+            (left_at old.mark (with_items old.lefts w.move_marks.new.lefts).items) cs) (sym w.in-Ended.is) tt) c.next_component.ensures.inner
+        | in-Going+then-self-lt18446744073709551615 w ↦
+            subst (λ t. inner_of cs ≡ option_map component_block (inner_of (branchings_from t.1.0.blocks.items))
+            → IsKeptApart t.1.1.1.1.0 (left_at t.1.1.1.0 t.1.1.0.items) cs) (sym w.self-is)
+            (λ inner. tt) c.next_component.ensures.inner
+        | in-Going+else-self-lt18446744073709551615 w ↦
+            let now = w.settle.new.self in
+            subst (λ t. inner_of cs ≡ option_map component_block (inner_of (branchings_from t.1.0.blocks.items))
+            → IsKeptApart t.1.1.1.1.0 (left_at t.1.1.1.0 t.1.1.0.items) cs) (sym w.self-is)
+            (λ inner. kept_component now.stage (left_at now.mark now.lefts.items)
+            (branchings_from now.tracked.blocks.items) cs inner now.apart) c.next_component.ensures.inner
+      ];
     }
 
 pub returns : goal.returns
@@ -46,13 +78,20 @@ returns c =
     let k = known_by old.tracked in
     let p = left_at old.mark old.lefts.items in
     ap (known_left c.match-self.self.1.1.1.1.0 (left_at c.match-self.self.1.1.1.0 c.match-self.self.1.1.0.items))
-    c.next_component.ensures
+    c.next_component.ensures.known
     ∙ elim c.match-self.branch [
       | in-Nothing w ↦
           ap (λ t. known_left t.1.1.1.1.0 (left_at t.1.1.1.0 t.1.1.0.items) (next_component ns (known_by t.1.0)))
           w.self-is
           ∙ (λ i. known_left (w.in-Nothing.is i) p (next_component ns k))
           ∙ ap (next_component ns) (λ i. known_left (sym w.in-Nothing.is i) p k)
+      | in-Around w ↦
+          let f = w.in-Around.field-0 in
+          ap (λ t. known_left t.1.1.1.1.0 (left_at t.1.1.1.0 t.1.1.0.items) (next_component ns (known_by t.1.0)))
+          w.self-is
+          ∙ (λ i. known_left (w.in-Around.is i) p (next_component ns k))
+          ∙ around_now f p ns k.entries k.blocks (has_whole old.tracked)
+          ∙ ap (next_component ns) (λ i. known_left (sym w.in-Around.is i) p k)
       | in-Ended w ↦
           let f = w.in-Ended.field-0 in
           let items = with_items_is old.lefts w.move_marks.new.lefts (search (rules, places)) ∙ w.move_marks.ensures

@@ -1,7 +1,10 @@
-use Rattle.std.proofs.Common.{ap, sym, subst, ◌∙◌}
-use Rattle.scalar_ranges.specs.Lefts.{turned_stage, known_left, left_at, IsKept}
+use Rattle.std.proofs.Common.{◌≡◌, ap, sym, subst, ◌∙◌, option_map}
+use Rattle.scalar_ranges.specs.ChangeViews.{branchings_from}
+use Rattle.scalar_ranges.specs.Changes.{inner_of, turned_block}
+use Rattle.scalar_ranges.specs.Lefts.{turned_stage, known_left, left_at, IsKept, IsKeptApart}
 use Rattle.scalar_ranges.specs.TrackedViews.{known_by}
 use Rattle.scalar_ranges.specs.Moves.{next}
+use Rattle.scalar_ranges.proofs.KeepingApart.{kept_next, kept_turned}
 use Rattle.scalar_ranges.proofs.Standing.{has_whole}
 use Rattle.scalar_ranges.proofs.Postponing.{next_now, next_outside}
 use Rattle.scalar_ranges.proofs.deferred.Deferred.turn.Goals as goal
@@ -11,6 +14,9 @@ use Rattle.scalar_ranges.proofs.deferred.Deferred.turn.Goals.{then-is_still+else
 pub invariant_of-self : goal.invariant_of-self
 invariant_of-self c =
     let old = c.args.self.now in
+    let p = left_at old.mark old.lefts.items in
+    let bs = branchings_from old.tracked.blocks.items in
+    let cs = branchings_from c.next.new.self.blocks.items in
     record {
       kept = elim c.if-is_still.branch [
         | then-is_still+then-is_inside w ↦
@@ -20,6 +26,23 @@ invariant_of-self c =
         | else-is_still w ↦
             subst (λ t. IsKept t.1.1.1.0 t.1.1.0.items t.1.1.1.1.1.0.items) (sym w.self-is) w.settle.new.self.kept
       ];
+      apart = elim c.if-is_still.branch [
+        | then-is_still+then-is_inside w ↦
+            subst (λ t. inner_of cs ≡ option_map turned_block (inner_of (branchings_from t.1.0.blocks.items))
+            → IsKeptApart t.1.1.1.1.0 (left_at t.1.1.1.0 t.1.1.0.items) cs) (sym w.self-is)
+            (λ inner. subst (λ s. IsKeptApart s p cs) (sym w.turned-self.ensures)
+            (kept_turned w.has_ends.result old.stage p bs cs inner old.apart)) c.next.ensures.inner
+        | then-is_still+else-is_inside w ↦
+            subst (λ t. inner_of cs ≡ option_map turned_block (inner_of (branchings_from t.1.0.blocks.items))
+            → IsKeptApart t.1.1.1.1.0 (left_at t.1.1.1.0 t.1.1.0.items) cs) (sym w.self-is)
+            (λ inner. kept_next old.stage p bs cs inner old.apart) c.next.ensures.inner
+        | else-is_still w ↦
+            let now = w.settle.new.self in
+            subst (λ t. inner_of cs ≡ option_map turned_block (inner_of (branchings_from t.1.0.blocks.items))
+            → IsKeptApart t.1.1.1.1.0 (left_at t.1.1.1.0 t.1.1.0.items) cs) (sym w.self-is)
+            (λ inner. kept_next now.stage (left_at now.mark now.lefts.items)
+            (branchings_from now.tracked.blocks.items) cs inner now.apart) c.next.ensures.inner
+      ];
     }
 
 pub returns : goal.returns
@@ -28,7 +51,7 @@ returns c =
     let k = known_by old.tracked in
     let p = left_at old.mark old.lefts.items in
     ap (known_left c.if-is_still.self.1.1.1.1.0 (left_at c.if-is_still.self.1.1.1.0 c.if-is_still.self.1.1.0.items))
-    c.next.ensures
+    c.next.ensures.known
     ∙ elim c.if-is_still.branch [
       | then-is_still+then-is_inside w ↦
           ap (λ t. known_left t.1.1.1.1.0 (left_at t.1.1.1.0 t.1.1.0.items) (next (known_by t.1.0))) w.self-is
