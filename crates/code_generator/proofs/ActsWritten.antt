@@ -19,7 +19,7 @@ use Rattle.code_generator.specs.declared.processes.ProcessWriter.{ProcessWriter}
 use Rattle.code_generator.specs.Calls.{callee_start, callee_code, in_callee}
 use Rattle.code_generator.specs.CallViews.{callee_of, surroundings_of}
 use Rattle.code_generator.specs.Instances.{is_finer, cleaning_code}
-use Rattle.code_generator.specs.Declarations.{Frame}
+use Rattle.line_pieces.specs.Declarations.{Frame}
 use Rattle.code_generator.specs.Processes.{Site, process_code, called, line_code, with_row}
 use Rattle.code_generator.specs.Written.{site_of, Appends, Writes, WritesConstruct, WritesProcess, WritesLine}
 use Rattle.code_generator.specs.Written.{WritesRow, IsCall, BeginsInstance, EndsInstance}

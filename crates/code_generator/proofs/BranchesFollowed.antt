@@ -27,18 +27,19 @@ use Rattle.code_pieces.specs.declared.piece.RowEntry.{RowEntry}
 use Rattle.code_pieces.specs.Pieces.{Jump, closed_by}
 use Rattle.code_generator.specs.declared.alternatives.Replication.{Replication}
 use Rattle.code_generator.specs.declared.calling.Surroundings as calling
-use Rattle.code_generator.specs.declared.frame.Frame as code_frame
+use Rattle.line_pieces.specs.declared.frame.Frame as code_frame
 use Rattle.code_generator.specs.declared.guards.Exits.{Exits}
 use Rattle.code_generator.specs.declared.processes.ProcessWriter.{ProcessWriter}
-use Rattle.code_generator.specs.Alternations.{GoesOn, StaysSo, condition_in, stops_at, guard_code, stopping, Chooses}
+use Rattle.code_generator.specs.Waiting.{condition_in}
+use Rattle.code_generator.specs.Alternations.{GoesOn, StaysSo, stops_at, guard_code, stopping, Chooses}
 use Rattle.code_generator.specs.Alternations.{Stops, in_branch, branch_code, WritesBranch, count_of, branches_code}
 use Rattle.code_generator.specs.Alternations.{WritesBranches, some_code, WritesSome, after_turns}
 use Rattle.code_generator.specs.Alternations.{FollowsAlt, FollowsRepeatedAlt}
 use Rattle.code_generator.specs.CallViews.{surroundings_of}
-use Rattle.code_generator.specs.Declarations.{Frame, with_home}
-use Rattle.code_generator.specs.FrameViews.{frame_seen}
-use Rattle.code_generator.specs.HomeViews.{home_seen, homes_seen}
-use Rattle.code_generator.specs.Homes.{Nowhere}
+use Rattle.line_pieces.specs.Declarations.{Frame, with_home}
+use Rattle.line_pieces.specs.FrameViews.{frame_seen}
+use Rattle.line_pieces.specs.HomeViews.{home_seen, homes_seen}
+use Rattle.line_pieces.specs.Homes.{Nowhere}
 use Rattle.code_generator.specs.Processes.{Site, at_place, row_of, process_code, turn_site, turned, times}
 use Rattle.code_generator.specs.Written.{site_of, Appends, WritesProcess}
 use Rattle.code_generator.proofs.PartsWritten.{appends_before, appends_closed, appends_then, site_after}

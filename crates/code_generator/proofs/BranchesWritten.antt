@@ -24,14 +24,14 @@ use Rattle.usage_checks.specs.NameRules.{with_entries}
 use Rattle.usage_checks.proofs.RangesStay.{covers_itself, turns_turned, component_stays}
 use Rattle.code_pieces.specs.declared.piece.RowEntry.{RowEntry}
 use Rattle.code_generator.specs.declared.calling.Surroundings as calling
-use Rattle.code_generator.specs.declared.frame.Frame as code_frame
+use Rattle.line_pieces.specs.declared.frame.Frame as code_frame
 use Rattle.code_generator.specs.declared.parallel.Outside.{Outside}
 use Rattle.code_generator.specs.declared.processes.ProcessWriter.{ProcessWriter}
 use Rattle.code_generator.specs.CallViews.{surroundings_of}
-use Rattle.code_generator.specs.Declarations.{Frame, with_home}
-use Rattle.code_generator.specs.FrameViews.{frame_seen}
-use Rattle.code_generator.specs.HomeViews.{home_seen, homes_seen}
-use Rattle.code_generator.specs.Homes.{Nowhere}
+use Rattle.line_pieces.specs.Declarations.{Frame, with_home}
+use Rattle.line_pieces.specs.FrameViews.{frame_seen}
+use Rattle.line_pieces.specs.HomeViews.{home_seen, homes_seen}
+use Rattle.line_pieces.specs.Homes.{Nowhere}
 use Rattle.code_generator.specs.Processes.{turned}
 use Rattle.code_generator.specs.Written.{WritesProcess}
 use Rattle.code_generator.specs.Branches.{IsKept, EntersBranch, LeavesBranch, WritesComponent, WritesSome, WritesPar}

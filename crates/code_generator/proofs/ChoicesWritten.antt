@@ -20,8 +20,8 @@ use Rattle.usage_checks.specs.AfterProcesses.{inside, after_components, after_co
 use Rattle.code_pieces.specs.declared.operations.TheConstants.{STOP_PROCESS}
 use Rattle.code_generator.specs.declared.processes.ProcessWriter.{ProcessWriter}
 use Rattle.code_pieces.specs.Pieces.{Piece, Jump, operates, Code, closed_by}
-use Rattle.code_generator.specs.FrameViews.{frame_seen}
-use Rattle.code_generator.specs.Actions.{test_code}
+use Rattle.line_pieces.specs.FrameViews.{frame_seen}
+use Rattle.line_pieces.specs.Actions.{test_code}
 use Rattle.code_generator.specs.Processes.{Site, Surroundings, at_place, row_of, is_true, in_choice, tested_choice}
 use Rattle.code_generator.specs.Processes.{last_choice, passes, ends_passing}
 use Rattle.code_generator.specs.Processes.{process_code, choices_code, tested_code, choice_code, last_code}

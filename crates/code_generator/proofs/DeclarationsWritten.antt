@@ -6,7 +6,7 @@ use Rattle.occam_parser.specs.LineViews.{declaration_of}
 use Rattle.program_uses.specs.InTurn.{in_turn}
 use Rattle.code_generator.specs.declared.processes.ProcessWriter.{ProcessWriter}
 use Rattle.code_pieces.specs.Pieces.{Piece}
-use Rattle.code_generator.specs.Declarations.{declaration_code}
+use Rattle.line_pieces.specs.Declarations.{declaration_code}
 use Rattle.code_generator.specs.Processes.{Site, with_declaration}
 use Rattle.code_generator.specs.Written.{site_of, Declares, DeclaresAll, declarations_code}
 

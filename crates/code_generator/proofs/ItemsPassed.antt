@@ -50,7 +50,7 @@ use Rattle.usage_checks.proofs.ProgramsGoWell.{formals_inner}
 use Rattle.usage_checks.proofs.RangesStay.{ranges_stay}
 use Rattle.code_pieces.specs.Pieces.{Piece, Code}
 use Rattle.code_generator.specs.declared.processes.ProcessWriter.{ProcessWriter}
-use Rattle.code_generator.specs.Declarations.{Frame}
+use Rattle.line_pieces.specs.Declarations.{Frame}
 use Rattle.code_generator.specs.Programs.{callable, last_item_code, items_code, main_code, code_of}
 use Rattle.code_generator.specs.MainWritten.{behind_item, Globals, with_item, globals_of, Precedes}
 use Rattle.code_generator.specs.MainWritten.{WritesMain}

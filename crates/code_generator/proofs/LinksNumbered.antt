@@ -8,8 +8,8 @@ use Rattle.occam_parser.specs.Lines.{Formal}
 use Rattle.occam_parser.specs.LineViews.{formal_of}
 use Rattle.program_meaning.specs.Meaning.{link_number, port_for}
 use Rattle.program_uses.proofs.NextInTurn.{seen_more}
-use Rattle.code_generator.specs.Homes.{Home}
-use Rattle.code_generator.specs.Declarations.{Frame, with_home}
+use Rattle.line_pieces.specs.Homes.{Home}
+use Rattle.line_pieces.specs.Declarations.{Frame, with_home}
 use Rattle.code_generator.specs.Programs.{home_of_port, with_links}
 
 abbrev pub number_by : Option ℕ → ℕ

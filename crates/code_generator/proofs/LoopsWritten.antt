@@ -24,9 +24,9 @@ use Rattle.usage_checks.proofs.RangesStay.{ranges_stay}
 use Rattle.code_pieces.specs.Pieces.{Code, closed_by}
 use Rattle.code_generator.specs.declared.loops.Turning.{Turning}
 use Rattle.code_generator.specs.declared.processes.ProcessWriter.{ProcessWriter}
-use Rattle.code_generator.specs.Homes as homes
-use Rattle.code_generator.specs.HomeViews.{home_seen}
-use Rattle.code_generator.specs.FrameViews.{frame_seen}
+use Rattle.line_pieces.specs.Homes as homes
+use Rattle.line_pieces.specs.HomeViews.{home_seen}
+use Rattle.line_pieces.specs.FrameViews.{frame_seen}
 use Rattle.code_generator.specs.Processes.{Site, Surroundings, row_of, in_loop, value_or_zero, loop_start, loop_end}
 use Rattle.code_generator.specs.Processes.{loop_code}
 use Rattle.code_generator.specs.Processes.{repeated_seq, process_code, construct_code}

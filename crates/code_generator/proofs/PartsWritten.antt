@@ -22,14 +22,14 @@ use Rattle.program_uses.specs.Actions.{Around}
 use Rattle.program_uses.specs.InTurn.{in_turn}
 use Rattle.program_uses.proofs.Adding.{taken_one}
 use Rattle.usage_checks.specs.AfterProcesses.{inside, after_construct, after_components, after_component}
-use Rattle.code_generator.specs.declared.frame.Frame as code_frame
+use Rattle.line_pieces.specs.declared.frame.Frame as code_frame
 use Rattle.code_generator.specs.declared.processes.ProcessWriter.{ProcessWriter}
 use Rattle.code_pieces.specs.declared.piece.RowEntry.{RowEntry}
 use Rattle.code_pieces.specs.Pieces.{Piece, Code, no_code, before, then_code, closed_by}
-use Rattle.code_generator.specs.Homes.{Home, Word}
-use Rattle.code_generator.specs.HomeViews.{homes_seen, home_seen}
-use Rattle.code_generator.specs.Declarations.{Frame, with_words, with_names, declared, words_in, channels_in, home_for}
-use Rattle.code_generator.specs.Declarations.{declaration_code}
+use Rattle.line_pieces.specs.Homes.{Home, Word}
+use Rattle.line_pieces.specs.HomeViews.{homes_seen, home_seen}
+use Rattle.line_pieces.specs.Declarations.{Frame, with_words, with_names, declared, words_in, channels_in, home_for}
+use Rattle.line_pieces.specs.Declarations.{declaration_code}
 use Rattle.code_generator.specs.Processes.{Site, Surroundings, with_declaration, at_place, process_code, construct_code}
 use Rattle.code_generator.specs.Processes.{components_code, component_code}
 use Rattle.code_generator.specs.Written.{site_of, Appends, Writes, DeclaresAll, declarations_code}

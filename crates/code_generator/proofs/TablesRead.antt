@@ -11,7 +11,7 @@ use Rattle.occam_parser.specs.Views.{term_of, with_others, operation_of}
 use Rattle.occam_parser.proofs.Seen.{view-Chain}
 use Rattle.scalar_ranges.specs.Entries.{Entry}
 use Rattle.code_pieces.proofs.RestOfPieces.{at_first}
-use Rattle.code_generator.specs.Homes.{Home}
+use Rattle.line_pieces.specs.Homes.{Home}
 use Rattle.code_generator.specs.Instances.{reads_table, reads_table_terms, reads_table_term}
 
 -- whether one was found before or is among these

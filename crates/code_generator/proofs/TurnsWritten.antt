@@ -23,12 +23,12 @@ use Rattle.usage_checks.specs.NameRules.{with_entries}
 use Rattle.usage_checks.proofs.RangesStay.{covers_itself, turns_turned, component_stays}
 use Rattle.code_pieces.specs.declared.piece.RowEntry.{RowEntry}
 use Rattle.code_pieces.specs.Pieces.{Piece, Code, closed_by}
-use Rattle.code_generator.specs.declared.frame.Frame as code_frame
+use Rattle.line_pieces.specs.declared.frame.Frame as code_frame
 use Rattle.code_generator.specs.declared.processes.ProcessWriter.{ProcessWriter}
-use Rattle.code_generator.specs.Homes.{Nowhere}
-use Rattle.code_generator.specs.Declarations.{Frame}
-use Rattle.code_generator.specs.HomeViews.{home_seen, homes_seen}
-use Rattle.code_generator.specs.FrameViews.{frame_seen}
+use Rattle.line_pieces.specs.Homes.{Nowhere}
+use Rattle.line_pieces.specs.Declarations.{Frame}
+use Rattle.line_pieces.specs.HomeViews.{home_seen, homes_seen}
+use Rattle.line_pieces.specs.FrameViews.{frame_seen}
 use Rattle.code_generator.specs.Processes.{Site, Surroundings, row_of, times, before_turns, turned, turn_site}
 use Rattle.code_generator.specs.Processes.{tested_turns}
 use Rattle.code_generator.specs.Processes.{under_if, construct_code, choice_code, last_code}

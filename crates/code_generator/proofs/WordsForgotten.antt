@@ -10,8 +10,8 @@ use Rattle.occam_parser.specs.Views.{expression_of}
 use Rattle.scalar_ranges.specs.Entries.{Entry}
 use Rattle.program_uses.specs.Signatures.{Parameter}
 use Rattle.code_pieces.specs.declared.piece.RowEntry.{RowEntry}
-use Rattle.code_generator.specs.Homes.{Home, is_in}
-use Rattle.code_generator.specs.Actions.{Target, NoTarget, OwnWord, KnownElement, OtherElement}
+use Rattle.line_pieces.specs.Homes.{Home, is_in}
+use Rattle.line_pieces.specs.Actions.{Target, NoTarget, OwnWord, KnownElement, OtherElement}
 use Rattle.code_generator.specs.Instances.{meaning_at, passed_target, unknown_at, unknown_in, with_target, forgotten}
 use Rattle.code_generator.specs.Instances.{all_forgotten}
 

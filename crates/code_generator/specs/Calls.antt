@@ -9,7 +9,7 @@ use Rattle.program_uses.specs.Actions.{Around}
 use Rattle.program_uses.specs.Signatures.{Parameter}
 use Rattle.usage_checks.specs.ItemRules.{in_body}
 use Rattle.code_pieces.specs.Pieces.{Piece, Code, before, closed_by}
-use Rattle.code_generator.specs.Declarations.{Frame, facts_in}
+use Rattle.line_pieces.specs.Declarations.{Frame, facts_in}
 use Rattle.code_generator.specs.Instances.{bindings_code, all_bound, all_forgotten, cleaning_code}
 use Rattle.code_generator.specs.Processes.{Site, row_of, Calls, Surroundings, process_code}
 

@@ -14,10 +14,10 @@ use Rattle.program_uses.specs.Instances.{place_in}
 use Rattle.program_uses.specs.Signatures.{Parameter}
 use Rattle.code_pieces.specs.declared.piece.RowEntry.{RowEntry}
 use Rattle.code_pieces.specs.Pieces.{Piece, stores}
-use Rattle.code_generator.specs.Homes.{Home, Nowhere, Word, Table, Passed, home_of, is_in}
-use Rattle.code_generator.specs.Declarations.{Frame, with_home, with_words}
-use Rattle.code_generator.specs.Expressions.{expression_code}
-use Rattle.code_generator.specs.Actions.{Target, NoTarget, OwnWord, target_of, channel_home, cleaned}
+use Rattle.line_pieces.specs.Homes.{Home, Nowhere, Word, Table, Passed, home_of, is_in}
+use Rattle.line_pieces.specs.Declarations.{Frame, with_home, with_words}
+use Rattle.line_pieces.specs.Expressions.{expression_code}
+use Rattle.line_pieces.specs.Actions.{Target, NoTarget, OwnWord, target_of, channel_home, cleaned}
 
 -- ---- formals
 

@@ -1,7 +1,4 @@
-pub mod Homes
-pub mod Expressions
-pub mod Declarations
-pub mod Actions
+pub mod Waiting
 pub mod Alternations
 pub mod Instances
 pub mod Calls
@@ -11,11 +8,5 @@ pub mod MainWritten
 pub mod Processes
 pub mod Programs
 pub mod SmallCode
-pub mod HomeViews
-pub mod SettingViews
-pub mod TargetViews
-pub mod FrameViews
 pub mod Written
-pub mod Noted
-pub mod Cutting
 pub mod Branches

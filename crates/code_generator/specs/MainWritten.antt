@@ -8,8 +8,8 @@ use Rattle.program_uses.specs.InTurn.{in_turn}
 use Rattle.usage_checks.specs.ItemRules.{Outside, outermost, after_item}
 use Rattle.usage_checks.specs.NameRules.{with_entries}
 use Rattle.code_generator.specs.declared.processes.ProcessWriter.{ProcessWriter}
-use Rattle.code_generator.specs.Homes.{Nowhere}
-use Rattle.code_generator.specs.Declarations.{Frame, with_home}
+use Rattle.line_pieces.specs.Homes.{Nowhere}
+use Rattle.line_pieces.specs.Declarations.{Frame, with_home}
 use Rattle.code_generator.specs.Processes.{Site, with_declaration}
 use Rattle.code_generator.specs.Programs.{no_frame, framed, callable, main_code}
 use Rattle.code_generator.specs.Calls.{Callee}

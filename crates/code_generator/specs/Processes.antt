@@ -26,9 +26,9 @@ use Rattle.usage_checks.specs.AfterProcesses.{after_component, after_body}
 use Rattle.code_pieces.specs.declared.operations.TheConstants.{STOP_PROCESS}
 use Rattle.code_pieces.specs.Pieces.{Piece, Jump, LoopBack, Row, operates, stores, points, constant, Code, no_code}
 use Rattle.code_pieces.specs.Pieces.{written, before, then_code, closed_by}
-use Rattle.code_generator.specs.Homes.{Nowhere}
-use Rattle.code_generator.specs.Declarations.{Frame, facts_in, with_home, with_block, declared, declaration_code}
-use Rattle.code_generator.specs.Actions.{action_code, test_code}
+use Rattle.line_pieces.specs.Homes.{Nowhere}
+use Rattle.line_pieces.specs.Declarations.{Frame, facts_in, with_home, with_block, declared, declaration_code}
+use Rattle.line_pieces.specs.Actions.{action_code, test_code}
 use Rattle.code_generator.specs.Instances.{is_finer}
 
 -- ---- places

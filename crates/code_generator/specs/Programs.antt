@@ -8,8 +8,8 @@ use Rattle.program_meaning.specs.Meaning.{port_for}
 use Rattle.usage_checks.specs.ItemRules.{Outside, outermost, around_in, weighed, after_item, in_body}
 use Rattle.code_pieces.specs.declared.operations.TheConstants.{STOP_PROCESS}
 use Rattle.code_pieces.specs.Pieces.{operates, Code, closed_by}
-use Rattle.code_generator.specs.Homes.{Home, Nowhere, Link}
-use Rattle.code_generator.specs.Declarations.{Frame, with_home, declared}
+use Rattle.line_pieces.specs.Homes.{Home, Nowhere, Link}
+use Rattle.line_pieces.specs.Declarations.{Frame, with_home, declared}
 use Rattle.code_generator.specs.Processes.{Site, Surroundings, process_code}
 use Rattle.code_generator.specs.Calls.{Callee, where_called}
 

@@ -18,11 +18,11 @@ use Rattle.usage_checks.specs.NameRules.{with_entries}
 use Rattle.code_generator.specs.declared.loops.Turning.{Turning}
 use Rattle.code_generator.specs.declared.processes.ProcessWriter.{ProcessWriter}
 use Rattle.code_pieces.specs.Pieces.{Piece, Code, no_code, closed_by}
-use Rattle.code_generator.specs.Declarations.{declaration_code}
+use Rattle.line_pieces.specs.Declarations.{declaration_code}
 use Rattle.code_generator.specs.Instances.{cleaning_code}
 use Rattle.code_generator.specs.Calls.{Callee, callee_start, in_callee, callee_code}
 use Rattle.code_generator.specs.declared.calling.Call.{Call}
-use Rattle.code_generator.specs.FrameViews.{frame_seen}
+use Rattle.line_pieces.specs.FrameViews.{frame_seen}
 use Rattle.code_generator.specs.Processes.{Site, Surroundings, with_declaration, at_place, row_of, process_code}
 use Rattle.code_generator.specs.Processes.{construct_code, called, line_code, with_row}
 use Rattle.code_generator.specs.Processes.{components_code, component_code, choices_code, choice_code, last_code}

@@ -10,11 +10,10 @@ ghost use Rattle.code_generator.specs.Alternations.{exits_in, WritesBranch, Writ
 ghost use Rattle.code_generator.specs.Alternations.{FollowsAlt, FollowsRepeatedAlt};
 
 use crate::calling::Surroundings;
-use crate::guards::{Exits, Guards, Labels, condition_of, source_of};
-use crate::home::Home;
-use crate::processes::{ProcessWriter, label_after, times};
-use crate::setting::Setting;
+use crate::guards::{Exits, Guards, Labels, condition_of, source_of, write_choosing, write_ready};
+use crate::processes::{ProcessWriter, times};
 use code_pieces::{Piece, operations};
+use line_pieces::{Home, Setting, label_after};
 use module_builder::GenFault;
 use occam_parser::{Branch, Expr, Guard, Place, Replicator};
 use program_uses::{Repeats, add_name, is_before, repeats_of};
@@ -43,9 +42,7 @@ impl<'a> ProcessWriter<'a> {
         };
         let source = source_of(setting, guard)?;
         let others = guards.ready(source);
-        let ready = self
-            .listing
-            .write_ready(setting, others, condition_of(guard))?;
+        let ready = write_ready(&mut self.listing, setting, others, condition_of(guard))?;
         guards.add(source, ready)
     }
 
@@ -94,7 +91,7 @@ impl<'a> ProcessWriter<'a> {
     {
         let labels = Labels::from(self.label)?;
         self.label = labels.of(guards.count())?;
-        self.listing.write_choosing(self.alloc, labels, guards)?;
+        write_choosing(&mut self.listing, self.alloc, labels, guards)?;
         Ok(labels)
     }
 

@@ -1,8 +1,7 @@
 //! Whose code is written.
 
-use crate::noting::row_word;
-use crate::setting::word_after;
 use code_pieces::{CodeContext, WORKSPACE_WORDS, Workspace};
+use line_pieces::{row_word, word_after};
 use module_builder::GenFault;
 
 /// How many PARs may be in one another.

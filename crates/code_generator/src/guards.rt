@@ -3,21 +3,17 @@
 ghost use Rattle.std.specs.Prelude.{◌≡◌, ◌+◌, ◌<◌, ◌≤◌, ◌++◌, ◌∷◌, [], IfOk, IfSome, length, drop, option_map};
 ghost use Rattle.occam_parser.specs.Views.{expression_of};
 ghost use Rattle.occam_parser.specs.LineViews.{guard_of, place_of};
-ghost use Rattle.code_generator.specs.Actions.{channel_code, channel_home};
-ghost use Rattle.code_generator.specs.Alternations.{condition_in, waiting_for, source_code, are_alike, place_in};
-ghost use Rattle.code_generator.specs.Alternations.{next_in, next_of, ready_in, with_guard, above, either_code};
-ghost use Rattle.code_generator.specs.Alternations.{either_ready, ready_code, ready_with, labels_from, exits_of};
-ghost use Rattle.code_generator.specs.Alternations.{flag, enabling, disabling, enabling_code, disabling_code};
-ghost use Rattle.code_generator.specs.Alternations.{all_enabling};
-ghost use Rattle.code_generator.specs.Alternations.{all_disabling, targets_of, waiting_code, choosing_code};
-ghost use Rattle.code_generator.specs.SettingViews.{entries_in, homes_in};
+ghost use Rattle.line_pieces.specs.Actions.{channel_code, channel_home};
+ghost use Rattle.code_generator.specs.Waiting.{condition_in, waiting_for, source_code, are_alike, place_in};
+ghost use Rattle.code_generator.specs.Waiting.{next_in, next_of, ready_in, with_guard, above, either_code};
+ghost use Rattle.code_generator.specs.Waiting.{either_ready, ready_code, ready_with, labels_from, exits_of};
+ghost use Rattle.code_generator.specs.Waiting.{flag, enabling, disabling, enabling_code, disabling_code};
+ghost use Rattle.code_generator.specs.Waiting.{all_enabling};
+ghost use Rattle.code_generator.specs.Waiting.{all_disabling, targets_of, waiting_code, choosing_code};
+ghost use Rattle.line_pieces.specs.SettingViews.{entries_in, homes_in};
 
-use crate::expressions::single;
-use crate::home::Home;
-use crate::listing::Listing;
-use crate::processes::label_after;
-use crate::setting::{Setting, word_after};
 use code_pieces::{Piece, operations};
+use line_pieces::{Home, Listing, Setting, label_after, single, word_after};
 use module_builder::GenFault;
 use occam_parser::{Expr, Guard, Place};
 use scalar_ranges::{range_of, value_of};
@@ -302,149 +298,151 @@ fn either_ready(others: Ready, word: u32) -> Ready
     }
 }
 
-impl Listing {
-    /// The condition of a guard, if it has one that is no constant. The result is whether the guard may be chosen, or
-    /// others that wait for the same.
-    pub(crate) fn write_ready(
-        &mut self,
-        setting: Setting,
-        others: Ready,
-        condition: Option<&Expr>,
-    ) -> Result<Ready, GenFault>
-        ensures code { IfOk result (λ _. self.new ≡ self.old
-            ++ ready_code (homes_in setting.entry) (entries_in setting.entry) setting.entry.top others
-            (option_map (λ e. expression_of e.now) condition.entry)) }
-        ensures ready { IfOk result (λ ready. ready ≡ ready_with (entries_in setting.entry) setting.entry.top others
-            (option_map (λ e. expression_of e.now) condition.entry)) }
-    {
-        let Some(condition) = condition else {
-            return Ok(Ready::Always);
-        };
-        match value_of(setting.scope, condition) {
-            Some(0) => Ok(others),
-            Some(_) => Ok(Ready::Always),
-            None => {
-                self.write_expression(setting, condition)?;
-                self.write_either(others, setting.top)?;
-                Ok(either_ready(others, setting.top))
-            }
+/// The condition of a guard, if it has one that is no constant. The result is whether the guard may be chosen, or
+/// others that wait for the same.
+pub(crate) fn write_ready(
+    listing: &mut Listing,
+    setting: Setting,
+    others: Ready,
+    condition: Option<&Expr>,
+) -> Result<Ready, GenFault>
+    ensures code { IfOk result (λ _. listing.new ≡ listing.old
+        ++ ready_code (homes_in setting.entry) (entries_in setting.entry) setting.entry.top others
+        (option_map (λ e. expression_of e.now) condition.entry)) }
+    ensures ready { IfOk result (λ ready. ready ≡ ready_with (entries_in setting.entry) setting.entry.top others
+        (option_map (λ e. expression_of e.now) condition.entry)) }
+{
+    let Some(condition) = condition else {
+        return Ok(Ready::Always);
+    };
+    match value_of(setting.scope, condition) {
+        Some(0) => Ok(others),
+        Some(_) => Ok(Ready::Always),
+        None => {
+            listing.write_expression(setting, condition)?;
+            write_either(listing, others, setting.top)?;
+            Ok(either_ready(others, setting.top))
         }
     }
+}
 
-    /// The condition in A is kept in a word that is free, or with others in theirs.
-    fn write_either(&mut self, others: Ready, word: u32) -> Result<(), GenFault>
-        ensures { IfOk result (λ _. self.new ≡ self.old ++ either_code others word) }
-    {
-        match others {
-            Ready::Never => self.store(word),
-            Ready::Always => Ok(()),
-            Ready::If(kept) => {
-                self.load(kept)?;
-                self.operate(operations::OR)?;
-                self.store(kept)
-            }
+/// The condition in A is kept in a word that is free, or with others in theirs.
+fn write_either(listing: &mut Listing, others: Ready, word: u32) -> Result<(), GenFault>
+    ensures { IfOk result (λ _. listing.new ≡ listing.old ++ either_code others word) }
+{
+    match others {
+        Ready::Never => listing.store(word),
+        Ready::Always => Ok(()),
+        Ready::If(kept) => {
+            listing.load(kept)?;
+            listing.operate(operations::OR)?;
+            listing.store(kept)
         }
     }
+}
 
-    /// Pushes the address of the channel that guards wait for.
-    fn write_source(&mut self, source: Source) -> Result<(), GenFault>
-        ensures { IfOk result (λ _. self.new ≡ self.old ++ source_code source) }
-    {
-        match source {
-            Source::Skip => Ok(()),
-            Source::Channel(word) => self.point(word),
-            Source::Link(number) => self.write_link(number),
-        }
+/// Pushes the address of the channel that guards wait for.
+fn write_source(listing: &mut Listing, source: Source) -> Result<(), GenFault>
+    ensures { IfOk result (λ _. listing.new ≡ listing.old ++ source_code source) }
+{
+    match source {
+        Source::Skip => Ok(()),
+        Source::Channel(word) => listing.point(word),
+        Source::Link(number) => listing.write_link(number),
     }
+}
 
-    /// Pushes whether guards may be chosen.
-    fn write_flag(&mut self, ready: Ready) -> Result<(), GenFault>
-        ensures { IfOk result (λ _. self.new ≡ self.old ++ flag ready ∷ []) }
-    {
-        match ready {
-            Ready::Never => self.constant(0),
-            Ready::Always => self.constant(1),
-            Ready::If(word) => self.load(word),
-        }
+/// Pushes whether guards may be chosen.
+fn write_flag(listing: &mut Listing, ready: Ready) -> Result<(), GenFault>
+    ensures { IfOk result (λ _. listing.new ≡ listing.old ++ flag ready ∷ []) }
+{
+    match ready {
+        Ready::Never => listing.constant(0),
+        Ready::Always => listing.constant(1),
+        Ready::If(word) => listing.load(word),
     }
+}
 
-    /// What guards wait for is enabled.
-    fn write_enabling(&mut self, awaited: Awaited) -> Result<(), GenFault>
-        ensures { IfOk result (λ _. self.new ≡ self.old ++ enabling_code awaited) }
-    {
-        self.write_source(awaited.source)?;
-        self.write_flag(awaited.ready)?;
-        self.operate(enabling(awaited.source))
-    }
+/// What guards wait for is enabled.
+fn write_enabling(listing: &mut Listing, awaited: Awaited) -> Result<(), GenFault>
+    ensures { IfOk result (λ _. listing.new ≡ listing.old ++ enabling_code awaited) }
+{
+    write_source(listing, awaited.source)?;
+    write_flag(listing, awaited.ready)?;
+    listing.operate(enabling(awaited.source))
+}
 
-    /// What guards wait for is disabled. If it was ready, the process goes on at the first one of them.
-    fn write_disabling(&mut self, labels: Labels, awaited: Awaited) -> Result<(), GenFault>
-        ensures { IfOk result (λ _. self.new ≡ self.old ++ disabling_code labels awaited) }
-    {
-        self.write_source(awaited.source)?;
-        self.write_flag(awaited.ready)?;
-        self.push(Piece::Distance {
-            from: labels.chosen,
-            to: labels.of(awaited.first)?,
-        })?;
-        self.operate(disabling(awaited.source))
-    }
+/// What guards wait for is disabled. If it was ready, the process goes on at the first one of them.
+fn write_disabling(listing: &mut Listing, labels: Labels, awaited: Awaited) -> Result<(), GenFault>
+    ensures { IfOk result (λ _. listing.new ≡ listing.old ++ disabling_code labels awaited) }
+{
+    write_source(listing, awaited.source)?;
+    write_flag(listing, awaited.ready)?;
+    listing.push(Piece::Distance {
+        from: labels.chosen,
+        to: labels.of(awaited.first)?,
+    })?;
+    listing.operate(disabling(awaited.source))
+}
 
-    /// All that guards wait for is enabled.
-    fn write_all_enabling(&mut self, awaited: &[Awaited]) -> Result<(), GenFault>
-        ensures { IfOk result (λ _. self.new ≡ self.old ++ all_enabling awaited.now) }
-    {
-        for one in awaited {
-            self.write_enabling(*one)?;
-        }
-        Ok(())
+/// All that guards wait for is enabled.
+fn write_all_enabling(listing: &mut Listing, awaited: &[Awaited]) -> Result<(), GenFault>
+    ensures { IfOk result (λ _. listing.new ≡ listing.old ++ all_enabling awaited.now) }
+{
+    for one in awaited {
+        write_enabling(listing, *one)?;
     }
+    Ok(())
+}
 
-    /// All that guards wait for is disabled.
-    fn write_all_disabling(&mut self, labels: Labels, awaited: &[Awaited]) -> Result<(), GenFault>
-        ensures { IfOk result (λ _. self.new ≡ self.old ++ all_disabling labels awaited.now) }
-    {
-        for one in awaited {
-            self.write_disabling(labels, *one)?;
-        }
-        Ok(())
+/// All that guards wait for is disabled.
+fn write_all_disabling(
+    listing: &mut Listing,
+    labels: Labels,
+    awaited: &[Awaited],
+) -> Result<(), GenFault>
+    ensures { IfOk result (λ _. listing.new ≡ listing.old ++ all_disabling labels awaited.now) }
+{
+    for one in awaited {
+        write_disabling(listing, labels, *one)?;
     }
+    Ok(())
+}
 
-    /// Waits for guards, and goes on at one that is ready.
-    fn write_waiting(
-        &mut self,
-        alloc: Global,
-        labels: Labels,
-        awaited: &[Awaited],
-    ) -> Result<(), GenFault>
-        ensures { IfOk result (λ _. self.new ≡ self.old ++ waiting_code labels awaited.now) }
-    {
-        self.operate(operations::ALTERNATE)?;
-        self.write_all_enabling(awaited)?;
-        self.operate(operations::ALTERNATION_WAIT)?;
-        self.write_all_disabling(labels, awaited)?;
-        let targets = targets_of(alloc, labels, awaited)?;
-        self.push(Piece::Select { targets })
-    }
+/// Waits for guards, and goes on at one that is ready.
+fn write_waiting(
+    listing: &mut Listing,
+    alloc: Global,
+    labels: Labels,
+    awaited: &[Awaited],
+) -> Result<(), GenFault>
+    ensures { IfOk result (λ _. listing.new ≡ listing.old ++ waiting_code labels awaited.now) }
+{
+    listing.operate(operations::ALTERNATE)?;
+    write_all_enabling(listing, awaited)?;
+    listing.operate(operations::ALTERNATION_WAIT)?;
+    write_all_disabling(listing, labels, awaited)?;
+    let targets = targets_of(alloc, labels, awaited)?;
+    listing.push(Piece::Select { targets })
+}
 
-    /// Waits for guards, and goes on at one that is ready. If there is none the process stops.
-    pub(crate) fn write_choosing(
-        &mut self,
-        alloc: Global,
-        labels: Labels,
-        guards: &Guards,
-    ) -> Result<(), GenFault>
-        ensures { IfOk result (λ _. self.new ≡ self.old ++ choosing_code labels guards.now.awaited.items) }
-    {
-        if guards.awaited.is_empty() {
-            self.operate(operations::STOP_PROCESS)?;
-        } else {
-            self.write_waiting(alloc, labels, &guards.awaited)?;
-        }
-        self.push(Piece::Place {
-            label: labels.chosen,
-        })
+/// Waits for guards, and goes on at one that is ready. If there is none the process stops.
+pub(crate) fn write_choosing(
+    listing: &mut Listing,
+    alloc: Global,
+    labels: Labels,
+    guards: &Guards,
+) -> Result<(), GenFault>
+    ensures { IfOk result (λ _. listing.new ≡ listing.old ++ choosing_code labels guards.now.awaited.items) }
+{
+    if guards.awaited.is_empty() {
+        listing.operate(operations::STOP_PROCESS)?;
+    } else {
+        write_waiting(listing, alloc, labels, &guards.awaited)?;
     }
+    listing.push(Piece::Place {
+        label: labels.chosen,
+    })
 }
 
 /// The operation that enables what guards wait for.

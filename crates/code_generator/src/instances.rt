@@ -9,13 +9,9 @@ ghost use Rattle.code_generator.specs.PassedViews.{parameters_of, actuals_of};
 ghost use Rattle.code_generator.specs.Written.{BeginsInstance, EndsInstance};
 
 use crate::calling::Callee;
-use crate::facts::facts_in;
-use crate::frame::Frame;
-use crate::home::outermost_homes;
-use crate::listing::Listing;
-use crate::passing::{Passed, all_forgotten};
-use crate::processes::{ProcessWriter, label_after};
-use crate::setting::Setting;
+use crate::passing::{Passed, all_forgotten, write_bindings, write_cleaning};
+use crate::processes::ProcessWriter;
+use line_pieces::{Frame, Listing, Setting, facts_in, label_after, outermost_homes};
 use module_builder::GenFault;
 use scalar_ranges::{Entry, Scope};
 use std::alloc::Global;
@@ -70,7 +66,7 @@ impl<'a> ProcessWriter<'a> {
         };
         let outer = all_forgotten(self.alloc, setting, passed, known)?;
         let mut frame = Frame { homes, top, outer };
-        self.listing.write_bindings(setting, passed, &mut frame)?;
+        write_bindings(&mut self.listing, setting, passed, &mut frame)?;
         add_formals(self.alloc, &mut scope, &callee.proc.formals)?;
         let mut body = ProcessWriter {
             alloc: self.alloc,
@@ -102,6 +98,6 @@ impl<'a> ProcessWriter<'a> {
             homes: &self.frame.homes,
             top: self.frame.top,
         };
-        self.listing.write_cleaning(setting, passed)
+        write_cleaning(&mut self.listing, setting, passed)
     }
 }

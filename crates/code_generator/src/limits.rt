@@ -1,9 +1,9 @@
 //! How much is gone over and said at most, so that the time and the memory of a program are bounded.
 
 ghost use Rattle.std.specs.Prelude.{◌≡◌, IfOk};
-ghost use Rattle.code_generator.specs.Written.{site_of};
 
 use crate::processes::ProcessWriter;
+use line_pieces::{plus, size_of_count};
 use module_builder::GenFault;
 use usage_checks::GREATEST_SIZE;
 
@@ -33,20 +33,6 @@ pub(crate) struct Spent {
     pars: u32,
     /// The names before those procedures whose bodies are around this place.
     open: u32,
-}
-
-/// The sum of two sizes. The error is [`GenFault::Limit`] if it is greater than this.
-pub(crate) fn plus(size: u32, more: u32, greatest: u32) -> Result<u32, GenFault> {
-    let sum = size.checked_add(more).ok_or(GenFault::Limit)?;
-    if sum > greatest {
-        return Err(GenFault::Limit);
-    }
-    Ok(sum)
-}
-
-/// A count, as a size. The error is [`GenFault::Limit`] if it is none.
-pub(crate) fn size_of_count(count: usize) -> Result<u32, GenFault> {
-    u32::try_from(count).map_err(|_| GenFault::Limit)
 }
 
 impl Spent {

@@ -7,10 +7,9 @@ ghost use Rattle.code_pieces.specs.Pieces.{LoopBack, points};
 ghost use Rattle.code_generator.specs.Processes.{is_scalar, has_scalar, value_or_zero, loop_start};
 ghost use Rattle.code_generator.specs.Written.{EntersLoop, LeavesLoop, WritesNoLoop};
 
-use crate::listing::Listing;
-use crate::processes::{ProcessWriter, label_after};
-use crate::setting::word_after;
+use crate::processes::ProcessWriter;
 use code_pieces::Piece;
+use line_pieces::{Listing, label_after, word_after};
 use module_builder::GenFault;
 use occam_parser::{Expr, Process};
 use program_uses::{add_name, value_as};
@@ -53,31 +52,34 @@ pub(crate) fn value_or_zero(scope: &Scope, expr: &Expr) -> i32
     value_as(scope, ExprType::Int, expr).unwrap_or(0)
 }
 
-impl Listing {
-    /// Before the head of a loop of this process: its base and its count, each in its word.
-    fn write_loop_start(
-        &mut self,
-        process: &Process,
-        word: u32,
-        base: i32,
-        count: i32,
-    ) -> Result<(), GenFault>
-        ensures { IfOk result (λ _. self.new ≡ self.old ++ loop_start word base count) }
-    {
-        self.find(process)?;
-        self.constant(base)?;
-        self.store(word)?;
-        self.constant(count)?;
-        self.store(word_after(word, 1)?)
-    }
+/// Before the head of a loop of this process: its base and its count, each in its word.
+fn write_loop_start(
+    listing: &mut Listing,
+    process: &Process,
+    word: u32,
+    base: i32,
+    count: i32,
+) -> Result<(), GenFault>
+    ensures { IfOk result (λ _. listing.new ≡ listing.old ++ loop_start word base count) }
+{
+    listing.find(process)?;
+    listing.constant(base)?;
+    listing.store(word)?;
+    listing.constant(count)?;
+    listing.store(word_after(word, 1)?)
+}
 
-    /// After the body of a loop: back to its head, or on after it.
-    fn write_loop_end(&mut self, word: u32, head: usize, behind: usize) -> Result<(), GenFault>
-        ensures { IfOk result (λ _. self.new ≡ self.old ++ points word ∷ LoopBack head behind ∷ []) }
-    {
-        self.point(word)?;
-        self.push(Piece::LoopBack { head, behind })
-    }
+/// After the body of a loop: back to its head, or on after it.
+fn write_loop_end(
+    listing: &mut Listing,
+    word: u32,
+    head: usize,
+    behind: usize,
+) -> Result<(), GenFault>
+    ensures { IfOk result (λ _. listing.new ≡ listing.old ++ points word ∷ LoopBack head behind ∷ []) }
+{
+    listing.point(word)?;
+    listing.push(Piece::LoopBack { head, behind })
 }
 
 impl<'a> ProcessWriter<'a> {
@@ -93,8 +95,13 @@ impl<'a> ProcessWriter<'a> {
         let head = self.label;
         let behind = label_after(head)?;
         self.label = label_after(behind)?;
-        self.listing
-            .write_loop_start(process, self.frame.top, turning.base, turning.count)?;
+        write_loop_start(
+            &mut self.listing,
+            process,
+            self.frame.top,
+            turning.base,
+            turning.count,
+        )?;
         self.frame.add_block(head)?;
         self.scope.begin_loop(changed)?;
         add_name(&mut self.scope, turning.name, turning.index)?;
@@ -114,7 +121,7 @@ impl<'a> ProcessWriter<'a> {
         let behind = label_after(head)?;
         self.scope.end();
         self.frame.leave(names, word);
-        self.listing.write_loop_end(word, head, behind)?;
+        write_loop_end(&mut self.listing, word, head, behind)?;
         self.write_row(behind)?;
         Ok(())
     }

@@ -1,30 +1,27 @@
 //! Writing the code of a `PAR`. Its branches are written first, since how many words each takes is known only then. If
 //! a function fails, some pieces more may have come.
 
-ghost use Rattle.std.specs.Prelude.{◌≡◌, ◌++◌, map, IfOk, Some};
-ghost use Rattle.occam_parser.specs.Blocks.{Plain};
+ghost use Rattle.std.specs.Prelude.{◌≡◌, ◌++◌, IfOk, Some};
 ghost use Rattle.occam_parser.specs.LineViews.{replicator_of};
 ghost use Rattle.occam_parser.specs.BlockViews.{process_of, plain_component, all_processes};
 ghost use Rattle.program_uses.specs.Indices.{seen_repeats};
-ghost use Rattle.code_pieces.specs.PieceViews.{pieces_of};
-ghost use Rattle.code_generator.specs.Branches.{emptied, block_code, start_code, starts_code, end_code};
-ghost use Rattle.code_generator.specs.Branches.{opener_code, branches_code, row_in};
+ghost use Rattle.line_pieces.specs.Opening.{starts_code, opener_code};
 ghost use Rattle.code_generator.specs.Branches.{IsKept, EntersBranch, LeavesBranch, WritesComponent, WritesPar};
 ghost use Rattle.code_generator.specs.Branches.{WritesTurns, WritesRepeatedPar};
 
-use crate::branches::{Branch, Fork};
 use crate::calling::Surroundings;
 use crate::context::Context;
-use crate::facts::facts_in;
-use crate::home::Home;
-use crate::listing::Listing;
-use crate::processes::{ProcessWriter, label_after};
-use code_pieces::{Par, ParBranch, Piece, operations};
+use crate::processes::ProcessWriter;
+use code_pieces::{Par, Piece};
+use line_pieces::{
+    Branch, ChannelPlace, Fork, Home, Listing, Notes, facts_in, label_after, row_word,
+};
 use module_builder::GenFault;
 use module_format::ChannelRow;
 use occam_parser::{Process, Replicator};
 use program_uses::{Repeats, add_name, is_before, repeats_of, variables_changed};
 use std::alloc::Global;
+use std::collections::BTreeMap;
 use std::mem;
 
 /// What is around a branch while its code is written.
@@ -35,103 +32,45 @@ pub(crate) struct Outside {
     listing: Listing,
 }
 
-impl Listing {
-    /// Channels are empty.
-    fn write_empty_channels(&mut self, channels: &[ChannelRow]) -> Result<(), GenFault>
-        ensures { IfOk result (λ _. self.new ≡ self.old ++ emptied channels.now) }
-    {
-        for channel in channels {
-            self.operate(operations::MINIMUM_INTEGER)?;
-            self.store(channel.word.unsigned_abs())?;
+/// How much a branch uses of what is outside.
+fn count_of(notes: &Notes) -> usize {
+    notes.words.len() + notes.ends.len()
+}
+
+/// The channels from this word on, of which a branch has ends, by their words.
+fn add_channels(
+    branch: &Branch,
+    lengths: &mut BTreeMap<u32, u32>,
+    outside: u32,
+) -> Result<(), GenFault> {
+    for (end, length) in &branch.notes.ends {
+        if let ChannelPlace::Word(word) = end.place
+            && outside <= word
+        {
+            lengths.insert(word, *length)?;
         }
-        Ok(())
     }
+    Ok(())
+}
 
-    /// The block of a `PAR` at the workspace: where the process goes on that begins it, by a label that distances are
-    /// counted from, and how many processes end.
-    fn write_block(
-        &mut self,
-        depth: u32,
-        from: usize,
-        successor: usize,
-        ends: i32,
-    ) -> Result<(), GenFault>
-        ensures { IfOk result (λ _. self.new ≡ self.old ++ block_code depth from successor ends) }
-    {
-        self.push(Piece::Distance {
-            from,
-            to: successor,
+/// The channels that are within the process that begins the `PAR`, of which branches have ends.
+fn channels_of(
+    alloc: Global,
+    branches: &[Branch],
+    outside: u32,
+) -> Result<Vec<ChannelRow>, GenFault> {
+    let mut lengths = BTreeMap::new(alloc);
+    for branch in branches {
+        add_channels(branch, &mut lengths, outside)?;
+    }
+    let mut channels = Vec::new(alloc);
+    for (word, length) in &lengths {
+        channels.push(ChannelRow {
+            word: row_word(*word)?,
+            length: *length,
         })?;
-        self.operate(operations::LOAD_POINTER_TO_INSTRUCTION)?;
-        self.push(Piece::Place { label: from })?;
-        self.store(depth)?;
-        self.constant(ends)?;
-        self.store(depth.checked_add(1).ok_or(GenFault::Limit)?)
     }
-
-    /// A branch starts, by a label that distances are counted from.
-    fn write_start(
-        &mut self,
-        from: usize,
-        branch: &Branch,
-        successor: Option<usize>,
-    ) -> Result<(), GenFault>
-        ensures { IfOk result (λ _. self.new
-            ≡ self.old ++ start_code from branch.now.entry branch.now.depth successor) }
-    {
-        self.push(Piece::Distance {
-            from,
-            to: branch.entry,
-        })?;
-        self.point(branch.depth)?;
-        self.push(Piece::StartBranch {
-            entry: branch.entry,
-            successor,
-        })?;
-        self.push(Piece::Place { label: from })
-    }
-
-    /// A process of a `PAR` ends, whose block is at this word.
-    fn write_end(&mut self, block: u32) -> Result<(), GenFault>
-        ensures { IfOk result (λ _. self.new ≡ self.old ++ end_code block) }
-    {
-        self.point(block)?;
-        self.operate(operations::END_PROCESS)
-    }
-
-    /// The code of a branch.
-    fn take_branch(&mut self, branch: Branch) -> Result<ParBranch, GenFault>
-        ensures code { IfOk result (λ _. self.new ≡ self.old ++ pieces_of branch.pieces.items) }
-        ensures row { IfOk result (λ row. row ≡ branch.row) }
-    {
-        let Branch {
-            pieces,
-            notes,
-            row,
-            ..
-        } = branch;
-        self.notes.note_all(&notes)?;
-        for piece in pieces {
-            self.push(piece)?;
-        }
-        Ok(row)
-    }
-
-    /// The code of all branches.
-    fn take_branches(
-        &mut self,
-        alloc: Global,
-        branches: Vec<Branch>,
-    ) -> Result<Vec<ParBranch>, GenFault>
-        ensures code { IfOk result (λ _. self.new ≡ self.old ++ branches_code branches.items) }
-        ensures rows { IfOk result (λ rows. rows.items ≡ map row_in branches.items) }
-    {
-        let mut rows = Vec::new(alloc);
-        for branch in branches {
-            rows.push(self.take_branch(branch)?)?;
-        }
-        Ok(rows)
-    }
+    Ok(channels)
 }
 
 impl<'a> ProcessWriter<'a> {
@@ -190,8 +129,8 @@ impl<'a> ProcessWriter<'a> {
         let code = mem::replace(&mut self.listing, listing);
         self.listing.go_on_after(&code)?;
         self.frame.top = top;
-        self.spent.count_notes(code.notes.count())?;
-        fork.add(self.alloc, entry, branch, code)
+        self.spent.count_notes(count_of(&code.notes))?;
+        fork.add(self.alloc, entry, branch.depth, code)
     }
 
     /// These branches start. The first one has the label after the `PAR` too.
@@ -243,7 +182,7 @@ impl<'a> ProcessWriter<'a> {
         let successor = self.label;
         self.label = label_after(successor)?;
         let opener = self.context.workspace()?;
-        let channels = fork.channels(self.alloc, self.listing.notes.outside)?;
+        let channels = channels_of(self.alloc, &fork.branches, self.listing.notes.outside)?;
         self.write_opener(&fork.branches, &channels, successor)?;
         let branches = self.listing.take_branches(self.alloc, fork.branches)?;
         self.listing.push(Piece::Within(opener))?;

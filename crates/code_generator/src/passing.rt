@@ -5,24 +5,18 @@ ghost use Rattle.occam_parser.specs.Views.{expression_of};
 ghost use Rattle.scalar_ranges.specs.Scopes.{entries_of, meaning_of};
 ghost use Rattle.program_uses.specs.Instances.{place_in};
 ghost use Rattle.program_uses.specs.PlaceViews.{place_at};
-ghost use Rattle.code_generator.specs.Actions.{channel_home, element_home};
-ghost use Rattle.code_generator.specs.FrameViews.{frame_seen};
-ghost use Rattle.code_generator.specs.HomeViews.{home_seen};
+ghost use Rattle.line_pieces.specs.Actions.{channel_home, element_home};
+ghost use Rattle.line_pieces.specs.FrameViews.{frame_seen};
+ghost use Rattle.line_pieces.specs.HomeViews.{home_seen};
 ghost use Rattle.code_generator.specs.Instances.{meaning_at, as_passed, passed_home, binding_code, bound};
 ghost use Rattle.code_generator.specs.Instances.{bindings_code, all_bound, passed_target, unknown_in, with_target};
 ghost use Rattle.code_generator.specs.Instances.{all_forgotten, cleaning_code};
 ghost use Rattle.code_generator.specs.PassedViews.{parameters_of, actuals_of, is_found};
-ghost use Rattle.code_generator.specs.SettingViews.{entries_in, homes_in};
-ghost use Rattle.code_generator.specs.TargetViews.{target_seen};
+ghost use Rattle.line_pieces.specs.SettingViews.{entries_in, homes_in};
+ghost use Rattle.line_pieces.specs.TargetViews.{target_seen};
 
-use crate::expressions::single;
-use crate::facts::is_in;
-use crate::frame::Frame;
-use crate::home::Home;
-use crate::listing::Listing;
-use crate::setting::{Setting, word_after};
-use crate::targets::{Target, target_of};
 use code_pieces::RowEntry;
+use line_pieces::{Frame, Home, Listing, Setting, Target, is_in, single, target_of, word_after};
 use module_builder::GenFault;
 use occam_parser::Expr;
 use program_uses::{PlaceRef, Signature, parameter_at, place_in};
@@ -53,13 +47,24 @@ impl Passed<'_, '_> {
 
 // ---- formals
 
+/// A place as a procedure has it that it is passed to.
+fn as_passed(home: &Home) -> Result<Home, GenFault>
+    ensures { IfOk result (λ h. home_seen h ≡ as_passed (Some (home_seen home.now))) }
+{
+    match home {
+        Home::Word(word) => Ok(Home::Passed(*word)),
+        Home::Nowhere | Home::Block { .. } | Home::Link(_) | Home::Table(_) | Home::Passed(_) =>
+            home.copy(),
+    }
+}
+
 /// Where an element of an array of channels is, as a procedure has it that it is passed to.
 fn passed_element(home: &Home, number: Option<i32>) -> Result<Home, GenFault>
     ensures { IfOk result (λ h. home_seen h
         ≡ as_passed (element_home number (Some (home_seen home.now)))) }
 {
     let Some(number) = number else {
-        return home.passed();
+        return as_passed(home);
     };
     match home {
         Home::Word(word) | Home::Passed(word) => {
@@ -76,7 +81,7 @@ fn passed_place(setting: Setting, place: PlaceRef) -> Result<Home, GenFault>
 {
     match (setting.home(place.name), place.subscript) {
         (None, _) => Ok(Home::Nowhere),
-        (Some(home), None) => home.passed(),
+        (Some(home), None) => as_passed(home),
         (Some(home), Some(subscript)) => {
             passed_element(home, single(range_of(setting.scope, subscript)))
         }
@@ -94,56 +99,54 @@ fn passed_home(setting: Setting, actual: &Expr) -> Result<Home, GenFault>
     }
 }
 
-impl Listing {
-    /// An actual, for a parameter with this meaning: the value of a `VAL` scalar is stored in a word of its own.
-    fn write_binding(
-        &mut self,
-        setting: Setting,
-        parameter: Option<Meaning>,
-        actual: &Expr,
-        frame: &mut Frame,
-    ) -> Result<(), GenFault>
-        ensures code { IfOk result (λ _. self.new ≡ self.old ++ binding_code (homes_in setting.entry)
-            (entries_in setting.entry) (option_map meaning_of parameter) (expression_of actual.now) frame.old.top) }
-        ensures frame { IfOk result (λ _. frame_seen frame.new ≡ bound (homes_in setting.entry)
-            (entries_in setting.entry) (option_map meaning_of parameter) (expression_of actual.now)
-            (frame_seen frame.old)) }
-    {
-        match parameter {
-            Some(
-                Meaning::Scalar {
-                    kind: ScalarKind::Value,
-                    ..
-                },
-            ) => {
-                let top = frame.top;
-                self.write_expression(Setting { top, ..setting }, actual)?;
-                self.store(top)?;
-                frame.add_words(1)
-            }
-            _ => frame.add_home(passed_home(setting, actual)?),
+/// An actual, for a parameter with this meaning: the value of a `VAL` scalar is stored in a word of its own.
+fn write_binding(
+    listing: &mut Listing,
+    setting: Setting,
+    parameter: Option<Meaning>,
+    actual: &Expr,
+    frame: &mut Frame,
+) -> Result<(), GenFault>
+    ensures code { IfOk result (λ _. listing.new ≡ listing.old ++ binding_code (homes_in setting.entry)
+        (entries_in setting.entry) (option_map meaning_of parameter) (expression_of actual.now) frame.old.top) }
+    ensures frame { IfOk result (λ _. frame_seen frame.new ≡ bound (homes_in setting.entry)
+        (entries_in setting.entry) (option_map meaning_of parameter) (expression_of actual.now)
+        (frame_seen frame.old)) }
+{
+    match parameter {
+        Some(
+            Meaning::Scalar {
+                kind: ScalarKind::Value,
+                ..
+            },
+        ) => {
+            let top = frame.top;
+            listing.write_expression(Setting { top, ..setting }, actual)?;
+            listing.store(top)?;
+            frame.add_words(1)
         }
+        _ => frame.add_home(passed_home(setting, actual)?),
     }
+}
 
-    /// All actuals. The frame is that of the procedure, which has a place for each parameter then.
-    pub(crate) fn write_bindings(
-        &mut self,
-        setting: Setting,
-        passed: Passed,
-        frame: &mut Frame,
-    ) -> Result<(), GenFault>
-        ensures code { IfOk result (λ _. self.new ≡ self.old ++ bindings_code (homes_in setting.entry)
-            (entries_in setting.entry) (parameters_of passed.entry) 0 (actuals_of passed.entry)
-            (frame_seen frame.old)) }
-        ensures frame { IfOk result (λ _. frame_seen frame.new ≡ all_bound (homes_in setting.entry)
-            (entries_in setting.entry) (parameters_of passed.entry) 0 (actuals_of passed.entry)
-            (frame_seen frame.old)) }
-    {
-        for (place, actual) in passed.actuals.iter().enumerate() {
-            self.write_binding(setting, passed.meaning(place), actual, frame)?;
-        }
-        Ok(())
+/// All actuals. The frame is that of the procedure, which has a place for each parameter then.
+pub(crate) fn write_bindings(
+    listing: &mut Listing,
+    setting: Setting,
+    passed: Passed,
+    frame: &mut Frame,
+) -> Result<(), GenFault>
+    ensures code { IfOk result (λ _. listing.new ≡ listing.old ++ bindings_code (homes_in setting.entry)
+        (entries_in setting.entry) (parameters_of passed.entry) 0 (actuals_of passed.entry)
+        (frame_seen frame.old)) }
+    ensures frame { IfOk result (λ _. frame_seen frame.new ≡ all_bound (homes_in setting.entry)
+        (entries_in setting.entry) (parameters_of passed.entry) 0 (actuals_of passed.entry)
+        (frame_seen frame.old)) }
+{
+    for (place, actual) in passed.actuals.iter().enumerate() {
+        write_binding(listing, setting, passed.meaning(place), actual, frame)?;
     }
+    Ok(())
 }
 
 // ---- variables that are passed
@@ -237,20 +240,18 @@ pub(crate) fn all_forgotten(
     words.all_forgotten(alloc, &entries)
 }
 
-impl Listing {
-    /// After the body of a procedure each BYTE scalar that was passed as a variable has its byte alone again.
-    pub(crate) fn write_cleaning(
-        &mut self,
-        setting: Setting,
-        passed: Passed,
-    ) -> Result<(), GenFault>
-        ensures { IfOk result (λ _. self.new ≡ self.old ++ cleaning_code (homes_in setting.entry)
-            (entries_in setting.entry) setting.entry.top (parameters_of passed.entry) 0 (actuals_of passed.entry)) }
-    {
-        for (place, actual) in passed.actuals.iter().enumerate() {
-            let target = passed_target(setting, passed.meaning(place), actual);
-            self.write_cleaned(setting, target)?;
-        }
-        Ok(())
+/// After the body of a procedure each BYTE scalar that was passed as a variable has its byte alone again.
+pub(crate) fn write_cleaning(
+    listing: &mut Listing,
+    setting: Setting,
+    passed: Passed,
+) -> Result<(), GenFault>
+    ensures { IfOk result (λ _. listing.new ≡ listing.old ++ cleaning_code (homes_in setting.entry)
+        (entries_in setting.entry) setting.entry.top (parameters_of passed.entry) 0 (actuals_of passed.entry)) }
+{
+    for (place, actual) in passed.actuals.iter().enumerate() {
+        let target = passed_target(setting, passed.meaning(place), actual);
+        listing.write_cleaned(setting, target)?;
     }
+    Ok(())
 }

@@ -10,8 +10,8 @@ ghost use Rattle.occam_parser.specs.BlockViews.{process_of, construct_of, choice
 ghost use Rattle.occam_parser.specs.BlockViews.{all_processes, all_choices};
 ghost use Rattle.scalar_ranges.specs.Scopes.{entries_of, known_of};
 ghost use Rattle.program_uses.specs.Indices.{seen_repeats};
-ghost use Rattle.code_generator.specs.Actions.{action_code, test_code};
-ghost use Rattle.code_generator.specs.FrameViews.{frame_seen};
+ghost use Rattle.line_pieces.specs.Actions.{action_code, test_code};
+ghost use Rattle.line_pieces.specs.FrameViews.{frame_seen};
 ghost use Rattle.code_generator.specs.Processes.{is_true, is_skip_action, does_nothing, is_skip, passes, ends_passing};
 ghost use Rattle.code_generator.specs.Processes.{row_of, times, under_if};
 ghost use Rattle.code_generator.specs.Written.{site_of, Appends, Declares, DeclaresAll, WritesConstruct, WritesProcess};
@@ -22,17 +22,15 @@ ghost use Rattle.code_generator.specs.Instances.{is_finer};
 
 use crate::calling::Surroundings;
 use crate::context::Context;
-use crate::declaring::{channels_in, declare_names, home_for, words_in};
-use crate::facts::facts_in;
 use crate::finer::is_finer;
-use crate::frame::Frame;
-use crate::home::Home;
 use crate::limits::Spent;
-use crate::listing::Listing;
 use crate::loops::{Turning, value_or_zero};
 use crate::passing::Passed;
-use crate::setting::Setting;
 use code_pieces::{Piece, operations};
+use line_pieces::{
+    Frame, Home, Listing, Setting, channels_in, declare_names, facts_in, home_for, label_after,
+    words_in,
+};
 use module_builder::GenFault;
 use occam_parser::{
     Action, Body, Choice, Constant, Construct, Declaration, Expr, Names, Operand, Operation,
@@ -57,13 +55,6 @@ pub struct ProcessWriter<'a> {
     pub(crate) label: usize,
     pub(crate) listing: Listing,
     pub(crate) spent: Spent,
-}
-
-/// The label after another one. The error is [`GenFault::Limit`] if it has no number.
-pub(crate) fn label_after(label: usize) -> Result<usize, GenFault>
-    ensures { IfOk result (λ n. n ≡ label + 1) }
-{
-    label.checked_add(1).ok_or(GenFault::Limit)
 }
 
 /// How often a choice under a replicator happens.

@@ -5,20 +5,18 @@ ghost use Rattle.occam_parser.specs.LineViews.{formal_of};
 ghost use Rattle.occam_parser.specs.Blocks.{GlobalProcedure};
 ghost use Rattle.occam_parser.specs.BlockViews.{item_of, procedure_of};
 ghost use Rattle.program_meaning.specs.Meaning.{link_number, port_for};
-ghost use Rattle.code_generator.specs.HomeViews.{home_seen};
-ghost use Rattle.code_generator.specs.FrameViews.{frame_seen};
+ghost use Rattle.line_pieces.specs.HomeViews.{home_seen};
+ghost use Rattle.line_pieces.specs.FrameViews.{frame_seen};
 ghost use Rattle.code_generator.specs.CallViews.{callees_of};
 ghost use Rattle.code_generator.specs.MainWritten.{behind_item, Precedes, WritesMain};
 ghost use Rattle.code_generator.specs.Programs.{home_of_port, with_links, callable, code_of};
 ghost use Rattle.code_generator.specs.Written.{site_of};
 
 use crate::calling::{Callee, Surroundings};
-use crate::frame::Frame;
-use crate::home::Home;
 use crate::limits::GREATEST_DEPTH;
-use crate::listing::Listing;
 use crate::processes::ProcessWriter;
 use code_pieces::operations;
+use line_pieces::{Frame, Home, Listing};
 use module_builder::GenFault;
 use occam_parser::{Formal, Item, Proc};
 use program_uses::{Around, Direction, Signature, add_name, link_way};
@@ -66,17 +64,15 @@ fn home_of_formal(formal: &Formal) -> Home
     }
 }
 
-impl Frame {
-    /// The parameters of `main` more, which are links.
-    fn add_links(&mut self, formals: &[Formal]) -> Result<(), GenFault>
-        ensures { IfOk result (λ _. frame_seen self.new
-            ≡ with_links (map formal_of formals.now) (frame_seen self.old)) }
-    {
-        for formal in formals {
-            self.add_home(home_of_formal(formal))?;
-        }
-        Ok(())
+/// The parameters of `main` more, which are links.
+fn add_links(frame: &mut Frame, formals: &[Formal]) -> Result<(), GenFault>
+    ensures { IfOk result (λ _. frame_seen frame.new
+        ≡ with_links (map formal_of formals.now) (frame_seen frame.old)) }
+{
+    for formal in formals {
+        frame.add_home(home_of_formal(formal))?;
     }
+    Ok(())
 }
 
 /// Where the code of `main` begins, and the procedures that it may call.
@@ -138,7 +134,7 @@ impl<'a> ProcessWriter<'a> {
     fn write_main(&mut self, around: Surroundings<'_, 'a>, main: &Proc<'a>) -> Result<(), GenFault>
         ensures { IfOk result (λ _. WritesMain self.old self.new around.entry (procedure_of main.now)) }
     {
-        self.frame.add_links(&main.formals)?;
+        add_links(&mut self.frame, &main.formals)?;
         add_formals(self.alloc, &mut self.scope, &main.formals)?;
         self.write(around, &main.body)?;
         self.listing.operate(operations::STOP_PROCESS)?;

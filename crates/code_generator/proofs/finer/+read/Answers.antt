@@ -1,7 +1,7 @@
 use Rattle.std.proofs.Common.{◌||◌, arith, rules, ◌∙◌}
 use Rattle.occam_parser.specs.declared.tree.Operand.TheFolds.{the_lemmas}
 use Rattle.occam_parser.specs.Views.{expression_of}
-use Rattle.code_generator.specs.SettingViews.{entries_in, homes_in}
+use Rattle.line_pieces.specs.SettingViews.{entries_in, homes_in}
 use Rattle.code_generator.proofs.TablesRead.{found_among, found_all}
 use Rattle.code_generator.proofs.finer.+read.Goals as goal
 

@@ -1,5 +1,5 @@
 use Rattle.std.proofs.Common.{◌≡◌, drop}
-use Rattle.code_generator.specs.SettingViews.{entries_in, homes_in}
+use Rattle.line_pieces.specs.SettingViews.{entries_in, homes_in}
 use Rattle.code_generator.proofs.TablesRead.{found_among}
 use Rattle.code_generator.proofs.finer.+read.Given as goal
 

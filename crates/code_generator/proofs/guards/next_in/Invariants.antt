@@ -1,5 +1,5 @@
 use Rattle.std.proofs.Common.{◌≡◌, drop}
-use Rattle.code_generator.specs.Alternations.{next_in}
+use Rattle.code_generator.specs.Waiting.{next_in}
 use Rattle.code_generator.proofs.guards.next_in.Given as goal
 
 abbrev pub invariant-loop-number : goal.invariant-loop-number

@@ -1,5 +1,5 @@
 use Rattle.std.proofs.Common.{◌≡◌, drop}
-use Rattle.code_generator.specs.Alternations.{place_in}
+use Rattle.code_generator.specs.Waiting.{place_in}
 use Rattle.code_generator.proofs.guards.place_in.Given as goal
 
 abbrev pub invariant-loop-place : goal.invariant-loop-place

@@ -1,5 +1,5 @@
 use Rattle.std.proofs.Common.{◌≡◌, ◌++◌, drop}
-use Rattle.code_generator.specs.Alternations.{targets_of}
+use Rattle.code_generator.specs.Waiting.{targets_of}
 use Rattle.code_generator.proofs.guards.targets_of.Given as goal
 
 abbrev pub invariant-loop-one : goal.invariant-loop-one

@@ -4,7 +4,7 @@ use Rattle.std.specs.Ordering.{nat_cmp}
 use Rattle.occam_parser.specs.Views.{expression_of}
 use Rattle.code_generator.specs.Instances.{all_forgotten, passed_target, with_target}
 use Rattle.code_generator.specs.PassedViews.{parameters_of, is_found}
-use Rattle.code_generator.specs.SettingViews.{entries_in, homes_in}
+use Rattle.line_pieces.specs.SettingViews.{entries_in, homes_in}
 use Rattle.code_generator.proofs.WordsForgotten.{forgets_none, forgets_next, forgets_all}
 use Rattle.code_generator.proofs.passing.all_forgotten.Goals as goal
 

@@ -2,7 +2,7 @@ use Rattle.std.proofs.Common.{◌≡◌, map, drop}
 use Rattle.occam_parser.specs.Views.{expression_of}
 use Rattle.code_generator.specs.Instances.{all_forgotten, unknown_in}
 use Rattle.code_generator.specs.PassedViews.{parameters_of, is_found}
-use Rattle.code_generator.specs.SettingViews.{entries_in, homes_in}
+use Rattle.line_pieces.specs.SettingViews.{entries_in, homes_in}
 use Rattle.code_generator.proofs.passing.all_forgotten.Given as goal
 
 abbrev pub invariant-loop-place : goal.invariant-loop-place

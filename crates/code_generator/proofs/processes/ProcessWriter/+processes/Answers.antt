@@ -22,9 +22,9 @@ use Rattle.code_generator.specs.declared.alternatives.Replication.{Replication}
 use Rattle.code_generator.specs.declared.loops.Turning.{Turning}
 use Rattle.code_generator.specs.Alternations.{exits_in, WritesBranch, WritesSome, FollowsAlt}
 use Rattle.code_generator.specs.CallViews.{surroundings_of}
-use Rattle.code_generator.specs.FrameViews.{frame_seen}
-use Rattle.code_generator.specs.Homes.{Nowhere}
-use Rattle.code_generator.specs.Declarations.{with_home}
+use Rattle.line_pieces.specs.FrameViews.{frame_seen}
+use Rattle.line_pieces.specs.Homes.{Nowhere}
+use Rattle.line_pieces.specs.Declarations.{with_home}
 use Rattle.code_generator.specs.Branches.{WritesPar}
 use Rattle.code_generator.specs.Processes.{Site, Surroundings, at_place, before_turns, process_code, act_code}
 use Rattle.code_generator.specs.Processes.{ends_passing}

@@ -2,8 +2,8 @@ use Rattle.std.proofs.Common.{ap, sym, ◌∙◌}
 use Rattle.std.proofs.lemmas.List.{append-nil}
 use Rattle.scalar_ranges.specs.Scopes.{entries_of}
 use Rattle.program_uses.specs.Declaring.{add}
-use Rattle.code_generator.specs.Declarations.{with_home}
-use Rattle.code_generator.specs.FrameViews.{frame_seen}
+use Rattle.line_pieces.specs.Declarations.{with_home}
+use Rattle.line_pieces.specs.FrameViews.{frame_seen}
 use Rattle.code_generator.proofs.processes.ProcessWriter.declare_constant.Goals as goal
 
 pub returns : goal.returns

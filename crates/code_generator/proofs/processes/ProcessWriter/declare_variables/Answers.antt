@@ -3,8 +3,8 @@ use Rattle.occam_parser.specs.OneOrMore.{as_list, one_or_more_of}
 use Rattle.occam_parser.specs.LineViews.{any_of, spelling_of}
 use Rattle.scalar_ranges.specs.Scopes.{entries_of}
 use Rattle.program_uses.specs.Declaring.{add_all}
-use Rattle.code_generator.specs.Declarations.{with_names, zero_names}
-use Rattle.code_generator.specs.FrameViews.{frame_seen}
+use Rattle.line_pieces.specs.Declarations.{with_names, zero_names}
+use Rattle.line_pieces.specs.FrameViews.{frame_seen}
 use Rattle.code_generator.proofs.processes.ProcessWriter.declare_variables.Goals as goal
 
 pub returns : goal.returns

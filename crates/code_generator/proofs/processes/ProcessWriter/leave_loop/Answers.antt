@@ -3,7 +3,7 @@ use Rattle.std.specs.Global.{Vec}
 use Rattle.std.proofs.lemmas.List.{append_assoc}
 use Rattle.code_pieces.specs.declared.piece.RowEntry.{RowEntry}
 use Rattle.code_pieces.specs.Pieces.{LoopBack, points}
-use Rattle.code_generator.specs.FrameViews.{frame_seen}
+use Rattle.line_pieces.specs.FrameViews.{frame_seen}
 use Rattle.code_generator.specs.Processes.{row_of}
 use Rattle.code_generator.specs.Written.{site_of, behind_loop}
 use Rattle.code_generator.proofs.processes.ProcessWriter.leave_loop.Goals as goal

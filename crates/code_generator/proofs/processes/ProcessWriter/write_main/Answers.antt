@@ -7,7 +7,7 @@ use Rattle.program_uses.specs.Declaring.{add_formals}
 use Rattle.code_pieces.specs.declared.operations.TheConstants.{STOP_PROCESS}
 use Rattle.code_pieces.specs.Pieces.{operates}
 use Rattle.code_generator.specs.CallViews.{surroundings_of}
-use Rattle.code_generator.specs.FrameViews.{frame_seen}
+use Rattle.line_pieces.specs.FrameViews.{frame_seen}
 use Rattle.code_generator.specs.Processes.{Site, process_code}
 use Rattle.code_generator.specs.Programs.{with_links, in_main}
 use Rattle.code_generator.specs.Written.{site_of, Appends}
@@ -19,7 +19,7 @@ returns c =
     let s = c.args.self.now in
     let p = procedure_of c.args.main.now in
     let here = surroundings_of c.args.around in
-    let begun = record s { frame = c.add_links.new.self; scope = c.add_formals.new.scope } in
+    let begun = record s { frame = c.add_links.new.frame; scope = c.add_formals.new.scope } in
     let w = c.write.new.self in
     let es = (known_of s.scope).entries in
     let linked = c.in_ok-add_links.ensures

@@ -1,5 +1,5 @@
 use Rattle.std.proofs.Common.{◌≡◌, ◌++◌, Some, drop}
-use Rattle.code_generator.specs.Branches.{starts_code}
+use Rattle.line_pieces.specs.Opening.{starts_code}
 use Rattle.code_generator.proofs.processes.ProcessWriter.write_starts.Given as goal
 
 abbrev pub invariant-loop-branch : goal.invariant-loop-branch

@@ -3,7 +3,7 @@ use Rattle.std.proofs.lemmas.List.{append_assoc}
 use Rattle.scalar_ranges.specs.Scopes.{known_of}
 use Rattle.code_pieces.specs.declared.operations.TheConstants.{STOP_PROCESS}
 use Rattle.code_pieces.specs.Pieces.{Piece, operates}
-use Rattle.code_generator.specs.FrameViews.{frame_seen}
+use Rattle.line_pieces.specs.FrameViews.{frame_seen}
 use Rattle.code_generator.specs.Processes.{Site, row_of}
 use Rattle.code_generator.proofs.processes.ProcessWriter.write_stop.Goals as goal
 

@@ -1,9 +1,0 @@
-use Rattle.std.proofs.Common.{◌≡◌, map, take}
-use Rattle.occam_parser.specs.LineViews.{formal_of}
-use Rattle.code_generator.specs.FrameViews.{frame_seen}
-use Rattle.code_generator.specs.Programs.{with_links}
-use Rattle.code_generator.proofs.frame.Frame.add_links.Given as goal
-
-abbrev pub invariant-loop-formal : goal.invariant-loop-formal
-invariant-loop-formal l =
-    frame_seen l.self ≡ with_links (map formal_of (take l.formal-index l.formals)) (frame_seen l.initial.self)

@@ -1,0 +1,7 @@
+use Rattle.std.proofs.Common.{◌≡◌, ◌++◌, drop}
+use Rattle.code_generator.specs.Waiting.{all_enabling}
+use Rattle.code_generator.proofs.guards.write_all_enabling.Given as goal
+
+abbrev pub invariant-loop-one : goal.invariant-loop-one
+invariant-loop-one l =
+    l.listing ++ all_enabling (drop l.one-index l.awaited) ≡ l.initial.listing ++ all_enabling l.awaited

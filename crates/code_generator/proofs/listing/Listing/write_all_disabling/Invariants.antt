@@ -1,7 +1,0 @@
-use Rattle.std.proofs.Common.{◌≡◌, ◌++◌, drop}
-use Rattle.code_generator.specs.Alternations.{all_disabling}
-use Rattle.code_generator.proofs.listing.Listing.write_all_disabling.Given as goal
-
-abbrev pub invariant-loop-one : goal.invariant-loop-one
-invariant-loop-one l =
-    l.self ++ all_disabling l.labels (drop l.one-index l.awaited) ≡ l.initial.self ++ all_disabling l.labels l.awaited

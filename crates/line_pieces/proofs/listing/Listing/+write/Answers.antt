@@ -1,0 +1,83 @@
+use Rattle.std.proofs.Common.{◌≡◌, ◌≤◌, length, map, option_map, arith, sym, ap, ◌∙◌, rules}
+use Rattle.std.proofs.lemmas.List.{append-nil}
+use Rattle.occam_parser.specs.declared.tree.Operation.{Chain}
+use Rattle.occam_parser.specs.Expressions.{Chained, Two}
+use Rattle.occam_parser.specs.Views.{operation_of, term_of, with_others}
+use Rattle.occam_parser.proofs.Seen.{view-Chain}
+use Rattle.scalar_ranges.specs.FrontViews.{seen_front}
+use Rattle.line_pieces.proofs.ChainCode.{others_next, others_done, front_known, front_pushed, chain_written_if}
+use Rattle.line_pieces.proofs.OffsetsFound.{first_written}
+use Rattle.line_pieces.proofs.OperandsBelow.{onto_written_if}
+use Rattle.line_pieces.proofs.listing.Listing.+write.Goals as goal
+
+pub write_operation-returns-in_ok-constant-in-Some : goal.write_operation-returns-in_ok-constant-in-Some
+write_operation-returns-in_ok-constant-in-Some t c =
+    let chain = c.in-Chain in
+    let s = c.args.setting in
+    let front = option_map seen_front c.args.front in
+    let first = term_of chain.first in
+    let second = term_of chain.second in
+    let others = map term_of c.deref.result.now in
+    let view : operation_of c.args.operation.now
+    ≡ operation_of (Chain chain.operator chain.first chain.second chain.others) = ap operation_of chain.is in
+    let whole = view ∙ view-Chain chain.operator chain.first chain.second chain.others
+    ∙ ap (λ os. Chained chain.operator (with_others (Two first second) (map term_of os)))
+    (sym c.deref.ensures.value) in
+    chain_written_if c.write_others.result s chain.operator front first second others
+    (operation_of c.args.operation.now)
+    c.args.self.now c.constant.new.self c.write_others.new.self whole c.requires.varies c.requires.front
+    (front_known s chain.operator front first second c.covered.result c.in-Some.value c.args.self.now
+    c.constant.new.self c.covered.ensures c.in-Some.is (search rules))
+    c.write_others.ensures
+
+pub write_operation-returns-in_ok-write_joined-in-None : goal.write_operation-returns-in_ok-write_joined-in-None
+write_operation-returns-in_ok-write_joined-in-None t c =
+    let chain = c.in-Chain in
+    let s = c.args.setting in
+    let front = option_map seen_front c.args.front in
+    let first = term_of chain.first in
+    let second = term_of chain.second in
+    let others = map term_of c.deref-in-None.result.now in
+    let view : operation_of c.args.operation.now
+    ≡ operation_of (Chain chain.operator chain.first chain.second chain.others) = ap operation_of chain.is in
+    let whole = view ∙ view-Chain chain.operator chain.first chain.second chain.others
+    ∙ ap (λ os. Chained chain.operator (with_others (Two first second) (map term_of os)))
+    (sym c.deref-in-None.ensures.value) in
+    chain_written_if c.write_others-in-None.result s chain.operator front first second others
+    (operation_of c.args.operation.now)
+    c.args.self.now c.write_joined.new.self c.write_others-in-None.new.self whole c.requires.varies c.requires.front
+    (front_pushed s chain.operator front first second c.covered.result c.args.self.now
+    c.write_operand-in-None.new.self c.write_joined.new.self c.covered.ensures c.in-None.is
+    c.in_ok-write_operand-in-None.ensures c.in_ok-write_joined-in-None.ensures)
+    c.write_others-in-None.ensures
+
+pub write_onto-returns : goal.write_onto-returns
+write_onto-returns t c =
+    let above = c.in_ok-above in
+    onto_written_if c.push_back.result c.args.in_order c.args.setting above.above (term_of c.args.right.now)
+    c.is_small_term.result c.args.self.now c.store.new.self c.write_operand-2.new.self c.push_back.new.self c.if-is_small_term.false
+    c.is_small_term.ensures above.ensures.scope above.ensures.homes above.ensures.top c.in_ok-store.ensures
+    c.in_ok-write_operand.ensures c.push_back.ensures
+
+pub write_first-returns-in-Chain : goal.write_first-returns-in-Chain
+write_first-returns-in-Chain t c =
+    let chain = c.in-Chain in
+    first_written c.write_operand.result c.args.setting chain.operator chain.first chain.second chain.others
+    (operation_of c.args.operation.now) c.args.self.now c.write_operand.new.self (ap operation_of chain.is)
+    c.write_operand.ensures
+
+pub write_others-loop-place-init : goal.write_others-loop-place-init
+write_others-loop-place-init t c = sym (append-nil c.args.self.now)
+
+pub write_others-loop-place-preserved : goal.write_others-loop-place-preserved
+write_others-loop-place-preserved t c =
+    others_next c.args.setting c.args.operator (option_map seen_front c.args.front) c.args.others.now
+    c.loop-place.place c.index-others-place.result c.covered.result c.args.self.now c.loop-place.self
+    c.write_joined.new.self (omega arith) c.index-others-place.is c.loop-place.invariant
+    c.covered.ensures c.in_ok-write_joined.ensures
+
+pub write_others-returns : goal.write_others-returns
+write_others-returns t c =
+    let done : length c.args.others.now ≤ c.loop-place.place = omega arith in
+    others_done c.args.setting c.args.operator (option_map seen_front c.args.front) c.args.others.now
+    c.loop-place.place c.args.self.now c.loop-place.self done c.loop-place.invariant

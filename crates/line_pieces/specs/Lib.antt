@@ -1,0 +1,11 @@
+pub mod Homes
+pub mod Expressions
+pub mod Declarations
+pub mod Actions
+pub mod HomeViews
+pub mod SettingViews
+pub mod TargetViews
+pub mod FrameViews
+pub mod Noted
+pub mod Cutting
+pub mod Opening

@@ -1,0 +1,124 @@
+//! What rows say: what a scope knows of words.
+
+ghost use Rattle.std.specs.Prelude.{◌≡◌, ◌++◌, IfOk, option_map, option_to_list};
+ghost use Rattle.word_arithmetic.specs.Range.{ends_of};
+ghost use Rattle.scalar_ranges.specs.Scopes.{entries_of, entry_of, meaning_of};
+ghost use Rattle.line_pieces.specs.HomeViews.{home_seen, homes_seen};
+ghost use Rattle.line_pieces.specs.Homes.{count_in, is_in, facts_at, facts_here, facts_of};
+ghost use Rattle.line_pieces.specs.Declarations.{facts_in};
+ghost use Rattle.line_pieces.specs.FrameViews.{frame_seen};
+
+use crate::declaring::words_for;
+use crate::frame::Frame;
+use crate::home::Home;
+use code_pieces::{RowEntry, WordFact};
+use module_builder::GenFault;
+use scalar_ranges::{Entry, Meaning, Scope};
+use std::alloc::Global;
+use word_arithmetic::Range;
+
+/// How many numbers a range has.
+fn count_in(range: Range) -> Result<u32, GenFault>
+    ensures { IfOk result (λ n. n ≡ count_in (ends_of range)) }
+{
+    let count = i64::from(range.hi) - i64::from(range.lo) + 1;
+    u32::try_from(count.unsigned_abs()).map_err(|_| GenFault::Limit)
+}
+
+/// Some words have numbers in this range.
+pub fn is_in(word: u32, span: u32, range: Range) -> RowEntry
+    ensures { result ≡ is_in word span (ends_of range) }
+{
+    RowEntry {
+        word,
+        span,
+        fact: WordFact::Between {
+            lo: range.lo,
+            hi: range.hi,
+        },
+    }
+}
+
+/// What is known of the words of a name that is there and means this, if it has words.
+fn fact_at(home: &Home, meaning: Meaning) -> Result<Option<RowEntry>, GenFault>
+    ensures { IfOk result (λ entry. option_to_list entry ≡ facts_at (home_seen home.now) (meaning_of meaning)) }
+{
+    match (home, meaning) {
+        (Home::Word(word), Meaning::Scalar { range, .. }) => Ok(Some(is_in(*word, 1, range))),
+        (
+            Home::Word(word),
+            Meaning::Array {
+                value_type,
+                size: Some(size),
+                ..
+            },
+        ) => {
+            let span = words_for(value_type, size)?;
+            Ok(Some(is_in(*word, span, Range::full())))
+        }
+        (Home::Block { word, head }, Meaning::Scalar { range, .. }) => Ok(Some(RowEntry {
+            word: *word,
+            span: 2,
+            fact: WordFact::Turning {
+                head: *head,
+                base: range.lo,
+                count: count_in(range)?,
+            },
+        })),
+        _ => Ok(None),
+    }
+}
+
+/// What is known of the words of a name that is there, if it is in the scope and has words.
+fn fact_here(home: &Home, declared: Option<Entry>) -> Result<Option<RowEntry>, GenFault>
+    ensures { IfOk result (λ entry. option_to_list entry
+        ≡ facts_here (home_seen home.now) (option_map entry_of declared.entry)) }
+{
+    match declared {
+        Some(declared) => fact_at(home, declared.meaning),
+        None => Ok(None),
+    }
+}
+
+/// One entry more, if there is one.
+pub(crate) fn push_any<T: Drop>(entries: &mut Vec<T>, entry: Option<T>) -> Result<(), GenFault>
+    ensures { IfOk result (λ _. entries.new.items ≡ entries.old.items ++ option_to_list entry) }
+{
+    if let Some(entry) = entry {
+        entries.push(entry)?;
+    }
+    Ok(())
+}
+
+/// Some entries more.
+fn push_all(entries: &mut Vec<RowEntry>, others: &[RowEntry]) -> Result<(), GenFault>
+    ensures { IfOk result (λ _. entries.new.items ≡ entries.old.items ++ others.now) }
+{
+    for entry in others {
+        entries.push(*entry)?;
+    }
+    Ok(())
+}
+
+/// What a scope knows of words, those of the outermost names first.
+fn facts_of(alloc: Global, scope: &Scope, homes: &[Home]) -> Result<Vec<RowEntry>, GenFault>
+    ensures { IfOk result (λ entries. entries.items ≡ facts_of (homes_seen homes.now) (entries_of scope.now)) }
+{
+    let mut entries = Vec::new(alloc);
+    for (number, home) in homes.iter().enumerate() {
+        let entry = fact_here(home, scope.entry(number))?;
+        push_any(&mut entries, entry)?;
+    }
+    Ok(entries)
+}
+
+/// What a row says: what is known of words outside, and what a scope knows.
+pub fn facts_in(alloc: Global, scope: &Scope, frame: &Frame) -> Result<Vec<RowEntry>, GenFault>
+    ensures { IfOk result (λ entries. entries.items ≡ facts_in (frame_seen frame.now) (entries_of scope.now)) }
+{
+    let own = facts_of(alloc, scope, &frame.homes)?;
+    let mut entries = Vec::new(alloc);
+    push_all(&mut entries, &frame.outer)?;
+    push_all(&mut entries, &own)?;
+    Ok(entries)
+}

@@ -1,0 +1,32 @@
+//! The code of a line, and of what stands around processes: which instructions it becomes, and what is known between
+//! them.
+#![tactic(auto)]
+
+mod acting;
+mod branches;
+mod counting;
+mod declaring;
+mod expressions;
+mod facts;
+mod frame;
+mod home;
+mod listing;
+mod noting;
+mod opening;
+mod setting;
+mod targets;
+mod work;
+mod writing;
+mod zeroing;
+
+pub use branches::{Branch, Fork};
+pub use counting::{label_after, plus, size_of_count};
+pub use declaring::{channels_in, declare_names, home_for, words_in};
+pub use expressions::single;
+pub use facts::{facts_in, is_in};
+pub use frame::Frame;
+pub use home::{Home, outermost_homes};
+pub use listing::Listing;
+pub use noting::{Access, ChannelEnd, ChannelPlace, Notes, Way, row_word};
+pub use setting::{Setting, word_after};
+pub use targets::{Target, target_of};

@@ -1,0 +1,111 @@
+//! Writing what a `PAR` has beside what its branches do. If a function fails, some pieces more may have come.
+
+ghost use Rattle.std.specs.Prelude.{◌≡◌, ◌++◌, map, IfOk};
+ghost use Rattle.code_pieces.specs.PieceViews.{pieces_of};
+ghost use Rattle.line_pieces.specs.Opening.{emptied, block_code, start_code, end_code, branches_code, row_in};
+
+use crate::branches::Branch;
+use crate::listing::Listing;
+use code_pieces::{ParBranch, Piece, operations};
+use module_builder::GenFault;
+use module_format::ChannelRow;
+use std::alloc::Global;
+
+impl Listing {
+    /// Channels are empty.
+    pub fn write_empty_channels(&mut self, channels: &[ChannelRow]) -> Result<(), GenFault>
+        ensures { IfOk result (λ _. self.new ≡ self.old ++ emptied channels.now) }
+    {
+        for channel in channels {
+            self.operate(operations::MINIMUM_INTEGER)?;
+            self.store(channel.word.unsigned_abs())?;
+        }
+        Ok(())
+    }
+
+    /// The block of a `PAR` at the workspace: where the process goes on that begins it, by a label that distances are
+    /// counted from, and how many processes end.
+    pub fn write_block(
+        &mut self,
+        depth: u32,
+        from: usize,
+        successor: usize,
+        ends: i32,
+    ) -> Result<(), GenFault>
+        ensures { IfOk result (λ _. self.new ≡ self.old ++ block_code depth from successor ends) }
+    {
+        self.push(Piece::Distance {
+            from,
+            to: successor,
+        })?;
+        self.operate(operations::LOAD_POINTER_TO_INSTRUCTION)?;
+        self.push(Piece::Place { label: from })?;
+        self.store(depth)?;
+        self.constant(ends)?;
+        self.store(depth.checked_add(1).ok_or(GenFault::Limit)?)
+    }
+
+    /// A branch starts, by a label that distances are counted from.
+    pub fn write_start(
+        &mut self,
+        from: usize,
+        branch: &Branch,
+        successor: Option<usize>,
+    ) -> Result<(), GenFault>
+        ensures { IfOk result (λ _. self.new
+            ≡ self.old ++ start_code from branch.now.entry branch.now.depth successor) }
+    {
+        self.push(Piece::Distance {
+            from,
+            to: branch.entry,
+        })?;
+        self.point(branch.depth)?;
+        self.push(Piece::StartBranch {
+            entry: branch.entry,
+            successor,
+        })?;
+        self.push(Piece::Place { label: from })
+    }
+
+    /// A process of a `PAR` ends, whose block is at this word.
+    pub fn write_end(&mut self, block: u32) -> Result<(), GenFault>
+        ensures { IfOk result (λ _. self.new ≡ self.old ++ end_code block) }
+    {
+        self.point(block)?;
+        self.operate(operations::END_PROCESS)
+    }
+
+    /// The code of a branch.
+    fn take_branch(&mut self, branch: Branch) -> Result<ParBranch, GenFault>
+        ensures code { IfOk result (λ _. self.new ≡ self.old ++ pieces_of branch.pieces.items) }
+        ensures row { IfOk result (λ row. row ≡ branch.row) }
+    {
+        let Branch {
+            pieces,
+            notes,
+            row,
+            ..
+        } = branch;
+        self.notes.note_all(&notes)?;
+        for piece in pieces {
+            self.push(piece)?;
+        }
+        Ok(row)
+    }
+
+    /// The code of all branches.
+    pub fn take_branches(
+        &mut self,
+        alloc: Global,
+        branches: Vec<Branch>,
+    ) -> Result<Vec<ParBranch>, GenFault>
+        ensures code { IfOk result (λ _. self.new ≡ self.old ++ branches_code branches.items) }
+        ensures rows { IfOk result (λ rows. rows.items ≡ map row_in branches.items) }
+    {
+        let mut rows = Vec::new(alloc);
+        for branch in branches {
+            rows.push(self.take_branch(branch)?)?;
+        }
+        Ok(rows)
+    }
+}

@@ -1,0 +1,201 @@
+//! How much may be done beside writing, so that the time of a program is bounded by more than its size.
+
+ghost use Rattle.std.specs.Prelude.{◌≡◌, IfOk};
+
+use crate::counting::{plus, size_of_count};
+use crate::listing::Listing;
+use code_pieces::Piece;
+use module_builder::GenFault;
+use occam_parser::{Body, Branch, Choice, Construct, Declaration, Expr, Process};
+use scalar_ranges::Scope;
+use usage_checks::{
+    size_of_action, size_of_condition, size_of_declaration, size_of_guard, size_of_replicator,
+};
+
+/// How many steps may be made. A step takes some five nanoseconds.
+const GREATEST_WORK: u32 = 400_000_000;
+
+/// For each unit of the size of an expression, at each level of brackets that is around it.
+const READING_STEPS: u32 = 16;
+
+/// For a name that is declared again in a scope of its own.
+const NAME_STEPS: u32 = 256;
+
+/// For each byte of such a name.
+const LETTER_STEPS: u32 = 4;
+
+/// For what is passed to a parameter.
+const PASSING_STEPS: u32 = 400;
+
+/// For an entry that is looked up among what a branch of a `PAR` uses.
+const CUTTING_STEPS: u32 = 12;
+
+/// For a name that is looked at for a row.
+const ROW_STEPS: u32 = 1;
+
+/// For a process in a body whose changes are found.
+const PROCESS_STEPS: u32 = 40;
+
+/// For each unit of the size of such a body.
+const FINDING_STEPS: u32 = 16;
+
+/// What was done beside writing so far.
+#[derive(Clone, Copy)]
+pub(crate) struct Work {
+    steps: u32,
+}
+
+impl Work {
+    /// Nothing was done.
+    pub(crate) fn nothing() -> Work {
+        Work { steps: 0 }
+    }
+
+    /// `times` times `steps` steps. The error is [`GenFault::Limit`] if they are too many.
+    fn count(&mut self, times: u32, steps: u32) -> Result<(), GenFault> {
+        let more = times.checked_mul(steps).ok_or(GenFault::Limit)?;
+        self.steps = plus(self.steps, more, GREATEST_WORK)?;
+        Ok(())
+    }
+
+    /// The first `count` names are declared again.
+    fn declare(&mut self, scope: &Scope, count: usize) -> Result<(), GenFault> {
+        for number in 0..count {
+            if let Some(entry) = scope.entry(number) {
+                self.count(1, NAME_STEPS)?;
+                self.count(size_of_count(entry.name.len())?, LETTER_STEPS)?;
+            }
+        }
+        Ok(())
+    }
+
+    /// What rows of a branch say is looked up.
+    fn cut(&mut self, pieces: &[Piece]) -> Result<(), GenFault> {
+        for piece in pieces {
+            if let Piece::Row { entries, .. } = piece {
+                self.count(size_of_count(entries.len())?, CUTTING_STEPS)?;
+            }
+        }
+        Ok(())
+    }
+
+    /// A line of this size is gone over for what it changes.
+    fn find_on_line(&mut self, size: u32) -> Result<(), GenFault> {
+        self.count(size, FINDING_STEPS)
+    }
+
+    /// Declarations are gone over for what is changed after them.
+    fn find_after(&mut self, declarations: &[Declaration]) -> Result<(), GenFault> {
+        for declaration in declarations {
+            self.find_on_line(size_of_declaration(declaration))?;
+        }
+        Ok(())
+    }
+
+    /// A process is gone over for what it changes.
+    #[cycle(finding)]
+    fn find(&mut self, process: &Process) -> Result<(), GenFault> {
+        self.count(1, PROCESS_STEPS)?;
+        self.find_after(&process.declarations)?;
+        self.find_in_construct(&process.construct)
+    }
+
+    /// A construct is gone over.
+    #[cycle(finding)]
+    fn find_in_construct(&mut self, construct: &Construct) -> Result<(), GenFault> {
+        match construct {
+            Construct::Action(action) => self.find_on_line(size_of_action(action)),
+            Construct::Seq(processes) | Construct::Par(processes) => {
+                for process in processes {
+                    self.find(process)?;
+                }
+                Ok(())
+            }
+            Construct::If(choices) => {
+                for choice in choices {
+                    self.find_in_choice(choice)?;
+                }
+                Ok(())
+            }
+            Construct::Alt(branches) => {
+                for branch in branches {
+                    self.find_in_branch(branch)?;
+                }
+                Ok(())
+            }
+            Construct::Replicated { replicator, body } => {
+                self.find_on_line(size_of_replicator(replicator))?;
+                self.find_in_body(body)
+            }
+        }
+    }
+
+    /// A body under a replicator is gone over.
+    #[cycle(finding)]
+    fn find_in_body(&mut self, body: &Body) -> Result<(), GenFault> {
+        match body {
+            Body::Seq(process) | Body::Par(process) => self.find(process),
+            Body::If(choice) => self.find_in_choice(choice),
+            Body::Alt(branch) => self.find_in_branch(branch),
+        }
+    }
+
+    /// A choice is gone over.
+    #[cycle(finding)]
+    fn find_in_choice(&mut self, choice: &Choice) -> Result<(), GenFault> {
+        self.find_on_line(size_of_condition(&choice.condition))?;
+        self.find(&choice.process)
+    }
+
+    /// A branch of an `ALT` is gone over.
+    #[cycle(finding)]
+    fn find_in_branch(&mut self, branch: &Branch) -> Result<(), GenFault> {
+        self.find_on_line(size_of_guard(&branch.guard))?;
+        self.find(&branch.process)
+    }
+}
+
+impl Listing {
+    /// An expression is read. Those in its brackets are read again when their code is written.
+    pub(crate) fn read(&mut self, expr: &Expr) -> Result<(), GenFault>
+        ensures { IfOk result (λ _. self.new ≡ self.old) }
+    {
+        self.work.count(size_of_condition(expr), READING_STEPS)
+    }
+
+    /// The first `count` names are declared again.
+    pub fn declare_again(&mut self, scope: &Scope, count: usize) -> Result<(), GenFault>
+        ensures { IfOk result (λ _. self.new ≡ self.old) }
+    {
+        self.work.declare(scope, count)
+    }
+
+    /// `actuals` actuals are passed.
+    pub fn pass(&mut self, actuals: usize) -> Result<(), GenFault>
+        ensures { IfOk result (λ _. self.new ≡ self.old) }
+    {
+        self.work.count(size_of_count(actuals)?, PASSING_STEPS)
+    }
+
+    /// `names` names are looked at for a row.
+    pub fn look_at(&mut self, names: usize) -> Result<(), GenFault>
+        ensures { IfOk result (λ _. self.new ≡ self.old) }
+    {
+        self.work.count(size_of_count(names)?, ROW_STEPS)
+    }
+
+    /// A process is gone over for what it changes.
+    pub fn find(&mut self, process: &Process) -> Result<(), GenFault>
+        ensures { IfOk result (λ _. self.new ≡ self.old) }
+    {
+        self.work.find(process)
+    }
+
+    /// The code of a branch was written, whose rows are cut now.
+    pub fn go_on_after(&mut self, branch: &Listing) -> Result<(), GenFault>
+        ensures { IfOk result (λ _. self.new ≡ self.old) }
+    {
+        self.work = branch.work;
+        self.work.cut(&branch.pieces)
+    }
+}
