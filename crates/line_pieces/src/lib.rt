@@ -1,5 +1,4 @@
-//! The code of a line, and of what stands around processes: which instructions it becomes, and what is known between
-//! them.
+//! Which pieces of code expressions, actions and declarations become, and what rows say between them.
 #![tactic(auto)]
 
 mod acting;
