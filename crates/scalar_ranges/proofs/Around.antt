@@ -1,21 +1,21 @@
--- An entry changes where the innermost block began, which does not have it in its list.
+-- An entry changes where the innermost blocks began, which do not have it in their lists.
 use Rattle.std.proofs.Common.{◌≡◌, ℕ, suc, ◌+◌, ◌<◌, ◌≤◌, Bool, true, false, cond, not, List, [], ◌∷◌, length, map}
 use Rattle.std.proofs.Common.{zero, reverse, take, Option, Some, None, option_map, refl, sym, ap, subst, arith, ◌∙◌}
-use Rattle.std.proofs.Common.{nat_eq, ◌⊎◌, inl, inr, ◌++◌, vec_capacity}
-use Rattle.std.proofs.lemmas.List.{length-take}
+use Rattle.std.proofs.Common.{nat_eq, ◌⊎◌, inl, inr, ◌++◌, vec_capacity, drop, set, get_or}
+use Rattle.std.proofs.lemmas.List.{length-take, length-drop, map-append, reverse-append}
 use Rattle.std.proofs.lemmas.Bool.Decides.{nat_tests}
 use Rattle.scalar_ranges.specs.declared.slots.Slot as code_slot
 use Rattle.scalar_ranges.specs.declared.slots.Branching as code_branching
 use Rattle.scalar_ranges.specs.Entries.{Meaning, Entry}
 use Rattle.scalar_ranges.specs.Environments.{item_at}
-use Rattle.scalar_ranges.specs.Moves.{is_one_of, with_meaning, hull_meaning}
+use Rattle.scalar_ranges.specs.Moves.{is_one_of, at_number, with_meaning, hull_meaning, Block}
 use Rattle.scalar_ranges.specs.Changes.{Slot, Change, Branching, Tracked, modify, entry_in, start_in, end_in, restored}
 use Rattle.scalar_ranges.specs.Changes.{undone, before, seen, ends_seen, blocks_in, known_in, numbers_of, AreListed}
 use Rattle.scalar_ranges.specs.Changes.{without, is_marked, is_recent, AreMarked, IsSettled, AreSettled, AreTracked}
 use Rattle.scalar_ranges.specs.Changes.{with_new, with_restart, with_end, marked, touched, listing, note_if, note}
 use Rattle.scalar_ranges.specs.Changes.{is_open_in, is_open, touch_if, touch, noted, put, noted_slot, noted_block}
-use Rattle.scalar_ranges.specs.Changes.{listing_if, touching_if, noted_slots, noted_in, HasRoomFor, inner_of}
-use Rattle.scalar_ranges.specs.Changes.{IsOutside, Follows, changed_to, known_around}
+use Rattle.scalar_ranges.specs.Changes.{listing_if, touching_if, noted_slots, noted_in, HasRoomFor, AreUpTo, block_in}
+use Rattle.scalar_ranges.specs.Changes.{IsOutside, AreOutside, Follows, changed_to, changed_around, known_around}
 use Rattle.scalar_ranges.specs.ChangeViews.{slots_from, branching_of, branchings_from, tracked_from, BelongTogether}
 use Rattle.scalar_ranges.proofs.Rows.{same_number}
 use Rattle.scalar_ranges.proofs.Counting.{without_same}
@@ -25,7 +25,9 @@ use Rattle.scalar_ranges.proofs.Tracking.{first_not, second_not}
 use Rattle.scalar_ranges.proofs.Following.{put_follows}
 use Rattle.scalar_ranges.proofs.Cutting.{list_room, branch_room}
 use Rattle.scalar_ranges.proofs.SlotLoops.{item_within, item_beyond}
-use Rattle.scalar_ranges.proofs.Turning.{both_apart, followed}
+use Rattle.scalar_ranges.proofs.Turning.{followed}
+use Rattle.scalar_ranges.proofs.Noting.{branchings_long, branchings_more}
+use Rattle.scalar_ranges.specs.Deferring.{AreApart, StayApart}
 
 both_modified : {A : Type 0} (f g : A → A) (n : ℕ) (xs : List A)
     → modify f n (modify g n xs) ≡ modify (λ x. f (g x)) n xs
@@ -126,7 +128,7 @@ item_cut_by k n xs ys same (inr least) =
 item_cut : (k n : ℕ) (xs ys : List Slot) → item_at n xs ≡ item_at n ys → item_at n (take k xs) ≡ item_at n (take k ys)
 item_cut k n xs ys same = item_cut_by k n xs ys same (which n k)
 
--- ---- an entry that the innermost block does not have in its list
+-- ---- an entry that a block does not have in its list
 
 undone_apart : (cs : List Change) (g : Slot → Slot) (n : ℕ) (ss : List Slot) → is_one_of (numbers_of cs) n ≡ false
     → undone cs (modify g n ss) ≡ modify g n (undone cs ss)
@@ -146,48 +148,59 @@ undone_item (c ∷ cs) n ss free =
     ∙ undone_item cs n ss (second_not (nat_eq c.number n) (is_one_of (numbers_of cs) n) free)
 
 -- what becomes of its slot
-pub record Renews (m : Meaning) (d : ℕ) (g : Slot → Slot) : Type 0 where
+pub record Renews (h : Meaning → Meaning) (d : ℕ) (g : Slot → Slot) : Type 0 where
   pub names : (s : Slot) → (g s).name ≡ s.name
-  pub means : (s : Slot) → (g s).meaning ≡ m
+  pub means : (s : Slot) → (g s).meaning ≡ h s.meaning
   pub apart : (s : Slot) → nat_eq s.mark d ≡ false → nat_eq (g s).mark d ≡ false
   pub low : (s : Slot) → s.mark ≤ d → (g s).mark ≤ d
 
-pub renews_new : (m : Meaning) (d : ℕ) → Renews m d (with_new m)
+renews_new : (m : Meaning) (d : ℕ) → Renews (λ k. m) d (with_new m)
 renews_new m d = record { names = λ s. refl; means = λ s. refl; apart = λ s h. h; low = λ s h. h }
 
-next_number : (d : ℕ) → nat_eq d (suc d) ≡ false
-next_number d = grind (arith, nat_tests)
+lower_number : (d e : ℕ) → d < e → nat_eq d e ≡ false
+lower_number d e less = grind (arith, nat_tests)
 
 noted_name : (t : Bool) (d : ℕ) (s : Slot) → (cond t s (marked d s)).name ≡ s.name
 noted_name true d s = refl
 noted_name false d s = refl
 
-noted_apart : (t : Bool) (d : ℕ) (s : Slot) → nat_eq s.mark (suc d) ≡ false
-    → nat_eq (cond t s (marked d s)).mark (suc d) ≡ false
-noted_apart true d s apart = apart
-noted_apart false d s apart = next_number d
+noted_apart : (t : Bool) (d e : ℕ) (s : Slot) → d < e → nat_eq s.mark e ≡ false
+    → nat_eq (cond t s (marked d s)).mark e ≡ false
+noted_apart true d e s less apart = apart
+noted_apart false d e s less apart = lower_number d e less
 
-noted_low : (t : Bool) (d : ℕ) (s : Slot) → s.mark ≤ suc d → (cond t s (marked d s)).mark ≤ suc d
-noted_low true d s low = low
-noted_low false d s low = omega arith
+noted_low : (t : Bool) (d e : ℕ) (s : Slot) → d < e → s.mark ≤ e → (cond t s (marked d s)).mark ≤ e
+noted_low true d e s less low = low
+noted_low false d e s less low = omega arith
 
-pub renews_noted : (m : Meaning) (d : ℕ) → Renews m (suc d) (λ s. with_new m (noted_slot d s))
-renews_noted m d = record {
+renews_noted : (m : Meaning) (d e : ℕ) → d < e → Renews (λ k. m) e (λ s. with_new m (noted_slot d s))
+renews_noted m d e less = record {
   names = λ s. noted_name (nat_eq s.mark d) d s;
   means = λ s. refl;
-  apart = λ s h. noted_apart (nat_eq s.mark d) d s h;
-  low = λ s h. noted_low (nat_eq s.mark d) d s h;
+  apart = λ s h. noted_apart (nat_eq s.mark d) d e s less h;
+  low = λ s h. noted_low (nat_eq s.mark d) d e s less h;
 }
 
-module _ (n : ℕ) (m : Meaning) (g : Slot → Slot) (ss : List Slot) (b o p : Branching) (bs : List Branching)
-    (tracked : AreTracked ss (b ∷ o ∷ bs)) (free : is_one_of (numbers_of b.changes) n ≡ false)
-    (renews : Renews m (suc (suc (length bs))) g)
-    (after : Follows (record { slots = modify g n (before b ss); blocks = p ∷ bs }) (record {
-      entries = changed_to m n (seen entry_in (before b ss));
-      blocks = blocks_in (before b ss) (o ∷ bs);
+-- what is kept of a block of this depth
+abbrev MarkedAt : ℕ → List Slot → Branching → Type 0
+MarkedAt d ss b =
+    (b.count ≤ length ss) × AreUpTo d ss × AreListed d (numbers_of b.changes) (take b.count ss)
+    × (without (is_marked d) (take b.count ss) + length b.changes ≤ b.count)
+
+abbrev KeptAt : ℕ → List Slot → Branching → Type 0
+KeptAt d ss b =
+    MarkedAt d ss b × AreSettled d b (take b.count ss)
+    × (without (is_recent d) (take b.count ss) + length b.recent ≤ b.count)
+
+module _ (n : ℕ) (h : Meaning → Meaning) (g : Slot → Slot) (ss : List Slot) (b : Branching) (ps : List Branching)
+    (ks : List Block) (kept : KeptAt (suc (length ps)) ss b) (free : is_one_of (numbers_of b.changes) n ≡ false)
+    (renews : Renews h (suc (length ps)) g)
+    (after : Follows (record { slots = modify g n (before b ss); blocks = ps }) (record {
+      entries = at_number (with_meaning h) n (seen entry_in (before b ss));
+      blocks = ks;
     })) where
   abbrev depth : ℕ
-  depth = suc (suc (length bs))
+  depth = suc (length ps)
 
   abbrev base : List Slot
   base = take b.count ss
@@ -199,32 +212,33 @@ module _ (n : ℕ) (m : Meaning) (g : Slot → Slot) (ss : List Slot) (b o p : B
   behind = ap (undone b.changes) at ∙ undone_apart b.changes g n base free
 
   unmarked : (k : Slot) → item_at n base ≡ Some k → nat_eq k.mark depth ≡ false
-  unmarked k there = tracked.0.2 n k there free
+  unmarked k there = kept.0.2 n k there free
 
   now_unmarked : (k : Slot) → item_at n base ≡ Some k → nat_eq (g k).mark depth ≡ false
   now_unmarked k there = renews.apart k (unmarked k there)
 
-  start_new : (k : Slot) → item_at n base ≡ Some k → start_in depth (g k) ≡ with_meaning (λ j. m) (start_in depth k)
+  start_new : (k : Slot) → item_at n base ≡ Some k → start_in depth (g k) ≡ with_meaning h (start_in depth k)
   start_new k there = λ i. record {
     name = renews.names k i;
-    meaning = (ap (λ t. cond t (g k).start (g k).meaning) (now_unmarked k there) ∙ renews.means k) i;
+    meaning = (ap (λ t. cond t (g k).start (g k).meaning) (now_unmarked k there) ∙ renews.means k
+        ∙ ap (λ t. h (cond t k.start k.meaning)) (sym (unmarked k there))) i;
   }
 
-  end_new : (k : Slot) → item_at n base ≡ Some k → end_in depth (g k) ≡ with_meaning (λ j. m) (end_in depth k)
+  end_new : (k : Slot) → item_at n base ≡ Some k → end_in depth (g k) ≡ with_meaning h (end_in depth k)
   end_new k there = λ i. record {
     name = renews.names k i;
-    meaning = (ap (λ t. cond t (g k).ends (g k).meaning) (now_unmarked k there) ∙ renews.means k) i;
+    meaning = (ap (λ t. cond t (g k).ends (g k).meaning) (now_unmarked k there) ∙ renews.means k
+        ∙ ap (λ t. h (cond t k.ends k.meaning)) (sym (unmarked k there))) i;
   }
 
-  seen_new : (f : Slot → Entry) (ks : List Slot)
-      → ((k : Slot) → item_at n ks ≡ Some k → f (g k) ≡ with_meaning (λ j. m) (f k))
-      → seen f (modify g n ks) ≡ changed_to m n (seen f ks)
-  seen_new f ks same =
-      ap reverse (map_modify f g (with_meaning (λ j. m)) n ks same)
-      ∙ reverse_modify (with_meaning (λ j. m)) n (map f ks)
+  seen_new : (f : Slot → Entry) (xs : List Slot)
+      → ((k : Slot) → item_at n xs ≡ Some k → f (g k) ≡ with_meaning h (f k))
+      → seen f (modify g n xs) ≡ at_number (with_meaning h) n (seen f xs)
+  seen_new f xs same =
+      ap reverse (map_modify f g (with_meaning h) n xs same) ∙ reverse_modify (with_meaning h) n (map f xs)
 
   ends_new : (t : Bool) → ends_seen t (seen (end_in depth) (take b.count (modify g n ss)))
-      ≡ option_map (λ ds. changed_to m n ds) (ends_seen t (seen (end_in depth) base))
+      ≡ option_map (λ ds. at_number (with_meaning h) n ds) (ends_seen t (seen (end_in depth) base))
   ends_new true = ap Some (ap (seen (end_in depth)) at ∙ seen_new (end_in depth) base end_new)
   ends_new false = refl
 
@@ -236,21 +250,21 @@ module _ (n : ℕ) (m : Meaning) (g : Slot → Slot) (ss : List Slot) (b o p : B
         (g k)) (g k)) (now_unmarked k there),
   )
 
-  now_marked : AreMarked (modify g n ss) b (p ∷ bs)
+  now_marked : AreMarked (modify g n ss) b ps
   now_marked =
       let long = modify_long g n ss in
       let many = ap (without (is_marked depth)) at
       ∙ without_same (is_marked depth) g n base (λ k there. now_unmarked k there ∙ sym (unmarked k there)) in (
-        subst (λ k. b.count ≤ k) (sym long) tracked.0.0,
-        items_modified (λ i k. k.mark ≤ depth) g n ss (λ i k away there. tracked.0.1 i k there)
-            (λ k there. renews.low k (tracked.0.1 n k there)),
+        subst (λ k. b.count ≤ k) (sym long) kept.0.0,
+        items_modified (λ i k. k.mark ≤ depth) g n ss (λ i k away there. kept.0.1 i k there)
+            (λ k there. renews.low k (kept.0.1 n k there)),
         subst (AreListed depth (numbers_of b.changes)) (sym at)
             (items_modified (λ i k. is_one_of (numbers_of b.changes) i ≡ false → nat_eq k.mark depth ≡ false) g n base
-            (λ i k away there others. tracked.0.2 i k there others) (λ k there others. now_unmarked k there)),
-        subst (λ k. k + length b.changes ≤ b.count) (sym many) tracked.0.3,
+            (λ i k away there others. kept.0.2 i k there others) (λ k there others. now_unmarked k there)),
+        subst (λ k. k + length b.changes ≤ b.count) (sym many) kept.0.3,
       )
 
-  now_tracked : AreTracked (modify g n ss) (b ∷ p ∷ bs)
+  now_tracked : AreTracked (modify g n ss) (b ∷ ps)
   now_tracked =
       let many = ap (without (is_recent depth)) at
       ∙ without_same (is_recent depth) g n base (λ k there.
@@ -258,92 +272,140 @@ module _ (n : ℕ) (m : Meaning) (g : Slot → Slot) (ss : List Slot) (b o p : B
       ∙ ap (λ t. cond t k.recent false) (sym (unmarked k there))) in (
         now_marked,
         subst (AreSettled depth b) (sym at) (items_modified (λ i k. is_one_of b.recent i ≡ false
-            → IsSettled depth b i k) g n base (λ i k away there others. tracked.1 i k there others)
+            → IsSettled depth b i k) g n base (λ i k away there others. kept.1 i k there others)
             (λ k there others. settled_new k there)),
-        subst (λ k. k + length b.recent ≤ b.count) (sym many) tracked.2,
-        subst (λ k. AreTracked k (p ∷ bs)) (sym behind) after.tracked,
+        subst (λ k. k + length b.recent ≤ b.count) (sym many) kept.2,
+        subst (λ k. AreTracked k ps) (sym behind) after.tracked,
       )
 
-  pub lifted : Follows (record { slots = modify g n ss; blocks = b ∷ p ∷ bs })
-      (known_around n m (known_in (record { slots = ss; blocks = b ∷ o ∷ bs })))
+  -- the block around which it changes sees it at its beginning and at its ends
+  pub lifted : Follows (record { slots = modify g n ss; blocks = b ∷ ps }) (record {
+    entries = at_number (with_meaning h) n (seen entry_in ss);
+    blocks = record {
+      start = at_number (with_meaning h) n (block_in depth b ss).start;
+      ends = option_map (λ ds. at_number (with_meaning h) n ds) (block_in depth b ss).ends;
+    } ∷ ks;
+  })
   lifted = record {
     entries = seen_new entry_in ss (λ k there. λ i. record { name = renews.names k i; meaning = renews.means k i });
     blocks = λ i. record {
       start = (ap (seen (start_in depth)) at ∙ seen_new (start_in depth) base start_new) i;
       ends = ends_new b.ended i;
-    } ∷ (ap (λ ks. blocks_in ks (p ∷ bs)) behind ∙ after.blocks) i;
+    } ∷ (ap (λ xs. blocks_in xs ps) behind ∙ after.blocks) i;
     tracked = now_tracked;
   }
 
--- ---- it means something else
+-- ---- it means something else around some blocks
 
-module _ (n : ℕ) (m : Meaning) (ss : List Slot) (b o : Branching) (bs : List Branching)
-    (tracked : AreTracked ss (b ∷ o ∷ bs)) (free : is_one_of (numbers_of b.changes) n ≡ false) where
+-- blocks that began with an entry that they do not have in their lists
+abbrev AreFree : ℕ → List Branching → Type 0
+AreFree n [] = Unit {0}
+AreFree n (b ∷ bs) = IsOutside n b × AreFree n bs
+
+free_of : (n : ℕ) (inner rest : List Branching) → AreOutside n (length inner) (inner ++ rest) → AreFree n inner
+free_of n [] rest outside = tt
+free_of n (b ∷ inner) rest outside = (outside.0, free_of n inner rest outside.1)
+
+module _ (n : ℕ) (m : Meaning) (o : Branching) (bs : List Branching) where
   abbrev outer : ℕ
   outer = suc (length bs)
 
-  put_so : (u : Tracked) → put n m (record { slots = before b ss; blocks = o ∷ bs }) ≡ u → Follows u (record {
-    entries = changed_to m n (seen entry_in (before b ss));
-    blocks = blocks_in (before b ss) (o ∷ bs);
-  })
-  put_so u is =
-      subst (λ t. Follows t (record {
-        entries = changed_to m n (seen entry_in (before b ss));
-        blocks = blocks_in (before b ss) (o ∷ bs);
-      })) is (put_follows n m (record { slots = before b ss; blocks = o ∷ bs }) tracked.3)
+  -- what becomes of its slot, by what the block around has of it
+  abbrev slot_by : Option Slot → Slot → Slot
+  slot_by None k = with_new m k
+  slot_by (Some s) k = with_new m (noted_slot outer k)
 
-  same_item : item_at n (before b ss) ≡ item_at n ss
-      → item_at n (take o.count (before b ss)) ≡ item_at n (take o.count ss)
-  same_item same = item_cut o.count n (before b ss) ss same
+  renews_by : (x : Option Slot) (e : ℕ) → outer < e → Renews (λ k. m) e (slot_by x)
+  renews_by None e less = renews_new m e
+  renews_by (Some s) e less = renews_noted m outer e less
 
-  within_by : (x : Option Slot) → item_at n (take o.count (before b ss)) ≡ x
-      → Follows (record {
-        slots = modify (with_new m) n (noted_slots outer n x ss);
-        blocks = b ∷ noted_in outer n x o ∷ bs;
-      }) (known_around n m (known_in (record { slots = ss; blocks = b ∷ o ∷ bs })))
-  within_by None none =
-      lifted n m (with_new m) ss b o o bs tracked free (renews_new m (suc outer))
-      (put_so (record { slots = modify (with_new m) n (before b ss); blocks = o ∷ bs })
-      (ap (λ (k : Tracked). record { slots = modify (with_new m) n k.slots; blocks = k.blocks })
-      (noted_not n (before b ss) o bs none)))
-  within_by (Some s) is =
-      subst (λ ks. Follows (record { slots = ks; blocks = b ∷ noted_block outer n s o ∷ bs })
-      (known_around n m (known_in (record { slots = ss; blocks = b ∷ o ∷ bs }))))
-      (sym (both_modified (with_new m) (noted_slot outer) n ss))
-      (lifted n m (λ k. with_new m (noted_slot outer k)) ss b o (noted_block outer n s o) bs tracked free
-      (renews_noted m outer)
-      (put_so (record {
-        slots = modify (λ k. with_new m (noted_slot outer k)) n (before b ss);
-        blocks = noted_block outer n s o ∷ bs;
-      })
-      (ap (λ (k : Tracked). record { slots = modify (with_new m) n k.slots; blocks = k.blocks })
-      (noted_here n (before b ss) o bs s is)
-      ∙ ap (λ ks. record { slots = ks; blocks = noted_block outer n s o ∷ bs })
-      (both_modified (with_new m) (noted_slot outer) n (before b ss)))))
+  by_one : (x : Option Slot) (ss : List Slot)
+      → modify (with_new m) n (noted_slots outer n x ss) ≡ modify (slot_by x) n ss
+  by_one None ss = refl
+  by_one (Some s) ss = both_modified (with_new m) (noted_slot outer) n ss
 
   -- the block around sees the same slot
-  pub outer_item : n < b.count → item_at n (take o.count (before b ss)) ≡ item_at n (take o.count ss)
-  outer_item less = same_item (undone_item b.changes n (take b.count ss) free ∙ item_within n b.count ss less)
+  outer_item : (b : Branching) (ss : List Slot) → IsOutside n b
+      → item_at n (take o.count (before b ss)) ≡ item_at n (take o.count ss)
+  outer_item b ss free =
+      item_cut o.count n (before b ss) ss
+      (undone_item b.changes n (take b.count ss) free.1 ∙ item_within n b.count ss free.0)
 
-  pub around_follows : n < b.count
-      → Follows (record {
-        slots = modify (with_new m) n (noted_slots outer n (item_at n (take o.count ss)) ss);
-        blocks = b ∷ noted_in outer n (item_at n (take o.count ss)) o ∷ bs;
-      }) (known_around n m (known_in (record { slots = ss; blocks = b ∷ o ∷ bs })))
-  around_follows less = within_by (item_at n (take o.count ss)) (outer_item less)
+  abbrev around : Option Slot → List Branching → List Branching
+  around x inner = inner ++ noted_in outer n x o ∷ bs
+
+  same_long : (x : Option Slot) (inner : List Branching) → length (around x inner) ≡ length (inner ++ o ∷ bs)
+  same_long x [] = refl
+  same_long x (b ∷ inner) = ap suc (same_long x inner)
+
+  deeper : (x : Option Slot) (inner : List Branching) → outer < suc (length (around x inner))
+  deeper x [] = omega arith
+  deeper x (b ∷ inner) = let less = deeper x inner in omega arith
+
+  innermost_by : (x : Option Slot) (ss : List Slot) → item_at n (take o.count ss) ≡ x
+      → put n m (record { slots = ss; blocks = o ∷ bs })
+      ≡ record { slots = modify (slot_by x) n ss; blocks = around x [] }
+  innermost_by None ss none =
+      ap (λ (k : Tracked). record { slots = modify (with_new m) n k.slots; blocks = k.blocks })
+      (noted_not n ss o bs none)
+  innermost_by (Some s) ss is =
+      ap (λ (k : Tracked). record { slots = modify (with_new m) n k.slots; blocks = k.blocks })
+      (noted_here n ss o bs s is)
+      ∙ ap (λ xs. record { slots = xs; blocks = around (Some s) [] })
+      (both_modified (with_new m) (noted_slot outer) n ss)
+
+  pub follows_in : (inner : List Branching) (ss : List Slot) (x : Option Slot) → item_at n (take o.count ss) ≡ x
+      → AreTracked ss (inner ++ o ∷ bs) → AreFree n inner
+      → Follows (record { slots = modify (slot_by x) n ss; blocks = around x inner })
+      (known_around (length inner) n m (known_in (record { slots = ss; blocks = inner ++ o ∷ bs })))
+  follows_in [] ss x is tracked free =
+      subst (λ t. Follows t (known_around 0 n m (known_in (record { slots = ss; blocks = o ∷ bs }))))
+      (innermost_by x ss is) (put_follows n m (record { slots = ss; blocks = o ∷ bs }) tracked)
+  follows_in (b ∷ inner) ss x is tracked free =
+      let ps = around x inner in
+      let size = same_long x inner in
+      let rest = follows_in inner (before b ss) x (outer_item b ss free.0 ∙ is) tracked.3 free.1 in
+      let ks = changed_around (length inner) m n (blocks_in (before b ss) (inner ++ o ∷ bs)) in
+      subst (λ d. Follows (record { slots = modify (slot_by x) n ss; blocks = b ∷ ps }) (record {
+        entries = changed_to m n (seen entry_in ss);
+        blocks = record {
+          start = changed_to m n (block_in (suc d) b ss).start;
+          ends = option_map (λ ds. changed_to m n ds) (block_in (suc d) b ss).ends;
+        } ∷ ks;
+      })) size
+      (lifted n (λ k. m) (slot_by x) ss b ps ks
+      (subst (λ d. KeptAt (suc d) ss b) (sym size) (tracked.0, tracked.1, tracked.2))
+      free.0.1 (renews_by x (suc (length ps)) (deeper x inner)) rest)
 
   -- it has capacity for it
-  room_by : (x : Option Slot) → item_at n (take o.count (before b ss)) ≡ x → HasRoomFor outer x o.count o.count o
-  room_by None none = tt
-  room_by (Some s) is = (
-    λ new. list_room n s (before b ss) o bs tracked.3 is new,
-    λ idle. branch_room n s (before b ss) o bs tracked.3 is idle,
+  room_by : (ss : List Slot) (x : Option Slot) → item_at n (take o.count ss) ≡ x → AreTracked ss (o ∷ bs)
+      → HasRoomFor outer x o.count o.count o
+  room_by ss None none tracked = tt
+  room_by ss (Some s) is tracked = (
+    λ new. list_room n s ss o bs tracked is new,
+    λ idle. branch_room n s ss o bs tracked is idle,
   )
 
-  pub outer_room : n < b.count → HasRoomFor outer (item_at n (take o.count ss)) o.count o.count o
-  outer_room less = room_by (item_at n (take o.count ss)) (outer_item less)
+  pub room_in : (inner : List Branching) (ss : List Slot) (x : Option Slot) → item_at n (take o.count ss) ≡ x
+      → AreTracked ss (inner ++ o ∷ bs) → AreFree n inner → HasRoomFor outer x o.count o.count o
+  room_in [] ss x is tracked free = room_by ss x is tracked
+  room_in (b ∷ inner) ss x is tracked free =
+      room_in inner (before b ss) x (outer_item b ss free.0 ∙ is) tracked.3 free.1
 
 -- ---- the program's blocks
+
+outside_long : (n a : ℕ) (bs : List Branching) → AreOutside n a bs → a < length bs
+outside_long n a [] outside = absurd outside
+outside_long n zero (b ∷ bs) outside = omega arith
+outside_long n (suc a) (b ∷ bs) outside = let less = outside_long n a bs outside.1 in omega arith
+
+-- there are as many blocks
+pub outside_blocks : (n a : ℕ) (blocks : List code_branching.Branching) → AreOutside n a (branchings_from blocks)
+    → a < length blocks
+outside_blocks n a blocks outside =
+    let less = outside_long n a (branchings_from blocks) outside in
+    let long = branchings_long blocks in
+    omega arith
 
 more_room : (x : Option Slot) (d listed recent : ℕ) (b : Branching) → b.count ≤ listed → b.count ≤ recent
     → HasRoomFor d x b.count b.count b → HasRoomFor d x listed recent b
@@ -353,54 +415,121 @@ more_room (Some s) d listed recent b first second room = (
   λ idle. let less = room.1 idle in omega arith,
 )
 
-module _ (n depth : ℕ) (m : Meaning) (slots : List code_slot.Slot) (blocks middle rest : List code_branching.Branching)
-    (b o : code_branching.Branching) (seen : branchings_from blocks ≡ branching_of b ∷ branching_of o
-    ∷ branchings_from rest) (deep : depth ≡ suc (length (branchings_from rest))) (tracked : BelongTogether slots blocks)
-    (outside : IsOutside n (inner_of (branchings_from blocks))) where
+same_apart : (p : ℕ → Option Meaning) (inner : List Branching) (b c : Branching) (bs : List Branching)
+    → AreApart p (length inner) (inner ++ b ∷ bs) → AreApart p (length inner) (inner ++ c ∷ bs)
+same_apart p [] b c bs apart = tt
+same_apart p (k ∷ inner) b c bs apart = (apart.0, same_apart p inner b c bs apart.1)
+
+-- one block among the others
+apart_at : (place : ℕ) (blocks : List code_branching.Branching) (o : code_branching.Branching) → place < length blocks
+    → o ≡ get_or blocks place o → blocks ≡ (take place blocks ++ o ∷ []) ++ drop (suc place) blocks
+apart_at place [] o less found = absurd (omega arith)
+apart_at zero (b ∷ blocks) o less found = ap (λ k. k ∷ blocks) (sym found)
+apart_at (suc place) (b ∷ blocks) o less found =
+    ap (λ ks. b ∷ ks) (apart_at place blocks o (omega arith) found)
+
+set_at : (place : ℕ) (blocks : List code_branching.Branching) (o : code_branching.Branching) → place < length blocks
+    → set blocks place o ≡ (take place blocks ++ o ∷ []) ++ drop (suc place) blocks
+set_at place [] o less = absurd (omega arith)
+set_at zero (b ∷ blocks) o less = refl
+set_at (suc place) (b ∷ blocks) o less = ap (λ ks. b ∷ ks) (set_at place blocks o (omega arith))
+
+branchings_both : (first second : List code_branching.Branching)
+    → branchings_from (first ++ second) ≡ branchings_from second ++ branchings_from first
+branchings_both first second =
+    ap reverse (map-append branching_of first second)
+    ∙ reverse-append (map branching_of first) (map branching_of second)
+
+seen_at : (first second : List code_branching.Branching) (o : code_branching.Branching)
+    → branchings_from ((first ++ o ∷ []) ++ second)
+    ≡ branchings_from second ++ branching_of o ∷ branchings_from first
+seen_at first second o =
+    branchings_both (first ++ o ∷ []) second
+    ∙ ap (λ ks. branchings_from second ++ ks) (branchings_more first o)
+
+module _ (n a place : ℕ) (m : Meaning) (slots : List code_slot.Slot) (blocks : List code_branching.Branching)
+    (o : code_branching.Branching) (less : place < length blocks) (found : o ≡ get_or blocks place o)
+    (size : length blocks ≡ place + 1 + a) (tracked : BelongTogether slots blocks)
+    (outside : AreOutside n a (branchings_from blocks)) where
   abbrev ss : List Slot
   ss = slots_from slots
 
   abbrev slot : Option Slot
   slot = item_at n (take o.count ss)
 
-  apart_here : IsOutside n (Some (branching_of b))
-  apart_here = subst (λ bs. IsOutside n (inner_of bs)) seen outside
+  abbrev rest : List Branching
+  rest = branchings_from (take place blocks)
 
-  both_tracked : AreTracked ss (branching_of b ∷ branching_of o ∷ branchings_from rest)
-  both_tracked = subst (AreTracked ss) seen tracked
+  abbrev inner : List Branching
+  inner = branchings_from (drop (suc place) blocks)
 
-  pub has_room : (lent : List code_slot.Slot) → lent ≡ slots
-      → HasRoomFor depth (item_at n (take o.count (slots_from lent))) (vec_capacity o.changes) (vec_capacity o.recent)
-      (branching_of o)
-  has_room lent same =
-      subst (λ ks. HasRoomFor depth (item_at n (take o.count (slots_from ks))) (vec_capacity o.changes)
-      (vec_capacity o.recent) (branching_of o)) (sym same)
-      (subst (λ d. HasRoomFor d slot (vec_capacity o.changes) (vec_capacity o.recent) (branching_of o)) (sym deep)
-      (more_room slot (suc (length (branchings_from rest))) (vec_capacity o.changes) (vec_capacity o.recent)
-      (branching_of o) o.room o.recent_room
-      (outer_room n m ss (branching_of b) (branching_of o) (branchings_from rest) both_tracked apart_here.1
-      apart_here.0)))
+  apart_seen : branchings_from blocks ≡ inner ++ branching_of o ∷ rest
+  apart_seen =
+      ap branchings_from (apart_at place blocks o less found)
+      ∙ seen_at (take place blocks) (drop (suc place) blocks) o
 
-  pub put_follows_around : (lent first again second whole : List code_slot.Slot)
-      (pushed all : List code_branching.Branching) (after : code_branching.Branching) → lent ≡ slots
-      → slots_from first ≡ noted_slots depth n (item_at n (take o.count (slots_from lent))) (slots_from lent)
-      → branching_of after ≡ noted_in depth n (item_at n (take o.count (slots_from lent))) (branching_of o)
-      → again ≡ first → slots_from second ≡ modify (with_new m) n (slots_from again) → whole ≡ second
-      → pushed ≡ rest ++ after ∷ [] → all ≡ pushed ++ b ∷ []
-      → Follows (tracked_from whole all) (known_around n m (known_in (tracked_from slots blocks)))
-  put_follows_around lent first again second whole pushed all after same noting block lent_again putting is next last =
-      let d = suc (length (branchings_from rest)) in
-      let changed = ap slots_from is ∙ putting
-      ∙ ap (modify (with_new m) n) (ap slots_from lent_again ∙ noting
-      ∙ (λ i. noted_slots (deep i) n (item_at n (take o.count (slots_from (same i)))) (slots_from (same i)))) in
-      let now = both_apart all pushed rest b after last next
-      ∙ ap (λ k. branching_of b ∷ k ∷ branchings_from rest) (block
-      ∙ (λ i. noted_in (deep i) n (item_at n (take o.count (slots_from (same i)))) (branching_of o))) in
-      followed (known_around n m (known_in (tracked_from slots blocks)))
+  many : length inner ≡ a
+  many =
+      let long = branchings_long (drop (suc place) blocks) in
+      let cut = length-drop (suc place) blocks in
+      omega arith
+
+  deep : place + 1 ≡ suc (length rest)
+  deep =
+      let long = branchings_long (take place blocks) in
+      let cut = length-take place blocks in
+      omega arith
+
+  free : AreFree n inner
+  free =
+      free_of n inner (branching_of o ∷ rest)
+      (subst (λ k. AreOutside n k (inner ++ branching_of o ∷ rest)) (sym many)
+      (subst (AreOutside n a) apart_seen outside))
+
+  all_tracked : AreTracked ss (inner ++ branching_of o ∷ rest)
+  all_tracked = subst (AreTracked ss) apart_seen tracked
+
+  pub has_room : HasRoomFor (place + 1) slot (vec_capacity o.changes) (vec_capacity o.recent) (branching_of o)
+  has_room =
+      subst (λ d. HasRoomFor d slot (vec_capacity o.changes) (vec_capacity o.recent) (branching_of o)) (sym deep)
+      (more_room slot (suc (length rest)) (vec_capacity o.changes) (vec_capacity o.recent) (branching_of o) o.room
+      o.recent_room (room_in n m (branching_of o) rest inner ss slot refl all_tracked free))
+
+  now_seen : (after : code_branching.Branching) (all : List code_branching.Branching) → all ≡ set blocks place after
+      → branchings_from all ≡ inner ++ branching_of after ∷ rest
+  now_seen after all is =
+      ap branchings_from (is ∙ set_at place blocks after less)
+      ∙ seen_at (take place blocks) (drop (suc place) blocks) after
+
+  pub put_follows_around : (first second : List Slot) (whole : List code_slot.Slot)
+      (all : List code_branching.Branching) (after : code_branching.Branching)
+      → first ≡ noted_slots (place + 1) n slot ss
+      → branching_of after ≡ noted_in (place + 1) n slot (branching_of o)
+      → second ≡ modify (with_new m) n first → slots_from whole ≡ second → all ≡ set blocks place after
+      → Follows (tracked_from whole all) (known_around a n m (known_in (tracked_from slots blocks)))
+  put_follows_around first second whole all after noting block putting is put =
+      let d = suc (length rest) in
+      let changed = is ∙ putting ∙ ap (modify (with_new m) n) (noting ∙ (λ i. noted_slots (deep i) n slot ss))
+      ∙ by_one n m (branching_of o) rest slot ss in
+      let now = now_seen after all put
+      ∙ ap (λ k. inner ++ k ∷ rest) (block ∙ (λ i. noted_in (deep i) n slot (branching_of o))) in
+      followed (known_around a n m (known_in (tracked_from slots blocks)))
       (λ i. record { slots = changed i; blocks = now i })
       (subst (λ bs. Follows (record {
-        slots = modify (with_new m) n (noted_slots d n slot ss);
-        blocks = branching_of b ∷ noted_in d n slot (branching_of o) ∷ branchings_from rest;
-      }) (known_around n m (known_in (record { slots = ss; blocks = bs })))) (sym seen)
-      (around_follows n m ss (branching_of b) (branching_of o) (branchings_from rest) both_tracked apart_here.1
-      apart_here.0))
+        slots = modify (slot_by n m (branching_of o) rest slot) n ss;
+        blocks = inner ++ noted_in d n slot (branching_of o) ∷ rest;
+      }) (known_around a n m (known_in (record { slots = ss; blocks = bs })))) (sym apart_seen)
+      (subst (λ k. Follows (record {
+        slots = modify (slot_by n m (branching_of o) rest slot) n ss;
+        blocks = inner ++ noted_in d n slot (branching_of o) ∷ rest;
+      }) (known_around k n m (known_in (record { slots = ss; blocks = inner ++ branching_of o ∷ rest })))) many
+      (follows_in n m (branching_of o) rest inner ss slot refl all_tracked free)))
+
+  -- the inner blocks are as they were
+  pub stays_around : (after : code_branching.Branching) (all : List code_branching.Branching)
+      → all ≡ set blocks place after → StayApart a (branchings_from blocks) a (branchings_from all)
+  stays_around after all put =
+      subst (λ bs. StayApart a bs a (branchings_from all)) (sym apart_seen)
+      (subst (λ bs. StayApart a (inner ++ branching_of o ∷ rest) a bs) (sym (now_seen after all put))
+      (subst (λ k. StayApart k (inner ++ branching_of o ∷ rest) k (inner ++ branching_of after ∷ rest)) many
+      (λ p. same_apart p inner (branching_of o) (branching_of after) rest)))

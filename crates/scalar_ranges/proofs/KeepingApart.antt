@@ -1,6 +1,7 @@
--- What is kept where a list is put off around the innermost block.
-use Rattle.std.proofs.Common.{◌≡◌, ℕ, suc, ◌<◌, ◌≤◌, Bool, true, false, cond, List, [], ◌∷◌, ◌++◌, length, refl, sym}
-use Rattle.std.proofs.Common.{ap, subst, arith, ◌∙◌, nat_eq, Option, Some, None, option_map, ◌⊎◌, inl, inr, take, map}
+-- What is kept where a list is put off around the innermost blocks.
+use Rattle.std.proofs.Common.{◌≡◌, ℕ, zero, suc, ◌<◌, ◌≤◌, ◌-◌, Bool, true, false, cond, List, [], ◌∷◌, length, refl}
+use Rattle.std.proofs.Common.{sym, ap, subst, arith, ◌∙◌, nat_eq, Option, Some, None, option_map, ◌⊎◌, inl, inr}
+use Rattle.std.proofs.Common.{take, map}
 use Rattle.scalar_ranges.specs.declared.changes.Tracked as code_tracked
 use Rattle.scalar_ranges.specs.declared.deferred.Left as code_left
 use Rattle.scalar_ranges.specs.declared.deferred.Stage.{Stage}
@@ -11,56 +12,31 @@ use Rattle.scalar_ranges.specs.Environments.{item_at}
 use Rattle.scalar_ranges.specs.Moves.{is_one_of}
 use Rattle.scalar_ranges.specs.MoveLaws.{meaning_at}
 use Rattle.scalar_ranges.specs.Changes.{Slot, Change, Branching, Tracked, modify, entry_in, start_in, end_in, seen}
-use Rattle.scalar_ranges.specs.Changes.{ends_seen, blocks_in, numbers_of, AreTracked, marked, listing, note_if, touch}
-use Rattle.scalar_ranges.specs.Changes.{touch_if, is_open, put_by, begun_block, turned_block, component_block}
-use Rattle.scalar_ranges.specs.Changes.{inner_of, IsOutside}
+use Rattle.scalar_ranges.specs.Changes.{ends_seen, before, blocks_in, numbers_of, AreTracked, begun_block}
+use Rattle.scalar_ranges.specs.Changes.{IsOutside, AreOutside}
 use Rattle.scalar_ranges.specs.TrackedViews.{tracked_of, known_by}
-use Rattle.scalar_ranges.specs.Deferring.{AreNone, IsApart, is_inside}
-use Rattle.scalar_ranges.specs.Lefts.{left_at, with_mark, IsKeptApart, turned_stage}
+use Rattle.scalar_ranges.specs.Deferring.{AreNone, AreApart, StayApart, is_inside}
+use Rattle.scalar_ranges.specs.Lefts.{left_at, with_mark, IsKeptApart, turned_stage, ended_stage, begun_stage}
 use Rattle.scalar_ranges.proofs.Numbered.{numbers_alike, which, reverse_meaning, item_mapped}
 use Rattle.scalar_ranges.proofs.SlotLoops.{item_within, meaning_seen}
+use Rattle.scalar_ranges.proofs.Around.{undone_item}
+use Rattle.scalar_ranges.proofs.Fitting.{some_of}
 use Rattle.scalar_ranges.proofs.Postponing.{EndsMean, MeansSame}
 use Rattle.scalar_ranges.proofs.Standing.{none_of}
+use Rattle.scalar_ranges.proofs.Staying.{fewer_apart}
 use Rattle.scalar_ranges.proofs.LeftLists.{left_other, left_dead, item_there}
 
 pub kept_if : (s : Stage) (p q : ℕ → Option Meaning) (bs cs : List Branching)
-    → (IsApart p (inner_of bs) → IsApart q (inner_of cs)) → IsKeptApart s p bs → IsKeptApart s q cs
+    → ((a : ℕ) → AreApart p (suc a) bs → AreApart q (suc a) cs) → IsKeptApart s p bs → IsKeptApart s q cs
 kept_if stages.Nothing p q bs cs stays kept = tt
 kept_if (stages.Going f) p q bs cs stays kept = tt
 kept_if (stages.Ended f) p q bs cs stays kept = tt
-kept_if (stages.Around f) p q bs cs stays kept = stays kept
-
-none_fewer : (p q : ℕ → Option Meaning) (cs : List Change) → ((i : ℕ) → p i ≡ None → q i ≡ None) → AreNone p cs
-    → AreNone q cs
-none_fewer p q [] fewer none = tt
-none_fewer p q (c ∷ cs) fewer none = (fewer c.number none.0, none_fewer p q cs fewer none.1)
-
--- less is put off
-pub fewer_apart : (p q : ℕ → Option Meaning) (o : Option Branching) → ((i : ℕ) → p i ≡ None → q i ≡ None)
-    → IsApart p o → IsApart q o
-fewer_apart p q None fewer apart = apart
-fewer_apart p q (Some b) fewer apart =
-    (none_fewer p q b.changes fewer apart.0, λ i least. fewer i (apart.1 i least))
-
-pub turned_apart : (p : ℕ → Option Meaning) (o : Option Branching) → IsApart p o → IsApart p (option_map turned_block o)
-turned_apart p None apart = apart
-turned_apart p (Some b) apart = apart
-
-pub component_apart : (p : ℕ → Option Meaning) (o : Option Branching) → IsApart p o
-    → IsApart p (option_map component_block o)
-component_apart p None apart = apart
-component_apart p (Some b) apart = apart
+kept_if (stages.Around f a) p q bs cs stays kept = stays a kept
 
 -- where a branch ends, or a component
-pub kept_next : (s : Stage) (p : ℕ → Option Meaning) (bs cs : List Branching)
-    → inner_of cs ≡ option_map turned_block (inner_of bs) → IsKeptApart s p bs → IsKeptApart s p cs
-kept_next s p bs cs inner kept =
-    kept_if s p p bs cs (λ apart. subst (IsApart p) (sym inner) (turned_apart p (inner_of bs) apart)) kept
-
-pub kept_component : (s : Stage) (p : ℕ → Option Meaning) (bs cs : List Branching)
-    → inner_of cs ≡ option_map component_block (inner_of bs) → IsKeptApart s p bs → IsKeptApart s p cs
-kept_component s p bs cs inner kept =
-    kept_if s p p bs cs (λ apart. subst (IsApart p) (sym inner) (component_apart p (inner_of bs) apart)) kept
+pub kept_next : (s : Stage) (p : ℕ → Option Meaning) (bs cs : List Branching) → ((a : ℕ) → StayApart a bs a cs)
+    → IsKeptApart s p bs → IsKeptApart s p cs
+kept_next s p bs cs stays kept = kept_if s p p bs cs (λ a apart. stays (suc a) p apart) kept
 
 turned_to : (t : Bool) (f : Form) (p : ℕ → Option Meaning) (cs : List Branching)
     → IsKeptApart (turned_stage t (stages.Ended f)) p cs
@@ -68,62 +44,58 @@ turned_to true f p cs = tt
 turned_to false f p cs = tt
 
 pub kept_turned : (t : Bool) (s : Stage) (p : ℕ → Option Meaning) (bs cs : List Branching)
-    → inner_of cs ≡ option_map turned_block (inner_of bs) → IsKeptApart s p bs → IsKeptApart (turned_stage t s) p cs
-kept_turned t stages.Nothing p bs cs inner kept = tt
-kept_turned t (stages.Going f) p bs cs inner kept = tt
-kept_turned t (stages.Ended f) p bs cs inner kept = turned_to t f p cs
-kept_turned t (stages.Around f) p bs cs inner kept = kept_next (stages.Around f) p bs cs inner kept
+    → ((a : ℕ) → StayApart a bs a cs) → IsKeptApart s p bs → IsKeptApart (turned_stage t s) p cs
+kept_turned t stages.Nothing p bs cs stays kept = tt
+kept_turned t (stages.Going f) p bs cs stays kept = tt
+kept_turned t (stages.Ended f) p bs cs stays kept = turned_to t f p cs
+kept_turned t (stages.Around f a) p bs cs stays kept = stays (suc a) p kept
 
--- ---- an entry of which nothing is put off comes to the innermost block's list
+-- ---- a block ends
 
-none_more : (p : ℕ → Option Meaning) (cs : List Change) (c : Change) → AreNone p cs → p c.number ≡ None
-    → AreNone p (cs ++ c ∷ [])
-none_more p [] c none new = (new, tt)
-none_more p (k ∷ cs) c none new = (none.0, none_more p cs c none.1 new)
+ended_to : (t : Bool) (f : Form) (p : ℕ → Option Meaning) (cs : List Branching)
+    → IsKeptApart (ended_stage t (stages.Ended f)) p cs
+ended_to true f p cs = tt
+ended_to false f p cs = tt
 
-inner_touched : (t : Bool) (p : ℕ → Option Meaning) (n : ℕ) (ss : List Slot) (b o : Branching) (bs : List Branching)
-    → IsApart p (Some b) → IsApart p (inner_of (touch_if t n ss b (o ∷ bs)).blocks)
-inner_touched true p n ss b o bs apart = apart
-inner_touched false p n ss b o bs apart = apart
+pub kept_ended : (t : Bool) (s : Stage) (p : ℕ → Option Meaning) (bs cs : List Branching)
+    → ((a : ℕ) → StayApart (suc a) bs a cs) → IsKeptApart s p bs → IsKeptApart (ended_stage t s) p cs
+kept_ended t stages.Nothing p bs cs stays kept = tt
+kept_ended t (stages.Going f) p bs cs stays kept = tt
+kept_ended t (stages.Ended f) p bs cs stays kept = ended_to t f p cs
+kept_ended t (stages.Around f zero) p bs cs stays kept = tt
+kept_ended t (stages.Around f (suc a)) p bs cs stays kept = stays (suc a) p kept
 
-noted_by : (t : Bool) (p : ℕ → Option Meaning) (n d : ℕ) (ss : List Slot) (b o : Branching) (bs : List Branching)
-    (s : Slot) (k : Tracked) → k ≡ cond t (record { slots = ss; blocks = b ∷ o ∷ bs })
-    (record { slots = modify (marked d) n ss; blocks = listing n s b ∷ o ∷ bs }) → p n ≡ None → IsApart p (Some b)
-    → IsApart p (inner_of (touch n k.slots k.blocks).blocks)
-noted_by true p n d ss b o bs s k is none apart =
-    subst (λ (j : Tracked). IsApart p (inner_of (touch n j.slots j.blocks).blocks)) (sym is)
-    (inner_touched (is_open n ss (b ∷ o ∷ bs)) p n ss b o bs apart)
-noted_by false p n d ss b o bs s k is none apart =
-    subst (λ (j : Tracked). IsApart p (inner_of (touch n j.slots j.blocks).blocks)) (sym is)
-    (inner_touched (is_open n (modify (marked d) n ss) (listing n s b ∷ o ∷ bs)) p n (modify (marked d) n ss)
-    (listing n s b) o bs (none_more p b.changes (record { number = n; before = s }) apart.0 none, apart.1))
+fewer_around : (t : Bool) (f : Form) (a : ℕ) → 0 < a
+    → stages.Around f (a - 1) ≡ ended_stage t (stages.Around f a)
+fewer_around t f zero some = absurd (omega arith)
+fewer_around t f (suc a) some = let less : suc a - 1 ≡ a = omega arith in ap (stages.Around f) less
 
-noted_or : (x : Option Slot) (p : ℕ → Option Meaning) (n d : ℕ) (ss : List Slot) (b o : Branching)
-    (bs : List Branching) → p n ≡ None → IsApart p (Some b)
-    → IsApart p (inner_of (touch n (note_if d n ss b (o ∷ bs) x).slots (note_if d n ss b (o ∷ bs) x).blocks).blocks)
-noted_or None p n d ss b o bs none apart = inner_touched (is_open n ss (b ∷ o ∷ bs)) p n ss b o bs apart
-noted_or (Some s) p n d ss b o bs none apart =
-    noted_by (nat_eq s.mark d) p n d ss b o bs s (note_if d n ss b (o ∷ bs) (Some s)) refl none apart
-
-pub put_apart : (p : ℕ → Option Meaning) (f : Slot → Slot) (n : ℕ) (ss : List Slot) (bs : List Branching)
-    → p n ≡ None → IsApart p (inner_of bs)
-    → IsApart p (inner_of (put_by f n (record { slots = ss; blocks = bs })).blocks)
-put_apart p f n ss [] none apart = absurd apart
-put_apart p f n ss (b ∷ []) none apart = absurd apart
-put_apart p f n ss (b ∷ o ∷ bs) none apart =
-    noted_or (item_at n (take b.count ss)) p n (suc (length (o ∷ bs))) ss b o bs none apart
+-- there was a further block around the innermost one
+pub one_fewer : (t : Bool) (f : Form) (a : ℕ) → nat_eq a 0 ≡ false
+    → stages.Around f (a - 1) ≡ ended_stage t (stages.Around f a)
+one_fewer t f a some = fewer_around t f a (some_of some)
 
 -- ---- a block begins behind the one that has ended
 
-begun_by : (p : ℕ → Option Meaning) (ended : Bool) (t : Tracked) (bs : List Branching)
-    → is_inside (blocks_in t.slots bs) ≡ true → ((i : ℕ) → length t.slots ≤ i → p i ≡ None)
-    → IsApart p (inner_of (begun_block ended t ∷ bs))
-begun_by p ended t [] inside none = absurd (cc)
-begun_by p ended t (o ∷ bs) inside none = (tt, none)
+inside_by : (ss : List Slot) (bs : List Branching) → is_inside (blocks_in ss bs) ≡ true → (p : ℕ → Option Meaning)
+    → AreApart p 0 bs
+inside_by ss [] inside p = absurd (cc)
+inside_by ss (b ∷ bs) inside p = tt
 
-pub begun_apart : (p : ℕ → Option Meaning) (ended : Bool) (t : Tracked) → is_inside (blocks_in t.slots t.blocks) ≡ true
-    → ((i : ℕ) → length t.slots ≤ i → p i ≡ None) → IsApart p (inner_of (begun_block ended t ∷ t.blocks))
-begun_apart p ended t inside none = begun_by p ended t t.blocks inside none
+pub begun_apart : (s u : Stage) (p q : ℕ → Option Meaning) (ended : Bool) (t : Tracked) → begun_stage s ≡ Some u
+    → is_inside (blocks_in t.slots t.blocks) ≡ true → ((i : ℕ) → length t.slots ≤ i → q i ≡ None)
+    → ((i : ℕ) → p i ≡ None → q i ≡ None) → IsKeptApart s p t.blocks
+    → IsKeptApart u q (begun_block ended t ∷ t.blocks)
+begun_apart stages.Nothing u p q ended t is inside none fewer kept = absurd (cc)
+begun_apart (stages.Ended f) u p q ended t is inside none fewer kept = absurd (cc)
+begun_apart (stages.Going f) u p q ended t is inside none fewer kept =
+    let same : stages.Around f 0 ≡ u = cc in
+    subst (λ v. IsKeptApart v q (begun_block ended t ∷ t.blocks)) same
+    ((tt, none), inside_by t.slots t.blocks inside q)
+begun_apart (stages.Around f a) u p q ended t is inside none fewer kept =
+    let same : stages.Around f (suc a) ≡ u = cc in
+    subst (λ v. IsKeptApart v q (begun_block ended t ∷ t.blocks)) same
+    ((tt, none), fewer_apart p q (suc a) t.blocks fewer kept)
 
 -- ---- an entry of which something is put off
 
@@ -137,12 +109,16 @@ below_by : (p : ℕ → Option Meaning) (n k : ℕ) (w : Meaning) → p n ≡ So
 below_by p n k w left none (inl less) = less
 below_by p n k w left none (inr least) = absurd (cc (none n least, left))
 
-pub outside_of : (p : ℕ → Option Meaning) (n : ℕ) (w : Meaning) (o : Option Branching) → p n ≡ Some w → IsApart p o
-    → IsOutside n o
-outside_of p n w None left apart = apart
-outside_of p n w (Some b) left apart = (
-  below_by p n b.count w left apart.1 (which n b.count),
-  free_by (is_one_of (numbers_of b.changes) n) p n w b.changes refl left apart.0,
+pub outside_of : (p : ℕ → Option Meaning) (n : ℕ) (w : Meaning) (a : ℕ) (bs : List Branching) → p n ≡ Some w
+    → AreApart p a bs → AreOutside n a bs
+outside_of p n w a [] left apart = absurd apart
+outside_of p n w zero (b ∷ bs) left apart = tt
+outside_of p n w (suc a) (b ∷ bs) left apart = (
+  (
+    below_by p n b.count w left apart.0.1 (which n b.count),
+    free_by (is_one_of (numbers_of b.changes) n) p n w b.changes refl left apart.0.0,
+  ),
+  outside_of p n w a bs left apart.1,
 )
 
 none_dead_by : (t : Bool) (mark n i : ℕ) (ls : List code_left.Left) → 0 < mark → nat_eq n i ≡ t
@@ -156,7 +132,7 @@ pub none_dead : (mark n : ℕ) (ls : List code_left.Left) → 0 < mark → (i : 
     → left_at mark (modify (with_mark 0) n ls) i ≡ None
 none_dead mark n ls some i none = none_dead_by (nat_eq n i) mark n i ls some refl none
 
--- ---- it means the same where the innermost block began
+-- ---- it means the same where the innermost blocks began
 
 meant_by : (f : Slot → Entry) (x : Option Slot) → ((s : Slot) → x ≡ Some s → (f s).meaning ≡ s.meaning)
     → option_map (λ (e : Entry). e.meaning) (option_map f x) ≡ option_map (λ (s : Slot). s.meaning) x
@@ -172,42 +148,49 @@ meant_in f n k ss less same =
     ∙ meant_by f (item_at n (take k ss)) same
     ∙ ap (option_map (λ (s : Slot). s.meaning)) (item_within n k ss less) ∙ sym (meaning_seen n ss)
 
-ends_in : (t : Bool) (n : ℕ) (es ds : List Entry) → meaning_at n ds ≡ meaning_at n es → EndsMean n (ends_seen t ds) es
-ends_in true n es ds same = same
-ends_in false n es ds same = tt
+ends_in : (t : Bool) (n : ℕ) (o : Option Meaning) (ds : List Entry) → meaning_at n ds ≡ o
+    → EndsMean n (ends_seen t ds) o
+ends_in true n o ds same = same
+ends_in false n o ds same = tt
 
-means_in : (n : ℕ) (ss : List Slot) (b : Branching) (bs : List Branching) → AreTracked ss (b ∷ bs) → n < b.count
-    → is_one_of (numbers_of b.changes) n ≡ false → MeansSame n (seen entry_in ss) (blocks_in ss (b ∷ bs))
-means_in n ss b bs tracked less free =
-    let d = suc (length bs) in (
-      meant_in (start_in d) n b.count ss less
-          (λ s is. ap (λ t. cond t s.start s.meaning) (tracked.0.2 n s is free)),
-      ends_in b.ended n (seen entry_in ss) (seen (end_in d) (take b.count ss))
-          (meant_in (end_in d) n b.count ss less
-          (λ s is. ap (λ t. cond t s.ends s.meaning) (tracked.0.2 n s is free))),
+-- it means the same in the block around
+behind_same : (n : ℕ) (ss : List Slot) (b : Branching) → IsOutside n b
+    → meaning_at n (seen entry_in (before b ss)) ≡ meaning_at n (seen entry_in ss)
+behind_same n ss b free =
+    meaning_seen n (before b ss)
+    ∙ ap (option_map (λ (s : Slot). s.meaning))
+    (undone_item b.changes n (take b.count ss) free.1 ∙ item_within n b.count ss free.0) ∙ sym (meaning_seen n ss)
+
+means_by : (n a : ℕ) (ss : List Slot) (bs : List Branching) → AreTracked ss bs → AreOutside n a bs
+    → MeansSame a n (meaning_at n (seen entry_in ss)) (blocks_in ss bs)
+means_by n a ss [] tracked outside = tt
+means_by n zero ss (b ∷ bs) tracked outside = tt
+means_by n (suc a) ss (b ∷ bs) tracked outside =
+    let d = suc (length bs) in
+    let free = outside.0 in (
+      meant_in (start_in d) n b.count ss free.0
+          (λ s is. ap (λ t. cond t s.start s.meaning) (tracked.0.2 n s is free.1)),
+      ends_in b.ended n (meaning_at n (seen entry_in ss)) (seen (end_in d) (take b.count ss))
+          (meant_in (end_in d) n b.count ss free.0
+          (λ s is. ap (λ t. cond t s.ends s.meaning) (tracked.0.2 n s is free.1))),
+      subst (λ o. MeansSame a n o (blocks_in (before b ss) bs)) (behind_same n ss b free)
+          (means_by n a (before b ss) bs tracked.3 outside.1),
     )
 
-means_by : (n : ℕ) (ss : List Slot) (bs : List Branching) → AreTracked ss bs → IsOutside n (inner_of bs)
-    → MeansSame n (seen entry_in ss) (blocks_in ss bs)
-means_by n ss [] tracked outside = tt
-means_by n ss (b ∷ []) tracked outside = absurd outside
-means_by n ss (b ∷ o ∷ bs) tracked outside = means_in n ss b (o ∷ bs) tracked outside.0 outside.1
+pub means_same : (n a : ℕ) (t : code_tracked.Tracked) → AreOutside n a (tracked_of t).blocks
+    → MeansSame a n (meaning_at n (known_by t).entries) (known_by t).blocks
+means_same n a t outside = means_by n a (tracked_of t).slots (tracked_of t).blocks t.tracked outside
 
-pub means_same : (n : ℕ) (t : code_tracked.Tracked) → IsOutside n (inner_of (tracked_of t).blocks)
-    → MeansSame n (known_by t).entries (known_by t).blocks
-means_same n t outside = means_by n (tracked_of t).slots (tracked_of t).blocks t.tracked outside
-
-some_by : (n : ℕ) (ss : List Slot) (bs : List Branching) → AreTracked ss bs → IsOutside n (inner_of bs) → n < length ss
-some_by n ss [] tracked outside = absurd outside
-some_by n ss (b ∷ []) tracked outside = absurd outside
-some_by n ss (b ∷ o ∷ bs) tracked outside =
-    let less = outside.0 in
+some_by : (n a : ℕ) (ss : List Slot) (bs : List Branching) → AreTracked ss bs → AreOutside n (suc a) bs → n < length ss
+some_by n a ss [] tracked outside = absurd outside
+some_by n a ss (b ∷ bs) tracked outside =
+    let less = outside.0.0 in
     let enough = tracked.0.0 in
     omega arith
 
-pub means_some : (n : ℕ) (t : code_tracked.Tracked) → IsOutside n (inner_of (tracked_of t).blocks)
+pub means_some : (n a : ℕ) (t : code_tracked.Tracked) → AreOutside n (suc a) (tracked_of t).blocks
     → None ≡ meaning_at n (known_by t).entries → ⊥
-means_some n t outside none =
+means_some n a t outside none =
     let ss = (tracked_of t).slots in
-    let it = item_there n ss (some_by n ss (tracked_of t).blocks t.tracked outside) in
+    let it = item_there n ss (some_by n a ss (tracked_of t).blocks t.tracked outside) in
     cc (none, meaning_seen n ss, ap (option_map (λ (s : Slot). s.meaning)) it.1)

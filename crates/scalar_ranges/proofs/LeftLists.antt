@@ -454,12 +454,13 @@ module _ (mark n : ℕ) (ls now : List code_left.Left) (some : 0 < mark) (items 
       ∙ released_ended f p q n w k (sym left) (left_dead mark n ls some) others
       ∙ (λ i. known_left (sym is i) p k)
 
-  pub release_around : (f : Form) (m w : Meaning) → s ≡ stages.Around f → Some w ≡ p n
-      → Some m ≡ meaning_at n k.entries → MeansSame n k.entries k.blocks → after ≡ known_around n (of_form f m w) k
+  pub release_around : (a : ℕ) (f : Form) (m w : Meaning) → s ≡ stages.Around f a → Some w ≡ p n
+      → Some m ≡ meaning_at n k.entries → MeansSame (suc a) n (meaning_at n k.entries) k.blocks
+      → after ≡ known_around (suc a) n (of_form f m w) k
       → known_left s (left_at mark now) after ≡ known_left s p k
-  release_around f m w is left there same moved =
+  release_around a f m w is left there same moved =
       (λ i. known_left (is i) (left_at mark (items i)) (moved i))
-      ∙ released_around f p q n w m k (sym left) (left_dead mark n ls some) others same (sym there)
+      ∙ released_around a f p q n w m k (sym left) (left_dead mark n ls some) others same (sym there)
       ∙ (λ i. known_left (sym is i) p k)
 
 -- ---- of no entry anything is put off any more
@@ -588,6 +589,15 @@ pub cut_none : (mark c : ℕ) (ls cut : List code_left.Left) → cut ≡ take c 
 cut_none mark c ls cut is i least =
     let size = length-take c ls in
     ap (λ ks. left_at mark ks i) is ∙ ap (left_if mark) (item_beyond i (take c ls) (omega arith))
+
+cut_fewer_by : (mark c i : ℕ) (ls cut : List code_left.Left) → cut ≡ take c ls → left_at mark ls i ≡ None
+    → (i < c) ⊎ (c ≤ i) → left_at mark cut i ≡ None
+cut_fewer_by mark c i ls cut is was (inl less) = cut_same mark c ls cut is i less ∙ was
+cut_fewer_by mark c i ls cut is was (inr least) = cut_none mark c ls cut is i least
+
+pub cut_fewer : (mark c : ℕ) (ls cut : List code_left.Left) → cut ≡ take c ls → (i : ℕ) → left_at mark ls i ≡ None
+    → left_at mark cut i ≡ None
+cut_fewer mark c ls cut is i was = cut_fewer_by mark c i ls cut is was (which i c)
 
 pub kept_cut : (mark c : ℕ) (ls cut : List code_left.Left) (cs : List code_change.Change) → cut ≡ take c ls
     → IsKept mark ls cs → IsKept mark cut cs

@@ -31,6 +31,7 @@ pub mod Noting
 pub mod Turning
 pub mod Deferring
 pub mod Standing
+pub mod Staying
 pub mod Around
 pub mod Postponing
 pub mod LeftLists

@@ -1,6 +1,6 @@
 -- What is known, with what is put off, after each move.
-use Rattle.std.proofs.Common.{◌≡◌, ℕ, ◌<◌, ◌≤◌, true, false, cond, List, [], ◌∷◌, length, refl, ap, arith}
-use Rattle.std.proofs.Common.{Option, Some, None, ◌∙◌, nat_eq, option_map, sym, Bool}
+use Rattle.std.proofs.Common.{◌≡◌, ℕ, zero, suc, ◌<◌, ◌≤◌, true, false, cond, List, [], ◌∷◌, length, refl, ap, arith}
+use Rattle.std.proofs.Common.{subst, Option, Some, None, ◌∙◌, nat_eq, option_map, sym, Bool}
 use Rattle.scalar_ranges.specs.declared.slots.Form.{Form}
 use Rattle.scalar_ranges.specs.declared.deferred.Stage.{Stage}
 use Rattle.scalar_ranges.specs.declared.deferred.Stage.TheVariants as stages
@@ -13,7 +13,7 @@ use Rattle.scalar_ranges.specs.Changes.{known_with, changed_start, changed_ends,
 use Rattle.scalar_ranges.specs.Changes.{known_around, begin_with, ends_seen}
 use Rattle.scalar_ranges.specs.Deferring.{of_form, entry_left, entries_left, ends_left, around_left, is_inside}
 use Rattle.scalar_ranges.specs.Deferring.{has_ends, is_some, AreStill, IsStill}
-use Rattle.scalar_ranges.specs.Lefts.{known_left, turned_stage, ended_stage, meant_left}
+use Rattle.scalar_ranges.specs.Lefts.{known_left, turned_stage, ended_stage, begun_stage, meant_left}
 use Rattle.scalar_ranges.proofs.Nesting.{outermost_short}
 use Rattle.scalar_ranges.proofs.Deferring.{left_long, same_below, none_left, released, changed_left, joined}
 use Rattle.scalar_ranges.proofs.Deferring.{entry_found, meaning_left, cut_left, going_hulls, ended_hulls, going_taken}
@@ -27,22 +27,23 @@ pub now_long : (s : Stage) (p : ℕ → Option Meaning) (k : Known)
 now_long stages.Nothing p k = refl
 now_long (stages.Going f) p k = left_long f p k.entries
 now_long (stages.Ended f) p k = refl
-now_long (stages.Around f) p k = left_long f p k.entries
+now_long (stages.Around f a) p k = left_long f p k.entries
 
 begun_left : (f : Form) (p : ℕ → Option Meaning) (bs : List Block) → begun_with (ends_left f p bs) ≡ begun_with bs
 begun_left f p [] = refl
 begun_left f p (b ∷ bs) = refl
 
-begun_around : (f : Form) (p : ℕ → Option Meaning) (bs : List Block) → begun_with (around_left f p bs) ≡ begun_with bs
-begun_around f p [] = refl
-begun_around f p (b ∷ bs) = left_long f p b.start
+begun_around : (a : ℕ) (f : Form) (p : ℕ → Option Meaning) (bs : List Block)
+    → begun_with (around_left (suc a) f p bs) ≡ begun_with bs
+begun_around a f p [] = refl
+begun_around a f p (b ∷ bs) = left_long f p b.start
 
 pub begun_now : (s : Stage) (p : ℕ → Option Meaning) (k : Known)
     → begun_with (known_left s p k).blocks ≡ begun_with k.blocks
 begun_now stages.Nothing p k = refl
 begun_now (stages.Going f) p k = refl
 begun_now (stages.Ended f) p k = begun_left f p k.blocks
-begun_now (stages.Around f) p k = begun_around f p k.blocks
+begun_now (stages.Around f a) p k = begun_around a f p k.blocks
 
 same_if : {A : Type 0} (f : A → A) (x : Option A) → ((a : A) → a ≡ f a) → x ≡ option_map f x
 same_if f None same = refl
@@ -53,18 +54,18 @@ meant_same : (f : Form) (o x : Option Meaning)
 meant_same f None x = refl
 meant_same f (Some w) x = refl
 
-meant_around : (f : Form) (o x : Option Meaning)
-    → option_map (joined f o) x ≡ option_map (meant_left (stages.Around f) o) x
-meant_around f None x = refl
-meant_around f (Some w) x = refl
+meant_around : (a : ℕ) (f : Form) (o x : Option Meaning)
+    → option_map (joined f o) x ≡ option_map (meant_left (stages.Around f a) o) x
+meant_around a f None x = refl
+meant_around a f (Some w) x = refl
 
 pub meaning_now : (s : Stage) (p : ℕ → Option Meaning) (n : ℕ) (k : Known)
     → meaning_at n (known_left s p k).entries ≡ option_map (meant_left s (p n)) (meaning_at n k.entries)
 meaning_now stages.Nothing p n k = same_if (meant_left stages.Nothing (p n)) (meaning_at n k.entries) (λ a. refl)
 meaning_now (stages.Going f) p n k = meaning_left f p n k.entries ∙ meant_same f (p n) (meaning_at n k.entries)
 meaning_now (stages.Ended f) p n k = same_if (meant_left (stages.Ended f) (p n)) (meaning_at n k.entries) (λ a. refl)
-meaning_now (stages.Around f) p n k =
-    meaning_left f p n k.entries ∙ meant_around f (p n) (meaning_at n k.entries)
+meaning_now (stages.Around f a) p n k =
+    meaning_left f p n k.entries ∙ meant_around a f (p n) (meaning_at n k.entries)
 
 abbrev pub entry_meant : Stage → Option Meaning → Entry → Entry
 entry_meant s o e = record { name = e.name; meaning = meant_left s o e.meaning }
@@ -75,19 +76,19 @@ entry_same : (f : Form) (o : Option Meaning) (x : Option Entry)
 entry_same f None x = refl
 entry_same f (Some w) x = refl
 
-entry_around : (f : Form) (o : Option Meaning) (x : Option Entry)
+entry_around : (a : ℕ) (f : Form) (o : Option Meaning) (x : Option Entry)
     → option_map (λ (k : Entry). record { name = k.name; meaning = joined f o k.meaning }) x
-    ≡ option_map (entry_meant (stages.Around f) o) x
-entry_around f None x = refl
-entry_around f (Some w) x = refl
+    ≡ option_map (entry_meant (stages.Around f a) o) x
+entry_around a f None x = refl
+entry_around a f (Some w) x = refl
 
 pub entry_now : (s : Stage) (p : ℕ → Option Meaning) (n : ℕ) (k : Known)
     → entry_at n (known_left s p k).entries ≡ option_map (entry_meant s (p n)) (entry_at n k.entries)
 entry_now stages.Nothing p n k = same_if (entry_meant stages.Nothing (p n)) (entry_at n k.entries) (λ a. refl)
 entry_now (stages.Going f) p n k = entry_found f p n k.entries ∙ entry_same f (p n) (entry_at n k.entries)
 entry_now (stages.Ended f) p n k = same_if (entry_meant (stages.Ended f) (p n)) (entry_at n k.entries) (λ a. refl)
-entry_now (stages.Around f) p n k =
-    entry_found f p n k.entries ∙ entry_around f (p n) (entry_at n k.entries)
+entry_now (stages.Around f a) p n k =
+    entry_found f p n k.entries ∙ entry_around a f (p n) (entry_at n k.entries)
 
 -- ---- entries that change
 
@@ -99,6 +100,15 @@ AreWhole (Some ds) es = length ds ≡ length es
 abbrev pub HasWhole : List Entry → List Block → Type 0
 HasWhole es [] = Unit {0}
 HasWhole es (b ∷ bs) = AreWhole b.ends (end_of b es) × (length b.start ≤ length es)
+
+-- The ends of all blocks are no more than this, and with no more they began.
+abbrev pub EndsShort : ℕ → Option (List Entry) → Type 0
+EndsShort size None = Unit {0}
+EndsShort size (Some ds) = length ds ≤ size
+
+abbrev pub AreShort : ℕ → List Block → Type 0
+AreShort size [] = Unit {0}
+AreShort size (b ∷ bs) = (length b.start ≤ size) × EndsShort size b.ends × AreShort size bs
 
 same_ends : (f : Form) (p q : ℕ → Option Meaning) (o : Option (List Entry)) (es us : List Entry) → AreWhole o us
     → length us ≤ length es → ((i : ℕ) → i < length es → q i ≡ p i)
@@ -114,27 +124,35 @@ same_blocks f p q es (b ∷ bs) whole same =
     ap (λ o. record { start = b.start; ends = o } ∷ bs)
     (same_ends f p q b.ends es (end_of b es) whole.0 (outermost_short (length b.start) es) same)
 
-same_around : (f : Form) (p q : ℕ → Option Meaning) (es : List Entry) (bs : List Block) → HasWhole es bs
-    → ((i : ℕ) → i < length es → q i ≡ p i) → around_left f q bs ≡ around_left f p bs
-same_around f p q es [] whole same = refl
-same_around f p q es (b ∷ bs) whole same =
-    let short = whole.1 in
+short_ends : (f : Form) (p q : ℕ → Option Meaning) (size : ℕ) (o : Option (List Entry)) → EndsShort size o
+    → ((i : ℕ) → i < size → q i ≡ p i)
+    → option_map (λ ds. entries_left f q ds) o ≡ option_map (λ ds. entries_left f p ds) o
+short_ends f p q size None short same = refl
+short_ends f p q size (Some ds) short same = ap Some (same_below f p q ds (λ i less. same i (omega arith)))
+
+same_around : (a : ℕ) (f : Form) (p q : ℕ → Option Meaning) (size : ℕ) (bs : List Block) → AreShort size bs
+    → ((i : ℕ) → i < size → q i ≡ p i) → around_left a f q bs ≡ around_left a f p bs
+same_around a f p q size [] short same = refl
+same_around zero f p q size (b ∷ bs) short same = refl
+same_around (suc a) f p q size (b ∷ bs) short same =
+    let first = short.0 in
     λ i. record {
       start = same_below f p q b.start (λ k less. same k (omega arith)) i;
-      ends = same_ends f p q b.ends es (end_of b es) whole.0 (outermost_short (length b.start) es) same i;
-    } ∷ bs
+      ends = short_ends f p q size b.ends short.1 same i;
+    } ∷ same_around a f p q size bs short.2 same i
 
 pub same_now : (s : Stage) (p q : ℕ → Option Meaning) (k : Known) → HasWhole k.entries k.blocks
-    → ((i : ℕ) → i < length k.entries → q i ≡ p i) → known_left s q k ≡ known_left s p k
-same_now stages.Nothing p q k whole same = refl
-same_now (stages.Going f) p q k whole same =
+    → AreShort (length k.entries) k.blocks → ((i : ℕ) → i < length k.entries → q i ≡ p i)
+    → known_left s q k ≡ known_left s p k
+same_now stages.Nothing p q k whole short same = refl
+same_now (stages.Going f) p q k whole short same =
     ap (λ es. record { entries = es; blocks = k.blocks }) (same_below f p q k.entries same)
-same_now (stages.Ended f) p q k whole same =
+same_now (stages.Ended f) p q k whole short same =
     ap (λ bs. record { entries = k.entries; blocks = bs }) (same_blocks f p q k.entries k.blocks whole same)
-same_now (stages.Around f) p q k whole same =
+same_now (stages.Around f a) p q k whole short same =
     λ i. record {
       entries = same_below f p q k.entries same i;
-      blocks = same_around f p q k.entries k.blocks whole same i;
+      blocks = same_around (suc a) f p q (length k.entries) k.blocks short same i;
     }
 
 pub declared_now : (s : Stage) (p : ℕ → Option Meaning) (e : Entry) (k : Known) → p (length k.entries) ≡ None
@@ -144,10 +162,10 @@ declared_now stages.Nothing p e k none = refl
 declared_now (stages.Going f) p e k none =
     ap (λ o. record { entries = entry_left f o e ∷ entries_left f p k.entries; blocks = k.blocks }) none
 declared_now (stages.Ended f) p e k none = refl
-declared_now (stages.Around f) p e k none =
+declared_now (stages.Around f a) p e k none =
     ap (λ o. record {
       entries = entry_left f o e ∷ entries_left f p k.entries;
-      blocks = around_left f p k.blocks;
+      blocks = around_left (suc a) f p k.blocks;
     }) none
 
 pub cut_now : (s : Stage) (p : ℕ → Option Meaning) (count : ℕ) (k : Known)
@@ -157,8 +175,8 @@ cut_now stages.Nothing p count k = refl
 cut_now (stages.Going f) p count k =
     ap (λ es. record { entries = es; blocks = k.blocks }) (cut_left f p count k.entries)
 cut_now (stages.Ended f) p count k = refl
-cut_now (stages.Around f) p count k =
-    ap (λ es. record { entries = es; blocks = around_left f p k.blocks }) (cut_left f p count k.entries)
+cut_now (stages.Around f a) p count k =
+    ap (λ es. record { entries = es; blocks = around_left (suc a) f p k.blocks }) (cut_left f p count k.entries)
 
 pub put_now : (s : Stage) (p : ℕ → Option Meaning) (n : ℕ) (m : Meaning) (k : Known) → p n ≡ None
     → known_left s p (known_with n m k) ≡ known_with n m (known_left s p k)
@@ -166,8 +184,8 @@ put_now stages.Nothing p n m k none = refl
 put_now (stages.Going f) p n m k none =
     ap (λ es. record { entries = es; blocks = k.blocks }) (changed_left f p n (with_meaning (λ j. m)) k.entries none)
 put_now (stages.Ended f) p n m k none = refl
-put_now (stages.Around f) p n m k none =
-    ap (λ es. record { entries = es; blocks = around_left f p k.blocks })
+put_now (stages.Around f a) p n m k none =
+    ap (λ es. record { entries = es; blocks = around_left (suc a) f p k.blocks })
     (changed_left f p n (with_meaning (λ j. m)) k.entries none)
 
 start_left : (f : Form) (p : ℕ → Option Meaning) (g : Meaning → Meaning) (n : ℕ) (bs : List Block)
@@ -175,11 +193,12 @@ start_left : (f : Form) (p : ℕ → Option Meaning) (g : Meaning → Meaning) (
 start_left f p g n [] = refl
 start_left f p g n (b ∷ bs) = refl
 
-start_around : (f : Form) (p : ℕ → Option Meaning) (g : Meaning → Meaning) (n : ℕ) (bs : List Block) → p n ≡ None
-    → around_left f p (changed_start g n bs) ≡ changed_start g n (around_left f p bs)
-start_around f p g n [] none = refl
-start_around f p g n (b ∷ bs) none =
-    ap (λ ds. record { start = ds; ends = option_map (λ ks. entries_left f p ks) b.ends } ∷ bs)
+start_around : (a : ℕ) (f : Form) (p : ℕ → Option Meaning) (g : Meaning → Meaning) (n : ℕ) (bs : List Block)
+    → p n ≡ None
+    → around_left (suc a) f p (changed_start g n bs) ≡ changed_start g n (around_left (suc a) f p bs)
+start_around a f p g n [] none = refl
+start_around a f p g n (b ∷ bs) none =
+    ap (λ ds. record { start = ds; ends = option_map (λ ks. entries_left f p ks) b.ends } ∷ around_left a f p bs)
     (changed_left f p n (with_meaning g) b.start none)
 
 pub start_now : (s : Stage) (p : ℕ → Option Meaning) (g : Meaning → Meaning) (n : ℕ) (k : Known) → p n ≡ None
@@ -189,8 +208,8 @@ start_now stages.Nothing p g n k none = refl
 start_now (stages.Going f) p g n k none = refl
 start_now (stages.Ended f) p g n k none =
     ap (λ bs. record { entries = k.entries; blocks = bs }) (start_left f p g n k.blocks)
-start_now (stages.Around f) p g n k none =
-    ap (λ bs. record { entries = entries_left f p k.entries; blocks = bs }) (start_around f p g n k.blocks none)
+start_now (stages.Around f a) p g n k none =
+    ap (λ bs. record { entries = entries_left f p k.entries; blocks = bs }) (start_around a f p g n k.blocks none)
 
 begun_ends : (f : Form) (p : ℕ → Option Meaning) (ended : Bool) (es : List Entry)
     → option_map (λ ds. entries_left f p ds) (ends_seen ended es) ≡ ends_seen ended (entries_left f p es)
@@ -198,13 +217,35 @@ begun_ends f p true es = refl
 begun_ends f p false es = refl
 
 -- a block begins behind the one that has ended
-pub begun_behind : (f : Form) (p : ℕ → Option Meaning) (ended : Bool) (k : Known)
-    → known_left (stages.Around f) p (begin_with ended k) ≡ begin_with ended (known_left (stages.Going f) p k)
-begun_behind f p ended k =
+begun_going : (f : Form) (p : ℕ → Option Meaning) (ended : Bool) (es : List Entry) (bs : List Block)
+    → known_left (stages.Around f 0) p (begin_with ended (record { entries = es; blocks = bs }))
+    ≡ begin_with ended (known_left (stages.Going f) p (record { entries = es; blocks = bs }))
+begun_going f p ended es [] =
     ap (λ o. record {
+      entries = entries_left f p es;
+      blocks = record { start = entries_left f p es; ends = o } ∷ [];
+    }) (begun_ends f p ended es)
+begun_going f p ended es (b ∷ bs) =
+    ap (λ o. record {
+      entries = entries_left f p es;
+      blocks = record { start = entries_left f p es; ends = o } ∷ b ∷ bs;
+    }) (begun_ends f p ended es)
+
+pub begun_behind : (s t : Stage) (p : ℕ → Option Meaning) (ended : Bool) (k : Known) → begun_stage s ≡ Some t
+    → known_left t p (begin_with ended k) ≡ begin_with ended (known_left s p k)
+begun_behind stages.Nothing t p ended k is = absurd (cc)
+begun_behind (stages.Ended f) t p ended k is = absurd (cc)
+begun_behind (stages.Going f) t p ended k is =
+    let same : stages.Around f 0 ≡ t = cc in
+    subst (λ u. known_left u p (begin_with ended k) ≡ begin_with ended (known_left (stages.Going f) p k)) same
+    (begun_going f p ended k.entries k.blocks)
+begun_behind (stages.Around f a) t p ended k is =
+    let same : stages.Around f (suc a) ≡ t = cc in
+    subst (λ u. known_left u p (begin_with ended k) ≡ begin_with ended (known_left (stages.Around f a) p k)) same
+    (ap (λ o. record {
       entries = entries_left f p k.entries;
-      blocks = record { start = entries_left f p k.entries; ends = o } ∷ k.blocks;
-    }) (begun_ends f p ended k.entries)
+      blocks = record { start = entries_left f p k.entries; ends = o } ∷ around_left (suc a) f p k.blocks;
+    }) (begun_ends f p ended k.entries))
 
 -- ---- a branch ends
 
@@ -231,16 +272,16 @@ next_by (stages.Ended f) p es start (Some ds) bs still whole =
     let us = outermost (length start) es in
     ap (λ ks. record { entries = start; blocks = record { start = start; ends = Some ks } ∷ bs })
     (ended_hulls f p ds us still)
-next_by (stages.Around f) p es start None bs still whole =
+next_by (stages.Around f a) p es start None bs still whole =
     ap (λ ds. record {
       entries = entries_left f p start;
-      blocks = record { start = entries_left f p start; ends = Some ds } ∷ bs;
+      blocks = record { start = entries_left f p start; ends = Some ds } ∷ around_left a f p bs;
     }) (cut_around f p start es)
-next_by (stages.Around f) p es start (Some ds) bs still whole =
+next_by (stages.Around f a) p es start (Some ds) bs still whole =
     let us = outermost (length start) es in
     ap (λ ks. record {
       entries = entries_left f p start;
-      blocks = record { start = entries_left f p start; ends = Some ks } ∷ bs;
+      blocks = record { start = entries_left f p start; ends = Some ks } ∷ around_left a f p bs;
     }) (around_hulls f p ds us whole still ∙ ap (hulls (entries_left f p ds)) (cut_around f p start es))
 
 pub next_now : (s : Stage) (p : ℕ → Option Meaning) (es : List Entry) (bs : List Block) → is_inside bs ≡ true
@@ -254,7 +295,7 @@ pub next_outside : (s : Stage) (p : ℕ → Option Meaning) (es : List Entry) (b
 next_outside stages.Nothing p es [] inside = refl
 next_outside (stages.Going f) p es [] inside = refl
 next_outside (stages.Ended f) p es [] inside = refl
-next_outside (stages.Around f) p es [] inside = refl
+next_outside (stages.Around f a) p es [] inside = refl
 next_outside s p es (b ∷ bs) inside = absurd (cc)
 
 -- ---- a component ends
@@ -265,7 +306,7 @@ outside_by : (s : Stage) (p : ℕ → Option Meaning) (ns : List ℕ) (es : List
 outside_by stages.Nothing p ns es [] inside = refl
 outside_by (stages.Going f) p ns es [] inside = refl
 outside_by (stages.Ended f) p ns es [] inside = refl
-outside_by (stages.Around f) p ns es [] inside = refl
+outside_by (stages.Around f a) p ns es [] inside = refl
 outside_by s p ns es (b ∷ bs) inside = absurd (cc)
 
 pub component_outside : (s : Stage) (p : ℕ → Option Meaning) (ns : List ℕ) (k : Known) → is_inside k.blocks ≡ false
@@ -314,15 +355,15 @@ around_by f p ns es start (Some ds) whole =
     ap Some (around_taken f p ns ds (outermost (length start) es) whole
     ∙ ap (taken ns (entries_left f p ds)) (cut_around f p start es))
 
-pub around_now : (f : Form) (p : ℕ → Option Meaning) (ns : List ℕ) (es : List Entry) (bs : List Block)
+pub around_now : (a : ℕ) (f : Form) (p : ℕ → Option Meaning) (ns : List ℕ) (es : List Entry) (bs : List Block)
     → HasWhole es bs
-    → known_left (stages.Around f) p (component_from ns es bs)
-    ≡ component_from ns (entries_left f p es) (around_left f p bs)
-around_now f p ns es [] whole = refl
-around_now f p ns es (b ∷ bs) whole =
+    → known_left (stages.Around f a) p (component_from ns es bs)
+    ≡ component_from ns (entries_left f p es) (around_left (suc a) f p bs)
+around_now a f p ns es [] whole = refl
+around_now a f p ns es (b ∷ bs) whole =
     ap (λ o. record {
       entries = entries_left f p b.start;
-      blocks = record { start = entries_left f p b.start; ends = o } ∷ bs;
+      blocks = record { start = entries_left f p b.start; ends = o } ∷ around_left a f p bs;
     }) (around_by f p ns es b.start b.ends whole.0)
 
 -- ---- a block ends
@@ -334,8 +375,12 @@ end_by stages.Nothing p es start o bs = refl
 end_by (stages.Going f) p es start o bs = refl
 end_by (stages.Ended f) p es start None bs = refl
 end_by (stages.Ended f) p es start (Some ds) bs = refl
-end_by (stages.Around f) p es start None bs = refl
-end_by (stages.Around f) p es start (Some ds) bs = refl
+end_by (stages.Around f zero) p es start None [] = refl
+end_by (stages.Around f zero) p es start (Some ds) [] = refl
+end_by (stages.Around f zero) p es start None (b ∷ bs) = refl
+end_by (stages.Around f zero) p es start (Some ds) (b ∷ bs) = refl
+end_by (stages.Around f (suc a)) p es start None bs = refl
+end_by (stages.Around f (suc a)) p es start (Some ds) bs = refl
 
 pub end_now : (s : Stage) (p : ℕ → Option Meaning) (es : List Entry) (bs : List Block) → is_inside bs ≡ true
     → known_left (ended_stage (has_ends bs) s) p (after_block es bs)
@@ -349,7 +394,7 @@ pub end_outside : (s : Stage) (p : ℕ → Option Meaning) (es : List Entry) (bs
 end_outside stages.Nothing p es [] inside = refl
 end_outside (stages.Going f) p es [] inside = refl
 end_outside (stages.Ended f) p es [] inside = refl
-end_outside (stages.Around f) p es [] inside = refl
+end_outside (stages.Around f a) p es [] inside = refl
 end_outside s p es (b ∷ bs) inside = absurd (cc)
 
 -- ---- nothing more is put off of an entry
@@ -387,60 +432,67 @@ pub released_ended : (f : Form) (p q : ℕ → Option Meaning) (n : ℕ) (w : Me
 released_ended f p q n w k is none others =
     ap (λ bs. record { entries = k.entries; blocks = bs }) (released_blocks f p q n w k.blocks is none others)
 
--- the same in a block that began behind
-abbrev number_around : (Entry → Entry) → ℕ → List Block → List Block
-number_around h n [] = []
-number_around h n (b ∷ bs) =
-    record { start = at_number h n b.start; ends = option_map (λ ds. at_number h n ds) b.ends } ∷ bs
+-- the same in blocks that began behind
+abbrev number_around : ℕ → (Entry → Entry) → ℕ → List Block → List Block
+number_around a h n [] = []
+number_around zero h n (b ∷ bs) = b ∷ bs
+number_around (suc a) h n (b ∷ bs) =
+    record { start = at_number h n b.start; ends = option_map (λ ds. at_number h n ds) b.ends }
+    ∷ number_around a h n bs
 
-released_both : (f : Form) (p q : ℕ → Option Meaning) (n : ℕ) (w : Meaning) (bs : List Block) → p n ≡ Some w
+released_both : (a : ℕ) (f : Form) (p q : ℕ → Option Meaning) (n : ℕ) (w : Meaning) (bs : List Block) → p n ≡ Some w
     → q n ≡ None → ((i : ℕ) → nat_eq n i ≡ false → q i ≡ p i)
-    → around_left f q (number_around (with_meaning (λ m. of_form f m w)) n bs) ≡ around_left f p bs
-released_both f p q n w [] is none others = refl
-released_both f p q n w (b ∷ bs) is none others =
+    → around_left a f q (number_around a (with_meaning (λ m. of_form f m w)) n bs) ≡ around_left a f p bs
+released_both a f p q n w [] is none others = refl
+released_both zero f p q n w (b ∷ bs) is none others = refl
+released_both (suc a) f p q n w (b ∷ bs) is none others =
     λ i. record {
       start = released f p q n w b.start is none others i;
       ends = released_ends f p q n w b.ends is none others i;
-    } ∷ bs
+    } ∷ released_both a f p q n w bs is none others i
 
--- an entry means the same where the innermost block began, and at its ends so far
-abbrev pub EndsMean : ℕ → Option (List Entry) → List Entry → Type 0
-EndsMean n None es = Unit {0}
-EndsMean n (Some ds) es = meaning_at n ds ≡ meaning_at n es
+-- an entry means the same where the innermost blocks began, as many as this, and at their ends so far
+abbrev pub EndsMean : ℕ → Option (List Entry) → Option Meaning → Type 0
+EndsMean n None o = Unit {0}
+EndsMean n (Some ds) o = meaning_at n ds ≡ o
 
-abbrev pub MeansSame : ℕ → List Entry → List Block → Type 0
-MeansSame n es [] = Unit {0}
-MeansSame n es (b ∷ bs) = (meaning_at n b.start ≡ meaning_at n es) × EndsMean n b.ends es
+abbrev pub MeansSame : ℕ → ℕ → Option Meaning → List Block → Type 0
+MeansSame a n o [] = Unit {0}
+MeansSame zero n o (b ∷ bs) = Unit {0}
+MeansSame (suc a) n o (b ∷ bs) = (meaning_at n b.start ≡ o) × EndsMean n b.ends o × MeansSame a n o bs
 
-ends_to : (g : Meaning → Meaning) (n : ℕ) (m j : Meaning) (es : List Entry) (o : Option (List Entry))
-    → EndsMean n o es → meaning_at n es ≡ Some j → m ≡ g j
+ends_to : (g : Meaning → Meaning) (n : ℕ) (m j : Meaning) (x : Option Meaning) (o : Option (List Entry))
+    → EndsMean n o x → x ≡ Some j → m ≡ g j
     → option_map (λ ds. changed_to m n ds) o ≡ option_map (λ ds. at_number (with_meaning g) n ds) o
-ends_to g n m j es None same there is = refl
-ends_to g n m j es (Some ds) same there is = ap Some (changed_by_meaning g n m j ds (same ∙ there) is)
+ends_to g n m j x None same there is = refl
+ends_to g n m j x (Some ds) same there is = ap Some (changed_by_meaning g n m j ds (same ∙ there) is)
 
-blocks_to : (g : Meaning → Meaning) (n : ℕ) (m j : Meaning) (es : List Entry) (bs : List Block)
-    → MeansSame n es bs → meaning_at n es ≡ Some j → m ≡ g j
-    → changed_around m n bs ≡ number_around (with_meaning g) n bs
-blocks_to g n m j es [] same there is = refl
-blocks_to g n m j es (b ∷ bs) same there is =
+blocks_to : (a : ℕ) (g : Meaning → Meaning) (n : ℕ) (m j : Meaning) (x : Option Meaning) (bs : List Block)
+    → MeansSame a n x bs → x ≡ Some j → m ≡ g j
+    → changed_around a m n bs ≡ number_around a (with_meaning g) n bs
+blocks_to a g n m j x [] same there is = refl
+blocks_to zero g n m j x (b ∷ bs) same there is = refl
+blocks_to (suc a) g n m j x (b ∷ bs) same there is =
     λ i. record {
       start = changed_by_meaning g n m j b.start (same.0 ∙ there) is i;
-      ends = ends_to g n m j es b.ends same.1 there is i;
-    } ∷ bs
+      ends = ends_to g n m j x b.ends same.1 there is i;
+    } ∷ blocks_to a g n m j x bs same.2 there is i
 
-pub released_around : (f : Form) (p q : ℕ → Option Meaning) (n : ℕ) (w j : Meaning) (k : Known) → p n ≡ Some w
-    → q n ≡ None → ((i : ℕ) → nat_eq n i ≡ false → q i ≡ p i) → MeansSame n k.entries k.blocks
-    → meaning_at n k.entries ≡ Some j
-    → known_left (stages.Around f) q (known_around n (of_form f j w) k) ≡ known_left (stages.Around f) p k
-released_around f p q n w j k is none others same there =
+pub released_around : (a : ℕ) (f : Form) (p q : ℕ → Option Meaning) (n : ℕ) (w j : Meaning) (k : Known)
+    → p n ≡ Some w → q n ≡ None → ((i : ℕ) → nat_eq n i ≡ false → q i ≡ p i)
+    → MeansSame (suc a) n (meaning_at n k.entries) k.blocks → meaning_at n k.entries ≡ Some j
+    → known_left (stages.Around f a) q (known_around (suc a) n (of_form f j w) k)
+    ≡ known_left (stages.Around f a) p k
+released_around a f p q n w j k is none others same there =
     let g : Meaning → Meaning = λ m. of_form f m w in
     (λ i. record {
       entries = entries_left f q (changed_by_meaning g n (of_form f j w) j k.entries there refl i);
-      blocks = around_left f q (blocks_to g n (of_form f j w) j k.entries k.blocks same there refl i);
+      blocks = around_left (suc a) f q
+          (blocks_to (suc a) g n (of_form f j w) j (meaning_at n k.entries) k.blocks same there refl i);
     })
     ∙ (λ i. record {
       entries = released f p q n w k.entries is none others i;
-      blocks = released_both f p q n w k.blocks is none others i;
+      blocks = released_both (suc a) f p q n w k.blocks is none others i;
     })
 
 -- the same function of numbers
@@ -459,11 +511,13 @@ none_blocks f p [] none = refl
 none_blocks f p (b ∷ bs) none =
     ap (λ o. record { start = b.start; ends = o } ∷ bs) (none_ends f p b.ends none)
 
-none_around : (f : Form) (p : ℕ → Option Meaning) (bs : List Block) → ((i : ℕ) → p i ≡ None)
-    → around_left f p bs ≡ bs
-none_around f p [] none = refl
-none_around f p (b ∷ bs) none =
-    λ i. record { start = none_left f p b.start none i; ends = none_ends f p b.ends none i } ∷ bs
+none_around : (a : ℕ) (f : Form) (p : ℕ → Option Meaning) (bs : List Block) → ((i : ℕ) → p i ≡ None)
+    → around_left a f p bs ≡ bs
+none_around a f p [] none = refl
+none_around zero f p (b ∷ bs) none = refl
+none_around (suc a) f p (b ∷ bs) none =
+    λ i. record { start = none_left f p b.start none i; ends = none_ends f p b.ends none i }
+    ∷ none_around a f p bs none i
 
 pub none_now : (s : Stage) (p : ℕ → Option Meaning) (k : Known) → ((i : ℕ) → p i ≡ None) → known_left s p k ≡ k
 none_now stages.Nothing p k none = refl
@@ -471,5 +525,5 @@ none_now (stages.Going f) p k none =
     ap (λ es. record { entries = es; blocks = k.blocks }) (none_left f p k.entries none)
 none_now (stages.Ended f) p k none =
     ap (λ bs. record { entries = k.entries; blocks = bs }) (none_blocks f p k.blocks none)
-none_now (stages.Around f) p k none =
-    λ i. record { entries = none_left f p k.entries none i; blocks = none_around f p k.blocks none i }
+none_now (stages.Around f a) p k none =
+    λ i. record { entries = none_left f p k.entries none i; blocks = none_around (suc a) f p k.blocks none i }

@@ -9,10 +9,10 @@ use Rattle.scalar_ranges.specs.declared.slots.Branching as code_branching
 use Rattle.scalar_ranges.specs.declared.slots.Change as code_change
 use Rattle.scalar_ranges.specs.declared.scope.Meaning as code_meaning
 use Rattle.scalar_ranges.specs.declared.changes.Tracked as code_tracked
-use Rattle.scalar_ranges.specs.Entries.{Meaning}
 use Rattle.scalar_ranges.specs.Environments.{item_at}
 use Rattle.scalar_ranges.specs.Moves.{end_of, is_one_of}
-use Rattle.scalar_ranges.specs.Changes.{Slot, Branching, entry_in, start_in, end_in, seen, ends_seen, block_in}
+use Rattle.scalar_ranges.specs.Entries.{Meaning, Entry}
+use Rattle.scalar_ranges.specs.Changes.{Slot, Branching, entry_in, start_in, end_in, seen, ends_seen, block_in, before}
 use Rattle.scalar_ranges.specs.Changes.{Change, AreTracked, numbers_of, blocks_in}
 use Rattle.scalar_ranges.specs.ChangeViews.{meaning_of, slots_from, changes_from, branching_of, branchings_from}
 use Rattle.scalar_ranges.specs.ChangeViews.{BelongTogether}
@@ -21,7 +21,8 @@ use Rattle.scalar_ranges.specs.Deferring.{AreAlike, AreNone, AreStill, IsStill}
 use Rattle.scalar_ranges.proofs.Following.{end_is, map_reversed}
 use Rattle.scalar_ranges.proofs.Numbered.{numbers_alike, reverse_cons}
 use Rattle.scalar_ranges.proofs.Noting.{innermost_seen}
-use Rattle.scalar_ranges.proofs.Postponing.{AreWhole, HasWhole}
+use Rattle.scalar_ranges.proofs.Ending.{undone_long}
+use Rattle.scalar_ranges.proofs.Postponing.{AreWhole, HasWhole, EndsShort, AreShort}
 
 none_by : (t : Bool) (p : ℕ → Option Meaning) (c : Change) (cs : List Change) (i : ℕ) → nat_eq c.number i ≡ t
     → cond t true (is_one_of (numbers_of cs) i) ≡ true → p c.number ≡ None
@@ -125,6 +126,34 @@ whole_in ss (b ∷ bs) tracked = (whole_by b.ended ss b bs tracked, starts_short
 -- The ends of the innermost block are as many as it began with.
 pub has_whole : (t : code_tracked.Tracked) → HasWhole (known_by t).entries (known_by t).blocks
 has_whole t = whole_in (tracked_of t).slots (tracked_of t).blocks t.tracked
+
+seen_long : (f : Slot → Entry) (ss : List Slot) → length (seen f ss) ≡ length ss
+seen_long f ss = length-reverse (map f ss) ∙ length-map ss f
+
+ends_short : (t : Bool) (size : ℕ) (ds : List Entry) → length ds ≤ size → EndsShort size (ends_seen t ds)
+ends_short true size ds short = short
+ends_short false size ds short = tt
+
+short_in : (size : ℕ) (ss : List Slot) (bs : List Branching) → length ss ≤ size → AreShort size (blocks_in ss bs)
+short_in size ss [] least = tt
+short_in size ss (b ∷ bs) least =
+    let d = suc (length bs) in
+    let base = take b.count ss in
+    let cut = length-take b.count ss in
+    let first = seen_long (start_in d) base in
+    let last = seen_long (end_in d) base in
+    let back = undone_long b.changes base in (
+      (omega arith),
+      ends_short b.ended size (seen (end_in d) base) (omega arith),
+      short_in size (before b ss) bs (omega arith),
+    )
+
+-- No block began with more, nor has more at its ends.
+pub are_short : (t : code_tracked.Tracked) → AreShort (length (known_by t).entries) (known_by t).blocks
+are_short t =
+    let ss = (tracked_of t).slots in
+    let long = seen_long entry_in ss in
+    short_in (length (seen entry_in ss)) ss (tracked_of t).blocks (omega arith)
 
 -- ---- a loop over the changes
 

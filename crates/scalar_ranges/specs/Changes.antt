@@ -378,7 +378,7 @@ HandsOver [] = ⊥
 HandsOver (b ∷ []) = ⊥
 HandsOver (b ∷ o ∷ bs) = (o.changes ≡ []) × (o.recent ≡ []) × AreForeign o.count (suc (length bs)) b.changes
 
--- ---- the block around the innermost one
+-- ---- a block around others
 
 -- an entry that a block of this depth has in both of its lists
 abbrev pub noted_slot : ℕ → Slot → Slot
@@ -412,16 +412,15 @@ abbrev pub noted_in : ℕ → ℕ → Option Slot → Branching → Branching
 noted_in d n None b = b
 noted_in d n (Some s) b = noted_block d n s b
 
--- the innermost block, if there is one around it
-abbrev pub inner_of : List Branching → Option Branching
-inner_of [] = None
-inner_of (b ∷ []) = None
-inner_of (b ∷ o ∷ bs) = Some b
+-- A block began with an entry that it does not have in its list.
+abbrev pub IsOutside : ℕ → Branching → Type 0
+IsOutside n b = (n < b.count) × (is_one_of (numbers_of b.changes) n ≡ false)
 
--- The innermost block began with an entry that it does not have in its list, and there is a block around it.
-abbrev pub IsOutside : ℕ → Option Branching → Type 0
-IsOutside n None = ⊥
-IsOutside n (Some b) = (n < b.count) × (is_one_of (numbers_of b.changes) n ≡ false)
+-- The same of the innermost blocks, as many as this, and there is a block around them.
+abbrev pub AreOutside : ℕ → ℕ → List Branching → Type 0
+AreOutside n a [] = ⊥
+AreOutside n zero (b ∷ bs) = Unit {0}
+AreOutside n (suc a) (b ∷ bs) = IsOutside n b × AreOutside n a bs
 
 -- an entry that no block has in its list
 abbrev pub fresh : Entry → Slot
@@ -473,15 +472,18 @@ changed_ends f n [] = []
 changed_ends f n (b ∷ bs) =
     record { start = b.start; ends = option_map (λ ds. at_number (with_meaning f) n ds) b.ends } ∷ bs
 
--- an entry that means something else where the branches of the innermost block begin, and at their ends so far
-abbrev pub changed_around : Meaning → ℕ → List Block → List Block
-changed_around m n [] = []
-changed_around m n (b ∷ bs) =
-    record { start = changed_to m n b.start; ends = option_map (λ ds. changed_to m n ds) b.ends } ∷ bs
+-- an entry that means something else where the branches of the innermost blocks begin, of as many as this, and at
+-- their ends so far
+abbrev pub changed_around : ℕ → Meaning → ℕ → List Block → List Block
+changed_around a m n [] = []
+changed_around zero m n (b ∷ bs) = b ∷ bs
+changed_around (suc a) m n (b ∷ bs) =
+    record { start = changed_to m n b.start; ends = option_map (λ ds. changed_to m n ds) b.ends }
+    ∷ changed_around a m n bs
 
--- an entry that means something else where the innermost block began, and here
-abbrev pub known_around : ℕ → Meaning → Known → Known
-known_around n m k = record { entries = changed_to m n k.entries; blocks = changed_around m n k.blocks }
+-- an entry that means something else where the innermost blocks began, and here
+abbrev pub known_around : ℕ → ℕ → Meaning → Known → Known
+known_around a n m k = record { entries = changed_to m n k.entries; blocks = changed_around a m n k.blocks }
 
 -- Each move of the lists is the move of what is known; and where a block began with an entry that is not in its list,
 -- or its branch does not have it, that list is shorter than the entries that the block began with.

@@ -1,5 +1,5 @@
 -- What blocks that have ended left of entries, which is put off.
-use Rattle.std.specs.Prelude.{◌≡◌, ◌≤◌, ℕ, Bool, true, false, List, [], ◌∷◌, length, Option, Some, None}
+use Rattle.std.specs.Prelude.{◌≡◌, ◌≤◌, ℕ, zero, suc, Bool, true, false, List, [], ◌∷◌, length, Option, Some, None}
 use Rattle.std.specs.Prelude.{option_map, ◌⊎◌}
 use Rattle.std.proofs.Props.{props}
 use Rattle.scalar_ranges.specs.declared.slots.Form.{Form}
@@ -40,9 +40,11 @@ abbrev pub block_left : Form → (ℕ → Option Meaning) → Block → Block
 block_left f p b =
     record { start = entries_left f p b.start; ends = option_map (λ ds. entries_left f p ds) b.ends }
 
-abbrev pub around_left : Form → (ℕ → Option Meaning) → List Block → List Block
-around_left f p [] = []
-around_left f p (b ∷ bs) = block_left f p b ∷ bs
+-- the same of the innermost blocks, as many as this
+abbrev pub around_left : ℕ → Form → (ℕ → Option Meaning) → List Block → List Block
+around_left a f p [] = []
+around_left zero f p (b ∷ bs) = b ∷ bs
+around_left (suc a) f p (b ∷ bs) = block_left f p b ∷ around_left a f p bs
 
 -- whether there is a block, and whether the innermost one has ends
 abbrev pub is_inside : List Block → Bool
@@ -76,15 +78,37 @@ abbrev pub IsStill : (ℕ → Option Meaning) → List Entry → List Block → 
 IsStill p es [] = Unit {0}
 IsStill p es (b ∷ bs) = AreStill p b.ends (end_of b es)
 
--- Of what the innermost block changed nothing is put off, nor of what it did not begin with.
-abbrev pub IsApart : (ℕ → Option Meaning) → Option Branching → Type 0
-IsApart p None = ⊥
-IsApart p (Some b) = AreNone p b.changes × ((i : ℕ) → b.count ≤ i → p i ≡ None)
+-- Of what a block changed nothing is put off, nor of what it did not begin with.
+abbrev pub IsApart : (ℕ → Option Meaning) → Branching → Type 0
+IsApart p b = AreNone p b.changes × ((i : ℕ) → b.count ≤ i → p i ≡ None)
+
+-- The same of the innermost blocks, as many as this, and there is a block around them.
+abbrev pub AreApart : (ℕ → Option Meaning) → ℕ → List Branching → Type 0
+AreApart p a [] = ⊥
+AreApart p zero (b ∷ bs) = Unit {0}
+AreApart p (suc a) (b ∷ bs) = IsApart p b × AreApart p a bs
+
+-- What is put off apart from so many blocks is so too after a move.
+abbrev pub StayApart : ℕ → List Branching → ℕ → List Branching → Type 0
+StayApart a bs c cs = (p : ℕ → Option Meaning) → AreApart p a bs → AreApart p c cs
+
+-- The same of a list of which nothing is put off, and of an entry.
+abbrev pub StayWithout : List Change → List Branching → List Branching → Type 0
+StayWithout ks bs cs = (p : ℕ → Option Meaning) (a : ℕ) → AreNone p ks → AreApart p a bs → AreApart p a cs
+
+abbrev pub StayWithoutOne : ℕ → List Branching → List Branching → Type 0
+StayWithoutOne n bs cs = (p : ℕ → Option Meaning) (a : ℕ) → p n ≡ None → AreApart p a bs → AreApart p a cs
+
+-- The innermost block ends, and its list is left.
+abbrev pub IsLeft : List Change → List Branching → List Branching → Type 0
+IsLeft ks bs cs =
+    (p : ℕ → Option Meaning) (a : ℕ) → AreApart p (suc a) bs → AreNone p ks × AreApart p a cs
 
 AreNone-prop : (p : ℕ → Option Meaning) (cs : List Change) → IsProp (AreNone p cs)
 AreNone-prop p [] = hlevel props
 AreNone-prop p (c ∷ cs) = hlevel (props, AreNone-prop p cs)
 
-pub IsApart-prop : (p : ℕ → Option Meaning) (o : Option Branching) → IsProp (IsApart p o)
-IsApart-prop p None = hlevel props
-IsApart-prop p (Some b) = hlevel (props, AreNone-prop p b.changes)
+pub AreApart-prop : (p : ℕ → Option Meaning) (a : ℕ) (bs : List Branching) → IsProp (AreApart p a bs)
+AreApart-prop p a [] = hlevel props
+AreApart-prop p zero (b ∷ bs) = hlevel props
+AreApart-prop p (suc a) (b ∷ bs) = hlevel (props, AreNone-prop p b.changes, AreApart-prop p a bs)

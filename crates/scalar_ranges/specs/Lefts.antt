@@ -1,6 +1,6 @@
 -- What the program puts off.
-use Rattle.std.specs.Prelude.{◌≡◌, ℕ, ◌<◌, ◌≤◌, Bool, true, List, [], ◌∷◌, map, nat_eq, if◌then◌else◌, Option}
-use Rattle.std.specs.Prelude.{Some, None}
+use Rattle.std.specs.Prelude.{◌≡◌, ℕ, zero, suc, ◌<◌, ◌≤◌, Bool, true, List, [], ◌∷◌, map, nat_eq, if◌then◌else◌}
+use Rattle.std.specs.Prelude.{Option, Some, None}
 use Rattle.std.proofs.Props.{props}
 use Rattle.scalar_ranges.specs.declared.deferred.Left as code_left
 use Rattle.scalar_ranges.specs.declared.deferred.Stage.{Stage}
@@ -14,9 +14,9 @@ use Rattle.scalar_ranges.specs.EntryViews.{meaning_of}
 use Rattle.scalar_ranges.specs.Entries.{Meaning}
 use Rattle.scalar_ranges.specs.Environments.{item_at}
 use Rattle.scalar_ranges.specs.Moves.{Known, is_one_of}
-use Rattle.scalar_ranges.specs.Changes.{Branching, modify, inner_of}
+use Rattle.scalar_ranges.specs.Changes.{Branching, modify}
 use Rattle.scalar_ranges.specs.Deferring.{of_form, further, entries_left, ends_left}
-use Rattle.scalar_ranges.specs.Deferring.{around_left, IsApart, IsApart-prop}
+use Rattle.scalar_ranges.specs.Deferring.{around_left, AreApart, AreApart-prop}
 
 -- what is put off of an entry
 abbrev pub left_if : ℕ → Option code_left.Left → Option Meaning
@@ -31,34 +31,42 @@ abbrev pub known_left : Stage → (ℕ → Option Meaning) → Known → Known
 known_left stages.Nothing p k = k
 known_left (stages.Going f) p k = record { entries = entries_left f p k.entries; blocks = k.blocks }
 known_left (stages.Ended f) p k = record { entries = k.entries; blocks = ends_left f p k.blocks }
-known_left (stages.Around f) p k =
-    record { entries = entries_left f p k.entries; blocks = around_left f p k.blocks }
+known_left (stages.Around f a) p k =
+    record { entries = entries_left f p k.entries; blocks = around_left (suc a) f p k.blocks }
 
 -- where a branch ends, of a block that had ends before or not
 abbrev pub turned_stage : Bool → Stage → Stage
 turned_stage ended stages.Nothing = stages.Nothing
 turned_stage ended (stages.Going f) = stages.Ended (if ended then forms.Ahead else f)
 turned_stage ended (stages.Ended f) = if ended then stages.Ended (further f) else stages.Nothing
-turned_stage ended (stages.Around f) = stages.Around f
+turned_stage ended (stages.Around f a) = stages.Around f a
 
 -- where a component ends
 abbrev pub taken_stage : Stage → Stage
 taken_stage stages.Nothing = stages.Nothing
 taken_stage (stages.Going f) = stages.Ended f
 taken_stage (stages.Ended f) = stages.Ended f
-taken_stage (stages.Around f) = stages.Around f
+taken_stage (stages.Around f a) = stages.Around f a
 
 -- where a block ends, that had ends or not
 abbrev pub ended_stage : Bool → Stage → Stage
 ended_stage ended stages.Nothing = stages.Nothing
 ended_stage ended (stages.Going f) = stages.Nothing
 ended_stage ended (stages.Ended f) = if ended then stages.Going f else stages.Nothing
-ended_stage ended (stages.Around f) = stages.Going f
+ended_stage ended (stages.Around f zero) = stages.Going f
+ended_stage ended (stages.Around f (suc a)) = stages.Around f a
+
+-- where a block begins and the list stays put off around it
+abbrev pub begun_stage : Stage → Option Stage
+begun_stage stages.Nothing = None
+begun_stage (stages.Going f) = Some (stages.Around f 0)
+begun_stage (stages.Ended f) = None
+begun_stage (stages.Around f a) = Some (stages.Around f (suc a))
 
 -- what an entry means, of which this is put off
 abbrev pub meant_left : Stage → Option Meaning → Meaning → Meaning
 meant_left (stages.Going f) (Some w) m = of_form f m w
-meant_left (stages.Around f) (Some w) m = of_form f m w
+meant_left (stages.Around f a) (Some w) m = of_form f m w
 meant_left s o m = m
 
 abbrev pub with_mark : ℕ → code_left.Left → code_left.Left
@@ -96,18 +104,18 @@ IsKept mark ls cs =
 pub IsKept-prop : (mark : ℕ) (ls : List code_left.Left) (cs : List code_change.Change) → IsProp (IsKept mark ls cs)
 IsKept-prop mark ls cs = hlevel props
 
--- What a list keeps that is put off around the innermost block.
+-- What a list keeps that is put off around the innermost blocks.
 abbrev pub IsKeptApart : Stage → (ℕ → Option Meaning) → List Branching → Type 0
 IsKeptApart stages.Nothing p bs = Unit {0}
 IsKeptApart (stages.Going f) p bs = Unit {0}
 IsKeptApart (stages.Ended f) p bs = Unit {0}
-IsKeptApart (stages.Around f) p bs = IsApart p (inner_of bs)
+IsKeptApart (stages.Around f a) p bs = AreApart p (suc a) bs
 
 pub IsKeptApart-prop : (s : Stage) (p : ℕ → Option Meaning) (bs : List Branching) → IsProp (IsKeptApart s p bs)
 IsKeptApart-prop stages.Nothing p bs = hlevel props
 IsKeptApart-prop (stages.Going f) p bs = hlevel props
 IsKeptApart-prop (stages.Ended f) p bs = hlevel props
-IsKeptApart-prop (stages.Around f) p bs = IsApart-prop p (inner_of bs)
+IsKeptApart-prop (stages.Around f a) p bs = AreApart-prop p (suc a) bs
 
 -- the same of what the program has
 abbrev pub KeepsApart : Stage → ℕ → List code_left.Left → code_tracked.Tracked → Type 0

@@ -1,6 +1,6 @@
 //! The blocks of branches around a place, by lists of what changed in them.
 
-ghost use Rattle.std.specs.Prelude.{◌≡◌, ◌≤◌, ◌+◌, ◌++◌, true, [], OnOk, OnErr, map, length, option_map};
+ghost use Rattle.std.specs.Prelude.{◌≡◌, ◌≤◌, ◌+◌, ℕ, suc, ◌++◌, true, [], OnOk, OnErr, map, length, option_map};
 ghost use Rattle.std.specs.Prelude.{vec_capacity, MatchOption, take};
 ghost use Rattle.scalar_ranges.specs.Environments.{item_at};
 ghost use Rattle.scalar_ranges.specs.Changes.{modify, numbers_of, each, turned_slots, joined_by, component_slots};
@@ -8,6 +8,7 @@ ghost use Rattle.scalar_ranges.specs.Changes.{undone, restored, meaning_after, k
 ghost use Rattle.scalar_ranges.specs.Changes.{handed, handed_block, HandsOver, HasRoomFor, noted_slots, noted_in};
 ghost use Rattle.scalar_ranges.specs.ChangeViews.{meaning_of, entry_of, slot_of, updated, slots_from, changes_from};
 ghost use Rattle.scalar_ranges.specs.ChangeViews.{branching_of, known_afters};
+ghost use Rattle.scalar_ranges.specs.Deferring.{StayApart, StayWithout, StayWithoutOne, IsLeft};
 ghost use Rattle.scalar_ranges.specs.ChangeViews.{AfterBlock, BelongTogether, BelongTogether-prop};
 
 use crate::moves::is_same;
@@ -31,8 +32,7 @@ impl<'a> Tracked<'a> {
     ghost use Rattle.scalar_ranges.specs.Entries.{entry_at};
     ghost use Rattle.scalar_ranges.specs.MoveLaws.{meaning_at};
     ghost use Rattle.scalar_ranges.specs.Changes.{is_new, note, is_open, touch, put_by, put, put_start, begun};
-    ghost use Rattle.scalar_ranges.specs.Changes.{put_ends, inner_of, IsOutside, known_around};
-    ghost use Rattle.scalar_ranges.specs.Changes.{turned_block, component_block};
+    ghost use Rattle.scalar_ranges.specs.Changes.{put_ends, AreOutside, known_around};
     ghost use Rattle.scalar_ranges.specs.Deferring.{of_form, is_inside, has_ends};
     ghost use Rattle.scalar_ranges.specs.Changes.{declared, cut};
     ghost use Rattle.scalar_ranges.specs.Narrowing.{left_of, with_range};
@@ -179,21 +179,17 @@ impl<'a> Tracked<'a> {
         self.update(number, Update::Mean(meaning));
     }
 
-    /// An entry means something else where the innermost block began, and here. The block around has it in its lists.
-    pub(crate) fn put_around(&mut self, number: usize, meaning: Meaning)
-        requires { IsOutside number (inner_of (tracked_of self.old).blocks) }
-        ensures known { known_by self.new ≡ known_around number (meaning_of meaning) (known_by self.old) }
-        ensures inner { inner_of (tracked_of self.new).blocks ≡ inner_of (tracked_of self.old).blocks }
+    /// An entry means something else where the innermost block began and `further` blocks around it, and here. The
+    /// block around them has it in its lists.
+    pub(crate) fn put_around(&mut self, number: usize, meaning: Meaning, further: usize)
+        requires { AreOutside number (suc further) (tracked_of self.old).blocks }
+        ensures known { known_by self.new ≡ known_around (suc further) number (meaning_of meaning) (known_by self.old) }
+        ensures apart { StayApart (suc further) (tracked_of self.old).blocks
+            (suc further) (tracked_of self.new).blocks }
     {
-        let depth = self.blocks.len();
-        if let Some(block) = self.blocks.pop() {
-            if let Some(outer) = self.blocks.pop() {
-                let outer = noted(outer, &mut self.slots, number, depth - 1);
-                modify(&mut self.slots, number, Update::Mean(meaning));
-                self.blocks.push_reserved(outer);
-                self.blocks.push_reserved(block);
-            }
-        }
+        let place = self.blocks.len() - 2 - further;
+        note_in(&mut self.blocks[place], &mut self.slots, number, place + 1);
+        modify(&mut self.slots, number, Update::Mean(meaning));
     }
 
     /// The branches of the innermost block begin from here on with what a comparison with a constant leaves of the
@@ -241,8 +237,7 @@ impl<'a> Tracked<'a> {
     /// A branch ends, and the next one begins.
     pub(crate) fn next(&mut self)
         ensures known { known_by self.new ≡ next (known_by self.old) }
-        ensures inner { inner_of (tracked_of self.new).blocks
-            ≡ option_map turned_block (inner_of (tracked_of self.old).blocks) }
+        ensures apart { (a : ℕ) → StayApart a (tracked_of self.old).blocks a (tracked_of self.new).blocks }
     {
         let depth = self.blocks.len();
         if let Some(block) = self.blocks.pop() {
@@ -255,8 +250,7 @@ impl<'a> Tracked<'a> {
     /// A component ends, which changed the variables with these numbers, and the next one begins.
     pub(crate) fn next_component(&mut self, numbers: &[usize])
         ensures known { known_by self.new ≡ next_component numbers.now (known_by self.old) }
-        ensures inner { inner_of (tracked_of self.new).blocks
-            ≡ option_map component_block (inner_of (tracked_of self.old).blocks) }
+        ensures apart { (a : ℕ) → StayApart a (tracked_of self.old).blocks a (tracked_of self.new).blocks }
     {
         let depth = self.blocks.len();
         if let Some(block) = self.blocks.pop() {
@@ -268,7 +262,8 @@ impl<'a> Tracked<'a> {
 
     /// A block ends.
     pub(crate) fn end(&mut self)
-        ensures { known_by self.new ≡ end (known_by self.old) }
+        ensures known { known_by self.new ≡ end (known_by self.old) }
+        ensures apart { (a : ℕ) → StayApart (suc a) (tracked_of self.old).blocks a (tracked_of self.new).blocks }
     {
         if self.hands_over() {
             self.hand_over();
@@ -294,7 +289,8 @@ impl<'a> Tracked<'a> {
     /// A block ends, and the block around has its list. It costs a step for each change, and nothing is copied.
     fn hand_over(&mut self)
         requires { HandsOver (tracked_of self.old).blocks }
-        ensures { known_by self.new ≡ end (known_by self.old) }
+        ensures known { known_by self.new ≡ end (known_by self.old) }
+        ensures apart { (a : ℕ) → StayApart (suc a) (tracked_of self.old).blocks a (tracked_of self.new).blocks }
     {
         let depth = self.blocks.len();
         if let Some(block) = self.blocks.pop() {
@@ -314,7 +310,8 @@ impl<'a> Tracked<'a> {
 
     /// A block ends: its changes are taken back, and what is known after it changes what is around it.
     fn put_back(&mut self)
-        ensures { known_by self.new ≡ end (known_by self.old) }
+        ensures known { known_by self.new ≡ end (known_by self.old) }
+        ensures apart { (a : ℕ) → StayApart (suc a) (tracked_of self.old).blocks a (tracked_of self.new).blocks }
     {
         if let Some(changes) = self.end_apart() {
             self.put_afters(&changes);
@@ -323,8 +320,11 @@ impl<'a> Tracked<'a> {
 
     /// A block ends: its changes are taken back, and each says what its entry means after the block.
     pub(crate) fn end_apart(&mut self) -> Option<Vec<Change<'a>>>
-        ensures { MatchOption result (known_by self.new ≡ end (known_by self.old))
+        ensures known { MatchOption result (known_by self.new ≡ end (known_by self.old))
             (λ changes. known_afters changes.items (known_by self.new) ≡ end (known_by self.old)) }
+        ensures apart { MatchOption result
+            ((a : ℕ) → StayApart (suc a) (tracked_of self.old).blocks a (tracked_of self.new).blocks)
+            (λ changes. IsLeft (changes_from changes.items) (tracked_of self.old).blocks (tracked_of self.new).blocks) }
     {
         let depth = self.blocks.len();
         match self.blocks.pop() {
@@ -381,7 +381,9 @@ impl<'a> Tracked<'a> {
 
     /// The entries mean what the changes say of the end of a block.
     pub(crate) fn put_afters(&mut self, changes: &[Change])
-        ensures { known_by self.new ≡ known_afters changes.now (known_by self.old) }
+        ensures known { known_by self.new ≡ known_afters changes.now (known_by self.old) }
+        ensures apart { StayWithout (changes_from changes.now) (tracked_of self.old).blocks
+            (tracked_of self.new).blocks }
     {
         for change in changes {
             if let Some(meaning) = change.after {
@@ -392,7 +394,8 @@ impl<'a> Tracked<'a> {
 
     /// An entry means this. What it means already takes no place in the lists of blocks.
     pub(crate) fn put_other(&mut self, number: usize, meaning: Meaning)
-        ensures { known_by self.new ≡ known_with number (meaning_of meaning) (known_by self.old) }
+        ensures known { known_by self.new ≡ known_with number (meaning_of meaning) (known_by self.old) }
+        ensures apart { StayWithoutOne number (tracked_of self.old).blocks (tracked_of self.new).blocks }
     {
         if let Some(before) = self.meaning(number) {
             if !is_same(before, meaning) {
@@ -486,28 +489,22 @@ fn handed_block<'a>(outer: Branching<'a>, changes: Vec<Change<'a>>) -> Branching
     }
 }
 
-/// A block of this depth with this entry in its lists, if it began with it.
-fn noted<'a>(
-    block: Branching<'a>,
-    slots: &mut [Slot<'a>],
-    number: usize,
-    depth: usize,
-) -> Branching<'a>
-    requires { HasRoomFor depth (item_at number (take block.count (slots_from slots.old)))
-        (vec_capacity block.changes) (vec_capacity block.recent) (branching_of block) }
+/// A block of this depth has this entry in its lists, if it began with it.
+fn note_in<'a>(block: &mut Branching<'a>, slots: &mut [Slot<'a>], number: usize, depth: usize)
+    requires { HasRoomFor depth (item_at number (take block.old.count (slots_from slots.old)))
+        (vec_capacity block.old.changes) (vec_capacity block.old.recent) (branching_of block.old) }
     ensures slots { slots_from slots.new
-        ≡ noted_slots depth number (item_at number (take block.entry.count (slots_from slots.old)))
+        ≡ noted_slots depth number (item_at number (take block.old.count (slots_from slots.old)))
         (slots_from slots.old) }
-    ensures block { branching_of result
-        ≡ noted_in depth number (item_at number (take block.entry.count (slots_from slots.old)))
-        (branching_of block.entry) }
+    ensures block { branching_of block.new
+        ≡ noted_in depth number (item_at number (take block.old.count (slots_from slots.old)))
+        (branching_of block.old) }
 {
-    if number >= block.count || number >= slots.len() {
-        return block;
+    if number < block.count && number < slots.len() {
+        let before = slots[number];
+        modify(slots, number, Update::List { depth });
+        block.note(number, before, depth);
     }
-    let before = slots[number];
-    modify(slots, number, Update::List { depth });
-    block.noted(number, before, depth)
 }
 
 /// The numbers of the entries in a list come to other numbers.

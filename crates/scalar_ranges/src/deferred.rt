@@ -1,6 +1,7 @@
 //! The blocks of branches around a place, where what a block left that has ended is put off.
 
-ghost use Rattle.std.specs.Prelude.{◌≡◌, ◌≤◌, ◌<◌, ◌∷◌, true, [], OnOk, OnErr, length, option_map};
+ghost use Rattle.std.specs.Prelude.{◌≡◌, ◌≤◌, ◌<◌, ◌∷◌, true, [], OnOk, OnErr, length, option_map, MatchOption};
+ghost use Rattle.std.specs.Prelude.{Some};
 ghost use Rattle.scalar_ranges.specs.EntryViews.{meaning_of, entry_of};
 ghost use Rattle.scalar_ranges.specs.Lefts.{IsKept, IsKept-prop, with_mark, moved_mark, set_all, AreBelow};
 ghost use Rattle.scalar_ranges.specs.Lefts.{KeepsApart, KeepsApart-prop};
@@ -35,8 +36,9 @@ pub(crate) enum Stage {
     Going(Form),
     /// It is in a branch of the innermost block that has ended.
     Ended(Form),
-    /// It is in the branch that goes on of the block around the innermost one, which began behind it.
-    Around(Form),
+    /// It is in the branch that goes on of a block, where others began behind it: the innermost one, and so many
+    /// around that one.
+    Around(Form, usize),
 }
 
 /// Entries and blocks, where what the last block left is not yet in the slots: it is joined with what they say where
@@ -71,7 +73,7 @@ impl Left {
 }
 
 impl Stage {
-    ghost use Rattle.scalar_ranges.specs.Lefts.{turned_stage, ended_stage, meant_left};
+    ghost use Rattle.scalar_ranges.specs.Lefts.{turned_stage, ended_stage, begun_stage, meant_left};
 
     /// Where a branch ends, of a block that had ends before or not.
     fn turned(self, ended: bool) -> Stage
@@ -83,7 +85,7 @@ impl Stage {
             Stage::Ended(Form::Whole) if ended => Stage::Ended(Form::Behind),
             Stage::Ended(form) if ended => Stage::Ended(form),
             Stage::Ended(_) => Stage::Nothing,
-            Stage::Around(form) => Stage::Around(form),
+            Stage::Around(form, further) => Stage::Around(form, further),
         }
     }
 
@@ -93,8 +95,22 @@ impl Stage {
     {
         match self {
             Stage::Ended(form) if ended => Stage::Going(form),
-            Stage::Around(form) => Stage::Going(form),
+            Stage::Around(form, 0) => Stage::Going(form),
+            Stage::Around(form, further) => Stage::Around(form, further - 1),
             _ => Stage::Nothing,
+        }
+    }
+
+    /// Where a block begins behind the one that has ended, if the list stays put off around it.
+    fn begun(self) -> Option<Stage>
+        ensures { MatchOption result (Unit {0}) (λ stage. begun_stage self ≡ Some stage) }
+    {
+        match self {
+            Stage::Going(form) => Some(Stage::Around(form, 0)),
+            Stage::Around(form, further) if further < usize::MAX => {
+                Some(Stage::Around(form, further + 1))
+            }
+            _ => None,
         }
     }
 
@@ -104,7 +120,7 @@ impl Stage {
     {
         match (self, left) {
             (Stage::Going(form), Some(left)) => form.join(meaning, left),
-            (Stage::Around(form), Some(left)) => form.join(meaning, left),
+            (Stage::Around(form, _), Some(left)) => form.join(meaning, left),
             _ => meaning,
         }
     }
@@ -120,8 +136,8 @@ impl<'a> Deferred<'a> {
     ghost use Rattle.scalar_ranges.specs.TrackedViews.{known_by};
     ghost use Rattle.scalar_ranges.specs.ChangeViews.{changes_from};
     ghost use Rattle.scalar_ranges.specs.Deferring.{AreNone, IsStill, is_inside};
-    ghost use Rattle.scalar_ranges.specs.Lefts.{left_at};
-    ghost use Rattle.scalar_ranges.specs.declared.deferred.Stage.TheVariants.{Nothing, Going};
+    ghost use Rattle.scalar_ranges.specs.Lefts.{left_at, begun_stage};
+    ghost use Rattle.scalar_ranges.specs.declared.deferred.Stage.TheVariants.{Nothing};
 
     /// No entries, and no blocks.
     pub(crate) fn new(alloc: Global) -> Deferred<'a>
@@ -230,9 +246,10 @@ impl<'a> Deferred<'a> {
                     }
                 }
                 Stage::Ended(form) => self.tracked.put_end(number, form, left),
-                Stage::Around(form) => {
+                Stage::Around(form, further) => {
                     if let Some(meaning) = self.tracked.meaning(number) {
-                        self.tracked.put_around(number, form.join(meaning, left));
+                        self.tracked
+                            .put_around(number, form.join(meaning, left), further);
                     }
                 }
             }
@@ -280,8 +297,8 @@ impl<'a> Deferred<'a> {
         ensures ok { OnOk result (known_now self.new ≡ begin_with ended (known_now self.old)) }
         ensures err { OnErr result (known_now self.new ≡ known_now self.old) }
     {
-        match self.stage {
-            Stage::Going(form) if self.tracked.is_inside() => self.begin_beside(alloc, ended, form),
+        match self.stage.begun() {
+            Some(stage) if self.tracked.is_inside() => self.begin_beside(alloc, ended, stage),
             _ => {
                 self.settle();
                 self.tracked.begin(alloc, ended)
@@ -290,8 +307,8 @@ impl<'a> Deferred<'a> {
     }
 
     /// A block begins behind the one that has ended, whose list is put off around the new one from now on.
-    fn begin_beside(&mut self, alloc: Global, ended: bool, form: Form) -> Result<(), AllocError>
-        requires stage { self.old.stage ≡ Going form }
+    fn begin_beside(&mut self, alloc: Global, ended: bool, stage: Stage) -> Result<(), AllocError>
+        requires stage { begun_stage self.old.stage ≡ Some stage }
         requires inside { is_inside (known_by self.old.tracked).blocks ≡ true }
         ensures ok { OnOk result (known_now self.new ≡ begin_with ended (known_now self.old)) }
         ensures err { OnErr result (known_now self.new ≡ known_now self.old) }
@@ -299,7 +316,7 @@ impl<'a> Deferred<'a> {
         match self.tracked.begin(alloc, ended) {
             Ok(()) => {
                 self.lefts.truncate(self.tracked.len());
-                self.stage = Stage::Around(form);
+                self.stage = stage;
                 Ok(())
             }
             Err(error) => Err(error),
@@ -377,7 +394,7 @@ impl<'a> Deferred<'a> {
         }
         match self.stage {
             Stage::Nothing => (),
-            Stage::Around(_) => (),
+            Stage::Around(_, _) => (),
             Stage::Ended(_) => move_marks(&mut self.lefts, numbers, self.mark, 0),
             Stage::Going(form) => {
                 if self.mark < usize::MAX {
@@ -414,7 +431,7 @@ impl<'a> Deferred<'a> {
     fn is_short(&self) -> bool {
         match self.stage {
             Stage::Ended(_) => self.listed.len() < self.tracked.changed(),
-            Stage::Around(_) => self.listed.len() / FEWER < self.tracked.changed(),
+            Stage::Around(_, _) => self.listed.len() / FEWER < self.tracked.changed(),
             _ => false,
         }
     }

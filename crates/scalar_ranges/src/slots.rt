@@ -135,10 +135,10 @@ impl<'a> Branching<'a> {
     }
 
     /// The block and its branch have an entry in their lists, whose slot was this one before.
-    pub(crate) fn noted(mut self, number: usize, before: Slot<'a>, depth: usize) -> Branching<'a>
-        requires { HasRoom depth (slot_of before) (vec_capacity self.changes) (vec_capacity self.recent)
-            (branching_of self) }
-        ensures { branching_of result ≡ noted_block depth number (slot_of before.entry) (branching_of self.entry) }
+    pub(crate) fn note(&mut self, number: usize, before: Slot<'a>, depth: usize)
+        requires { HasRoom depth (slot_of before) (vec_capacity self.old.changes) (vec_capacity self.old.recent)
+            (branching_of self.old) }
+        ensures { branching_of self.new ≡ noted_block depth number (slot_of before.entry) (branching_of self.old) }
     {
         if before.mark != depth {
             self.changes.push_reserved(Change {
@@ -150,7 +150,6 @@ impl<'a> Branching<'a> {
         if before.mark != depth || !before.recent {
             self.recent.push_reserved(number);
         }
-        self
     }
 
     /// The block where its next component begins.

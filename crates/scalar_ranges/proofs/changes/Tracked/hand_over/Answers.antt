@@ -7,6 +7,7 @@ use Rattle.scalar_ranges.specs.ChangeViews.{branching_of, branchings_from, track
 use Rattle.scalar_ranges.specs.TrackedViews.{known_by}
 use Rattle.scalar_ranges.proofs.Noting.{branchings_long}
 use Rattle.scalar_ranges.proofs.Rows.{one_longer}
+use Rattle.scalar_ranges.proofs.Staying.{stays_handed}
 use Rattle.scalar_ranges.proofs.Turning.{followed, known_is, both_apart, over_is, over_follows, Fits, over_fits}
 use Rattle.scalar_ranges.proofs.changes.Tracked.hand_over.Goals as goal
 use Rattle.scalar_ranges.proofs.changes.Tracked.hand_over.Goals.{In-Some-pop, After-push_reserved}
@@ -60,6 +61,14 @@ invariant_of-self c =
     let at = goal.at.invariant_of-self c in
     record { tracked = (handed at.After-push_reserved (seen at.In-Some-pop)).tracked }
 
-pub returns-in-Some-pop : goal.returns-in-Some-pop
-returns-in-Some-pop c =
-    let at = goal.at.returns-in-Some-pop c in known_is (handed at.After-push_reserved (seen at.In-Some-pop))
+pub returns-in-Some-pop-clause-known : goal.returns-in-Some-pop-clause-known
+returns-in-Some-pop-clause-known c =
+    let at = goal.at.returns-in-Some-pop-clause-known c in
+    known_is (handed at.After-push_reserved (seen at.In-Some-pop))
+
+pub returns-in-Some-pop-clause-apart : goal.returns-in-Some-pop-clause-apart
+returns-in-Some-pop-clause-apart c =
+    stays_handed c.args.self.now.blocks.items c.pop-in-Some.new.self.items c.push_reserved.new.self.items
+    c.in-Some.block c.in-Some-pop.outer c.handed_block.result
+    (seen (goal.at.returns-in-Some-pop-clause-apart c).In-Some-pop) c.push_reserved.ensures.items
+    c.handed_block.ensures

@@ -7,6 +7,7 @@ use Rattle.scalar_ranges.specs.ChangeViews.{tracked_from}
 use Rattle.scalar_ranges.specs.TrackedViews.{tracked_of, known_by}
 use Rattle.scalar_ranges.proofs.Following.{next_follows}
 use Rattle.scalar_ranges.proofs.Noting.{innermost}
+use Rattle.scalar_ranges.proofs.Staying.{stays_turned}
 use Rattle.scalar_ranges.proofs.Turning.{followed, known_is, next_is}
 use Rattle.scalar_ranges.proofs.changes.Tracked.next.Goals as goal
 use Rattle.scalar_ranges.proofs.changes.Tracked.next.Goals.{After-push_reserved}
@@ -31,3 +32,8 @@ invariant_of-self c = record { tracked = (turned (goal.at.invariant_of-self c).A
 
 pub returns-in-Some-clause-known : goal.returns-in-Some-clause-known
 returns-in-Some-clause-known c = known_is (turned (goal.at.returns-in-Some-clause-known c).After-push_reserved)
+
+pub returns-in-Some-clause-apart : goal.returns-in-Some-clause-apart
+returns-in-Some-clause-apart c =
+    stays_turned c.args.self.now.blocks.items c.pop.new.self.items c.push_reserved.new.self.items c.in-Some.block
+    c.turned.result c.in-Some.ensures.items c.push_reserved.ensures.items c.turned.ensures

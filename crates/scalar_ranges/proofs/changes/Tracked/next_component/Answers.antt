@@ -7,6 +7,7 @@ use Rattle.scalar_ranges.specs.ChangeViews.{tracked_from}
 use Rattle.scalar_ranges.specs.TrackedViews.{tracked_of, known_by}
 use Rattle.scalar_ranges.proofs.Components.{component_follows}
 use Rattle.scalar_ranges.proofs.Noting.{innermost}
+use Rattle.scalar_ranges.proofs.Staying.{stays_component}
 use Rattle.scalar_ranges.proofs.Turning.{followed, known_is, component_is}
 use Rattle.scalar_ranges.proofs.changes.Tracked.next_component.Goals as goal
 use Rattle.scalar_ranges.proofs.changes.Tracked.next_component.Goals.{After-push_reserved}
@@ -33,3 +34,8 @@ invariant_of-self c = record { tracked = (turned (goal.at.invariant_of-self c).A
 
 pub returns-in-Some-clause-known : goal.returns-in-Some-clause-known
 returns-in-Some-clause-known c = known_is (turned (goal.at.returns-in-Some-clause-known c).After-push_reserved)
+
+pub returns-in-Some-clause-apart : goal.returns-in-Some-clause-apart
+returns-in-Some-clause-apart c =
+    stays_component c.args.self.now.blocks.items c.pop.new.self.items c.push_reserved.new.self.items c.in-Some.block
+    c.after_component.result c.in-Some.ensures.items c.push_reserved.ensures.items c.after_component.ensures

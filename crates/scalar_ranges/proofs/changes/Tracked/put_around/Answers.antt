@@ -1,65 +1,84 @@
-use Rattle.std.proofs.Common.{◌≡◌, ◌-◌, ◌∷◌, suc, ap, arith, rules, length}
+use Rattle.std.proofs.Common.{◌≡◌, ◌+◌, ◌-◌, ◌<◌, suc, refl, ap, sym, subst, ◌∙◌, arith, rules, length, take}
+use Rattle.std.proofs.Common.{vec_capacity}
 use Rattle.std.proofs.lemmas.List.{with_items_is, places}
-use Rattle.std.specs.Vec.{with_items}
-use Rattle.scalar_ranges.specs.Changes.{Follows, known_around}
-use Rattle.scalar_ranges.specs.ChangeViews.{meaning_of, branching_of, branchings_from, tracked_from}
+use Rattle.std.specs.Vec.{with_items, with_item}
+use Rattle.scalar_ranges.specs.Environments.{item_at}
+use Rattle.scalar_ranges.specs.Changes.{Follows, known_around, modify, with_new, noted_slots, noted_in, HasRoomFor}
+use Rattle.scalar_ranges.specs.ChangeViews.{meaning_of, slots_from, branching_of, tracked_from}
 use Rattle.scalar_ranges.specs.TrackedViews.{known_by}
-use Rattle.scalar_ranges.proofs.Noting.{branchings_long}
-use Rattle.scalar_ranges.proofs.Rows.{one_longer}
-use Rattle.scalar_ranges.proofs.Turning.{known_is, both_apart}
-use Rattle.scalar_ranges.proofs.Around.{has_room, put_follows_around}
+use Rattle.scalar_ranges.proofs.Turning.{known_is}
+use Rattle.scalar_ranges.proofs.Around.{outside_blocks, has_room, put_follows_around, stays_around}
 use Rattle.scalar_ranges.proofs.changes.Tracked.put_around.Goals as goal
-use Rattle.scalar_ranges.proofs.changes.Tracked.put_around.Goals.{In-Some-pop, After-push_reserved-in-Some-pop}
+use Rattle.scalar_ranges.proofs.changes.Tracked.put_around.Goals.{After-len, After-modify}
 
--- the two innermost blocks
-seen : (c : In-Some-pop) → branchings_from c.args.self.now.blocks.items
-    ≡ branching_of c.in-Some.block ∷ branching_of c.in-Some-pop.outer ∷ branchings_from c.pop-in-Some.new.self.items
-seen c =
-    both_apart c.args.self.now.blocks.items c.pop.new.self.items c.pop-in-Some.new.self.items c.in-Some.block
-    c.in-Some-pop.outer c.in-Some.ensures.items c.in-Some-pop.ensures.items
+-- there are as many blocks
+enough : (c : After-len) → suc c.args.further < length c.args.self.now.blocks.items
+enough c = outside_blocks c.args.number (suc c.args.further) c.args.self.now.blocks.items c.requires
 
-deep : (c : In-Some-pop)
-    → c.len-depth.result - 1 ≡ suc (length (branchings_from c.pop-in-Some.new.self.items))
-deep c =
-    let all = ap length c.in-Some.ensures.items in
-    let more = one_longer c.pop.new.self.items c.in-Some.block in
-    let others = ap length c.in-Some-pop.ensures.items in
-    let again = one_longer c.pop-in-Some.new.self.items c.in-Some-pop.outer in
-    let long = branchings_long c.pop-in-Some.new.self.items in
-    omega arith
+less : (c : After-len) → c.len.result - 2 - c.args.further < length c.args.self.now.blocks.items
+less c = let more = enough c in omega arith
 
-put : (c : After-push_reserved-in-Some-pop)
-    → branchings_from c.args.self.now.blocks.items
-    ≡ branching_of c.in-Some.block ∷ branching_of c.in-Some-pop.outer ∷ branchings_from c.pop-in-Some.new.self.items
-    → c.len-depth.result - 1 ≡ suc (length (branchings_from c.pop-in-Some.new.self.items))
-    → Follows (tracked_from (with_items (with_items c.args.self.now.slots c.noted-outer.new.slots)
-    c.modify.new.slots).items c.push_reserved-in-Some-pop.new.self.items)
-    (known_around c.args.number (meaning_of c.args.meaning) (known_by c.args.self.now))
-put c two depth =
+size : (c : After-len)
+    → length c.args.self.now.blocks.items ≡ c.len.result - 2 - c.args.further + 1 + suc c.args.further
+size c = let more = enough c in omega arith
+
+put : (c : After-modify)
+    → c.len.result - 2 - c.args.further < length c.args.self.now.blocks.items
+    → length c.args.self.now.blocks.items ≡ c.len.result - 2 - c.args.further + 1 + suc c.args.further
+    → Follows (tracked_from (with_items (with_items c.args.self.now.slots c.note_in.new.slots)
+    c.modify.new.slots).items (with_item c.args.self.now.blocks (c.len.result - 2 - c.args.further)
+    c.note_in.new.block).items)
+    (known_around (suc c.args.further) c.args.number (meaning_of c.args.meaning) (known_by c.args.self.now))
+put c inside long =
     let old = c.args.self.now in
-    put_follows_around c.args.number (c.len-depth.result - 1) (meaning_of c.args.meaning) old.slots.items
-    old.blocks.items c.pop.new.self.items c.pop-in-Some.new.self.items c.in-Some.block c.in-Some-pop.outer two depth
-    old.tracked c.requires c.deref_mut.result.now c.noted-outer.new.slots c.deref_mut-in-Some-pop.result.now
-    c.modify.new.slots _ c.push_reserved.new.self.items c.push_reserved-in-Some-pop.new.self.items
-    c.noted-outer.result c.deref_mut.ensures.value c.noted-outer.ensures.slots c.noted-outer.ensures.block
-    (search (rules, places))
-    c.modify.ensures (with_items_is (with_items old.slots c.noted-outer.new.slots) c.modify.new.slots
-    (search (rules, places))) c.push_reserved.ensures.items c.push_reserved-in-Some-pop.ensures.items
+    let n = c.args.number in
+    let m = meaning_of c.args.meaning in
+    let place = c.len.result - 2 - c.args.further in
+    let o = c.index_mut.result.now in
+    let lent = c.deref_mut.ensures.value in
+    put_follows_around n (suc c.args.further) place m old.slots.items old.blocks.items o inside
+    c.index_mut.ensures.value long old.tracked c.requires (slots_from c.note_in.new.slots)
+    (slots_from c.modify.new.slots) _ _ c.note_in.new.block
+    (c.note_in.ensures.slots
+    ∙ ap (λ ks. noted_slots (place + 1) n (item_at n (take o.count (slots_from ks))) (slots_from ks)) lent)
+    (c.note_in.ensures.block
+    ∙ ap (λ ks. noted_in (place + 1) n (item_at n (take o.count (slots_from ks))) (branching_of o)) lent)
+    (c.modify.ensures ∙ ap (λ ks. modify (with_new m) n (slots_from ks)) (search (rules, places)))
+    (ap slots_from (with_items_is (with_items old.slots c.note_in.new.slots) c.modify.new.slots
+    (search (rules, places)))) refl
 
-pub noted-outer-requires : goal.noted-outer-requires
-noted-outer-requires c =
-    let at = goal.at.noted-outer-requires c in
+pub overflow_sub-place : goal.overflow_sub-place
+overflow_sub-place c = let more = enough c in omega arith
+
+pub overflow_sub-place-2 : goal.overflow_sub-place-2
+overflow_sub-place-2 c = let more = enough c in omega arith
+
+pub note_in-requires : goal.note_in-requires
+note_in-requires c =
+    let at = (goal.at.note_in-requires c).After-len in
     let old = c.args.self.now in
-    has_room c.args.number (c.len-depth.result - 1) (meaning_of c.args.meaning) old.slots.items old.blocks.items
-    c.pop.new.self.items c.pop-in-Some.new.self.items c.in-Some.block c.in-Some-pop.outer (seen at.In-Some-pop)
-    (deep at.In-Some-pop) old.tracked c.requires c.deref_mut.result.now c.deref_mut.ensures.value
+    let n = c.args.number in
+    let place = c.len.result - 2 - c.args.further in
+    let o = c.index_mut.result.now in
+    subst (λ ks. HasRoomFor (place + 1) (item_at n (take o.count (slots_from ks))) (vec_capacity o.changes)
+    (vec_capacity o.recent) (branching_of o)) (sym c.deref_mut.ensures.value)
+    (has_room n (suc c.args.further) place (meaning_of c.args.meaning) old.slots.items old.blocks.items o (less at)
+    c.index_mut.ensures.value (size at) old.tracked c.requires)
 
 pub invariant_of-self : goal.invariant_of-self
 invariant_of-self c =
-    let at = goal.at.invariant_of-self c in
-    record { tracked = (put at.After-push_reserved-in-Some-pop (seen at.In-Some-pop) (deep at.In-Some-pop)).tracked }
+    let at = (goal.at.invariant_of-self c).After-len in
+    record { tracked = (put (goal.at.invariant_of-self c).After-modify (less at) (size at)).tracked }
 
-pub returns-in-Some-pop-clause-known : goal.returns-in-Some-pop-clause-known
-returns-in-Some-pop-clause-known c =
-    let at = goal.at.returns-in-Some-pop-clause-known c in
-    known_is (put at.After-push_reserved-in-Some-pop (seen at.In-Some-pop) (deep at.In-Some-pop))
+pub returns-clause-known : goal.returns-clause-known
+returns-clause-known c =
+    let at = (goal.at.returns-clause-known c).After-len in
+    known_is (put (goal.at.returns-clause-known c).After-modify (less at) (size at))
+
+pub returns-clause-apart : goal.returns-clause-apart
+returns-clause-apart c =
+    let at = (goal.at.returns-clause-apart c).After-len in
+    let old = c.args.self.now in
+    stays_around c.args.number (suc c.args.further) (c.len.result - 2 - c.args.further) (meaning_of c.args.meaning)
+    old.slots.items old.blocks.items c.index_mut.result.now (less at) c.index_mut.ensures.value (size at) old.tracked
+    c.requires c.note_in.new.block _ refl

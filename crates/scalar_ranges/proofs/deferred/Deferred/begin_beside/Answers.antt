@@ -1,15 +1,13 @@
 use Rattle.std.proofs.Common.{◌≡◌, ◌<◌, ap, map, sym, subst, ◌∙◌, length, arith}
 use Rattle.std.proofs.lemmas.List.{length-map, length-reverse}
-use Rattle.scalar_ranges.specs.Deferring.{IsApart}
-use Rattle.scalar_ranges.specs.Lefts.{known_left, left_at}
+use Rattle.scalar_ranges.specs.Lefts.{known_left, left_at, IsKeptApart}
 use Rattle.scalar_ranges.specs.TrackedViews.{known_by, tracked_of}
-use Rattle.scalar_ranges.specs.Changes.{begin_with, Tracked, inner_of, seen, entry_in}
-use Rattle.scalar_ranges.specs.declared.deferred.Stage.TheVariants.{Going, Around}
+use Rattle.scalar_ranges.specs.Changes.{begin_with, Tracked, seen, entry_in}
 use Rattle.scalar_ranges.proofs.Fitting.{begun_known}
 use Rattle.scalar_ranges.proofs.KeepingApart.{begun_apart}
-use Rattle.scalar_ranges.proofs.LeftLists.{cut_same, cut_none, kept_cut}
+use Rattle.scalar_ranges.proofs.LeftLists.{cut_same, cut_none, cut_fewer, kept_cut}
 use Rattle.scalar_ranges.proofs.Postponing.{same_now, begun_behind}
-use Rattle.scalar_ranges.proofs.Standing.{has_whole}
+use Rattle.scalar_ranges.proofs.Standing.{has_whole, are_short}
 use Rattle.scalar_ranges.proofs.deferred.Deferred.begin_beside.Goals as goal
 use Rattle.scalar_ranges.proofs.deferred.Deferred.begin_beside.Goals.{After-truncate}
 
@@ -20,17 +18,19 @@ many c = c.len.ensures ∙ ap (λ (t : Tracked). length (seen entry_in t.slots))
 pub invariant_of-self : goal.invariant_of-self
 invariant_of-self c =
     let old = c.args.self.now in
-    let p = left_at old.mark c.truncate.new.self.items in
+    let q = left_at old.mark c.truncate.new.self.items in
     let t = tracked_of old.tracked in
     let long = many c in
     let all = length-reverse (map entry_in t.slots) ∙ length-map t.slots entry_in in
     record {
       kept = kept_cut old.mark c.len.result old.lefts.items c.truncate.new.self.items old.listed.items
           c.truncate.ensures.items old.kept;
-      apart = subst (λ (k : Tracked). IsApart p (inner_of k.blocks)) (sym c.in-Ok.ensures.ok)
-          (begun_apart p c.args.ended t c.requires.inside
-          (λ i least. cut_none old.mark c.len.result old.lefts.items c.truncate.new.self.items
-          c.truncate.ensures.items i (omega arith)));
+      apart = subst (λ (k : Tracked). IsKeptApart c.args.stage q k.blocks) (sym c.in-Ok.ensures.ok)
+          (begun_apart old.stage c.args.stage (left_at old.mark old.lefts.items) q c.args.ended t c.requires.stage
+          c.requires.inside (λ i least. cut_none old.mark c.len.result old.lefts.items c.truncate.new.self.items
+          c.truncate.ensures.items i (omega arith))
+          (cut_fewer old.mark c.len.result old.lefts.items c.truncate.new.self.items c.truncate.ensures.items)
+          old.apart);
     }
 
 pub returns-in-Ok-clause-ok : goal.returns-in-Ok-clause-ok
@@ -40,9 +40,9 @@ returns-in-Ok-clause-ok c =
     let ls = old.lefts.items in
     let p = left_at old.mark c.truncate.new.self.items in
     let k = known_by old.tracked in
-    ap (known_left (Around c.args.form) p) (begun_known old.tracked c.begin.new.self c.args.ended c.in-Ok.ensures.ok)
-    ∙ begun_behind c.args.form p c.args.ended k
-    ∙ ap (begin_with c.args.ended) (same_now (Going c.args.form) (left_at old.mark ls) p k (has_whole old.tracked)
+    ap (known_left c.args.stage p) (begun_known old.tracked c.begin.new.self c.args.ended c.in-Ok.ensures.ok)
+    ∙ begun_behind old.stage c.args.stage p c.args.ended k c.requires.stage
+    ∙ ap (begin_with c.args.ended) (same_now old.stage (left_at old.mark ls) p k (has_whole old.tracked)
+    (are_short old.tracked)
     (λ i less. cut_same old.mark c.len.result ls c.truncate.new.self.items c.truncate.ensures.items i
-    (subst (λ n. i < n) (sym (many at)) less))
-    ∙ (λ i. known_left (sym c.requires.stage i) (left_at old.mark ls) k))
+    (subst (λ n. i < n) (sym (many at)) less)))

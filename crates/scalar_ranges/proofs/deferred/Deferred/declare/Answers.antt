@@ -1,13 +1,14 @@
-use Rattle.std.proofs.Common.{◌≡◌, ◌<◌, ap, sym, subst, ◌∙◌, is_ok, None, ◌∷◌, List, refl}
+use Rattle.std.proofs.Common.{◌≡◌, suc, ◌<◌, ap, sym, subst, ◌∙◌, is_ok, None, ◌∷◌, List, refl}
 use Rattle.scalar_ranges.specs.EntryViews.{entry_of}
 use Rattle.scalar_ranges.specs.Lefts.{known_left, left_at, IsKept, IsKeptApart}
 use Rattle.scalar_ranges.specs.ChangeViews.{branchings_from}
-use Rattle.scalar_ranges.specs.Deferring.{IsApart}
+use Rattle.scalar_ranges.specs.Deferring.{AreApart}
 use Rattle.scalar_ranges.specs.TrackedViews.{known_by}
-use Rattle.scalar_ranges.specs.Changes.{known_in, Branching, Tracked, inner_of}
+use Rattle.scalar_ranges.specs.Changes.{known_in, Branching, Tracked}
 use Rattle.scalar_ranges.proofs.Fitting.{declared_known, if_ok, in_both}
-use Rattle.scalar_ranges.proofs.KeepingApart.{kept_if, fewer_apart}
-use Rattle.scalar_ranges.proofs.Standing.{has_whole}
+use Rattle.scalar_ranges.proofs.KeepingApart.{kept_if}
+use Rattle.scalar_ranges.proofs.Staying.{fewer_apart}
+use Rattle.scalar_ranges.proofs.Standing.{has_whole, are_short}
 use Rattle.scalar_ranges.proofs.LeftLists.{made_same, made_last, made_none, made_kept, if_err}
 use Rattle.scalar_ranges.proofs.Postponing.{same_now, declared_now}
 use Rattle.scalar_ranges.proofs.deferred.Deferred.declare.Goals as goal
@@ -27,7 +28,7 @@ same : (c : After-push)
 same c =
     let old = c.args.self.now in
     same_now old.stage (left_at old.mark old.lefts.items) (left_at old.mark c.push.new.self.items)
-    (known_by old.tracked) (has_whole old.tracked)
+    (known_by old.tracked) (has_whole old.tracked) (are_short old.tracked)
     (λ i less. made_same old.mark c.len.result old.lefts.items c.truncate.new.self.items c.push.new.self.items
     c.args.entry.meaning old.listed.items old.kept c.truncate.ensures.items (is_ok c.push.result) c.push.ensures.items
     i (subst (λ n. i < n) (sym c.len.ensures) less))
@@ -40,8 +41,8 @@ apart c bs same =
     let p = left_at old.mark old.lefts.items in
     let q = left_at old.mark c.push.new.self.items in
     let was = branchings_from old.tracked.blocks.items in
-    kept_if old.stage p q was bs (λ kept. subst (λ ks. IsApart q (inner_of ks)) (sym same)
-    (fewer_apart p q (inner_of was) (made_none old.mark c.len.result old.lefts.items c.truncate.new.self.items
+    kept_if old.stage p q was bs (λ a kept. subst (AreApart q (suc a)) (sym same)
+    (fewer_apart p q (suc a) was (made_none old.mark c.len.result old.lefts.items c.truncate.new.self.items
     c.push.new.self.items c.args.entry.meaning old.listed.items old.kept c.truncate.ensures.items
     (is_ok c.push.result) c.push.ensures.items) kept)) old.apart
 

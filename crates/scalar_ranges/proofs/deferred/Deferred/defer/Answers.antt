@@ -43,5 +43,5 @@ returns-then-are_below c =
     ∙ all_known after cs ls k below
     ∙ ap (known_afters cs) (none_now (Going Whole) (left_at after ls) k
     (left_fresh old.mark after ls old.listed.items old.kept (omega arith)))
-    ∙ c.in-Some.ensures
+    ∙ c.in-Some.ensures.known
     ∙ ap end (λ i. known_left (sym c.requires i) (left_at old.mark ls) (known_by old.tracked))

@@ -1,16 +1,17 @@
-use Rattle.std.proofs.Common.{◌≡◌, ◌+◌, option_map, ap, sym, subst, ◌∙◌, rules, arith}
+use Rattle.std.proofs.Common.{ℕ, ◌+◌, ap, sym, subst, ◌∙◌, rules, arith}
 use Rattle.std.proofs.lemmas.List.{with_items_is, places}
 use Rattle.std.specs.Vec.{with_items}
 use Rattle.scalar_ranges.specs.Lefts.{known_left, left_at, IsKept, IsKeptApart, moved_mark}
 use Rattle.scalar_ranges.specs.TrackedViews.{known_by}
 use Rattle.scalar_ranges.specs.Moves.{next_component}
-use Rattle.scalar_ranges.specs.Changes.{each, inner_of, component_block}
+use Rattle.scalar_ranges.specs.Changes.{each}
+use Rattle.scalar_ranges.specs.Deferring.{StayApart}
 use Rattle.scalar_ranges.specs.ChangeViews.{branchings_from}
 use Rattle.scalar_ranges.specs.declared.deferred.Stage.TheVariants.{Ended}
 use Rattle.scalar_ranges.proofs.Standing.{has_whole}
 use Rattle.scalar_ranges.proofs.LeftLists.{left_dropped, left_taken, kept_dropped, kept_taken}
 use Rattle.scalar_ranges.proofs.Postponing.{going_now, taken_now, around_now}
-use Rattle.scalar_ranges.proofs.KeepingApart.{kept_component}
+use Rattle.scalar_ranges.proofs.KeepingApart.{kept_next}
 use Rattle.scalar_ranges.proofs.deferred.Deferred.next_component.Goals as goal
 use Rattle.scalar_ranges.proofs.deferred.Deferred.next_component.Goals.{in-Nothing, in-Around, in-Ended}
 use Rattle.scalar_ranges.proofs.deferred.Deferred.next_component.Goals.{in-Going+then-self-lt18446744073709551615}
@@ -46,28 +47,29 @@ invariant_of-self c =
       ];
       apart = elim c.match-self.branch [
         | in-Nothing w ↦
-            subst (λ t. inner_of cs ≡ option_map component_block (inner_of (branchings_from t.1.0.blocks.items))
+            subst (λ t. ((a : ℕ) → StayApart a (branchings_from t.1.0.blocks.items) a cs)
             → IsKeptApart t.1.1.1.1.0 (left_at t.1.1.1.0 t.1.1.0.items) cs) (sym w.self-is)
-            (λ inner. kept_component old.stage p bs cs inner old.apart) c.next_component.ensures.inner
+            (λ stays. kept_next old.stage p bs cs stays old.apart) c.next_component.ensures.apart
         | in-Around w ↦
-            subst (λ t. inner_of cs ≡ option_map component_block (inner_of (branchings_from t.1.0.blocks.items))
+            subst (λ t. ((a : ℕ) → StayApart a (branchings_from t.1.0.blocks.items) a cs)
             → IsKeptApart t.1.1.1.1.0 (left_at t.1.1.1.0 t.1.1.0.items) cs) (sym w.self-is)
-            (λ inner. kept_component old.stage p bs cs inner old.apart) c.next_component.ensures.inner
+            (λ stays. kept_next old.stage p bs cs stays old.apart) c.next_component.ensures.apart
         | in-Ended w ↦
-            subst (λ t. inner_of cs ≡ option_map component_block (inner_of (branchings_from t.1.0.blocks.items))
+            subst (λ t. ((a : ℕ) → StayApart a (branchings_from t.1.0.blocks.items) a cs)
             → IsKeptApart t.1.1.1.1.0 (left_at t.1.1.1.0 t.1.1.0.items) cs) (sym w.self-is)
-            (λ inner. subst (λ s. IsKeptApart s
-            (left_at old.mark (with_items old.lefts w.move_marks.new.lefts).items) cs) (sym w.in-Ended.is) tt) c.next_component.ensures.inner
+            (λ stays. subst (λ s. IsKeptApart s
+            (left_at old.mark (with_items old.lefts w.move_marks.new.lefts).items) cs) (sym w.in-Ended.is) tt)
+            c.next_component.ensures.apart
         | in-Going+then-self-lt18446744073709551615 w ↦
-            subst (λ t. inner_of cs ≡ option_map component_block (inner_of (branchings_from t.1.0.blocks.items))
+            subst (λ t. ((a : ℕ) → StayApart a (branchings_from t.1.0.blocks.items) a cs)
             → IsKeptApart t.1.1.1.1.0 (left_at t.1.1.1.0 t.1.1.0.items) cs) (sym w.self-is)
-            (λ inner. tt) c.next_component.ensures.inner
+            (λ stays. tt) c.next_component.ensures.apart
         | in-Going+else-self-lt18446744073709551615 w ↦
             let now = w.settle.new.self in
-            subst (λ t. inner_of cs ≡ option_map component_block (inner_of (branchings_from t.1.0.blocks.items))
+            subst (λ t. ((a : ℕ) → StayApart a (branchings_from t.1.0.blocks.items) a cs)
             → IsKeptApart t.1.1.1.1.0 (left_at t.1.1.1.0 t.1.1.0.items) cs) (sym w.self-is)
-            (λ inner. kept_component now.stage (left_at now.mark now.lefts.items)
-            (branchings_from now.tracked.blocks.items) cs inner now.apart) c.next_component.ensures.inner
+            (λ stays. kept_next now.stage (left_at now.mark now.lefts.items)
+            (branchings_from now.tracked.blocks.items) cs stays now.apart) c.next_component.ensures.apart
       ];
     }
 
@@ -90,7 +92,7 @@ returns c =
           ap (λ t. known_left t.1.1.1.1.0 (left_at t.1.1.1.0 t.1.1.0.items) (next_component ns (known_by t.1.0)))
           w.self-is
           ∙ (λ i. known_left (w.in-Around.is i) p (next_component ns k))
-          ∙ around_now f p ns k.entries k.blocks (has_whole old.tracked)
+          ∙ around_now w.in-Around.field-1 f p ns k.entries k.blocks (has_whole old.tracked)
           ∙ ap (next_component ns) (λ i. known_left (sym w.in-Around.is i) p k)
       | in-Ended w ↦
           let f = w.in-Ended.field-0 in

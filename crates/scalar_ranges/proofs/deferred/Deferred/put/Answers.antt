@@ -1,13 +1,14 @@
-use Rattle.std.proofs.Common.{◌≡◌, None, ap, sym, subst, ◌∙◌}
+use Rattle.std.proofs.Common.{◌≡◌, suc, None, ap, sym, subst, ◌∙◌}
 use Rattle.scalar_ranges.specs.EntryViews.{meaning_of}
 use Rattle.scalar_ranges.specs.ChangeViews.{branchings_from}
-use Rattle.scalar_ranges.specs.Deferring.{IsApart}
+use Rattle.scalar_ranges.specs.Deferring.{AreApart}
 use Rattle.scalar_ranges.specs.Lefts.{known_left, left_at}
 use Rattle.scalar_ranges.specs.LeftViews.{left_by}
 use Rattle.scalar_ranges.specs.TrackedViews.{known_by, tracked_of}
-use Rattle.scalar_ranges.specs.Changes.{known_with, with_new, Tracked, inner_of}
+use Rattle.scalar_ranges.specs.Changes.{known_with, with_new, Tracked}
 use Rattle.scalar_ranges.proofs.Fitting.{put_known}
-use Rattle.scalar_ranges.proofs.KeepingApart.{kept_if, put_apart}
+use Rattle.scalar_ranges.proofs.KeepingApart.{kept_if}
+use Rattle.scalar_ranges.proofs.Staying.{put_apart}
 use Rattle.scalar_ranges.proofs.LeftLists.{left_dead}
 use Rattle.scalar_ranges.proofs.Postponing.{put_now}
 use Rattle.scalar_ranges.proofs.deferred.Deferred.put.Goals as goal
@@ -28,8 +29,8 @@ invariant_of-self c =
     record {
       kept = now.kept;
       apart = kept_if now.stage p p t.blocks (branchings_from c.put.new.self.blocks.items)
-          (λ apart. subst (λ (k : Tracked). IsApart p (inner_of k.blocks)) (sym c.put.ensures)
-          (put_apart p (with_new (meaning_of c.args.meaning)) c.args.number t.slots t.blocks
+          (λ a apart. subst (λ (k : Tracked). AreApart p (suc a) k.blocks) (sym c.put.ensures)
+          (put_apart p (with_new (meaning_of c.args.meaning)) (suc a) c.args.number t.slots t.blocks
           (none (goal.at.invariant_of-self c).After-release) apart)) now.apart;
     }
 

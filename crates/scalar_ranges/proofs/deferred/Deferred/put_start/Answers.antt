@@ -1,17 +1,18 @@
-use Rattle.std.proofs.Common.{◌≡◌, None, ap, sym, subst, ◌∙◌, rules}
+use Rattle.std.proofs.Common.{◌≡◌, suc, None, ap, sym, subst, ◌∙◌, rules}
 use Rattle.std.proofs.Common.{FitsSigned}
 use Rattle.std.specs.Int.{w32}
 use Rattle.std.proofs.lemmas.Int.{to_z-of_z}
 use Rattle.scalar_ranges.specs.ChangeViews.{branchings_from}
-use Rattle.scalar_ranges.specs.Deferring.{IsApart}
+use Rattle.scalar_ranges.specs.Deferring.{AreApart}
 use Rattle.scalar_ranges.specs.Lefts.{known_left, left_at}
 use Rattle.scalar_ranges.specs.LeftViews.{left_by}
 use Rattle.scalar_ranges.specs.Moves.{Known}
 use Rattle.scalar_ranges.specs.TrackedViews.{known_by, tracked_of}
-use Rattle.scalar_ranges.specs.Changes.{put_start, changed_start, with_start, Tracked, inner_of}
+use Rattle.scalar_ranges.specs.Changes.{put_start, changed_start, with_start, Tracked}
 use Rattle.scalar_ranges.specs.Narrowing.{left_of, with_range}
 use Rattle.scalar_ranges.proofs.Fitting.{start_known}
-use Rattle.scalar_ranges.proofs.KeepingApart.{kept_if, put_apart}
+use Rattle.scalar_ranges.proofs.KeepingApart.{kept_if}
+use Rattle.scalar_ranges.proofs.Staying.{put_apart}
 use Rattle.scalar_ranges.proofs.LeftLists.{left_dead}
 use Rattle.scalar_ranges.proofs.Postponing.{start_now}
 use Rattle.scalar_ranges.proofs.deferred.Deferred.put_start.Goals as goal
@@ -42,9 +43,9 @@ invariant_of-self c =
     record {
       kept = now.kept;
       apart = kept_if now.stage p p t.blocks (branchings_from c.put_start.new.self.blocks.items)
-          (λ apart. subst (λ (k : Tracked). IsApart p (inner_of k.blocks)) (sym (moved at.After-put_start))
-          (put_apart p (with_start (with_range (left_of c.args.comparison c.args.constant))) c.args.number t.slots
-          t.blocks (none at.After-release) apart)) now.apart;
+          (λ a apart. subst (λ (k : Tracked). AreApart p (suc a) k.blocks) (sym (moved at.After-put_start))
+          (put_apart p (with_start (with_range (left_of c.args.comparison c.args.constant))) (suc a) c.args.number
+          t.slots t.blocks (none at.After-release) apart)) now.apart;
     }
 
 pub returns : goal.returns

@@ -1,20 +1,21 @@
-use Rattle.std.proofs.Common.{◌≡◌, ℕ, ap, sym, subst, ◌∙◌, rules, Some}
+use Rattle.std.proofs.Common.{◌≡◌, ℕ, suc, ap, sym, subst, ◌∙◌, rules, Some}
 use Rattle.std.proofs.lemmas.List.{with_items_is, places}
 use Rattle.std.specs.Vec.{with_items}
-use Rattle.scalar_ranges.specs.Changes.{modify, known_with, known_around, inner_of, IsOutside}
+use Rattle.scalar_ranges.specs.Changes.{modify, known_with, known_around, AreOutside}
 use Rattle.scalar_ranges.specs.ChangeViews.{branchings_from}
 use Rattle.scalar_ranges.specs.Entries.{Meaning}
 use Rattle.scalar_ranges.specs.declared.deferred.Deferred as code_deferred
 use Rattle.scalar_ranges.specs.declared.slots.Form.{Form}
 use Rattle.scalar_ranges.specs.declared.deferred.Stage.TheVariants.{Around}
 use Rattle.scalar_ranges.specs.EntryViews.{meaning_of}
-use Rattle.scalar_ranges.specs.Deferring.{of_form, IsApart}
+use Rattle.scalar_ranges.specs.Deferring.{of_form, AreApart}
 use Rattle.scalar_ranges.specs.Lefts.{with_mark, IsKept, IsKeptApart, KeepsApart, left_at}
 use Rattle.scalar_ranges.specs.TrackedViews.{known_by}
 use Rattle.scalar_ranges.proofs.Fitting.{ends_known}
 use Rattle.scalar_ranges.proofs.LeftLists.{kept_dead, release_nothing, release_none, release_going, release_beyond}
 use Rattle.scalar_ranges.proofs.LeftLists.{release_ended, release_around}
-use Rattle.scalar_ranges.proofs.KeepingApart.{kept_if, fewer_apart, none_dead, outside_of, means_same, means_some}
+use Rattle.scalar_ranges.proofs.KeepingApart.{kept_if, none_dead, outside_of, means_same, means_some}
+use Rattle.scalar_ranges.proofs.Staying.{fewer_apart}
 use Rattle.scalar_ranges.proofs.deferred.Deferred.release.Goals as goal
 use Rattle.scalar_ranges.proofs.deferred.Deferred.release.Goals.{After-set_mark, in-Some+in-Nothing, in_default}
 use Rattle.scalar_ranges.proofs.deferred.Deferred.release.Goals.{in-Some+in-Going+in-Some-meaning, in-Some+in-Ended}
@@ -28,17 +29,17 @@ items c =
     with_items_is c.args.self.now.lefts c.set_mark.new.lefts (search (rules, places)) ∙ c.set_mark.ensures
     ∙ ap (modify (with_mark 0) c.args.number) c.deref_mut.ensures.value
 
--- an entry that is put off around the innermost block
-outside : (old : code_deferred.Deferred) (n : ℕ) (w : Meaning) (f : Form) → old.stage ≡ Around f
-    → Some w ≡ left_at old.mark old.lefts.items n → IsOutside n (inner_of (branchings_from old.tracked.blocks.items))
-outside old n w f is left =
-    outside_of (left_at old.mark old.lefts.items) n w (inner_of (branchings_from old.tracked.blocks.items)) (sym left)
+-- an entry that is put off around the innermost blocks
+outside : (old : code_deferred.Deferred) (n : ℕ) (w : Meaning) (f : Form) (a : ℕ) → old.stage ≡ Around f a
+    → Some w ≡ left_at old.mark old.lefts.items n → AreOutside n (suc a) (branchings_from old.tracked.blocks.items)
+outside old n w f a is left =
+    outside_of (left_at old.mark old.lefts.items) n w (suc a) (branchings_from old.tracked.blocks.items) (sym left)
     (subst (λ s. KeepsApart s old.mark old.lefts.items old.tracked) is old.apart)
 
 pub put_around-requires : goal.put_around-requires
 put_around-requires c =
-    outside c.args.self.now c.args.number (meaning_of c.in-Some.left) c.in-Around.form c.in-Around.is
-    c.in-Some.ensures
+    outside c.args.self.now c.args.number (meaning_of c.in-Some.left) c.in-Around.form c.in-Around.further
+    c.in-Around.is c.in-Some.ensures
 
 pub invariant_of-self : goal.invariant_of-self
 invariant_of-self c =
@@ -59,16 +60,17 @@ invariant_of-self c =
             | in-Some+in-Going+in_default-meaning w ↦ subst (λ s. IsKeptApart s q now) (sym w.in-Going.is) tt
             | in-Some+in-Ended w ↦ subst (λ s. IsKeptApart s q now) (sym w.in-Ended.is) tt
             | in-Some+in-Around+in-Some-meaning-2 w ↦
-                kept_if old.stage p q bs now (λ apart. fewer_apart p q (inner_of now) fewer
-                (subst (λ s. IsApart p (inner_of (branchings_from s.1.0.blocks.items))) (sym w.self-is)
-                (subst (IsApart p) (sym w.put_around.ensures.inner) apart))) old.apart
+                subst (λ s. IsKeptApart s q now) (sym w.in-Around.is)
+                (fewer_apart p q (suc w.in-Around.further) now fewer
+                (subst (λ s. AreApart p (suc w.in-Around.further) (branchings_from s.1.0.blocks.items)) (sym w.self-is)
+                (w.put_around.ensures.apart p (subst (λ s. IsKeptApart s p bs) w.in-Around.is old.apart))))
             | in-Some+in-Around+in_default-meaning-2 w ↦
-                kept_if old.stage p q bs now (λ apart. fewer_apart p q (inner_of now) fewer
-                (subst (λ s. IsApart p (inner_of (branchings_from s.1.0.blocks.items))) (sym w.self-is) apart))
+                kept_if old.stage p q bs now (λ a apart. fewer_apart p q (suc a) now fewer
+                (subst (λ s. AreApart p (suc a) (branchings_from s.1.0.blocks.items)) (sym w.self-is) apart))
                 old.apart
             | in_default w ↦
-                kept_if old.stage p q bs now (λ apart. fewer_apart p q (inner_of now) fewer
-                (subst (λ s. IsApart p (inner_of (branchings_from s.1.0.blocks.items))) (sym w.self-is) apart))
+                kept_if old.stage p q bs now (λ a apart. fewer_apart p q (suc a) now fewer
+                (subst (λ s. AreApart p (suc a) (branchings_from s.1.0.blocks.items)) (sym w.self-is) apart))
                 old.apart
           ]);
     }
@@ -93,7 +95,7 @@ returns-clause-known c =
           release_going mark n ls _ old.kept.0 at old.stage k after w.in-Going.form
           (meaning_of w.in-Some-meaning.meaning) (meaning_of w.in-Some.left) w.in-Going.is w.in-Some.ensures
           w.in-Some-meaning.ensures
-          (ap (λ s. known_by s.1.0) w.self-is ∙ w.put_other.ensures ∙ ap (λ m. known_with n m k) w.join.ensures)
+          (ap (λ s. known_by s.1.0) w.self-is ∙ w.put_other.ensures.known ∙ ap (λ m. known_with n m k) w.join.ensures)
       | in-Some+in-Going+in_default-meaning w ↦
           release_beyond mark n ls _ old.kept.0 at old.stage k after w.in-Going.form (meaning_of w.in-Some.left)
           w.in-Going.is w.in-Some.ensures w.in_default-meaning.ensures (ap (λ s. known_by s.1.0) w.self-is)
@@ -104,14 +106,15 @@ returns-clause-known c =
           ∙ ends_known old.tracked w.put_end.new.self n (λ m. of_form w.in-Ended.form m (meaning_of w.in-Some.left))
           w.put_end.ensures)
       | in-Some+in-Around+in-Some-meaning-2 w ↦
-          release_around mark n ls _ old.kept.0 at old.stage k after w.in-Around.form
+          release_around mark n ls _ old.kept.0 at old.stage k after w.in-Around.further w.in-Around.form
           (meaning_of w.in-Some-meaning-2.meaning) (meaning_of w.in-Some.left) w.in-Around.is w.in-Some.ensures
-          w.in-Some-meaning-2.ensures (means_same n old.tracked (outside old n (meaning_of w.in-Some.left)
-          w.in-Around.form w.in-Around.is w.in-Some.ensures))
+          w.in-Some-meaning-2.ensures (means_same n (suc w.in-Around.further) old.tracked (outside old n
+          (meaning_of w.in-Some.left) w.in-Around.form w.in-Around.further w.in-Around.is w.in-Some.ensures))
           (ap (λ s. known_by s.1.0) w.self-is ∙ w.put_around.ensures.known
-          ∙ ap (λ m. known_around n m k) w.join-in-Some-meaning-2.ensures)
+          ∙ ap (λ m. known_around (suc w.in-Around.further) n m k) w.join-in-Some-meaning-2.ensures)
       | in-Some+in-Around+in_default-meaning-2 w ↦
-          absurd (means_some n old.tracked (outside old n (meaning_of w.in-Some.left) w.in-Around.form w.in-Around.is
+          absurd (means_some n w.in-Around.further old.tracked (outside old n (meaning_of w.in-Some.left)
+          w.in-Around.form w.in-Around.further w.in-Around.is
           w.in-Some.ensures) w.in_default-meaning-2.ensures)
       | in_default w ↦
           release_none mark n ls _ old.kept.0 at old.stage k after (sym w.in_default.ensures)

@@ -1,6 +1,6 @@
-use Rattle.std.proofs.Common.{◌≡◌, ap, sym, subst, ◌∙◌, option_map}
+use Rattle.std.proofs.Common.{ℕ, ap, sym, subst, ◌∙◌}
 use Rattle.scalar_ranges.specs.ChangeViews.{branchings_from}
-use Rattle.scalar_ranges.specs.Changes.{inner_of, turned_block}
+use Rattle.scalar_ranges.specs.Deferring.{StayApart}
 use Rattle.scalar_ranges.specs.Lefts.{turned_stage, known_left, left_at, IsKept, IsKeptApart}
 use Rattle.scalar_ranges.specs.TrackedViews.{known_by}
 use Rattle.scalar_ranges.specs.Moves.{next}
@@ -28,20 +28,20 @@ invariant_of-self c =
       ];
       apart = elim c.if-is_still.branch [
         | then-is_still+then-is_inside w ↦
-            subst (λ t. inner_of cs ≡ option_map turned_block (inner_of (branchings_from t.1.0.blocks.items))
+            subst (λ t. ((a : ℕ) → StayApart a (branchings_from t.1.0.blocks.items) a cs)
             → IsKeptApart t.1.1.1.1.0 (left_at t.1.1.1.0 t.1.1.0.items) cs) (sym w.self-is)
-            (λ inner. subst (λ s. IsKeptApart s p cs) (sym w.turned-self.ensures)
-            (kept_turned w.has_ends.result old.stage p bs cs inner old.apart)) c.next.ensures.inner
+            (λ stays. subst (λ s. IsKeptApart s p cs) (sym w.turned-self.ensures)
+            (kept_turned w.has_ends.result old.stage p bs cs stays old.apart)) c.next.ensures.apart
         | then-is_still+else-is_inside w ↦
-            subst (λ t. inner_of cs ≡ option_map turned_block (inner_of (branchings_from t.1.0.blocks.items))
+            subst (λ t. ((a : ℕ) → StayApart a (branchings_from t.1.0.blocks.items) a cs)
             → IsKeptApart t.1.1.1.1.0 (left_at t.1.1.1.0 t.1.1.0.items) cs) (sym w.self-is)
-            (λ inner. kept_next old.stage p bs cs inner old.apart) c.next.ensures.inner
+            (λ stays. kept_next old.stage p bs cs stays old.apart) c.next.ensures.apart
         | else-is_still w ↦
             let now = w.settle.new.self in
-            subst (λ t. inner_of cs ≡ option_map turned_block (inner_of (branchings_from t.1.0.blocks.items))
+            subst (λ t. ((a : ℕ) → StayApart a (branchings_from t.1.0.blocks.items) a cs)
             → IsKeptApart t.1.1.1.1.0 (left_at t.1.1.1.0 t.1.1.0.items) cs) (sym w.self-is)
-            (λ inner. kept_next now.stage (left_at now.mark now.lefts.items)
-            (branchings_from now.tracked.blocks.items) cs inner now.apart) c.next.ensures.inner
+            (λ stays. kept_next now.stage (left_at now.mark now.lefts.items)
+            (branchings_from now.tracked.blocks.items) cs stays now.apart) c.next.ensures.apart
       ];
     }
 
