@@ -9,6 +9,7 @@ use Rattle.scalar_ranges.specs.declared.slots.Branching as code_branching
 use Rattle.scalar_ranges.specs.Entries.{Meaning, Entry}
 use Rattle.scalar_ranges.specs.Environments.{item_at}
 use Rattle.scalar_ranges.specs.Moves.{is_one_of, at_number, with_meaning, hull_meaning, Block}
+use Rattle.scalar_ranges.specs.Moves.{Known}
 use Rattle.scalar_ranges.specs.Changes.{Slot, Change, Branching, Tracked, modify, entry_in, start_in, end_in, restored}
 use Rattle.scalar_ranges.specs.Changes.{undone, before, seen, ends_seen, blocks_in, known_in, numbers_of, AreListed}
 use Rattle.scalar_ranges.specs.Changes.{without, is_marked, is_recent, AreMarked, IsSettled, AreSettled, AreTracked}
@@ -16,12 +17,15 @@ use Rattle.scalar_ranges.specs.Changes.{with_new, with_restart, with_end, marked
 use Rattle.scalar_ranges.specs.Changes.{is_open_in, is_open, touch_if, touch, noted, put, noted_slot, noted_block}
 use Rattle.scalar_ranges.specs.Changes.{listing_if, touching_if, noted_slots, noted_in, HasRoomFor, AreUpTo, block_in}
 use Rattle.scalar_ranges.specs.Changes.{IsOutside, AreOutside, Follows, changed_to, changed_around, known_around}
+use Rattle.scalar_ranges.specs.Changes.{IsWithin, put_by, with_ends, changed_ends, ends_around}
 use Rattle.scalar_ranges.specs.ChangeViews.{slots_from, branching_of, branchings_from, tracked_from, BelongTogether}
 use Rattle.scalar_ranges.proofs.Rows.{same_number}
 use Rattle.scalar_ranges.proofs.Counting.{without_same}
 use Rattle.scalar_ranges.proofs.Numbered.{modify_long, take_modify, map_modify, reverse_modify, items_modified}
 use Rattle.scalar_ranges.proofs.Numbered.{unmodified, modify_swap, item_modified, item_taken, other_item, which}
-use Rattle.scalar_ranges.proofs.Tracking.{first_not, second_not}
+use Rattle.scalar_ranges.proofs.Tracking.{first_not, second_not, new_within}
+use Rattle.scalar_ranges.proofs.Components.{ends_within, ends_follow}
+use Rattle.scalar_ranges.proofs.Deferring.{not_changed}
 use Rattle.scalar_ranges.proofs.Following.{put_follows}
 use Rattle.scalar_ranges.proofs.Cutting.{list_room, branch_room}
 use Rattle.scalar_ranges.proofs.SlotLoops.{item_within, item_beyond}
@@ -154,9 +158,6 @@ pub record Renews (h : Meaning → Meaning) (d : ℕ) (g : Slot → Slot) : Type
   pub apart : (s : Slot) → nat_eq s.mark d ≡ false → nat_eq (g s).mark d ≡ false
   pub low : (s : Slot) → s.mark ≤ d → (g s).mark ≤ d
 
-renews_new : (m : Meaning) (d : ℕ) → Renews (λ k. m) d (with_new m)
-renews_new m d = record { names = λ s. refl; means = λ s. refl; apart = λ s h. h; low = λ s h. h }
-
 lower_number : (d e : ℕ) → d < e → nat_eq d e ≡ false
 lower_number d e less = grind (arith, nat_tests)
 
@@ -173,12 +174,37 @@ noted_low : (t : Bool) (d e : ℕ) (s : Slot) → d < e → s.mark ≤ e → (co
 noted_low true d e s less low = low
 noted_low false d e s less low = omega arith
 
-renews_noted : (m : Meaning) (d e : ℕ) → d < e → Renews (λ k. m) e (λ s. with_new m (noted_slot d s))
-renews_noted m d e less = record {
-  names = λ s. noted_name (nat_eq s.mark d) d s;
-  means = λ s. refl;
-  apart = λ s h. noted_apart (nat_eq s.mark d) d e s less h;
-  low = λ s h. noted_low (nat_eq s.mark d) d e s less h;
+noted_meaning : (t : Bool) (d : ℕ) (s : Slot) → (cond t s (marked d s)).meaning ≡ s.meaning
+noted_meaning true d s = refl
+noted_meaning false d s = refl
+
+-- how a slot changes that a block has in its lists, and what is known then
+pub record Changing (n : ℕ) (f : Slot → Slot) (h : Meaning → Meaning) (k : List Block → List Block) : Type 0 where
+  pub within : IsWithin f
+  pub means : (s : Slot) → (f s).meaning ≡ h s.meaning
+  pub moves : (t : Tracked) → AreTracked t.slots t.blocks → Follows (put_by f n t) (record {
+    entries = at_number (with_meaning h) n (known_in t).entries;
+    blocks = k (known_in t).blocks;
+  })
+
+renews_new : {n : ℕ} {f : Slot → Slot} {h : Meaning → Meaning} {k : List Block → List Block} (d : ℕ)
+    → Changing n f h k → Renews h d f
+renews_new {n} {f} {h} {k} d changing = record {
+  names = changing.within.names;
+  means = changing.means;
+  apart = λ s apart. ap (λ m. nat_eq m d) (changing.within.marks s) ∙ apart;
+  low = λ s low. subst (λ m. m ≤ d) (sym (changing.within.marks s)) low;
+}
+
+renews_noted : {n : ℕ} {f : Slot → Slot} {h : Meaning → Meaning} {k : List Block → List Block} (d e : ℕ) → d < e
+    → Changing n f h k → Renews h e (λ s. f (noted_slot d s))
+renews_noted {n} {f} {h} {k} d e less changing = record {
+  names = λ s. changing.within.names (noted_slot d s) ∙ noted_name (nat_eq s.mark d) d s;
+  means = λ s. changing.means (noted_slot d s) ∙ ap h (noted_meaning (nat_eq s.mark d) d s);
+  apart = λ s apart. ap (λ m. nat_eq m e) (changing.within.marks (noted_slot d s))
+      ∙ noted_apart (nat_eq s.mark d) d e s less apart;
+  low = λ s low. subst (λ m. m ≤ e) (sym (changing.within.marks (noted_slot d s)))
+      (noted_low (nat_eq s.mark d) d e s less low);
 }
 
 -- what is kept of a block of this depth
@@ -295,7 +321,16 @@ module _ (n : ℕ) (h : Meaning → Meaning) (g : Slot → Slot) (ss : List Slot
     tracked = now_tracked;
   }
 
--- ---- it means something else around some blocks
+-- ---- it changes around some blocks
+
+-- what is known of the blocks then
+abbrev pub renewed : ℕ → (Meaning → Meaning) → (List Block → List Block) → ℕ → List Block → List Block
+renewed zero h k n bs = k bs
+renewed (suc a) h k n [] = []
+renewed (suc a) h k n (b ∷ bs) = record {
+  start = at_number (with_meaning h) n b.start;
+  ends = option_map (λ ds. at_number (with_meaning h) n ds) b.ends;
+} ∷ renewed a h k n bs
 
 -- blocks that began with an entry that they do not have in their lists
 abbrev AreFree : ℕ → List Branching → Type 0
@@ -306,23 +341,9 @@ free_of : (n : ℕ) (inner rest : List Branching) → AreOutside n (length inner
 free_of n [] rest outside = tt
 free_of n (b ∷ inner) rest outside = (outside.0, free_of n inner rest outside.1)
 
-module _ (n : ℕ) (m : Meaning) (o : Branching) (bs : List Branching) where
+module _ (n : ℕ) (o : Branching) (bs : List Branching) where
   abbrev outer : ℕ
   outer = suc (length bs)
-
-  -- what becomes of its slot, by what the block around has of it
-  abbrev slot_by : Option Slot → Slot → Slot
-  slot_by None k = with_new m k
-  slot_by (Some s) k = with_new m (noted_slot outer k)
-
-  renews_by : (x : Option Slot) (e : ℕ) → outer < e → Renews (λ k. m) e (slot_by x)
-  renews_by None e less = renews_new m e
-  renews_by (Some s) e less = renews_noted m outer e less
-
-  by_one : (x : Option Slot) (ss : List Slot)
-      → modify (with_new m) n (noted_slots outer n x ss) ≡ modify (slot_by x) n ss
-  by_one None ss = refl
-  by_one (Some s) ss = both_modified (with_new m) (noted_slot outer) n ss
 
   -- the block around sees the same slot
   outer_item : (b : Branching) (ss : List Slot) → IsOutside n b
@@ -331,53 +352,7 @@ module _ (n : ℕ) (m : Meaning) (o : Branching) (bs : List Branching) where
       item_cut o.count n (before b ss) ss
       (undone_item b.changes n (take b.count ss) free.1 ∙ item_within n b.count ss free.0)
 
-  abbrev around : Option Slot → List Branching → List Branching
-  around x inner = inner ++ noted_in outer n x o ∷ bs
-
-  same_long : (x : Option Slot) (inner : List Branching) → length (around x inner) ≡ length (inner ++ o ∷ bs)
-  same_long x [] = refl
-  same_long x (b ∷ inner) = ap suc (same_long x inner)
-
-  deeper : (x : Option Slot) (inner : List Branching) → outer < suc (length (around x inner))
-  deeper x [] = omega arith
-  deeper x (b ∷ inner) = let less = deeper x inner in omega arith
-
-  innermost_by : (x : Option Slot) (ss : List Slot) → item_at n (take o.count ss) ≡ x
-      → put n m (record { slots = ss; blocks = o ∷ bs })
-      ≡ record { slots = modify (slot_by x) n ss; blocks = around x [] }
-  innermost_by None ss none =
-      ap (λ (k : Tracked). record { slots = modify (with_new m) n k.slots; blocks = k.blocks })
-      (noted_not n ss o bs none)
-  innermost_by (Some s) ss is =
-      ap (λ (k : Tracked). record { slots = modify (with_new m) n k.slots; blocks = k.blocks })
-      (noted_here n ss o bs s is)
-      ∙ ap (λ xs. record { slots = xs; blocks = around (Some s) [] })
-      (both_modified (with_new m) (noted_slot outer) n ss)
-
-  pub follows_in : (inner : List Branching) (ss : List Slot) (x : Option Slot) → item_at n (take o.count ss) ≡ x
-      → AreTracked ss (inner ++ o ∷ bs) → AreFree n inner
-      → Follows (record { slots = modify (slot_by x) n ss; blocks = around x inner })
-      (known_around (length inner) n m (known_in (record { slots = ss; blocks = inner ++ o ∷ bs })))
-  follows_in [] ss x is tracked free =
-      subst (λ t. Follows t (known_around 0 n m (known_in (record { slots = ss; blocks = o ∷ bs }))))
-      (innermost_by x ss is) (put_follows n m (record { slots = ss; blocks = o ∷ bs }) tracked)
-  follows_in (b ∷ inner) ss x is tracked free =
-      let ps = around x inner in
-      let size = same_long x inner in
-      let rest = follows_in inner (before b ss) x (outer_item b ss free.0 ∙ is) tracked.3 free.1 in
-      let ks = changed_around (length inner) m n (blocks_in (before b ss) (inner ++ o ∷ bs)) in
-      subst (λ d. Follows (record { slots = modify (slot_by x) n ss; blocks = b ∷ ps }) (record {
-        entries = changed_to m n (seen entry_in ss);
-        blocks = record {
-          start = changed_to m n (block_in (suc d) b ss).start;
-          ends = option_map (λ ds. changed_to m n ds) (block_in (suc d) b ss).ends;
-        } ∷ ks;
-      })) size
-      (lifted n (λ k. m) (slot_by x) ss b ps ks
-      (subst (λ d. KeptAt (suc d) ss b) (sym size) (tracked.0, tracked.1, tracked.2))
-      free.0.1 (renews_by x (suc (length ps)) (deeper x inner)) rest)
-
-  -- it has capacity for it
+  -- it has capacity for the entry
   room_by : (ss : List Slot) (x : Option Slot) → item_at n (take o.count ss) ≡ x → AreTracked ss (o ∷ bs)
       → HasRoomFor outer x o.count o.count o
   room_by ss None none tracked = tt
@@ -391,6 +366,123 @@ module _ (n : ℕ) (m : Meaning) (o : Branching) (bs : List Branching) where
   room_in [] ss x is tracked free = room_by ss x is tracked
   room_in (b ∷ inner) ss x is tracked free =
       room_in inner (before b ss) x (outer_item b ss free.0 ∙ is) tracked.3 free.1
+
+  module _ (f : Slot → Slot) (h : Meaning → Meaning) (k : List Block → List Block)
+      (changing : Changing n f h k) where
+    -- what becomes of its slot, by what the block around has of it
+    abbrev slot_by : Option Slot → Slot → Slot
+    slot_by None s = f s
+    slot_by (Some x) s = f (noted_slot outer s)
+
+    renews_by : (x : Option Slot) (e : ℕ) → outer < e → Renews h e (slot_by x)
+    renews_by None e less = renews_new e changing
+    renews_by (Some s) e less = renews_noted outer e less changing
+
+    by_one : (x : Option Slot) (ss : List Slot) → modify f n (noted_slots outer n x ss) ≡ modify (slot_by x) n ss
+    by_one None ss = refl
+    by_one (Some s) ss = both_modified f (noted_slot outer) n ss
+
+    abbrev around : Option Slot → List Branching → List Branching
+    around x inner = inner ++ noted_in outer n x o ∷ bs
+
+    same_long : (x : Option Slot) (inner : List Branching) → length (around x inner) ≡ length (inner ++ o ∷ bs)
+    same_long x [] = refl
+    same_long x (b ∷ inner) = ap suc (same_long x inner)
+
+    deeper : (x : Option Slot) (inner : List Branching) → outer < suc (length (around x inner))
+    deeper x [] = omega arith
+    deeper x (b ∷ inner) = let less = deeper x inner in omega arith
+
+    innermost_by : (x : Option Slot) (ss : List Slot) → item_at n (take o.count ss) ≡ x
+        → put_by f n (record { slots = ss; blocks = o ∷ bs })
+        ≡ record { slots = modify (slot_by x) n ss; blocks = around x [] }
+    innermost_by None ss none =
+        ap (λ (t : Tracked). record { slots = modify f n t.slots; blocks = t.blocks }) (noted_not n ss o bs none)
+    innermost_by (Some s) ss is =
+        ap (λ (t : Tracked). record { slots = modify f n t.slots; blocks = t.blocks }) (noted_here n ss o bs s is)
+        ∙ ap (λ xs. record { slots = xs; blocks = around (Some s) [] }) (both_modified f (noted_slot outer) n ss)
+
+    pub follows_in : (inner : List Branching) (ss : List Slot) (x : Option Slot) → item_at n (take o.count ss) ≡ x
+        → AreTracked ss (inner ++ o ∷ bs) → AreFree n inner
+        → Follows (record { slots = modify (slot_by x) n ss; blocks = around x inner }) (record {
+          entries = at_number (with_meaning h) n (seen entry_in ss);
+          blocks = renewed (length inner) h k n (blocks_in ss (inner ++ o ∷ bs));
+        })
+    follows_in [] ss x is tracked free =
+        subst (λ t. Follows t (record {
+          entries = at_number (with_meaning h) n (seen entry_in ss);
+          blocks = k (blocks_in ss (o ∷ bs));
+        })) (innermost_by x ss is) (changing.moves (record { slots = ss; blocks = o ∷ bs }) tracked)
+    follows_in (b ∷ inner) ss x is tracked free =
+        let ps = around x inner in
+        let size = same_long x inner in
+        let rest = follows_in inner (before b ss) x (outer_item b ss free.0 ∙ is) tracked.3 free.1 in
+        let ks = renewed (length inner) h k n (blocks_in (before b ss) (inner ++ o ∷ bs)) in
+        subst (λ d. Follows (record { slots = modify (slot_by x) n ss; blocks = b ∷ ps }) (record {
+          entries = at_number (with_meaning h) n (seen entry_in ss);
+          blocks = record {
+            start = at_number (with_meaning h) n (block_in (suc d) b ss).start;
+            ends = option_map (λ ds. at_number (with_meaning h) n ds) (block_in (suc d) b ss).ends;
+          } ∷ ks;
+        })) size
+        (lifted n h (slot_by x) ss b ps ks
+        (subst (λ d. KeptAt (suc d) ss b) (sym size) (tracked.0, tracked.1, tracked.2))
+        free.0.1 (renews_by x (suc (length ps)) (deeper x inner)) rest)
+
+-- ---- an entry means something else, or its ends so far do
+
+pub followed_as : {t : Tracked} {k l : Known} → k ≡ l → Follows t k → Follows t l
+followed_as {t} same follows = subst (Follows t) same follows
+
+pub changing_new : (n : ℕ) (m : Meaning) → Changing n (with_new m) (λ j. m) (λ bs. bs)
+changing_new n m = record {
+  within = new_within m;
+  means = λ s. refl;
+  moves = λ t tracked. put_follows n m t tracked;
+}
+
+around_new : (a n : ℕ) (m : Meaning) (bs : List Block) → renewed a (λ j. m) (λ ks. ks) n bs ≡ changed_around a m n bs
+around_new zero n m [] = refl
+around_new zero n m (b ∷ bs) = refl
+around_new (suc a) n m [] = refl
+around_new (suc a) n m (b ∷ bs) =
+    ap (λ ks. record { start = changed_to m n b.start; ends = option_map (λ ds. changed_to m n ds) b.ends } ∷ ks)
+    (around_new a n m bs)
+
+pub as_new : (a n : ℕ) (m : Meaning) (k : Known) → record {
+  entries = at_number (with_meaning (λ j. m)) n k.entries;
+  blocks = renewed a (λ j. m) (λ bs. bs) n k.blocks;
+} ≡ known_around a n m k
+as_new a n m k = ap (λ bs. record { entries = changed_to m n k.entries; blocks = bs }) (around_new a n m k.blocks)
+
+same_ends : (n : ℕ) (o : Option (List Entry))
+    → option_map (λ ds. at_number (with_meaning (λ j. j)) n ds) o ≡ o
+same_ends n None = refl
+same_ends n (Some ds) = ap Some (not_changed n ds)
+
+pub changing_ends : (n : ℕ) (g : Meaning → Meaning)
+    → Changing n (with_ends g) (λ j. j) (λ bs. changed_ends g n bs)
+changing_ends n g = record {
+  within = ends_within g;
+  means = λ s. refl;
+  moves = λ t tracked. subst (λ es. Follows (put_by (with_ends g) n t) (record {
+    entries = es;
+    blocks = changed_ends g n (known_in t).blocks;
+  })) (sym (not_changed n (known_in t).entries)) (ends_follow n g t tracked);
+}
+
+outer_ends : (a n : ℕ) (g : Meaning → Meaning) (bs : List Block)
+    → renewed a (λ j. j) (λ ks. changed_ends g n ks) n bs ≡ ends_around a g n bs
+outer_ends zero n g bs = refl
+outer_ends (suc a) n g [] = refl
+outer_ends (suc a) n g (b ∷ bs) =
+    λ i. record { start = not_changed n b.start i; ends = same_ends n b.ends i } ∷ outer_ends a n g bs i
+
+pub as_ends : (a n : ℕ) (g : Meaning → Meaning) (k : Known) → ◌≡◌ {A = Known} (record {
+  entries = at_number (with_meaning (λ j. j)) n k.entries;
+  blocks = renewed a (λ j. j) (λ bs. changed_ends g n bs) n k.blocks;
+}) (record { entries = k.entries; blocks = ends_around a g n k.blocks })
+as_ends a n g k = λ i. record { entries = not_changed n k.entries i; blocks = outer_ends a n g k.blocks i }
 
 -- ---- the program's blocks
 
@@ -447,7 +539,7 @@ seen_at first second o =
     branchings_both (first ++ o ∷ []) second
     ∙ ap (λ ks. branchings_from second ++ ks) (branchings_more first o)
 
-module _ (n a place : ℕ) (m : Meaning) (slots : List code_slot.Slot) (blocks : List code_branching.Branching)
+module _ (n a place : ℕ) (slots : List code_slot.Slot) (blocks : List code_branching.Branching)
     (o : code_branching.Branching) (less : place < length blocks) (found : o ≡ get_or blocks place o)
     (size : length blocks ≡ place + 1 + a) (tracked : BelongTogether slots blocks)
     (outside : AreOutside n a (branchings_from blocks)) where
@@ -493,7 +585,7 @@ module _ (n a place : ℕ) (m : Meaning) (slots : List code_slot.Slot) (blocks :
   has_room =
       subst (λ d. HasRoomFor d slot (vec_capacity o.changes) (vec_capacity o.recent) (branching_of o)) (sym deep)
       (more_room slot (suc (length rest)) (vec_capacity o.changes) (vec_capacity o.recent) (branching_of o) o.room
-      o.recent_room (room_in n m (branching_of o) rest inner ss slot refl all_tracked free))
+      o.recent_room (room_in n (branching_of o) rest inner ss slot refl all_tracked free))
 
   now_seen : (after : code_branching.Branching) (all : List code_branching.Branching) → all ≡ set blocks place after
       → branchings_from all ≡ inner ++ branching_of after ∷ rest
@@ -501,29 +593,34 @@ module _ (n a place : ℕ) (m : Meaning) (slots : List code_slot.Slot) (blocks :
       ap branchings_from (is ∙ set_at place blocks after less)
       ∙ seen_at (take place blocks) (drop (suc place) blocks) after
 
-  pub put_follows_around : (first second : List Slot) (whole : List code_slot.Slot)
+  pub put_follows_around : {f : Slot → Slot} {h : Meaning → Meaning} {k : List Block → List Block}
+      (changing : Changing n f h k) (first second : List Slot) (whole : List code_slot.Slot)
       (all : List code_branching.Branching) (after : code_branching.Branching)
       → first ≡ noted_slots (place + 1) n slot ss
       → branching_of after ≡ noted_in (place + 1) n slot (branching_of o)
-      → second ≡ modify (with_new m) n first → slots_from whole ≡ second → all ≡ set blocks place after
-      → Follows (tracked_from whole all) (known_around a n m (known_in (tracked_from slots blocks)))
-  put_follows_around first second whole all after noting block putting is put =
+      → second ≡ modify f n first → slots_from whole ≡ second → all ≡ set blocks place after
+      → Follows (tracked_from whole all) (record {
+        entries = at_number (with_meaning h) n (known_in (tracked_from slots blocks)).entries;
+        blocks = renewed a h k n (known_in (tracked_from slots blocks)).blocks;
+      })
+  put_follows_around {f} {h} {k} changing first second whole all after noting block putting is put =
       let d = suc (length rest) in
-      let changed = is ∙ putting ∙ ap (modify (with_new m) n) (noting ∙ (λ i. noted_slots (deep i) n slot ss))
-      ∙ by_one n m (branching_of o) rest slot ss in
+      let x = branching_of o in
+      let g = slot_by n x rest f h k changing slot in
+      let changed = is ∙ putting ∙ ap (modify f n) (noting ∙ (λ i. noted_slots (deep i) n slot ss))
+      ∙ by_one n x rest f h k changing slot ss in
       let now = now_seen after all put
-      ∙ ap (λ k. inner ++ k ∷ rest) (block ∙ (λ i. noted_in (deep i) n slot (branching_of o))) in
-      followed (known_around a n m (known_in (tracked_from slots blocks)))
-      (λ i. record { slots = changed i; blocks = now i })
-      (subst (λ bs. Follows (record {
-        slots = modify (slot_by n m (branching_of o) rest slot) n ss;
-        blocks = inner ++ noted_in d n slot (branching_of o) ∷ rest;
-      }) (known_around a n m (known_in (record { slots = ss; blocks = bs })))) (sym apart_seen)
-      (subst (λ k. Follows (record {
-        slots = modify (slot_by n m (branching_of o) rest slot) n ss;
-        blocks = inner ++ noted_in d n slot (branching_of o) ∷ rest;
-      }) (known_around k n m (known_in (record { slots = ss; blocks = inner ++ branching_of o ∷ rest })))) many
-      (follows_in n m (branching_of o) rest inner ss slot refl all_tracked free)))
+      ∙ ap (λ y. inner ++ y ∷ rest) (block ∙ (λ i. noted_in (deep i) n slot x)) in
+      let known : List Branching → ℕ → Known = λ bs c. record {
+        entries = at_number (with_meaning h) n (seen entry_in ss);
+        blocks = renewed c h k n (blocks_in ss bs);
+      } in
+      followed (known (branchings_from blocks) a) (λ i. record { slots = changed i; blocks = now i })
+      (subst (λ bs. Follows (record { slots = modify g n ss; blocks = inner ++ noted_in d n slot x ∷ rest })
+      (known bs a)) (sym apart_seen)
+      (subst (λ c. Follows (record { slots = modify g n ss; blocks = inner ++ noted_in d n slot x ∷ rest })
+      (known (inner ++ x ∷ rest) c)) many
+      (follows_in n x rest f h k changing inner ss slot refl all_tracked free)))
 
   -- the inner blocks are as they were
   pub stays_around : (after : code_branching.Branching) (all : List code_branching.Branching)

@@ -71,7 +71,7 @@ not_changed_by : (t : Bool) (n : ℕ) (e : Entry) (es : List Entry) → at_numbe
 not_changed_by true n e es h = refl
 not_changed_by false n e es h = ap (λ ks. e ∷ ks) h
 
-not_changed : (n : ℕ) (es : List Entry) → at_number (λ (e : Entry). e) n es ≡ es
+pub not_changed : (n : ℕ) (es : List Entry) → at_number (λ (e : Entry). e) n es ≡ es
 not_changed n [] = refl
 not_changed n (e ∷ es) = not_changed_by (nat_eq (length es) n) n e es (not_changed n es)
 

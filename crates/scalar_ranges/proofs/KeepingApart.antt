@@ -32,6 +32,7 @@ kept_if stages.Nothing p q bs cs stays kept = tt
 kept_if (stages.Going f) p q bs cs stays kept = tt
 kept_if (stages.Ended f) p q bs cs stays kept = tt
 kept_if (stages.Around f a) p q bs cs stays kept = stays a kept
+kept_if (stages.EndedAround f a) p q bs cs stays kept = stays a kept
 
 -- where a branch ends, or a component
 pub kept_next : (s : Stage) (p : ℕ → Option Meaning) (bs cs : List Branching) → ((a : ℕ) → StayApart a bs a cs)
@@ -49,6 +50,7 @@ kept_turned t stages.Nothing p bs cs stays kept = tt
 kept_turned t (stages.Going f) p bs cs stays kept = tt
 kept_turned t (stages.Ended f) p bs cs stays kept = turned_to t f p cs
 kept_turned t (stages.Around f a) p bs cs stays kept = stays (suc a) p kept
+kept_turned t (stages.EndedAround f a) p bs cs stays kept = stays (suc a) p kept
 
 -- ---- a block ends
 
@@ -64,6 +66,8 @@ kept_ended t (stages.Going f) p bs cs stays kept = tt
 kept_ended t (stages.Ended f) p bs cs stays kept = ended_to t f p cs
 kept_ended t (stages.Around f zero) p bs cs stays kept = tt
 kept_ended t (stages.Around f (suc a)) p bs cs stays kept = stays (suc a) p kept
+kept_ended t (stages.EndedAround f zero) p bs cs stays kept = tt
+kept_ended t (stages.EndedAround f (suc a)) p bs cs stays kept = stays (suc a) p kept
 
 fewer_around : (t : Bool) (f : Form) (a : ℕ) → 0 < a
     → stages.Around f (a - 1) ≡ ended_stage t (stages.Around f a)
@@ -74,6 +78,15 @@ fewer_around t f (suc a) some = let less : suc a - 1 ≡ a = omega arith in ap (
 pub one_fewer : (t : Bool) (f : Form) (a : ℕ) → nat_eq a 0 ≡ false
     → stages.Around f (a - 1) ≡ ended_stage t (stages.Around f a)
 one_fewer t f a some = fewer_around t f a (some_of some)
+
+fewer_ended : (t : Bool) (f : Form) (a : ℕ) → 0 < a
+    → stages.EndedAround f (a - 1) ≡ ended_stage t (stages.EndedAround f a)
+fewer_ended t f zero some = absurd (omega arith)
+fewer_ended t f (suc a) some = let less : suc a - 1 ≡ a = omega arith in ap (stages.EndedAround f) less
+
+pub one_fewer_ended : (t : Bool) (f : Form) (a : ℕ) → nat_eq a 0 ≡ false
+    → stages.EndedAround f (a - 1) ≡ ended_stage t (stages.EndedAround f a)
+one_fewer_ended t f a some = fewer_ended t f a (some_of some)
 
 -- ---- a block begins behind the one that has ended
 
@@ -87,7 +100,14 @@ pub begun_apart : (s u : Stage) (p q : ℕ → Option Meaning) (ended : Bool) (t
     → ((i : ℕ) → p i ≡ None → q i ≡ None) → IsKeptApart s p t.blocks
     → IsKeptApart u q (begun_block ended t ∷ t.blocks)
 begun_apart stages.Nothing u p q ended t is inside none fewer kept = absurd (cc)
-begun_apart (stages.Ended f) u p q ended t is inside none fewer kept = absurd (cc)
+begun_apart (stages.Ended f) u p q ended t is inside none fewer kept =
+    let same : stages.EndedAround f 0 ≡ u = cc in
+    subst (λ v. IsKeptApart v q (begun_block ended t ∷ t.blocks)) same
+    ((tt, none), inside_by t.slots t.blocks inside q)
+begun_apart (stages.EndedAround f a) u p q ended t is inside none fewer kept =
+    let same : stages.EndedAround f (suc a) ≡ u = cc in
+    subst (λ v. IsKeptApart v q (begun_block ended t ∷ t.blocks)) same
+    ((tt, none), fewer_apart p q (suc a) t.blocks fewer kept)
 begun_apart (stages.Going f) u p q ended t is inside none fewer kept =
     let same : stages.Around f 0 ≡ u = cc in
     subst (λ v. IsKeptApart v q (begun_block ended t ∷ t.blocks)) same

@@ -26,12 +26,12 @@ use Rattle.scalar_ranges.specs.declared.deferred.Stage.{Stage}
 use Rattle.scalar_ranges.specs.declared.slots.Form.{Form}
 use Rattle.scalar_ranges.specs.MoveLaws.{meaning_at}
 use Rattle.scalar_ranges.specs.Moves.{with_meaning}
-use Rattle.scalar_ranges.specs.Changes.{known_with, known_around, changed_ends}
+use Rattle.scalar_ranges.specs.Changes.{known_with, known_around, changed_ends, ends_around}
 use Rattle.scalar_ranges.specs.Deferring.{of_form}
 use Rattle.scalar_ranges.proofs.Named.{changed_by_meaning, none_changed}
 use Rattle.scalar_ranges.proofs.Deferring.{put_left}
 use Rattle.scalar_ranges.proofs.Postponing.{left_alike, released_going, released_ended, released_around}
-use Rattle.scalar_ranges.proofs.Postponing.{none_now, MeansSame}
+use Rattle.scalar_ranges.proofs.Postponing.{none_now, released_ended_around, MeansSame}
 
 -- ---- one item
 
@@ -452,6 +452,14 @@ module _ (mark n : ℕ) (ls now : List code_left.Left) (some : 0 < mark) (items 
   release_ended f w is left same =
       (λ i. known_left (is i) (left_at mark (items i)) (same i))
       ∙ released_ended f p q n w k (sym left) (left_dead mark n ls some) others
+      ∙ (λ i. known_left (sym is i) p k)
+
+  pub release_ended_around : (a : ℕ) (f : Form) (w : Meaning) → s ≡ stages.EndedAround f a → Some w ≡ p n
+      → after ≡ record { entries = k.entries; blocks = ends_around (suc a) (λ j. of_form f j w) n k.blocks }
+      → known_left s (left_at mark now) after ≡ known_left s p k
+  release_ended_around a f w is left same =
+      (λ i. known_left (is i) (left_at mark (items i)) (same i))
+      ∙ released_ended_around a f p q n w k (sym left) (left_dead mark n ls some) others
       ∙ (λ i. known_left (sym is i) p k)
 
   pub release_around : (a : ℕ) (f : Form) (m w : Meaning) → s ≡ stages.Around f a → Some w ≡ p n

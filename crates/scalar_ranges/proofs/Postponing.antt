@@ -10,10 +10,10 @@ use Rattle.scalar_ranges.specs.Moves.{next_from}
 use Rattle.scalar_ranges.specs.Moves.{component_from, after_block, next, next_component, end, end_of, hulls, taken}
 use Rattle.scalar_ranges.specs.MoveLaws.{meaning_at}
 use Rattle.scalar_ranges.specs.Changes.{known_with, changed_start, changed_ends, changed_to, changed_around}
-use Rattle.scalar_ranges.specs.Changes.{known_around, begin_with, ends_seen}
-use Rattle.scalar_ranges.specs.Deferring.{of_form, entry_left, entries_left, ends_left, around_left, is_inside}
-use Rattle.scalar_ranges.specs.Deferring.{has_ends, is_some, AreStill, IsStill}
-use Rattle.scalar_ranges.specs.Lefts.{known_left, turned_stage, ended_stage, begun_stage, meant_left}
+use Rattle.scalar_ranges.specs.Changes.{known_around, ends_around, begin_with, ends_seen}
+use Rattle.scalar_ranges.specs.Deferring.{of_form, entry_left, entries_left, ends_left, around_left, outer_left}
+use Rattle.scalar_ranges.specs.Deferring.{is_inside, has_ends, is_some}
+use Rattle.scalar_ranges.specs.Lefts.{known_left, turned_stage, ended_stage, begun_stage, meant_left, IsStillFor}
 use Rattle.scalar_ranges.proofs.Nesting.{outermost_short}
 use Rattle.scalar_ranges.proofs.Deferring.{left_long, same_below, none_left, released, changed_left, joined}
 use Rattle.scalar_ranges.proofs.Deferring.{entry_found, meaning_left, cut_left, going_hulls, ended_hulls, going_taken}
@@ -28,6 +28,7 @@ now_long stages.Nothing p k = refl
 now_long (stages.Going f) p k = left_long f p k.entries
 now_long (stages.Ended f) p k = refl
 now_long (stages.Around f a) p k = left_long f p k.entries
+now_long (stages.EndedAround f a) p k = refl
 
 begun_left : (f : Form) (p : ℕ → Option Meaning) (bs : List Block) → begun_with (ends_left f p bs) ≡ begun_with bs
 begun_left f p [] = refl
@@ -38,12 +39,18 @@ begun_around : (a : ℕ) (f : Form) (p : ℕ → Option Meaning) (bs : List Bloc
 begun_around a f p [] = refl
 begun_around a f p (b ∷ bs) = left_long f p b.start
 
+begun_outer : (a : ℕ) (f : Form) (p : ℕ → Option Meaning) (bs : List Block)
+    → begun_with (outer_left (suc a) f p bs) ≡ begun_with bs
+begun_outer a f p [] = refl
+begun_outer a f p (b ∷ bs) = refl
+
 pub begun_now : (s : Stage) (p : ℕ → Option Meaning) (k : Known)
     → begun_with (known_left s p k).blocks ≡ begun_with k.blocks
 begun_now stages.Nothing p k = refl
 begun_now (stages.Going f) p k = refl
 begun_now (stages.Ended f) p k = begun_left f p k.blocks
 begun_now (stages.Around f a) p k = begun_around a f p k.blocks
+begun_now (stages.EndedAround f a) p k = begun_outer a f p k.blocks
 
 same_if : {A : Type 0} (f : A → A) (x : Option A) → ((a : A) → a ≡ f a) → x ≡ option_map f x
 same_if f None same = refl
@@ -66,6 +73,8 @@ meaning_now (stages.Going f) p n k = meaning_left f p n k.entries ∙ meant_same
 meaning_now (stages.Ended f) p n k = same_if (meant_left (stages.Ended f) (p n)) (meaning_at n k.entries) (λ a. refl)
 meaning_now (stages.Around f a) p n k =
     meaning_left f p n k.entries ∙ meant_around a f (p n) (meaning_at n k.entries)
+meaning_now (stages.EndedAround f a) p n k =
+    same_if (meant_left (stages.EndedAround f a) (p n)) (meaning_at n k.entries) (λ m. refl)
 
 abbrev pub entry_meant : Stage → Option Meaning → Entry → Entry
 entry_meant s o e = record { name = e.name; meaning = meant_left s o e.meaning }
@@ -89,6 +98,8 @@ entry_now (stages.Going f) p n k = entry_found f p n k.entries ∙ entry_same f 
 entry_now (stages.Ended f) p n k = same_if (entry_meant (stages.Ended f) (p n)) (entry_at n k.entries) (λ a. refl)
 entry_now (stages.Around f a) p n k =
     entry_found f p n k.entries ∙ entry_around a f (p n) (entry_at n k.entries)
+entry_now (stages.EndedAround f a) p n k =
+    same_if (entry_meant (stages.EndedAround f a) (p n)) (entry_at n k.entries) (λ e. refl)
 
 -- ---- entries that change
 
@@ -141,6 +152,14 @@ same_around (suc a) f p q size (b ∷ bs) short same =
       ends = short_ends f p q size b.ends short.1 same i;
     } ∷ same_around a f p q size bs short.2 same i
 
+same_outer : (a : ℕ) (f : Form) (p q : ℕ → Option Meaning) (size : ℕ) (bs : List Block) → AreShort size bs
+    → ((i : ℕ) → i < size → q i ≡ p i) → outer_left a f q bs ≡ outer_left a f p bs
+same_outer zero f p q size [] short same = refl
+same_outer zero f p q size (b ∷ bs) short same =
+    ap (λ o. record { start = b.start; ends = o } ∷ bs) (short_ends f p q size b.ends short.1 same)
+same_outer (suc a) f p q size [] short same = refl
+same_outer (suc a) f p q size (b ∷ bs) short same = ap (λ ks. b ∷ ks) (same_outer a f p q size bs short.2 same)
+
 pub same_now : (s : Stage) (p q : ℕ → Option Meaning) (k : Known) → HasWhole k.entries k.blocks
     → AreShort (length k.entries) k.blocks → ((i : ℕ) → i < length k.entries → q i ≡ p i)
     → known_left s q k ≡ known_left s p k
@@ -154,6 +173,9 @@ same_now (stages.Around f a) p q k whole short same =
       entries = same_below f p q k.entries same i;
       blocks = same_around (suc a) f p q (length k.entries) k.blocks short same i;
     }
+same_now (stages.EndedAround f a) p q k whole short same =
+    ap (λ bs. record { entries = k.entries; blocks = bs })
+    (same_outer (suc a) f p q (length k.entries) k.blocks short same)
 
 pub declared_now : (s : Stage) (p : ℕ → Option Meaning) (e : Entry) (k : Known) → p (length k.entries) ≡ None
     → known_left s p (record { entries = e ∷ k.entries; blocks = k.blocks })
@@ -167,6 +189,7 @@ declared_now (stages.Around f a) p e k none =
       entries = entry_left f o e ∷ entries_left f p k.entries;
       blocks = around_left (suc a) f p k.blocks;
     }) none
+declared_now (stages.EndedAround f a) p e k none = refl
 
 pub cut_now : (s : Stage) (p : ℕ → Option Meaning) (count : ℕ) (k : Known)
     → known_left s p (record { entries = outermost count k.entries; blocks = k.blocks })
@@ -177,6 +200,7 @@ cut_now (stages.Going f) p count k =
 cut_now (stages.Ended f) p count k = refl
 cut_now (stages.Around f a) p count k =
     ap (λ es. record { entries = es; blocks = around_left (suc a) f p k.blocks }) (cut_left f p count k.entries)
+cut_now (stages.EndedAround f a) p count k = refl
 
 pub put_now : (s : Stage) (p : ℕ → Option Meaning) (n : ℕ) (m : Meaning) (k : Known) → p n ≡ None
     → known_left s p (known_with n m k) ≡ known_with n m (known_left s p k)
@@ -187,6 +211,7 @@ put_now (stages.Ended f) p n m k none = refl
 put_now (stages.Around f a) p n m k none =
     ap (λ es. record { entries = es; blocks = around_left (suc a) f p k.blocks })
     (changed_left f p n (with_meaning (λ j. m)) k.entries none)
+put_now (stages.EndedAround f a) p n m k none = refl
 
 start_left : (f : Form) (p : ℕ → Option Meaning) (g : Meaning → Meaning) (n : ℕ) (bs : List Block)
     → ends_left f p (changed_start g n bs) ≡ changed_start g n (ends_left f p bs)
@@ -201,6 +226,11 @@ start_around a f p g n (b ∷ bs) none =
     ap (λ ds. record { start = ds; ends = option_map (λ ks. entries_left f p ks) b.ends } ∷ around_left a f p bs)
     (changed_left f p n (with_meaning g) b.start none)
 
+start_outer : (a : ℕ) (f : Form) (p : ℕ → Option Meaning) (g : Meaning → Meaning) (n : ℕ) (bs : List Block)
+    → outer_left (suc a) f p (changed_start g n bs) ≡ changed_start g n (outer_left (suc a) f p bs)
+start_outer a f p g n [] = refl
+start_outer a f p g n (b ∷ bs) = refl
+
 pub start_now : (s : Stage) (p : ℕ → Option Meaning) (g : Meaning → Meaning) (n : ℕ) (k : Known) → p n ≡ None
     → known_left s p (record { entries = k.entries; blocks = changed_start g n k.blocks })
     ≡ record { entries = (known_left s p k).entries; blocks = changed_start g n (known_left s p k).blocks }
@@ -210,6 +240,8 @@ start_now (stages.Ended f) p g n k none =
     ap (λ bs. record { entries = k.entries; blocks = bs }) (start_left f p g n k.blocks)
 start_now (stages.Around f a) p g n k none =
     ap (λ bs. record { entries = entries_left f p k.entries; blocks = bs }) (start_around a f p g n k.blocks none)
+start_now (stages.EndedAround f a) p g n k none =
+    ap (λ bs. record { entries = k.entries; blocks = bs }) (start_outer a f p g n k.blocks)
 
 begun_ends : (f : Form) (p : ℕ → Option Meaning) (ended : Bool) (es : List Entry)
     → option_map (λ ds. entries_left f p ds) (ends_seen ended es) ≡ ends_seen ended (entries_left f p es)
@@ -234,7 +266,13 @@ begun_going f p ended es (b ∷ bs) =
 pub begun_behind : (s t : Stage) (p : ℕ → Option Meaning) (ended : Bool) (k : Known) → begun_stage s ≡ Some t
     → known_left t p (begin_with ended k) ≡ begin_with ended (known_left s p k)
 begun_behind stages.Nothing t p ended k is = absurd (cc)
-begun_behind (stages.Ended f) t p ended k is = absurd (cc)
+begun_behind (stages.Ended f) t p ended k is =
+    let same : stages.EndedAround f 0 ≡ t = cc in
+    subst (λ u. known_left u p (begin_with ended k) ≡ begin_with ended (known_left (stages.Ended f) p k)) same refl
+begun_behind (stages.EndedAround f a) t p ended k is =
+    let same : stages.EndedAround f (suc a) ≡ t = cc in
+    subst (λ u. known_left u p (begin_with ended k) ≡ begin_with ended (known_left (stages.EndedAround f a) p k)) same
+    refl
 begun_behind (stages.Going f) t p ended k is =
     let same : stages.Around f 0 ≡ t = cc in
     subst (λ u. known_left u p (begin_with ended k) ≡ begin_with ended (known_left (stages.Going f) p k)) same
@@ -256,7 +294,7 @@ cut_around f p start es =
     cut_left f p (length start) es ∙ ap (λ k. outermost k (entries_left f p es)) (sym (left_long f p start))
 
 next_by : (s : Stage) (p : ℕ → Option Meaning) (es start : List Entry) (o : Option (List Entry)) (bs : List Block)
-    → AreStill p o (outermost (length start) es) → AreWhole o (outermost (length start) es)
+    → IsStillFor s p es (record { start = start; ends = o } ∷ bs) → AreWhole o (outermost (length start) es)
     → known_left (turned_stage (is_some o) s) p (next_from es (record { start = start; ends = o } ∷ bs))
     ≡ next (known_left s p (record { entries = es; blocks = record { start = start; ends = o } ∷ bs }))
 next_by stages.Nothing p es start o bs still whole = refl
@@ -283,9 +321,10 @@ next_by (stages.Around f a) p es start (Some ds) bs still whole =
       entries = entries_left f p start;
       blocks = record { start = entries_left f p start; ends = Some ks } ∷ around_left a f p bs;
     }) (around_hulls f p ds us whole still ∙ ap (hulls (entries_left f p ds)) (cut_around f p start es))
+next_by (stages.EndedAround f a) p es start o bs still whole = refl
 
 pub next_now : (s : Stage) (p : ℕ → Option Meaning) (es : List Entry) (bs : List Block) → is_inside bs ≡ true
-    → IsStill p es bs → HasWhole es bs → known_left (turned_stage (has_ends bs) s) p (next_from es bs)
+    → IsStillFor s p es bs → HasWhole es bs → known_left (turned_stage (has_ends bs) s) p (next_from es bs)
     ≡ next (known_left s p (record { entries = es; blocks = bs }))
 next_now s p es [] inside still whole = absurd (cc)
 next_now s p es (b ∷ bs) inside still whole = next_by s p es b.start b.ends bs still whole.0
@@ -296,6 +335,7 @@ next_outside stages.Nothing p es [] inside = refl
 next_outside (stages.Going f) p es [] inside = refl
 next_outside (stages.Ended f) p es [] inside = refl
 next_outside (stages.Around f a) p es [] inside = refl
+next_outside (stages.EndedAround f a) p es [] inside = refl
 next_outside s p es (b ∷ bs) inside = absurd (cc)
 
 -- ---- a component ends
@@ -307,6 +347,7 @@ outside_by stages.Nothing p ns es [] inside = refl
 outside_by (stages.Going f) p ns es [] inside = refl
 outside_by (stages.Ended f) p ns es [] inside = refl
 outside_by (stages.Around f a) p ns es [] inside = refl
+outside_by (stages.EndedAround f a) p ns es [] inside = refl
 outside_by s p ns es (b ∷ bs) inside = absurd (cc)
 
 pub component_outside : (s : Stage) (p : ℕ → Option Meaning) (ns : List ℕ) (k : Known) → is_inside k.blocks ≡ false
@@ -366,6 +407,12 @@ around_now a f p ns es (b ∷ bs) whole =
       blocks = record { start = entries_left f p b.start; ends = o } ∷ around_left a f p bs;
     }) (around_by f p ns es b.start b.ends whole.0)
 
+pub outer_now : (a : ℕ) (f : Form) (p : ℕ → Option Meaning) (ns : List ℕ) (es : List Entry) (bs : List Block)
+    → known_left (stages.EndedAround f a) p (component_from ns es bs)
+    ≡ component_from ns es (outer_left (suc a) f p bs)
+outer_now a f p ns es [] = refl
+outer_now a f p ns es (b ∷ bs) = refl
+
 -- ---- a block ends
 
 end_by : (s : Stage) (p : ℕ → Option Meaning) (es start : List Entry) (o : Option (List Entry)) (bs : List Block)
@@ -381,6 +428,10 @@ end_by (stages.Around f zero) p es start None (b ∷ bs) = refl
 end_by (stages.Around f zero) p es start (Some ds) (b ∷ bs) = refl
 end_by (stages.Around f (suc a)) p es start None bs = refl
 end_by (stages.Around f (suc a)) p es start (Some ds) bs = refl
+end_by (stages.EndedAround f zero) p es start None bs = refl
+end_by (stages.EndedAround f zero) p es start (Some ds) bs = refl
+end_by (stages.EndedAround f (suc a)) p es start None bs = refl
+end_by (stages.EndedAround f (suc a)) p es start (Some ds) bs = refl
 
 pub end_now : (s : Stage) (p : ℕ → Option Meaning) (es : List Entry) (bs : List Block) → is_inside bs ≡ true
     → known_left (ended_stage (has_ends bs) s) p (after_block es bs)
@@ -395,6 +446,7 @@ end_outside stages.Nothing p es [] inside = refl
 end_outside (stages.Going f) p es [] inside = refl
 end_outside (stages.Ended f) p es [] inside = refl
 end_outside (stages.Around f a) p es [] inside = refl
+end_outside (stages.EndedAround f a) p es [] inside = refl
 end_outside s p es (b ∷ bs) inside = absurd (cc)
 
 -- ---- nothing more is put off of an entry
@@ -431,6 +483,24 @@ pub released_ended : (f : Form) (p q : ℕ → Option Meaning) (n : ℕ) (w : Me
     }) ≡ known_left (stages.Ended f) p k
 released_ended f p q n w k is none others =
     ap (λ bs. record { entries = k.entries; blocks = bs }) (released_blocks f p q n w k.blocks is none others)
+
+-- the same of the ends of the block around the innermost ones
+released_outer : (a : ℕ) (f : Form) (p q : ℕ → Option Meaning) (n : ℕ) (w : Meaning) (bs : List Block) → p n ≡ Some w
+    → q n ≡ None → ((i : ℕ) → nat_eq n i ≡ false → q i ≡ p i)
+    → outer_left a f q (ends_around a (λ m. of_form f m w) n bs) ≡ outer_left a f p bs
+released_outer zero f p q n w bs is none others = released_blocks f p q n w bs is none others
+released_outer (suc a) f p q n w [] is none others = refl
+released_outer (suc a) f p q n w (b ∷ bs) is none others =
+    ap (λ ks. b ∷ ks) (released_outer a f p q n w bs is none others)
+
+pub released_ended_around : (a : ℕ) (f : Form) (p q : ℕ → Option Meaning) (n : ℕ) (w : Meaning) (k : Known)
+    → p n ≡ Some w → q n ≡ None → ((i : ℕ) → nat_eq n i ≡ false → q i ≡ p i)
+    → known_left (stages.EndedAround f a) q (record {
+      entries = k.entries;
+      blocks = ends_around (suc a) (λ m. of_form f m w) n k.blocks;
+    }) ≡ known_left (stages.EndedAround f a) p k
+released_ended_around a f p q n w k is none others =
+    ap (λ bs. record { entries = k.entries; blocks = bs }) (released_outer (suc a) f p q n w k.blocks is none others)
 
 -- the same in blocks that began behind
 abbrev number_around : ℕ → (Entry → Entry) → ℕ → List Block → List Block
@@ -519,6 +589,12 @@ none_around (suc a) f p (b ∷ bs) none =
     λ i. record { start = none_left f p b.start none i; ends = none_ends f p b.ends none i }
     ∷ none_around a f p bs none i
 
+none_outer : (a : ℕ) (f : Form) (p : ℕ → Option Meaning) (bs : List Block) → ((i : ℕ) → p i ≡ None)
+    → outer_left a f p bs ≡ bs
+none_outer zero f p bs none = none_blocks f p bs none
+none_outer (suc a) f p [] none = refl
+none_outer (suc a) f p (b ∷ bs) none = ap (λ ks. b ∷ ks) (none_outer a f p bs none)
+
 pub none_now : (s : Stage) (p : ℕ → Option Meaning) (k : Known) → ((i : ℕ) → p i ≡ None) → known_left s p k ≡ k
 none_now stages.Nothing p k none = refl
 none_now (stages.Going f) p k none =
@@ -527,3 +603,5 @@ none_now (stages.Ended f) p k none =
     ap (λ bs. record { entries = k.entries; blocks = bs }) (none_blocks f p k.blocks none)
 none_now (stages.Around f a) p k none =
     λ i. record { entries = none_left f p k.entries none i; blocks = none_around (suc a) f p k.blocks none i }
+none_now (stages.EndedAround f a) p k none =
+    ap (λ bs. record { entries = k.entries; blocks = bs }) (none_outer (suc a) f p k.blocks none)

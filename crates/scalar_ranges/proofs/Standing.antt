@@ -10,13 +10,16 @@ use Rattle.scalar_ranges.specs.declared.slots.Change as code_change
 use Rattle.scalar_ranges.specs.declared.scope.Meaning as code_meaning
 use Rattle.scalar_ranges.specs.declared.changes.Tracked as code_tracked
 use Rattle.scalar_ranges.specs.Environments.{item_at}
-use Rattle.scalar_ranges.specs.Moves.{end_of, is_one_of}
+use Rattle.scalar_ranges.specs.Moves.{end_of, is_one_of, Known}
 use Rattle.scalar_ranges.specs.Entries.{Meaning, Entry}
 use Rattle.scalar_ranges.specs.Changes.{Slot, Branching, entry_in, start_in, end_in, seen, ends_seen, block_in, before}
 use Rattle.scalar_ranges.specs.Changes.{Change, AreTracked, numbers_of, blocks_in}
 use Rattle.scalar_ranges.specs.ChangeViews.{meaning_of, slots_from, changes_from, branching_of, branchings_from}
 use Rattle.scalar_ranges.specs.ChangeViews.{BelongTogether}
 use Rattle.scalar_ranges.specs.TrackedViews.{tracked_of, known_by}
+use Rattle.scalar_ranges.specs.declared.deferred.Stage.{Stage}
+use Rattle.scalar_ranges.specs.declared.deferred.Stage.TheVariants as stages
+use Rattle.scalar_ranges.specs.Lefts.{IsStillFor}
 use Rattle.scalar_ranges.specs.Deferring.{AreAlike, AreNone, AreStill, IsStill}
 use Rattle.scalar_ranges.proofs.Following.{end_is, map_reversed}
 use Rattle.scalar_ranges.proofs.Numbered.{numbers_alike, reverse_cons}
@@ -154,6 +157,14 @@ are_short t =
     let ss = (tracked_of t).slots in
     let long = seen_long entry_in ss in
     short_in (length (seen entry_in ss)) ss (tracked_of t).blocks (omega arith)
+
+pub still_for : (s : Stage) (p : ℕ → Option Meaning) (k : Known) → IsStill p k.entries k.blocks
+    → IsStillFor s p k.entries k.blocks
+still_for stages.Nothing p k still = still
+still_for (stages.Going f) p k still = still
+still_for (stages.Ended f) p k still = still
+still_for (stages.Around f a) p k still = still
+still_for (stages.EndedAround f a) p k still = tt
 
 -- ---- a loop over the changes
 

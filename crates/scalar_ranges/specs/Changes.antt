@@ -481,6 +481,12 @@ changed_around (suc a) m n (b ∷ bs) =
     record { start = changed_to m n b.start; ends = option_map (λ ds. changed_to m n ds) b.ends }
     ∷ changed_around a m n bs
 
+-- an entry that means something else at the ends so far of the block around the innermost ones, as many as this
+abbrev pub ends_around : ℕ → (Meaning → Meaning) → ℕ → List Block → List Block
+ends_around zero f n bs = changed_ends f n bs
+ends_around (suc a) f n [] = []
+ends_around (suc a) f n (b ∷ bs) = b ∷ ends_around a f n bs
+
 -- an entry that means something else where the innermost blocks began, and here
 abbrev pub known_around : ℕ → ℕ → Meaning → Known → Known
 known_around a n m k = record { entries = changed_to m n k.entries; blocks = changed_around a m n k.blocks }

@@ -46,6 +46,12 @@ around_left a f p [] = []
 around_left zero f p (b ∷ bs) = b ∷ bs
 around_left (suc a) f p (b ∷ bs) = block_left f p b ∷ around_left a f p bs
 
+-- the ends of the block around the innermost ones, as many as this
+abbrev pub outer_left : ℕ → Form → (ℕ → Option Meaning) → List Block → List Block
+outer_left zero f p bs = ends_left f p bs
+outer_left (suc a) f p [] = []
+outer_left (suc a) f p (b ∷ bs) = b ∷ outer_left a f p bs
+
 -- whether there is a block, and whether the innermost one has ends
 abbrev pub is_inside : List Block → Bool
 is_inside [] = false

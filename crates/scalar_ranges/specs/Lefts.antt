@@ -11,12 +11,12 @@ use Rattle.scalar_ranges.specs.declared.changes.Tracked as code_tracked
 use Rattle.scalar_ranges.specs.declared.slots.Form.TheVariants as forms
 use Rattle.scalar_ranges.specs.ChangeViews.{branchings_from}
 use Rattle.scalar_ranges.specs.EntryViews.{meaning_of}
-use Rattle.scalar_ranges.specs.Entries.{Meaning}
+use Rattle.scalar_ranges.specs.Entries.{Meaning, Entry}
 use Rattle.scalar_ranges.specs.Environments.{item_at}
-use Rattle.scalar_ranges.specs.Moves.{Known, is_one_of}
+use Rattle.scalar_ranges.specs.Moves.{Known, Block, is_one_of}
 use Rattle.scalar_ranges.specs.Changes.{Branching, modify}
 use Rattle.scalar_ranges.specs.Deferring.{of_form, further, entries_left, ends_left}
-use Rattle.scalar_ranges.specs.Deferring.{around_left, AreApart, AreApart-prop}
+use Rattle.scalar_ranges.specs.Deferring.{around_left, outer_left, IsStill, AreApart, AreApart-prop}
 
 -- what is put off of an entry
 abbrev pub left_if : ℕ → Option code_left.Left → Option Meaning
@@ -33,6 +33,7 @@ known_left (stages.Going f) p k = record { entries = entries_left f p k.entries;
 known_left (stages.Ended f) p k = record { entries = k.entries; blocks = ends_left f p k.blocks }
 known_left (stages.Around f a) p k =
     record { entries = entries_left f p k.entries; blocks = around_left (suc a) f p k.blocks }
+known_left (stages.EndedAround f a) p k = record { entries = k.entries; blocks = outer_left (suc a) f p k.blocks }
 
 -- where a branch ends, of a block that had ends before or not
 abbrev pub turned_stage : Bool → Stage → Stage
@@ -40,6 +41,7 @@ turned_stage ended stages.Nothing = stages.Nothing
 turned_stage ended (stages.Going f) = stages.Ended (if ended then forms.Ahead else f)
 turned_stage ended (stages.Ended f) = if ended then stages.Ended (further f) else stages.Nothing
 turned_stage ended (stages.Around f a) = stages.Around f a
+turned_stage ended (stages.EndedAround f a) = stages.EndedAround f a
 
 -- where a component ends
 abbrev pub taken_stage : Stage → Stage
@@ -47,6 +49,7 @@ taken_stage stages.Nothing = stages.Nothing
 taken_stage (stages.Going f) = stages.Ended f
 taken_stage (stages.Ended f) = stages.Ended f
 taken_stage (stages.Around f a) = stages.Around f a
+taken_stage (stages.EndedAround f a) = stages.EndedAround f a
 
 -- where a block ends, that had ends or not
 abbrev pub ended_stage : Bool → Stage → Stage
@@ -55,13 +58,24 @@ ended_stage ended (stages.Going f) = stages.Nothing
 ended_stage ended (stages.Ended f) = if ended then stages.Going f else stages.Nothing
 ended_stage ended (stages.Around f zero) = stages.Going f
 ended_stage ended (stages.Around f (suc a)) = stages.Around f a
+ended_stage ended (stages.EndedAround f zero) = stages.Ended f
+ended_stage ended (stages.EndedAround f (suc a)) = stages.EndedAround f a
 
 -- where a block begins and the list stays put off around it
 abbrev pub begun_stage : Stage → Option Stage
 begun_stage stages.Nothing = None
 begun_stage (stages.Going f) = Some (stages.Around f 0)
-begun_stage (stages.Ended f) = None
+begun_stage (stages.Ended f) = Some (stages.EndedAround f 0)
 begun_stage (stages.Around f a) = Some (stages.Around f (suc a))
+begun_stage (stages.EndedAround f a) = Some (stages.EndedAround f (suc a))
+
+-- that a branch may end where the list stays put off
+abbrev pub IsStillFor : Stage → (ℕ → Option Meaning) → List Entry → List Block → Type 0
+IsStillFor stages.Nothing p es bs = IsStill p es bs
+IsStillFor (stages.Going f) p es bs = IsStill p es bs
+IsStillFor (stages.Ended f) p es bs = IsStill p es bs
+IsStillFor (stages.Around f a) p es bs = IsStill p es bs
+IsStillFor (stages.EndedAround f a) p es bs = Unit {0}
 
 -- what an entry means, of which this is put off
 abbrev pub meant_left : Stage → Option Meaning → Meaning → Meaning
@@ -110,12 +124,14 @@ IsKeptApart stages.Nothing p bs = Unit {0}
 IsKeptApart (stages.Going f) p bs = Unit {0}
 IsKeptApart (stages.Ended f) p bs = Unit {0}
 IsKeptApart (stages.Around f a) p bs = AreApart p (suc a) bs
+IsKeptApart (stages.EndedAround f a) p bs = AreApart p (suc a) bs
 
 pub IsKeptApart-prop : (s : Stage) (p : ℕ → Option Meaning) (bs : List Branching) → IsProp (IsKeptApart s p bs)
 IsKeptApart-prop stages.Nothing p bs = hlevel props
 IsKeptApart-prop (stages.Going f) p bs = hlevel props
 IsKeptApart-prop (stages.Ended f) p bs = hlevel props
 IsKeptApart-prop (stages.Around f a) p bs = AreApart-prop p (suc a) bs
+IsKeptApart-prop (stages.EndedAround f a) p bs = AreApart-prop p (suc a) bs
 
 -- the same of what the program has
 abbrev pub KeepsApart : Stage → ℕ → List code_left.Left → code_tracked.Tracked → Type 0

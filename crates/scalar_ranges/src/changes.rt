@@ -1,6 +1,6 @@
 //! The blocks of branches around a place, by lists of what changed in them.
 
-ghost use Rattle.std.specs.Prelude.{◌≡◌, ◌≤◌, ◌+◌, ℕ, suc, ◌++◌, true, [], OnOk, OnErr, map, length, option_map};
+ghost use Rattle.std.specs.Prelude.{◌≡◌, ◌≤◌, ◌<◌, ◌+◌, ℕ, suc, ◌++◌, true, [], OnOk, OnErr, map, length, option_map};
 ghost use Rattle.std.specs.Prelude.{vec_capacity, MatchOption, take};
 ghost use Rattle.scalar_ranges.specs.Environments.{item_at};
 ghost use Rattle.scalar_ranges.specs.Changes.{modify, numbers_of, each, turned_slots, joined_by, component_slots};
@@ -32,7 +32,7 @@ impl<'a> Tracked<'a> {
     ghost use Rattle.scalar_ranges.specs.Entries.{entry_at};
     ghost use Rattle.scalar_ranges.specs.MoveLaws.{meaning_at};
     ghost use Rattle.scalar_ranges.specs.Changes.{is_new, note, is_open, touch, put_by, put, put_start, begun};
-    ghost use Rattle.scalar_ranges.specs.Changes.{put_ends, AreOutside, known_around};
+    ghost use Rattle.scalar_ranges.specs.Changes.{put_ends, AreOutside, known_around, ends_around};
     ghost use Rattle.scalar_ranges.specs.Deferring.{of_form, is_inside, has_ends};
     ghost use Rattle.scalar_ranges.specs.Changes.{declared, cut};
     ghost use Rattle.scalar_ranges.specs.Narrowing.{left_of, with_range};
@@ -179,6 +179,14 @@ impl<'a> Tracked<'a> {
         self.update(number, Update::Mean(meaning));
     }
 
+    /// The place of the block around the innermost one and `further` others.
+    fn place_around(&self, further: usize) -> usize
+        requires { suc further < length self.now.blocks.items }
+        ensures { result + 2 + further ≡ length self.now.blocks.items }
+    {
+        self.blocks.len() - 2 - further
+    }
+
     /// An entry means something else where the innermost block began and `further` blocks around it, and here. The
     /// block around them has it in its lists.
     pub(crate) fn put_around(&mut self, number: usize, meaning: Meaning, further: usize)
@@ -187,9 +195,31 @@ impl<'a> Tracked<'a> {
         ensures apart { StayApart (suc further) (tracked_of self.old).blocks
             (suc further) (tracked_of self.new).blocks }
     {
-        let place = self.blocks.len() - 2 - further;
+        let place = self.place_around(further);
         note_in(&mut self.blocks[place], &mut self.slots, number, place + 1);
         modify(&mut self.slots, number, Update::Mean(meaning));
+    }
+
+    /// The ends so far are joined with what a block that has ended left of the entry, of the block around the innermost
+    /// one and `further` others. It has the entry in its lists.
+    pub(crate) fn put_end_around(
+        &mut self,
+        number: usize,
+        form: Form,
+        left: Meaning,
+        further: usize,
+    )
+        requires { AreOutside number (suc further) (tracked_of self.old).blocks }
+        ensures known { known_by self.new ≡ record {
+          entries = (known_by self.old).entries;
+          blocks = ends_around (suc further) (λ m. of_form form m (meaning_of left)) number (known_by self.old).blocks;
+        } }
+        ensures apart { StayApart (suc further) (tracked_of self.old).blocks
+            (suc further) (tracked_of self.new).blocks }
+    {
+        let place = self.place_around(further);
+        note_in(&mut self.blocks[place], &mut self.slots, number, place + 1);
+        modify(&mut self.slots, number, Update::Leave(form, left));
     }
 
     /// The branches of the innermost block begin from here on with what a comparison with a constant leaves of the

@@ -39,6 +39,8 @@ pub(crate) enum Stage {
     /// It is in the branch that goes on of a block, where others began behind it: the innermost one, and so many
     /// around that one.
     Around(Form, usize),
+    /// The same of a branch that has ended of such a block.
+    EndedAround(Form, usize),
 }
 
 /// Entries and blocks, where what the last block left is not yet in the slots: it is joined with what they say where
@@ -86,6 +88,7 @@ impl Stage {
             Stage::Ended(form) if ended => Stage::Ended(form),
             Stage::Ended(_) => Stage::Nothing,
             Stage::Around(form, further) => Stage::Around(form, further),
+            Stage::EndedAround(form, further) => Stage::EndedAround(form, further),
         }
     }
 
@@ -97,6 +100,8 @@ impl Stage {
             Stage::Ended(form) if ended => Stage::Going(form),
             Stage::Around(form, 0) => Stage::Going(form),
             Stage::Around(form, further) => Stage::Around(form, further - 1),
+            Stage::EndedAround(form, 0) => Stage::Ended(form),
+            Stage::EndedAround(form, further) => Stage::EndedAround(form, further - 1),
             _ => Stage::Nothing,
         }
     }
@@ -107,8 +112,12 @@ impl Stage {
     {
         match self {
             Stage::Going(form) => Some(Stage::Around(form, 0)),
+            Stage::Ended(form) => Some(Stage::EndedAround(form, 0)),
             Stage::Around(form, further) if further < usize::MAX => {
                 Some(Stage::Around(form, further + 1))
+            }
+            Stage::EndedAround(form, further) if further < usize::MAX => {
+                Some(Stage::EndedAround(form, further + 1))
             }
             _ => None,
         }
@@ -136,7 +145,7 @@ impl<'a> Deferred<'a> {
     ghost use Rattle.scalar_ranges.specs.TrackedViews.{known_by};
     ghost use Rattle.scalar_ranges.specs.ChangeViews.{changes_from};
     ghost use Rattle.scalar_ranges.specs.Deferring.{AreNone, IsStill, is_inside};
-    ghost use Rattle.scalar_ranges.specs.Lefts.{left_at, begun_stage};
+    ghost use Rattle.scalar_ranges.specs.Lefts.{left_at, begun_stage, IsStillFor};
     ghost use Rattle.scalar_ranges.specs.declared.deferred.Stage.TheVariants.{Nothing};
 
     /// No entries, and no blocks.
@@ -246,6 +255,9 @@ impl<'a> Deferred<'a> {
                     }
                 }
                 Stage::Ended(form) => self.tracked.put_end(number, form, left),
+                Stage::EndedAround(form, further) => {
+                    self.tracked.put_end_around(number, form, left, further);
+                }
                 Stage::Around(form, further) => {
                     if let Some(meaning) = self.tracked.meaning(number) {
                         self.tracked
@@ -336,6 +348,17 @@ impl<'a> Deferred<'a> {
         }
     }
 
+    /// Whether a branch may end where the list stays put off.
+    fn can_turn(&self) -> bool
+        ensures { result ≡ true → IsStillFor self.now.stage (left_by self.now) (known_by self.now.tracked).entries
+            (known_by self.now.tracked).blocks }
+    {
+        match self.stage {
+            Stage::EndedAround(_, _) => true,
+            _ => self.is_still(),
+        }
+    }
+
     /// Whether nothing is put off of the entries in a list.
     fn are_released(&self, changes: &[Change]) -> bool
         ensures { result ≡ true → AreNone (left_by self.now) (changes_from changes.now) }
@@ -375,7 +398,7 @@ impl<'a> Deferred<'a> {
     fn turn(&mut self)
         ensures { known_now self.new ≡ next (known_now self.old) }
     {
-        if self.is_still() {
+        if self.can_turn() {
             if self.tracked.is_inside() {
                 self.stage = self.stage.turned(self.tracked.has_ends());
             }
@@ -395,6 +418,7 @@ impl<'a> Deferred<'a> {
         match self.stage {
             Stage::Nothing => (),
             Stage::Around(_, _) => (),
+            Stage::EndedAround(_, _) => (),
             Stage::Ended(_) => move_marks(&mut self.lefts, numbers, self.mark, 0),
             Stage::Going(form) => {
                 if self.mark < usize::MAX {
@@ -431,7 +455,9 @@ impl<'a> Deferred<'a> {
     fn is_short(&self) -> bool {
         match self.stage {
             Stage::Ended(_) => self.listed.len() < self.tracked.changed(),
-            Stage::Around(_, _) => self.listed.len() / FEWER < self.tracked.changed(),
+            Stage::Around(_, _) | Stage::EndedAround(_, _) => {
+                self.listed.len() / FEWER < self.tracked.changed()
+            }
             _ => false,
         }
     }

@@ -10,10 +10,11 @@ use Rattle.scalar_ranges.specs.ChangeViews.{branchings_from}
 use Rattle.scalar_ranges.specs.declared.deferred.Stage.TheVariants.{Ended}
 use Rattle.scalar_ranges.proofs.Standing.{has_whole}
 use Rattle.scalar_ranges.proofs.LeftLists.{left_dropped, left_taken, kept_dropped, kept_taken}
-use Rattle.scalar_ranges.proofs.Postponing.{going_now, taken_now, around_now}
+use Rattle.scalar_ranges.proofs.Postponing.{going_now, taken_now, around_now, outer_now}
 use Rattle.scalar_ranges.proofs.KeepingApart.{kept_next}
 use Rattle.scalar_ranges.proofs.deferred.Deferred.next_component.Goals as goal
 use Rattle.scalar_ranges.proofs.deferred.Deferred.next_component.Goals.{in-Nothing, in-Around, in-Ended}
+use Rattle.scalar_ranges.proofs.deferred.Deferred.next_component.Goals.{in-EndedAround}
 use Rattle.scalar_ranges.proofs.deferred.Deferred.next_component.Goals.{in-Going+then-self-lt18446744073709551615}
 use Rattle.scalar_ranges.proofs.deferred.Deferred.next_component.Goals.{in-Going+else-self-lt18446744073709551615}
 
@@ -28,6 +29,8 @@ invariant_of-self c =
       kept = elim c.match-self.branch [
         | in-Nothing w ↦ subst (λ t. IsKept t.1.1.1.0 t.1.1.0.items t.1.1.1.1.1.0.items) (sym w.self-is) old.kept
         | in-Around w ↦ subst (λ t. IsKept t.1.1.1.0 t.1.1.0.items t.1.1.1.1.1.0.items) (sym w.self-is) old.kept
+        | in-EndedAround w ↦
+            subst (λ t. IsKept t.1.1.1.0 t.1.1.0.items t.1.1.1.1.1.0.items) (sym w.self-is) old.kept
         | in-Ended w ↦
             let items = with_items_is old.lefts w.move_marks.new.lefts (search (rules, places)) ∙ w.move_marks.ensures
             ∙ ap (each (moved_mark old.mark 0) ns) w.deref_mut.ensures.value in
@@ -51,6 +54,10 @@ invariant_of-self c =
             → IsKeptApart t.1.1.1.1.0 (left_at t.1.1.1.0 t.1.1.0.items) cs) (sym w.self-is)
             (λ stays. kept_next old.stage p bs cs stays old.apart) c.next_component.ensures.apart
         | in-Around w ↦
+            subst (λ t. ((a : ℕ) → StayApart a (branchings_from t.1.0.blocks.items) a cs)
+            → IsKeptApart t.1.1.1.1.0 (left_at t.1.1.1.0 t.1.1.0.items) cs) (sym w.self-is)
+            (λ stays. kept_next old.stage p bs cs stays old.apart) c.next_component.ensures.apart
+        | in-EndedAround w ↦
             subst (λ t. ((a : ℕ) → StayApart a (branchings_from t.1.0.blocks.items) a cs)
             → IsKeptApart t.1.1.1.1.0 (left_at t.1.1.1.0 t.1.1.0.items) cs) (sym w.self-is)
             (λ stays. kept_next old.stage p bs cs stays old.apart) c.next_component.ensures.apart
@@ -94,6 +101,13 @@ returns c =
           ∙ (λ i. known_left (w.in-Around.is i) p (next_component ns k))
           ∙ around_now w.in-Around.field-1 f p ns k.entries k.blocks (has_whole old.tracked)
           ∙ ap (next_component ns) (λ i. known_left (sym w.in-Around.is i) p k)
+      | in-EndedAround w ↦
+          let f = w.in-EndedAround.field-0 in
+          ap (λ t. known_left t.1.1.1.1.0 (left_at t.1.1.1.0 t.1.1.0.items) (next_component ns (known_by t.1.0)))
+          w.self-is
+          ∙ (λ i. known_left (w.in-EndedAround.is i) p (next_component ns k))
+          ∙ outer_now w.in-EndedAround.field-1 f p ns k.entries k.blocks
+          ∙ ap (next_component ns) (λ i. known_left (sym w.in-EndedAround.is i) p k)
       | in-Ended w ↦
           let f = w.in-Ended.field-0 in
           let items = with_items_is old.lefts w.move_marks.new.lefts (search (rules, places)) ∙ w.move_marks.ensures

@@ -13,13 +13,14 @@ use Rattle.scalar_ranges.specs.Lefts.{with_mark, IsKept, IsKeptApart, KeepsApart
 use Rattle.scalar_ranges.specs.TrackedViews.{known_by}
 use Rattle.scalar_ranges.proofs.Fitting.{ends_known}
 use Rattle.scalar_ranges.proofs.LeftLists.{kept_dead, release_nothing, release_none, release_going, release_beyond}
-use Rattle.scalar_ranges.proofs.LeftLists.{release_ended, release_around}
+use Rattle.scalar_ranges.proofs.LeftLists.{release_ended, release_around, release_ended_around}
 use Rattle.scalar_ranges.proofs.KeepingApart.{kept_if, none_dead, outside_of, means_same, means_some}
 use Rattle.scalar_ranges.proofs.Staying.{fewer_apart}
 use Rattle.scalar_ranges.proofs.deferred.Deferred.release.Goals as goal
 use Rattle.scalar_ranges.proofs.deferred.Deferred.release.Goals.{After-set_mark, in-Some+in-Nothing, in_default}
 use Rattle.scalar_ranges.proofs.deferred.Deferred.release.Goals.{in-Some+in-Going+in-Some-meaning, in-Some+in-Ended}
 use Rattle.scalar_ranges.proofs.deferred.Deferred.release.Goals.{in-Some+in-Going+in_default-meaning}
+use Rattle.scalar_ranges.proofs.deferred.Deferred.release.Goals.{in-Some+in-EndedAround}
 use Rattle.scalar_ranges.proofs.deferred.Deferred.release.Goals.{in-Some+in-Around+in-Some-meaning-2}
 use Rattle.scalar_ranges.proofs.deferred.Deferred.release.Goals.{in-Some+in-Around+in_default-meaning-2}
 
@@ -41,6 +42,13 @@ put_around-requires c =
     outside c.args.self.now c.args.number (meaning_of c.in-Some.left) c.in-Around.form c.in-Around.further
     c.in-Around.is c.in-Some.ensures
 
+pub put_end_around-requires : goal.put_end_around-requires
+put_end_around-requires c =
+    let old = c.args.self.now in
+    outside_of (left_at old.mark old.lefts.items) c.args.number (meaning_of c.in-Some.left)
+    (suc c.in-EndedAround.further) (branchings_from old.tracked.blocks.items) (sym c.in-Some.ensures)
+    (subst (λ s. KeepsApart s old.mark old.lefts.items old.tracked) c.in-EndedAround.is old.apart)
+
 pub invariant_of-self : goal.invariant_of-self
 invariant_of-self c =
     let old = c.args.self.now in
@@ -59,6 +67,12 @@ invariant_of-self c =
             | in-Some+in-Going+in-Some-meaning w ↦ subst (λ s. IsKeptApart s q now) (sym w.in-Going.is) tt
             | in-Some+in-Going+in_default-meaning w ↦ subst (λ s. IsKeptApart s q now) (sym w.in-Going.is) tt
             | in-Some+in-Ended w ↦ subst (λ s. IsKeptApart s q now) (sym w.in-Ended.is) tt
+            | in-Some+in-EndedAround w ↦
+                let a = w.in-EndedAround.further in
+                subst (λ s. IsKeptApart s q now) (sym w.in-EndedAround.is)
+                (fewer_apart p q (suc a) now fewer
+                (subst (λ s. AreApart p (suc a) (branchings_from s.1.0.blocks.items)) (sym w.self-is)
+                (w.put_end_around.ensures.apart p (subst (λ s. IsKeptApart s p bs) w.in-EndedAround.is old.apart))))
             | in-Some+in-Around+in-Some-meaning-2 w ↦
                 subst (λ s. IsKeptApart s q now) (sym w.in-Around.is)
                 (fewer_apart p q (suc w.in-Around.further) now fewer
@@ -105,6 +119,10 @@ returns-clause-known c =
           (ap (λ s. known_by s.1.0) w.self-is
           ∙ ends_known old.tracked w.put_end.new.self n (λ m. of_form w.in-Ended.form m (meaning_of w.in-Some.left))
           w.put_end.ensures)
+      | in-Some+in-EndedAround w ↦
+          release_ended_around mark n ls _ old.kept.0 at old.stage k after w.in-EndedAround.further
+          w.in-EndedAround.form (meaning_of w.in-Some.left) w.in-EndedAround.is w.in-Some.ensures
+          (ap (λ s. known_by s.1.0) w.self-is ∙ w.put_end_around.ensures.known)
       | in-Some+in-Around+in-Some-meaning-2 w ↦
           release_around mark n ls _ old.kept.0 at old.stage k after w.in-Around.further w.in-Around.form
           (meaning_of w.in-Some-meaning-2.meaning) (meaning_of w.in-Some.left) w.in-Around.is w.in-Some.ensures

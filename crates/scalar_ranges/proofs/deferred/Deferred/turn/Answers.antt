@@ -8,8 +8,8 @@ use Rattle.scalar_ranges.proofs.KeepingApart.{kept_next, kept_turned}
 use Rattle.scalar_ranges.proofs.Standing.{has_whole}
 use Rattle.scalar_ranges.proofs.Postponing.{next_now, next_outside}
 use Rattle.scalar_ranges.proofs.deferred.Deferred.turn.Goals as goal
-use Rattle.scalar_ranges.proofs.deferred.Deferred.turn.Goals.{then-is_still+then-is_inside, else-is_still}
-use Rattle.scalar_ranges.proofs.deferred.Deferred.turn.Goals.{then-is_still+else-is_inside}
+use Rattle.scalar_ranges.proofs.deferred.Deferred.turn.Goals.{then-can_turn+then-is_inside, else-can_turn}
+use Rattle.scalar_ranges.proofs.deferred.Deferred.turn.Goals.{then-can_turn+else-is_inside}
 
 pub invariant_of-self : goal.invariant_of-self
 invariant_of-self c =
@@ -18,25 +18,25 @@ invariant_of-self c =
     let bs = branchings_from old.tracked.blocks.items in
     let cs = branchings_from c.next.new.self.blocks.items in
     record {
-      kept = elim c.if-is_still.branch [
-        | then-is_still+then-is_inside w ↦
+      kept = elim c.if-can_turn.branch [
+        | then-can_turn+then-is_inside w ↦
             subst (λ t. IsKept t.1.1.1.0 t.1.1.0.items t.1.1.1.1.1.0.items) (sym w.self-is) old.kept
-        | then-is_still+else-is_inside w ↦
+        | then-can_turn+else-is_inside w ↦
             subst (λ t. IsKept t.1.1.1.0 t.1.1.0.items t.1.1.1.1.1.0.items) (sym w.self-is) old.kept
-        | else-is_still w ↦
+        | else-can_turn w ↦
             subst (λ t. IsKept t.1.1.1.0 t.1.1.0.items t.1.1.1.1.1.0.items) (sym w.self-is) w.settle.new.self.kept
       ];
-      apart = elim c.if-is_still.branch [
-        | then-is_still+then-is_inside w ↦
+      apart = elim c.if-can_turn.branch [
+        | then-can_turn+then-is_inside w ↦
             subst (λ t. ((a : ℕ) → StayApart a (branchings_from t.1.0.blocks.items) a cs)
             → IsKeptApart t.1.1.1.1.0 (left_at t.1.1.1.0 t.1.1.0.items) cs) (sym w.self-is)
             (λ stays. subst (λ s. IsKeptApart s p cs) (sym w.turned-self.ensures)
             (kept_turned w.has_ends.result old.stage p bs cs stays old.apart)) c.next.ensures.apart
-        | then-is_still+else-is_inside w ↦
+        | then-can_turn+else-is_inside w ↦
             subst (λ t. ((a : ℕ) → StayApart a (branchings_from t.1.0.blocks.items) a cs)
             → IsKeptApart t.1.1.1.1.0 (left_at t.1.1.1.0 t.1.1.0.items) cs) (sym w.self-is)
             (λ stays. kept_next old.stage p bs cs stays old.apart) c.next.ensures.apart
-        | else-is_still w ↦
+        | else-can_turn w ↦
             let now = w.settle.new.self in
             subst (λ t. ((a : ℕ) → StayApart a (branchings_from t.1.0.blocks.items) a cs)
             → IsKeptApart t.1.1.1.1.0 (left_at t.1.1.1.0 t.1.1.0.items) cs) (sym w.self-is)
@@ -50,19 +50,19 @@ returns c =
     let old = c.args.self.now in
     let k = known_by old.tracked in
     let p = left_at old.mark old.lefts.items in
-    ap (known_left c.if-is_still.self.1.1.1.1.0 (left_at c.if-is_still.self.1.1.1.0 c.if-is_still.self.1.1.0.items))
+    ap (known_left c.if-can_turn.self.1.1.1.1.0 (left_at c.if-can_turn.self.1.1.1.0 c.if-can_turn.self.1.1.0.items))
     c.next.ensures.known
-    ∙ elim c.if-is_still.branch [
-      | then-is_still+then-is_inside w ↦
+    ∙ elim c.if-can_turn.branch [
+      | then-can_turn+then-is_inside w ↦
           ap (λ t. known_left t.1.1.1.1.0 (left_at t.1.1.1.0 t.1.1.0.items) (next (known_by t.1.0))) w.self-is
           ∙ ap (λ s. known_left s p (next k)) (w.turned-self.ensures
           ∙ ap (λ t. turned_stage t old.stage) w.has_ends.ensures)
           ∙ next_now old.stage p k.entries k.blocks (sym w.is_inside.ensures ∙ w.if-is_inside.true)
-          (c.is_still.ensures w.if-is_still.true) (has_whole old.tracked)
-      | then-is_still+else-is_inside w ↦
+          (c.can_turn.ensures w.if-can_turn.true) (has_whole old.tracked)
+      | then-can_turn+else-is_inside w ↦
           ap (λ t. known_left t.1.1.1.1.0 (left_at t.1.1.1.0 t.1.1.0.items) (next (known_by t.1.0))) w.self-is
           ∙ next_outside old.stage p k.entries k.blocks (sym w.is_inside.ensures ∙ w.if-is_inside.false)
-      | else-is_still w ↦
+      | else-can_turn w ↦
           let now = w.settle.new.self in
           let none = w.settle.ensures.stage in
           let q = left_at now.mark now.lefts.items in
