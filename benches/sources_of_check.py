@@ -339,22 +339,6 @@ def branches_of_blocks():
     return of_levels(behind=["PAR", "  other := 1"])
 
 
-def branches_of_nested_blocks():
-    """That is in two blocks, of which one is in the other."""
-    return of_levels(behind=["PAR", "  PAR", "    other := 1"], levels=28)
-
-
-def branches_of_components():
-    """It is in a block in a further component, beside the nest."""
-
-    def nest(body):
-        for _ in range(29):
-            body = ["PAR", *deeper(body), "  PAR", "    other := 1"]
-        return body
-
-    return in_branches(1_000, 10 * 29, nest)
-
-
 def loops_declaring(count, levels):
     """A line that declares so many names."""
     fresh = names(count)
@@ -432,7 +416,9 @@ SLOW = {
     "pars-alone-changing": (pars_alone_changing, 2, "instances that pass 52 variables in 60 PARs of one component"),
     "branches-changing": (branches_changing, 2, "instances that pass 1,000 variables in 59 PARs, in turns of an IF"),
     "branches-of-levels": (branches_of_levels, 2, "the same in 29 PARs, with an assignment before each"),
-    "branches-of-blocks": (branches_of_blocks, 2, "the same with an assignment in a PAR behind each"),
-    "branches-of-nested-blocks": (branches_of_nested_blocks, 2, "the same with one in a PAR in a PAR, in 28 PARs"),
-    "branches-of-components": (branches_of_components, 2, "the same in 29 PARs, with one in a PAR beside each"),
+}
+
+# Nests that take longer: another block at each level has what is put off put into lists.
+NESTS = {
+    "branches-of-blocks": (branches_of_blocks, 2, "1,000 in 29 PARs, with an assignment in a PAR behind each"),
 }
