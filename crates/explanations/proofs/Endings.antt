@@ -9,7 +9,7 @@ use Rattle.states.specs.declared.rule.Rule.{Rule}
 use Rattle.states.specs.State.{State}
 use Rattle.certified_worlds.specs.Certified.{state_at, entering}
 use Rattle.verifier.specs.Judge.{Verdict, refused, at_the_end, past_starts, past_rule, past_spelling, judged_at}
-use Rattle.verifier.specs.Judge.{first_start, judge}
+use Rattle.verifier.specs.Judge.{start_among, judge}
 use Rattle.fact_texts.specs.Texts.{Text}
 use Rattle.state_texts.specs.declared.settings.Setting.{Setting}
 use Rattle.state_texts.specs.FrameTexts.{frame_text}
@@ -60,7 +60,7 @@ module _ (m : Contents) (go : ℕ → Option State → Verdict) (write : ℕ →
       (at_breach m at i broken (is_at_entry (entering m at before) broken) by)
   at_rule before i setting (Ok after) =
       let reached = state_at m at before in
-      let start = first_start m (at + 1) (i.len - 1) in
+      let start = start_among m (at + 1) (i.len - 1) in
       later m (past_starts go (at + i.len) after start) (sight_text m at setting reached) _
       (at_start (at + i.len) after (setting_after setting reached) start)
 

@@ -10,7 +10,7 @@ use Rattle.module_format.specs.Contents.{Contents}
 use Rattle.states.specs.declared.rule.Rule.{Rule}
 use Rattle.states.specs.State.{State, root_state}
 use Rattle.certified_worlds.specs.Certified.{state_at, entering}
-use Rattle.verifier.specs.Judge.{judged_at, first_start}
+use Rattle.verifier.specs.Judge.{judged_at, start_among}
 use Rattle.fact_texts.specs.Texts.{Text}
 use Rattle.state_texts.specs.declared.settings.Setting.{Setting}
 use Rattle.sentences.specs.Sights.{sight_text, setting_after, hidden_text, unspelled_text, ended_text}
@@ -103,7 +103,7 @@ module _ (m : Contents) (written : Text) (at : ℕ) (before : Option State) (set
 
   module _ (after : Option State) (judged : judged_at m at before i ≡ Ok after) (seen : Text)
       (sight : seen ≡ written ++ sight_text m at setting (state_at m at before)) where
-    starts_all : (start : Option ℕ) → first_start m (at + 1) (i.len - 1) ≡ start
+    starts_all : (start : Option ℕ) → start_among m (at + 1) (i.len - 1) ≡ start
         → (f : Further m written at before setting) → explanation m
         ≡ seen ++ starts_text (λ to after next. explained f.more m to after next) at (at + i.len) after
         (setting_after setting (state_at m at before)) start
@@ -115,13 +115,13 @@ module _ (m : Contents) (written : Text) (at : ℕ) (before : Option State) (set
         ∙ sym (append_assoc written seen_by (rest start)) ∙ ap (λ (t : Text). t ++ rest start) (sym sight)
 
     -- it ends at a start within the instruction
-    pub ends_hidden : (inside : ℕ) (text : Text) → first_start m (at + 1) (i.len - 1) ≡ Some inside
+    pub ends_hidden : (inside : ℕ) (text : Text) → start_among m (at + 1) (i.len - 1) ≡ Some inside
         → text ≡ seen ++ hidden_text at inside → text ≡ explanation m
     ends_hidden inside text start is =
         is ∙ sym (starts_all (Some inside) start (further m written at before setting low e))
 
     -- it goes on
-    pub goes_on : 1 ≤ i.len → first_start m (at + 1) (i.len - 1) ≡ None
+    pub goes_on : 1 ≤ i.len → start_among m (at + 1) (i.len - 1) ≡ None
         → Explains m seen (at + i.len) after (setting_after setting (state_at m at before))
     goes_on some none =
         let f = further m written at before setting low e in

@@ -9,7 +9,7 @@ use Rattle.states.specs.declared.known.Mode.TheVariants.{Plain}
 use Rattle.states.specs.declared.rule.Rule.{Rule}
 use Rattle.states.specs.State.{State, root_state}
 use Rattle.certified_worlds.specs.Certified.{state_at, entering}
-use Rattle.verifier.specs.Judge.{Verdict, refused, judged_at, first_start}
+use Rattle.verifier.specs.Judge.{Verdict, refused, judged_at, start_among}
 use Rattle.fact_texts.specs.Texts.{Text}
 use Rattle.state_texts.specs.declared.settings.Setting.{Setting}
 use Rattle.sentences.specs.Sights.{sight_text, setting_after, is_at_entry, breach_text, hidden_text, unspelled_text}
@@ -37,7 +37,7 @@ rule_text m go at i before setting (Err broken) = last_text m at i before settin
 rule_text m go at i before setting (Ok after) =
     let reached = state_at m at before in
     sight_text m at setting reached
-    ++ starts_text go at (at + i.len) after (setting_after setting reached) (first_start m (at + 1) (i.len - 1))
+    ++ starts_text go at (at + i.len) after (setting_after setting reached) (start_among m (at + 1) (i.len - 1))
 
 abbrev pub fetched_text : Contents → (ℕ → Option State → Setting → Text) → ℕ → Option State → Setting
     → Result Instr DecodeFault → Text

@@ -25,15 +25,15 @@ use Rattle.traffic.specs.declared.stop.Stop.TheVariants as stops
 use Rattle.traffic.specs.Moment.{Moment}
 
 -- what an act is in the definitions, where it left this memory
-abbrev pub effect_of : Memory → Act → Effect
-effect_of m Ran = ran
-effect_of m Idle = idle
-effect_of m (Emitted link e) = emitted link (bytes_at m (place_of e.address) e.length)
-effect_of m Taken = taken
-effect_of m Kept = kept
-effect_of m Busy = busy
-effect_of m Acknowledged = acknowledged
-effect_of m Ignored = ignored
+abbrev pub effect_of_act : Memory → Act → Effect
+effect_of_act m Ran = ran
+effect_of_act m Idle = idle
+effect_of_act m (Emitted link e) = emitted link (bytes_at m (place_of e.address) e.length)
+effect_of_act m Taken = taken
+effect_of_act m Kept = kept
+effect_of_act m Busy = busy
+effect_of_act m Acknowledged = acknowledged
+effect_of_act m Ignored = ignored
 
 -- the bytes that went out, if any did, are defined
 abbrev pub IsDefined : Act → Memory → Type 0
@@ -43,7 +43,8 @@ IsDefined act m = ⊤
 -- By the answer: the event happened, this is its turn, and what went out is defined; or memory ran out, and nothing
 -- changed.
 abbrev pub Applies : World → World → Result Act Stop → Turn → Type 0
-Applies before after (Ok act) turn = (turn ≡ answered (effect_of after.memory act) after) × IsDefined act after.memory
+Applies before after (Ok act) turn =
+    (turn ≡ answered (effect_of_act after.memory act) after) × IsDefined act after.memory
 Applies before after (Err (stops.Fault f)) turn = turn ≡ record { world = after; answer = Err f }
 Applies before after (Err stops.Memory) turn = after ≡ before
 
@@ -90,7 +91,7 @@ AsksRightly h flow registers m = ⊤
 -- memory ran out, and nothing changed.
 abbrev pub Grants : World → World → Result Act Stop → Turn → Type 0
 Grants before after (Ok act) turn =
-    (turn ≡ answered (effect_of after.memory act) (counted after)) × IsDefined act after.memory
+    (turn ≡ answered (effect_of_act after.memory act) (counted after)) × IsDefined act after.memory
 Grants before after (Err (stops.Fault f)) turn =
     (turn ≡ record { world = faulty f before; answer = Err f }) × (after ≡ before)
 Grants before after (Err stops.Memory) turn = after ≡ before

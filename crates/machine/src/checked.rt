@@ -14,7 +14,7 @@ ghost use Rattle.machine_state.specs.World.{loaded};
 ghost use Rattle.machine_state.specs.Happens.{turn};
 ghost use Rattle.traffic.specs.Settling.{OnMemory};
 ghost use Rattle.machine.specs.Allocating.{may_allocate};
-ghost use Rattle.machine.specs.Applying.{Applies, IsDefined, effect_of};
+ghost use Rattle.machine.specs.Applying.{Applies, IsDefined, effect_of_act};
 ghost use Rattle.link_runs.specs.Driving.{shown};
 ghost use Rattle.link_runs.specs.Wanting.{is_running, wants};
 
@@ -91,7 +91,7 @@ impl<'a> Checked<'a> {
     /// What the last event did, as it is reported.
     fn effect(&self, act: Act) -> Effect<'_>
         requires { IsDefined act self.now.world.memory }
-        ensures { shown result ≡ effect_of self.now.world.memory act }
+        ensures { shown result ≡ effect_of_act self.now.world.memory act }
     {
         match act {
             Act::Emitted { link, exchange } => Effect::Emitted {

@@ -20,7 +20,7 @@ use Rattle.module_builder.specs.declared.draft.ContextName.{ContextName}
 use Rattle.module_builder.specs.declared.draft.ContextName.TheVariants.{Procedure, Branch}
 use Rattle.module_builder.specs.declared.draft.Draft.{Draft}
 use Rattle.module_builder.specs.Placing.{label_offset}
-use Rattle.module_builder.specs.Limits.{branch_count, IsWithin}
+use Rattle.module_builder.specs.Limits.{branch_count, DraftIsWithin}
 use Rattle.module_builder.specs.Ordering.{numbered, rows_in, position}
 use Rattle.module_builder.specs.Assembled.{Arrangement, AreInOrder, first_entry, nameable, context_number}
 use Rattle.module_builder.specs.Assembled.{first_context}
@@ -139,7 +139,7 @@ length_order : (keys : List ℕ) (order : List (ℕ × ℕ)) → IsPermutation (
 length_order keys order same = length_permutation (numbered 0 keys) order same ∙ length-numbered 0 keys
 
 pub procedure_has_number : (d : Draft) (offsets : List (Option ℕ)) (a : Arrangement) (row : ℕ)
-    → IsWithin d
+    → DraftIsWithin d
     → AreInOrder d offsets a
     → row < length d.procedures.items
     → context_number d a.procedures a.pars (Procedure row) ≡ Some (1 + position a.procedures row)
@@ -155,7 +155,7 @@ procedure_has_number d offsets a row within orders h =
 
 pub branch_has_number : (d : Draft) (offsets : List (Option ℕ)) (a : Arrangement) (par branch : ℕ)
     (row : ParRow Label ContextName)
-    → IsWithin d
+    → DraftIsWithin d
     → AreInOrder d offsets a
     → slice_get d.pars.items par ≡ Some row
     → branch < length row.branches.items

@@ -22,7 +22,7 @@ use Rattle.module_builder.specs.Layouts.{places, IsLeast}
 use Rattle.module_builder.specs.Spelling.{spelled}
 use Rattle.module_builder.specs.Placing.{label_offset, finish_offset, placed_procedure, placed_label, placed_par}
 use Rattle.module_builder.specs.Ordering.{IsOrder, rows_in, position}
-use Rattle.module_builder.specs.Limits.{branch_count, IsWithin}
+use Rattle.module_builder.specs.Limits.{branch_count, DraftIsWithin}
 
 -- how long each item is, and the order of the rows
 pub record Arrangement : Type 0 where
@@ -135,7 +135,7 @@ tables_of d a = tables_with d a (places d.code a.lengths)
 
 -- no number is above a limit of the format
 pub record IsWithinLimits (d : Draft) (lengths : List ℕ) : Type 0 where
-  pub draft : IsWithin d
+  pub draft : DraftIsWithin d
   pub code : length (spelled d.code lengths) ≤ max_code d.version
 
 -- the contexts are there, and the tables are valid and fit the draft's version

@@ -55,6 +55,6 @@ pub record RowsAreWithin (d : Draft) : Type 0 where
   pub contexts : 1 + length d.procedures.items + branch_count d.pars.items ≤ MAX_CONTEXTS
 
 -- no number of the draft, but the length of its code, is above a limit
-pub record IsWithin (d : Draft) : Type 0 where
+pub record DraftIsWithin (d : Draft) : Type 0 where
   pub header : HeaderIsWithin d
   pub rows : RowsAreWithin d

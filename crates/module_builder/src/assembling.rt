@@ -4,7 +4,7 @@ ghost use Rattle.std.specs.Prelude.{◌≡◌, ◌↔◌, IfOk, IsTrue};
 ghost use Rattle.module_format.specs.Contents.{contents_of};
 ghost use Rattle.module_builder.specs.Layouts.{places, IsLeast};
 ghost use Rattle.module_builder.specs.Spelling.{spelled};
-ghost use Rattle.module_builder.specs.Limits.{IsWithin};
+ghost use Rattle.module_builder.specs.Limits.{DraftIsWithin};
 ghost use Rattle.module_builder.specs.Assembled.{arrangement_of, ContextsAreThere, tables_with, IsWithinLimits};
 ghost use Rattle.module_builder.specs.Assembled.{Assembles};
 ghost use Rattle.module_builder.specs.Numbered.{IsNumbered};
@@ -25,7 +25,7 @@ use std::alloc::{AllocError, Global};
 /// Whether the contexts that the rows of a draft name are there.
 fn all_contexts_are_there(draft: &Draft, layout: &Layout, orders: &Orders) -> bool
     requires numbered { IsNumbered draft.now orders.now }
-    requires within { IsWithin draft.now }
+    requires within { DraftIsWithin draft.now }
     ensures { IsTrue result ↔ ContextsAreThere draft.now (arrangement_of layout.now orders.now) }
 {
     contexts_are_there(draft, orders, &draft.labels)
@@ -41,7 +41,7 @@ fn tables<'c>(
     code: &'c [u8],
 ) -> Result<Tables<'c>, AllocError>
     requires numbered { IsNumbered draft.now orders.now }
-    requires within { IsWithin draft.now }
+    requires within { DraftIsWithin draft.now }
     requires code { code.now ≡ spelled draft.now.code layout.now.lengths.items }
     ensures contents { IfOk result (λ t. contents_of t
         ≡ tables_with draft.now (arrangement_of layout.now orders.now) layout.now.places.items) }

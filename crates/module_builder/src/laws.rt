@@ -8,7 +8,7 @@ ghost use Rattle.module_builder.specs.declared.item.Label.{Label};
 ghost use Rattle.module_builder.specs.declared.draft.ContextName.{ContextName};
 ghost use Rattle.module_builder.specs.declared.draft.ContextName.TheVariants.{Procedure, Branch};
 ghost use Rattle.module_builder.specs.declared.draft.Draft.{Draft};
-ghost use Rattle.module_builder.specs.Limits.{IsWithin};
+ghost use Rattle.module_builder.specs.Limits.{DraftIsWithin};
 ghost use Rattle.module_builder.specs.Placing.{label_offset};
 ghost use Rattle.module_builder.specs.Ordering.{IsOrder, position};
 ghost use Rattle.module_builder.specs.Assembled.{Arrangement, AreInOrder, IsArranged, context_number, first_context};
@@ -38,11 +38,11 @@ pub fn items_are_in_their_places()
 /// A context of a draft that is there has a number that a file can name: no number is too large where the draft is
 /// within the limits and its rows are in order.
 pub fn contexts_have_numbers()
-    ensures procedures { (d : Draft) (offsets : List (Option ℕ)) (a : Arrangement) (row : ℕ) → IsWithin d
+    ensures procedures { (d : Draft) (offsets : List (Option ℕ)) (a : Arrangement) (row : ℕ) → DraftIsWithin d
         → AreInOrder d offsets a → row < length d.procedures.items
         → context_number d a.procedures a.pars (Procedure row) ≡ Some (1 + position a.procedures row) }
     ensures branches { (d : Draft) (offsets : List (Option ℕ)) (a : Arrangement) (par branch : ℕ)
-        (row : ParRow Label ContextName) → IsWithin d → AreInOrder d offsets a
+        (row : ParRow Label ContextName) → DraftIsWithin d → AreInOrder d offsets a
         → slice_get d.pars.items par ≡ Some row → branch < length row.branches.items
         → context_number d a.procedures a.pars (Branch par branch) ≡ Some (first_context d a.pars par + branch) }
 {}

@@ -4,7 +4,7 @@ ghost use Rattle.std.specs.Prelude.{◌≡◌, ◌↔◌, ◌≤◌, IsTrue, len
 ghost use Rattle.std.specs.List.{AllByRecursion};
 ghost use Rattle.module_format.specs.Keeping.{max_code};
 ghost use Rattle.module_builder.specs.Limits.{KindIsWithin, ProcedureIsWithin, ParIsWithin, branch_count};
-ghost use Rattle.module_builder.specs.Limits.{HeaderIsWithin, CountsAreWithin, RowsAreWithin, IsWithin};
+ghost use Rattle.module_builder.specs.Limits.{HeaderIsWithin, CountsAreWithin, RowsAreWithin, DraftIsWithin};
 
 use crate::draft::{ContextName, Draft};
 use crate::item::Label;
@@ -111,7 +111,7 @@ fn rows_are_within(draft: &Draft) -> bool
 
 /// Whether no number of a draft, but the length of its code, is above a limit.
 pub(crate) fn is_within(draft: &Draft) -> bool
-    ensures { IsTrue result ↔ IsWithin draft.now }
+    ensures { IsTrue result ↔ DraftIsWithin draft.now }
 {
     header_is_within(draft) && rows_are_within(draft)
 }

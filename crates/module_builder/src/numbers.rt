@@ -1,7 +1,7 @@
 //! The numbers of contexts.
 
 ghost use Rattle.std.specs.Prelude.{◌≡◌, ◌≤◌, ◌<◌, ◌*◌, length, Some};
-ghost use Rattle.module_builder.specs.Limits.{IsWithin};
+ghost use Rattle.module_builder.specs.Limits.{DraftIsWithin};
 ghost use Rattle.module_builder.specs.Numbered.{IsNumbered};
 ghost use Rattle.module_builder.specs.Assembled.{nameable, branch_number, first_context, context_number};
 ghost use Rattle.module_builder.specs.declared.draft.ContextName.TheVariants.{Procedure, Branch};
@@ -26,7 +26,7 @@ fn nameable(number: usize) -> Option<u16>
 /// The number of a PAR row's first branch.
 fn first_context(draft: &Draft, orders: &Orders, par: usize) -> usize
     requires numbered { IsNumbered draft.now orders.now }
-    requires within { IsWithin draft.now }
+    requires within { DraftIsWithin draft.now }
     requires there { par < length draft.now.pars.items }
     ensures value { result ≡ first_context draft.now orders.now.pars.items par }
     ensures small { result ≤ 2 * MAX_CONTEXTS }
@@ -61,7 +61,7 @@ fn procedure_number(draft: &Draft, orders: &Orders, row: usize) -> Option<u16>
 /// The number of a branch.
 fn number_of_branch(draft: &Draft, orders: &Orders, par: usize, branch: usize) -> Option<u16>
     requires numbered { IsNumbered draft.now orders.now }
-    requires within { IsWithin draft.now }
+    requires within { DraftIsWithin draft.now }
     ensures { result ≡ context_number draft.now orders.now.procedures.items orders.now.pars.items (Branch par branch) }
 {
     match draft.pars.get(par) {
@@ -73,7 +73,7 @@ fn number_of_branch(draft: &Draft, orders: &Orders, par: usize, branch: usize) -
 /// The number of a context, if there is that context.
 pub(crate) fn context_number(draft: &Draft, orders: &Orders, context: ContextName) -> Option<u16>
     requires numbered { IsNumbered draft.now orders.now }
-    requires within { IsWithin draft.now }
+    requires within { DraftIsWithin draft.now }
     ensures { result ≡ context_number draft.now orders.now.procedures.items orders.now.pars.items context }
 {
     match context {

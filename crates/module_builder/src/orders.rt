@@ -24,13 +24,13 @@ pub(crate) struct Orders {
 
 impl Orders {
     ghost use Rattle.std.specs.Prelude.{IfOk};
-    ghost use Rattle.module_builder.specs.Limits.{IsWithin};
+    ghost use Rattle.module_builder.specs.Limits.{DraftIsWithin};
     ghost use Rattle.module_builder.specs.Assembled.{AreInOrder, arrangement_of};
     ghost use Rattle.module_builder.specs.Numbered.{IsNumbered};
 
     /// The orders of a draft's rows, where its labels are placed so.
     pub(crate) fn of(alloc: Global, draft: &Draft, layout: &Layout) -> Result<Orders, AllocError>
-        requires { IsWithin draft.now }
+        requires { DraftIsWithin draft.now }
         ensures order { IfOk result (λ o. AreInOrder draft.now layout.now.places.items (arrangement_of layout.now o)) }
         ensures numbered { IfOk result (λ o. IsNumbered draft.now o) }
     {

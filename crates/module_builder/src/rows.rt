@@ -2,7 +2,7 @@
 
 ghost use Rattle.std.specs.Prelude.{◌≡◌, ◌↔◌, IfOk, IsTrue, length, map};
 ghost use Rattle.std.specs.List.{AllByRecursion};
-ghost use Rattle.module_builder.specs.Limits.{IsWithin};
+ghost use Rattle.module_builder.specs.Limits.{DraftIsWithin};
 ghost use Rattle.module_builder.specs.Ordering.{IsOrder, rows_in};
 ghost use Rattle.module_builder.specs.Assembled.{IsThere, number_in, arrangement_of};
 ghost use Rattle.module_builder.specs.Numbered.{IsNumbered};
@@ -37,7 +37,7 @@ pub(crate) fn order_of_rows<R: Row>(
 /// Whether the contexts that rows name are there.
 pub(crate) fn contexts_are_there<R: Row>(draft: &Draft, orders: &Orders, rows: &[R]) -> bool
     requires numbered { IsNumbered draft.now orders.now }
-    requires within { IsWithin draft.now }
+    requires within { DraftIsWithin draft.now }
     ensures { IsTrue result
         ↔ AllByRecursion
         (λ row. IsThere draft.now orders.now.procedures.items orders.now.pars.items (R.kind.context row)) rows.now }
@@ -60,7 +60,7 @@ pub(crate) fn rows_in<R: Row>(
     order: &[(u32, usize)],
 ) -> Result<Vec<R::Placed>, AllocError>
     requires numbered { IsNumbered draft.now orders.now }
-    requires within { IsWithin draft.now }
+    requires within { DraftIsWithin draft.now }
     ensures { IfOk result (λ v. map R.kind.view v.items
         ≡ map (λ row. R.kind.placed layout.now.places.items
         (number_in draft.now (arrangement_of layout.now orders.now) (R.kind.context row)) row)

@@ -13,7 +13,7 @@ use Rattle.module_format.specs.Pars.{first_key, Before, IsBranchEntry, BranchKee
 use Rattle.module_format.specs.Spelling.{u16_bytes, u32_bytes, i32_bytes, interval_bytes, end_bytes, counts_bytes}
 use Rattle.module_format.specs.Spelling.{branch_head, branch_bytes}
 use Rattle.module_format.specs.ReadingPars.{interval_end_at, words_at, read_words_at, parameter_number_at}
-use Rattle.module_format.specs.ReadingPars.{branch_entry_at, branch_counts_at, branch_at}
+use Rattle.module_format.specs.ReadingPars.{branch_entry_at, branch_counts_at, branch_row_at}
 use Rattle.module_format.proofs.ReadsInSteps.{Has, has_ok, step, Spelled, tested_takes, tested_again}
 use Rattle.module_format.proofs.ReadsInSteps.{nothing_taken, field, all_taken}
 use Rattle.module_format.proofs.ReadsInSteps.{list_takes, list_again}
@@ -138,8 +138,8 @@ module _ (size code_len : ℕ) where
       (lt-ltb _ _ h.rises)) (rw h.differs refl)
 
   pub branch_takes : (before : Before) (bytes : List ℕ) → IsBytes bytes
-      → Has (branch_at size code_len before bytes) (Spelled bytes branch_bytes (BranchKeeps code_len before))
-  unfolding branch_at branch_bytes branch_head
+      → Has (branch_row_at size code_len before bytes) (Spelled bytes branch_bytes (BranchKeeps code_len before))
+  unfolding branch_row_at branch_bytes branch_head
   branch_takes before bytes fits =
       field (nothing_taken fits) (branch_entry_takes before _) (λ entry h0 t0.
       field t0 (int_takes size _) (λ workspace h1 t1.
@@ -167,8 +167,8 @@ module _ (size code_len : ℕ) where
       })))))))))
 
   pub branch_again : code_len < 2 ^ 32 → (before : Before) (b : Branch) (rest : List ℕ) → BranchKeeps code_len before b
-      → branch_at size code_len before (branch_bytes b ++ rest) ≡ Ok (b, rest)
-  unfolding branch_at branch_bytes branch_head
+      → branch_row_at size code_len before (branch_bytes b ++ rest) ≡ Ok (b, rest)
+  unfolding branch_row_at branch_bytes branch_head
   branch_again small before b rest h =
       let g = h.gifts in
       let counts = counts_of b in
@@ -181,7 +181,7 @@ module _ (size code_len : ℕ) where
       let tail1 = i32_bytes b.workspace ++ tail2 in
       let regrouped : branch_bytes b ++ rest ≡ u32_bytes b.entry ++ tail1 = simp append_assoc in
       let fits : b.entry < 2 ^ 32 = let inside = h.entry.in_code in omega arith in
-      ap (branch_at size code_len before) regrouped
+      ap (branch_row_at size code_len before) regrouped
       ∙ step _ (branch_entry_again before b.entry tail1 fits h.entry)
       (step _ (int_again size b.workspace tail2 h.workspace_fits)
       (step _ (branch_counts_again size counts tail3 g.counts)

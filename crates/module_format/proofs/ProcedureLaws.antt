@@ -20,7 +20,7 @@ use Rattle.module_format.specs.Contents.{Procedure}
 use Rattle.module_format.specs.Order.{IsBytes, InOrder, IsInterval, least_word, greatest_word, is_multiple_of_four}
 use Rattle.module_format.specs.Procedures.{IsRegion, AreChannels, KindKeeps, ParameterKeeps, behind_parameter}
 use Rattle.module_format.specs.Procedures.{ProcedureKeeps, behind_procedure, RangeFits, KindFits, ProcedureFits}
-use Rattle.module_format.specs.Procedures.{words_of, IsWithin, TableKeeps, behind_table}
+use Rattle.module_format.specs.Procedures.{words_of, IsBetween, TableKeeps, behind_table}
 use Rattle.module_format.specs.Spelling.{u16_bytes, u32_bytes, u64_bytes, i32_bytes, range_bytes, kind_bytes}
 use Rattle.module_format.specs.Spelling.{parameter_bytes, procedure_bytes, table_row_bytes}
 use Rattle.module_format.specs.Reading.{and_then, fault, place, tested, byte_at, int_at, interval_at, list_at}
@@ -377,14 +377,14 @@ module _ (size : ℕ) (version : Version) (code_len : ℕ) where
 
 -- words that all lie from lo to hi
 pub all_within : (lo hi : ℤ) (words : List ℤ) → list_all (is_within lo hi) words ≡ true
-    → AllByRecursion (IsWithin lo hi) words
+    → AllByRecursion (IsBetween lo hi) words
 all_within lo hi [] e = tt
 all_within lo hi (word ∷ words) e =
     let both = and_parts (is_within lo hi word) (list_all (is_within lo hi) words) e in
     let ends = and_parts (int_le lo word) (int_le word hi) both.0 in
     (record { low = int_le-true _ _ ends.0; high = int_le-true _ _ ends.1 }, all_within lo hi words both.1)
 
-pub within_all : (lo hi : ℤ) (words : List ℤ) → AllByRecursion (IsWithin lo hi) words
+pub within_all : (lo hi : ℤ) (words : List ℤ) → AllByRecursion (IsBetween lo hi) words
     → list_all (is_within lo hi) words ≡ true
 within_all lo hi [] h = refl
 within_all lo hi (word ∷ words) h = rw (int_le-le _ _ h.0.low, int_le-le _ _ h.0.high) (within_all lo hi words h.1)
@@ -429,7 +429,7 @@ module _ (size : ℕ) (constants : List ℕ) where
       field t0 (table_end_takes size (length constants) start.0 _) (λ end h1 t1.
       let words = words_of (take (end.0 - start.0) (drop start.0 constants)) in
       let range_takes = λ (some : IsBytes end.1).
-      tested_takes {Q = λ r. IsInterval r.0 r.1 × AllByRecursion (IsWithin r.0 r.1) words} _ _ _ _
+      tested_takes {Q = λ r. IsInterval r.0 r.1 × AllByRecursion (IsBetween r.0 r.1) words} _ _ _ _
       (interval_takes size end.1 some) (λ r ordered within. (ordered, all_within r.0 r.1 words within)) in
       field t1 range_takes (λ range h2 t2.
       all_taken (regroup (simp append_assoc) t2) (record {

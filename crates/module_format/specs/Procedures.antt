@@ -100,7 +100,7 @@ words_of (a ∷ b ∷ c ∷ d ∷ more) = cast_signed w32 (little_number 4 (a �
 words_of _ = []
 
 -- a word from lo to hi
-pub record IsWithin (lo hi word : ℤ) : Type 0 where
+pub record IsBetween (lo hi word : ℤ) : Type 0 where
   pub low : lo ≤ℤ word
   pub high : word ≤ℤ hi
 
@@ -112,7 +112,8 @@ pub record TableKeeps (constants : List ℕ) (low : ℕ) (row : TableRow) : Type
   pub ordered : row.start < row.end
   pub inside : row.end ≤ length constants
   pub range : IsInterval row.lo row.hi
-  pub words : AllByRecursion (IsWithin row.lo row.hi) (words_of (take (row.end - row.start) (drop row.start constants)))
+  pub words : AllByRecursion (IsBetween row.lo row.hi)
+      (words_of (take (row.end - row.start) (drop row.start constants)))
 
 -- a table row leaves its end
 abbrev pub behind_table : ℕ → TableRow → ℕ

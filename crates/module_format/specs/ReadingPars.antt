@@ -119,8 +119,8 @@ branch_counts_at size rest = do
   ends ← number_at size 2 read.1
   Ok (counts_with writes.0 reads.0 written.0 read.0 ends.0, ends.1)
 
-unfoldable pub branch_at : ℕ → ℕ → Before → List ℕ → Read Branch
-branch_at size code_len before rest = do
+unfoldable pub branch_row_at : ℕ → ℕ → Before → List ℕ → Read Branch
+branch_row_at size code_len before rest = do
   entry ← branch_entry_at size code_len before rest
   workspace ← int_at size entry.1
   counts ← branch_counts_at size workspace.1
@@ -151,7 +151,7 @@ par_row_at size own code_len before rest = do
   channel_count ← number_at size 2 successor.1
   branch_count ← branch_count_at size channel_count.1
   channels ← list_at (channel_at size) behind_channel channel_count.0 least_word branch_count.1
-  branches ← list_at (branch_at size code_len) behind_branch branch_count.0 before channels.1
+  branches ← list_at (branch_row_at size code_len) behind_branch branch_count.0 before channels.1
   Ok (par_with context.0 depth.0 block.0 successor.0 channels.0 branches.0, branches.1)
 
 unfoldable pub par_rows_at : ℕ → ℕ → ℕ → ℕ → List ℕ → Read (List Par)

@@ -9,7 +9,7 @@ use Rattle.std.specs.List.{AllByRecursion}
 use Rattle.std.specs.Int.{w32, cast_signed}
 use Rattle.module_format.specs.declared.rows.TableRow.{TableRow}
 use Rattle.module_format.specs.Order.{InOrder}
-use Rattle.module_format.specs.Procedures.{words_of, IsWithin, TableKeeps, behind_table}
+use Rattle.module_format.specs.Procedures.{words_of, IsBetween, TableKeeps, behind_table}
 use Rattle.states.proofs.RowFacts.{and-parts, le-from}
 use Rattle.rulings.specs.Reach.{lie_in_row}
 
@@ -21,15 +21,15 @@ word_in bytes i = cast_signed w32
 
 -- each word of some bytes lies between the bounds in which all lie
 word_within : (lo hi : ℤ) (bytes : List ℕ) (i n : ℕ) → n ≡ 4 * i → n + 4 ≤ length bytes
-    → AllByRecursion (IsWithin lo hi) (words_of bytes) → IsWithin lo hi (word_in bytes n)
+    → AllByRecursion (IsBetween lo hi) (words_of bytes) → IsBetween lo hi (word_in bytes n)
 word_within lo hi [] i n e low all = absurd (omega arith)
 word_within lo hi (a ∷ []) i n e low all = absurd (omega arith)
 word_within lo hi (a ∷ b ∷ []) i n e low all = absurd (omega arith)
 word_within lo hi (a ∷ b ∷ c ∷ []) i n e low all = absurd (omega arith)
 word_within lo hi (a ∷ b ∷ c ∷ d ∷ more) zero n e low all =
     let none : n ≡ 0 = omega arith in
-    subst (λ (k : ℕ). IsWithin lo hi (word_in (a ∷ b ∷ c ∷ d ∷ more) k)) (sym none)
-    (subst (λ (z : ℕ). IsWithin lo hi (cast_signed w32 z)) (number a b c d more) all.0)
+    subst (λ (k : ℕ). IsBetween lo hi (word_in (a ∷ b ∷ c ∷ d ∷ more) k)) (sym none)
+    (subst (λ (z : ℕ). IsBetween lo hi (cast_signed w32 z)) (number a b c d more) all.0)
   where
     number : (a b c d : ℕ) (more : List ℕ) → a + 256 * (b + 256 * (c + 256 * (d + 256 * 0)))
         ≡ get_or (a ∷ b ∷ c ∷ d ∷ more) (0 + 0) 0 + 256 * get_or (a ∷ b ∷ c ∷ d ∷ more) (0 + 1) 0
@@ -37,7 +37,7 @@ word_within lo hi (a ∷ b ∷ c ∷ d ∷ more) zero n e low all =
     number a b c d more = omega arith
 word_within lo hi (a ∷ b ∷ c ∷ d ∷ more) (suc i) n e low all =
     let rest = word_within lo hi more i (4 * i) refl (omega arith) all.1 in
-    subst (λ (z : ℤ). IsWithin lo hi z) (same (4 * i) n (omega arith)) rest
+    subst (λ (z : ℤ). IsBetween lo hi z) (same (4 * i) n (omega arith)) rest
   where
     same : (k n : ℕ) → n ≡ suc (suc (suc (suc k))) → word_in more k ≡ word_in (a ∷ b ∷ c ∷ d ∷ more) n
     same k n e = rw (e, at 0, at 1, at 2, at 3) refl
@@ -64,7 +64,7 @@ row_found constants test low (first ∷ rows) row all h =
 -- a word of the constants that lies in the row of a table
 pub row_word : (constants : List ℕ) (rows : List TableRow) (first end : ℤ) (row : TableRow) (n : ℕ)
     → InOrder (TableKeeps constants) behind_table 0 rows → find (lie_in_row first end) rows ≡ Some row
-    → n % 4 ≡ 0 → first ≤ℤ pos n → pos (n + 4) ≤ℤ end → IsWithin row.lo row.hi (word_in constants n)
+    → n % 4 ≡ 0 → first ≤ℤ pos n → pos (n + 4) ≤ℤ end → IsBetween row.lo row.hi (word_in constants n)
 row_word constants rows first end row n all found even low high =
     let f = row_found constants (lie_in_row first end) 0 rows row all found in
     let k = f.1 in
@@ -83,7 +83,7 @@ row_word constants rows first end row n all found even low high =
     let quarter : at ≡ 4 * (at / 4) = omega arith in
     let within = word_within row.lo row.hi (take (row.end - row.start) (drop row.start constants)) (at / 4) at quarter
     (omega (arith, long)) k.words in
-    subst (λ (z : ℤ). IsWithin row.lo row.hi z)
+    subst (λ (z : ℤ). IsBetween row.lo row.hi z)
     (same row.start (row.end - row.start) at n (omega arith) (omega arith)) within
   where
     same : (start size at n : ℕ) → at + 4 ≤ size → n ≡ start + at

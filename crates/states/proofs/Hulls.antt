@@ -17,7 +17,7 @@ use Rattle.states.specs.State.{Facts, by_itself, is_alone, handed_out, is_word, 
 use Rattle.states.specs.Below.{says, implies}
 use Rattle.states.specs.Comparing.{BlockSaysAll, loop_of}
 use Rattle.states.specs.Blocks.{block_words}
-use Rattle.states.specs.Implied.{IsImplied, AllImplied, BlockImplied, IsWithin}
+use Rattle.states.specs.Implied.{IsImplied, AllImplied, BlockImplied, WantsOnlyWithin}
 use Rattle.states.specs.Rows.{rise_from, AreApart}
 use Rattle.states.specs.Spans.{with_plain, together}
 use Rattle.states.proofs.RowFacts.{and-parts, and-both, le-yes, le-from, before, within, behind, lies, about-before}
@@ -130,7 +130,7 @@ unknown-after low k (entry ∷ earlier) last rises h =
 -- a row whose first entry begins no earlier than some words, and whose last one ends with them or before
 pub within-ends : (row later earlier : List Entry) (lowest highest : Entry) (first end : ℤ) → AreApart row
     → row ≡ lowest ∷ later → row ≡ earlier ++ highest ∷ [] → first ≤ℤ lowest.word → end_of highest ≤ℤ end
-    → IsWithin (entry_fact row) first end
+    → WantsOnlyWithin (entry_fact row) first end
 within-ends row later earlier lowest highest first end apart is last_is low high = λ k far. elim far [
   | inl l ↦ ap (λ (es : List Entry). entry_fact es k) is
       ∙ entry_fact-before least_word k lowest later (subst (λ (es : List Entry). AreApart es) is apart)

@@ -31,7 +31,7 @@ use Rattle.states.specs.Spans.{left_of}
 use Rattle.states.specs.Below.{View, implies, says, are_alike, is_whole, holds_constant, price, entries_hold, agrees, cost}
 use Rattle.states.specs.Below.{view, below, below_at}
 use Rattle.states.specs.Blocks.{block_words, first_of, is_widening, HaveRoom}
-use Rattle.states.specs.Implied.{BlockImplied, IsWithin}
+use Rattle.states.specs.Implied.{BlockImplied, WantsOnlyWithin}
 use Rattle.states.specs.Comparing.{BlockSaysAll, loop_of, stands}
 use Rattle.states.specs.Frames.{with_alone, with_span}
 use Rattle.states.specs.Remembered.{never, compared_at, time_of, index_time, word_time, HasTimes, loop_stays, loops_stay}
@@ -915,7 +915,7 @@ outside-blocks lo times k some none = on (k -ℤ lo) refl none
 
 -- all blocks were changed since
 pub remembered-first : (lo end : ℤ) (r : Remembered) (facts : Facts) (entries : List Entry)
-    → end ≡ lo +ℤ pos (length r.times.items * block_words) → IsWithin (entry_fact entries) lo end
+    → end ≡ lo +ℤ pos (length r.times.items * block_words) → WantsOnlyWithin (entry_fact entries) lo end
     → wants_no_loop entries ≡ true
     → IsRemembered lo r facts entries (record { time = 0; paid = 0; is_plain = true })
 remembered-first lo end r facts entries end_is within none = record {

@@ -23,5 +23,5 @@ abbrev pub BlockImplied : Facts → ℤ → Fact → Type 0
 BlockImplied wanted first said = AllImplied wanted first (first +ℤ pos block_words) said
 
 -- nothing is wanted of the words before the first one, nor of those from the end on
-abbrev pub IsWithin : Facts → ℤ → ℤ → Type 0
-IsWithin wanted first end = (k : ℤ) → (k <ℤ first) ⊎ (end ≤ℤ k) → wanted k ≡ Alone Unknown
+abbrev pub WantsOnlyWithin : Facts → ℤ → ℤ → Type 0
+WantsOnlyWithin wanted first end = (k : ℤ) → (k <ℤ first) ⊎ (end ≤ℤ k) → wanted k ≡ Alone Unknown

@@ -3,7 +3,7 @@
 ghost use Rattle.std.specs.Prelude.{◌≡◌, ℤ, ◌≤ℤ◌, IsTrue, true, None};
 ghost use Rattle.states.specs.Below.{implies};
 ghost use Rattle.states.specs.Comparing.{loop_of};
-ghost use Rattle.states.specs.Implied.{AllImplied, IsWithin};
+ghost use Rattle.states.specs.Implied.{AllImplied, WantsOnlyWithin};
 ghost use Rattle.states.specs.Rows.{AreApart};
 ghost use Rattle.states.specs.State.{entry_fact};
 
@@ -60,7 +60,7 @@ pub(crate) fn all_implied(row: &[Entry], first: i64, end: i64, fact: Fact) -> bo
 /// Whether each entry of a row, which has one, lies within the words from `first` up to `end` (not included).
 pub(crate) fn is_row_within(row: &[Entry], first: i64, end: i64) -> bool
     requires { AreApart row.now }
-    ensures { IsTrue result → IsWithin (entry_fact row.now) first end }
+    ensures { IsTrue result → WantsOnlyWithin (entry_fact row.now) first end }
 {
     let Some((lowest, _later)) = row.split_first() else {
         return false;

@@ -8,10 +8,10 @@ use Rattle.machine_state.specs.Turn.{Effect, taken, kept, busy, acknowledged, ig
 use Rattle.traffic.specs.declared.links.Arrival.{Arrival}
 use Rattle.traffic.specs.declared.links.Arrival.TheVariants.{Taken, Kept, Busy}
 
-abbrev pub effect_of : Arrival → Effect
-effect_of Taken = taken
-effect_of Kept = kept
-effect_of Busy = busy
+abbrev pub effect_of_arrival : Arrival → Effect
+effect_of_arrival Taken = taken
+effect_of_arrival Kept = kept
+effect_of_arrival Busy = busy
 
 abbrev pub acknowledged_if : Bool → Effect
 acknowledged_if goes_on = if goes_on then acknowledged else ignored

@@ -11,10 +11,10 @@ use Rattle.traffic.specs.declared.messages.Delivery.{Delivery}
 use Rattle.traffic.specs.declared.messages.Delivery.TheVariants.{Emitted, Received, Awaited}
 
 -- what the instruction of a message that was sent did, which leaves this world
-abbrev pub effect_of : Exchange → World → Delivery → Effect
-effect_of e w (Emitted link) = emitted link (bytes_at w.memory (place_of e.address) e.length)
-effect_of e w Received = ran
-effect_of e w Awaited = ran
+abbrev pub effect_of_delivery : Exchange → World → Delivery → Effect
+effect_of_delivery e w (Emitted link) = emitted link (bytes_at w.memory (place_of e.address) e.length)
+effect_of_delivery e w Received = ran
+effect_of_delivery e w Awaited = ran
 
 -- whether the sender goes on
 abbrev pub goes_on : Delivery → Bool

@@ -3,7 +3,7 @@
 ghost use Rattle.std.specs.Prelude.{◌≡◌, ◌<◌, IfSome, OnErr, IsTrue, slice_get};
 ghost use Rattle.machine_state.specs.Moves.{link_index, fill, rouse};
 ghost use Rattle.machine_state.specs.Happens.{arrive_turn, acknowledge_turn};
-ghost use Rattle.traffic.specs.Arriving.{effect_of, acknowledged_if, IsTurn, may_wake, has_sender};
+ghost use Rattle.traffic.specs.Arriving.{effect_of_arrival, acknowledged_if, IsTurn, may_wake, has_sender};
 
 use crate::traffic::Traffic;
 use machine_state::{Condition, InputLink, Link, Mode, OutputLink, Store, Task};
@@ -82,7 +82,7 @@ impl<S: Store> Traffic<S, ListQueue> {
     /// A byte arrives on a link. Only where it may make a process ready can memory run out.
     pub fn arrive(&mut self, link: Link, byte: u8) -> Result<Arrival, AllocError>
         ensures turn { let turn = arrive_turn (link_index link) byte self.old.world in
-            IsTurn effect_of self.old.world self.new.world result turn }
+            IsTurn effect_of_arrival self.old.world self.new.world result turn }
         ensures err { OnErr result (IsTrue (may_wake (slice_get self.old.world.links.inputs (link_index link)))) }
         ensures room { OnErr result (self.old.room ≡ 0) }
         ensures holder { self.new.holder ≡ self.old.holder }

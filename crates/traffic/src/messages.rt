@@ -7,7 +7,7 @@ ghost use Rattle.machine_state.specs.Moves.{link_index};
 ghost use Rattle.machine_state.specs.Turn.{ran};
 ghost use Rattle.machine_state.specs.Exchanges.{link_from, input_link, output_link, received, sent};
 ghost use Rattle.traffic.specs.Settling.{IsAsked, turn_for, SettlesIfRoom, OnMemory};
-ghost use Rattle.traffic.specs.Delivering.{effect_of, goes_on, receiver_goes_on, sender_goes_on};
+ghost use Rattle.traffic.specs.Delivering.{effect_of_delivery, goes_on, receiver_goes_on, sender_goes_on};
 ghost use Rattle.traffic.specs.Delivering.{receiving_may_wake, sending_may_wake};
 
 use crate::message::Message;
@@ -91,7 +91,8 @@ impl<S: Store> Traffic<S, ListQueue> {
         requires code { length tables.now.code.now < 2 ^ 32 }
         requires message { IsAsked self.old.holding message.now }
         ensures settles { let turn = turn_for sent (contents_of tables.now) message.now self.old.world in
-            SettlesIfRoom (effect_of message.now.exchange self.new.world) self.old.world self.new.world result turn }
+            SettlesIfRoom (effect_of_delivery message.now.exchange self.new.world) self.old.world self.new.world
+            result turn }
         ensures goes_on { IfOk result (λ delivery.
             goes_on delivery ≡ sender_goes_on message.now.exchange self.old.world) }
         ensures faultless { let turn = turn_for sent (contents_of tables.now) message.now self.old.world in

@@ -26,7 +26,7 @@ use Rattle.certified_worlds.specs.Certified.{IsCertified, IsRefused, IsBroken, m
 use Rattle.certified_worlds.specs.Certified.{fallen_off, entered, broken}
 use Rattle.certified_worlds.proofs.GivenStates.{nothing_given, is_given}
 use Rattle.verifier.specs.Judge.{Verdict, lower, past_starts, past_rule, past_spelling, both, judged_in, judged_at}
-use Rattle.verifier.specs.Judge.{first_start, refused, at_the_end, judge, verdict}
+use Rattle.verifier.specs.Judge.{start_among, refused, at_the_end, judge, verdict}
 
 -- ---- no module is both
 
@@ -181,20 +181,20 @@ pair_is : {A B : Type 0} {a b : A} {x y : B} → a ≡ b → x ≡ y → ◌≡�
 pair_is p q = cc
 
 -- none of the offsets is a start
-pub no_first_start : (m : Contents) (at more : ℕ) → first_start m at more ≡ None → (o : ℕ) → at ≤ o → o < at + more
+pub no_first_start : (m : Contents) (at more : ℕ) → start_among m at more ≡ None → (o : ℕ) → at ≤ o → o < at + more
     → is_start m o ≡ false
 no_first_start m at zero h o low high = absurd (omega arith)
 no_first_start m at (suc more) h o low high =
     elim (cases_Bool (is_start m at)) [
       | inr l ↦
-          let rest : first_start m (at + 1) more ≡ None =
-          sym (ap (λ (b : Bool). cond b (Some at) (first_start m (at + 1) more)) l) ∙ h in
+          let rest : start_among m (at + 1) more ≡ None =
+          sym (ap (λ (b : Bool). cond b (Some at) (start_among m (at + 1) more)) l) ∙ h in
           elim (cases_eq o at) [
             | inl e ↦ rw e l
             | inr d ↦ no_first_start m (at + 1) more rest o (omega arith) (omega arith)
           ]
       | inl l ↦
-          let e : Some at ≡ None = sym (ap (λ (b : Bool). cond b (Some at) (first_start m (at + 1) more)) l) ∙ h in
+          let e : Some at ≡ None = sym (ap (λ (b : Bool). cond b (Some at) (start_among m (at + 1) more)) l) ∙ h in
           absurd (cc)
     ]
 
@@ -205,13 +205,13 @@ pub record FirstStart (m : Contents) (at more o : ℕ) : Type 0 where
   pub here : is_start m o ≡ true
   pub others : (q : ℕ) → at ≤ q → q < o → is_start m q ≡ false
 
-first_start_is : (m : Contents) (at more o : ℕ) → first_start m at more ≡ Some o → FirstStart m at more o
+first_start_is : (m : Contents) (at more o : ℕ) → start_among m at more ≡ Some o → FirstStart m at more o
 first_start_is m at zero o h = absurd (cc)
 first_start_is m at (suc more) o h =
     elim (cases_Bool (is_start m at)) [
       | inr l ↦
-          let rest : first_start m (at + 1) more ≡ Some o =
-          sym (ap (λ (b : Bool). cond b (Some at) (first_start m (at + 1) more)) l) ∙ h in
+          let rest : start_among m (at + 1) more ≡ Some o =
+          sym (ap (λ (b : Bool). cond b (Some at) (start_among m (at + 1) more)) l) ∙ h in
           let f = first_start_is m (at + 1) more o rest in
           record {
             low = omega (arith, f.low);
@@ -220,7 +220,7 @@ first_start_is m at (suc more) o h =
             others = λ q low high. elim (cases_eq q at) [ inl e ↦ rw e l | inr d ↦ f.others q (omega arith) high ];
           }
       | inl l ↦
-          let e : Some at ≡ Some o = sym (ap (λ (b : Bool). cond b (Some at) (first_start m (at + 1) more)) l) ∙ h in
+          let e : Some at ≡ Some o = sym (ap (λ (b : Bool). cond b (Some at) (start_among m (at + 1) more)) l) ∙ h in
           let same : at ≡ o = cc in
           record {
             low = omega arith;
@@ -430,7 +430,7 @@ pub record Passed (n : ℕ) (m : Contents) (at : ℕ) (before : Option State) (v
   pub spelled : fetched m.code at ≡ Ok instr
   pub after : Option State
   pub judged : judged_at m at before instr ≡ Ok after
-  pub no_start : first_start m (at + 1) (instr.len - 1) ≡ None
+  pub no_start : start_among m (at + 1) (instr.len - 1) ≡ None
   pub rest : judge n m (at + instr.len) after ≡ v
 
 -- one at which it refuses
@@ -440,12 +440,12 @@ pub data Halted (m : Contents) (at : ℕ) (before : Option State) : Rule → ℕ
   at_rule : {v : Rule} {o : ℕ} {i : Instr} → o ≡ at → fetched m.code at ≡ Ok i → judged_at m at before i ≡ Err v
       → Halted m at before v o
   at_start_within : {v : Rule} {o : ℕ} {i : Instr} {after : Option State} → v ≡ rules.InstructionStart
-      → fetched m.code at ≡ Ok i → judged_at m at before i ≡ Ok after → first_start m (at + 1) (i.len - 1) ≡ Some o
+      → fetched m.code at ≡ Ok i → judged_at m at before i ≡ Ok after → start_among m (at + 1) (i.len - 1) ≡ Some o
       → Halted m at before v o
 
 module _ (n : ℕ) (m : Contents) (at : ℕ) (before : Option State) where
   past_starts_is : (i : Instr) (after : Option State) (found : Option ℕ) (v : Verdict) → fetched m.code at ≡ Ok i
-      → judged_at m at before i ≡ Ok after → first_start m (at + 1) (i.len - 1) ≡ found
+      → judged_at m at before i ≡ Ok after → start_among m (at + 1) (i.len - 1) ≡ found
       → past_starts (λ to after. judge n m to after) (at + i.len) after found ≡ v
       → Passed n m at before v ⊎ ((r : Breach) × (v ≡ Err r) × Halted m at before r.rule r.offset)
   past_starts_is i after (Some o) v sp j l h =
@@ -458,7 +458,7 @@ module _ (n : ℕ) (m : Contents) (at : ℕ) (before : Option State) where
       → past_rule m (λ to after. judge n m to after) at i.len judged ≡ v
       → Passed n m at before v ⊎ ((r : Breach) × (v ≡ Err r) × Halted m at before r.rule r.offset)
   past_rule_is i (Err u) v sp j h = inr (record { rule = u; offset = at }, sym h, at_rule refl sp j)
-  past_rule_is i (Ok after) v sp j h = past_starts_is i after (first_start m (at + 1) (i.len - 1)) v sp j refl h
+  past_rule_is i (Ok after) v sp j h = past_starts_is i after (start_among m (at + 1) (i.len - 1)) v sp j refl h
 
   past_spelling_is : (fetch : Result Instr DecodeFault) (v : Verdict) → fetched m.code at ≡ fetch
       → past_spelling m (λ to after. judge n m to after) at before fetch ≡ v

@@ -13,7 +13,7 @@ use Rattle.states.specs.declared.rule.Rule.TheVariants as rules
 use Rattle.states.specs.State.{State, root_state}
 use Rattle.verifier.specs.declared.stop.Stop.{Stop}
 use Rattle.verifier.specs.declared.stop.Stop.TheVariants as stops
-use Rattle.verifier.specs.Judge.{past_starts, past_rule, past_spelling, judged_at, first_start, refused, at_the_end}
+use Rattle.verifier.specs.Judge.{past_starts, past_rule, past_spelling, judged_at, start_among, refused, at_the_end}
 use Rattle.verifier.specs.Judge.{judge, verdict}
 use Rattle.verifier.specs.Judging.{falling_state, StopsBy}
 use Rattle.verifier.specs.Walking.{OnTheWay}
@@ -71,7 +71,7 @@ broken-is m at v before i low w sp j = judged-is m at before i (Err v) low w sp 
 -- where a start lies within the instruction
 pub hidden-is : (m : Contents) (at o : ℕ) (before after : Option State) (i : Instr) → at < length m.code
     → OnTheWay m at before → fetched m.code at ≡ Ok i → judged_at m at before i ≡ Ok after
-    → first_start m (at + 1) (i.len - 1) ≡ Some o → verdict m ≡ refused rules.InstructionStart o
+    → start_among m (at + 1) (i.len - 1) ≡ Some o → verdict m ≡ refused rules.InstructionStart o
 hidden-is m at o before after i low w sp j l =
     judged-is m at before i (Ok after) low w sp j
     ∙ ap (past_starts (λ to after. judge (further m at before low w).fuel m to after) (at + i.len) after) l
@@ -79,7 +79,7 @@ hidden-is m at o before after i low w sp j l =
 -- where the pass goes on
 pub goes-on : (m : Contents) (at : ℕ) (before after : Option State) (i : Instr) → 1 ≤ i.len → at < length m.code
     → OnTheWay m at before → fetched m.code at ≡ Ok i → judged_at m at before i ≡ Ok after
-    → first_start m (at + 1) (i.len - 1) ≡ None → OnTheWay m (at + i.len) after
+    → start_among m (at + 1) (i.len - 1) ≡ None → OnTheWay m (at + i.len) after
 goes-on m at before after i some low w sp j l =
     let f = further m at before low w in
     let enough = f.enough in
@@ -98,20 +98,20 @@ ended-is m at before high w = sym w.same ∙ judge_end w.fuel m at before high
 -- ---- starts within an instruction
 
 start-none : (m : Contents) (at more : ℕ) → ((o : ℕ) → at ≤ o → o < at + more → is_start m o ≡ false)
-    → first_start m at more ≡ None
+    → start_among m at more ≡ None
 start-none m at zero h = refl
 start-none m at (suc more) h =
-    ap (λ b. cond b (Some at) (first_start m (at + 1) more)) (h at (omega arith) (omega arith))
+    ap (λ b. cond b (Some at) (start_among m (at + 1) more)) (h at (omega arith) (omega arith))
     ∙ start-none m (at + 1) more (λ o l b. h o (omega arith) (omega arith))
 
 start-some : (m : Contents) (at more o : ℕ) → at ≤ o → o < at + more → is_start m o ≡ true
-    → ((q : ℕ) → at ≤ q → q < o → is_start m q ≡ false) → first_start m at more ≡ Some o
+    → ((q : ℕ) → at ≤ q → q < o → is_start m q ≡ false) → start_among m at more ≡ Some o
 start-some m at zero o l b here h = absurd (omega arith)
 start-some m at (suc more) o l b here h = elim (cases_eq o at) [
-  | inl e ↦ ap (λ x. cond x (Some at) (first_start m (at + 1) more)) (sym (ap (is_start m) e) ∙ here)
+  | inl e ↦ ap (λ x. cond x (Some at) (start_among m (at + 1) more)) (sym (ap (is_start m) e) ∙ here)
       ∙ ap (λ (n : ℕ). Some n) (sym e)
   | inr d ↦
-      ap (λ x. cond x (Some at) (first_start m (at + 1) more)) (h at (omega arith) (omega arith))
+      ap (λ x. cond x (Some at) (start_among m (at + 1) more)) (h at (omega arith) (omega arith))
       ∙ start-some m (at + 1) more o (omega arith) (omega arith) here (λ q low high. h q (omega arith) high)
 ]
 
@@ -120,11 +120,11 @@ abbrev pub NoneFrom : Contents → ℕ → ℕ → Type 0
 NoneFrom m from end = (o : ℕ) → from ≤ o → o < end → is_start m o ≡ false
 
 pub none-within : (m : Contents) (from end : ℕ) → from ≤ end → NoneFrom m from end
-    → first_start m from (end - from) ≡ None
+    → start_among m from (end - from) ≡ None
 none-within m from end ordered h = start-none m from (end - from) (λ o low high. h o low (omega arith))
 
 pub some-within : (m : Contents) (from end o : ℕ) → from ≤ o → o < end → NoneFrom m from o → is_start m o ≡ true
-    → first_start m from (end - from) ≡ Some o
+    → start_among m from (end - from) ≡ Some o
 some-within m from end o low high h here = start-some m from (end - from) o low (omega arith) here h
 
 -- ---- what the pass reports

@@ -15,7 +15,7 @@ use Rattle.module_format.specs.Order.{InOrder}
 use Rattle.certificate.specs.Starts.{procedure_from, procedure_at}
 use Rattle.states.specs.Rows.{IsRowOf}
 use Rattle.states.proofs.LabelRows.{label_rows}
-use Rattle.verifier.specs.Judge.{first_start}
+use Rattle.verifier.specs.Judge.{start_among}
 use Rattle.verifier.specs.declared.rows.Rows.{Rows}
 use Rattle.verifier.specs.Judging.{RiseFrom, label_in, LabelsLeft, ProceduresLeft, AreLeft, Begins}
 use Rattle.certified_worlds.proofs.GivenStates.{start_of_none}
@@ -194,7 +194,7 @@ left-first m rows keeps labels procedures first = record {
 }
 
 -- after offsets at which the tables name no start
-pub left-further : (m : Contents) (at more : ℕ) (rows : Rows) → AreLeft m at rows → first_start m at more ≡ None
+pub left-further : (m : Contents) (at more : ℕ) (rows : Rows) → AreLeft m at rows → start_among m at more ≡ None
     → AreLeft m (at + more) rows
 left-further m at more rows a none =
     let nothing : (o : ℕ) → at ≤ o → o < at + more → (label_at m o ≡ None) × (procedure_at m o ≡ None) =

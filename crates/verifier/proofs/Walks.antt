@@ -15,7 +15,7 @@ use Rattle.states.specs.declared.state.State.{State as InMemory}
 use Rattle.states.specs.Views.{state_of, BelongsTo}
 use Rattle.certified_worlds.specs.Certified.{entering, state_at}
 use Rattle.verifier.specs.declared.stop.Breach.{Breach}
-use Rattle.verifier.specs.Judge.{Verdict, judged_once, judged_at, judge, verdict, refused, first_start, at_the_end}
+use Rattle.verifier.specs.Judge.{Verdict, judged_once, judged_at, judge, verdict, refused, start_among, at_the_end}
 use Rattle.verifier.specs.Judge.{past_starts, past_rule, past_spelling}
 use Rattle.std.specs.Prelude.{option_map, is_some, ⊤}
 use Rattle.verifier.specs.declared.walk.Walk.{Walk}
@@ -37,15 +37,15 @@ judged_there m at before reached i entered e r =
 
 -- ---- no rule that the verdict names lies before the rest of the code
 
-start_is_beyond : (m : Contents) (at more o : ℕ) → first_start m at more ≡ Some o → at ≤ o
+start_is_beyond : (m : Contents) (at more o : ℕ) → start_among m at more ≡ Some o → at ≤ o
 start_is_beyond m at zero o h = absurd (cc)
 start_is_beyond m at (suc more) o h = elim (cases_Bool (is_start m at)) [
   | inl l ↦
-      let e : Some at ≡ Some o = sym (ap (λ (b : Bool). cond b (Some at) (first_start m (at + 1) more)) l) ∙ h in
+      let e : Some at ≡ Some o = sym (ap (λ (b : Bool). cond b (Some at) (start_among m (at + 1) more)) l) ∙ h in
       let same : at ≡ o = cc in omega arith
   | inr l ↦
-      let rest : first_start m (at + 1) more ≡ Some o =
-      sym (ap (λ (b : Bool). cond b (Some at) (first_start m (at + 1) more)) l) ∙ h in
+      let rest : start_among m (at + 1) more ≡ Some o =
+      sym (ap (λ (b : Bool). cond b (Some at) (start_among m (at + 1) more)) l) ∙ h in
       let low = start_is_beyond m (at + 1) more o rest in omega arith
 ]
 
@@ -68,7 +68,7 @@ module _ (m : Contents) where
   module _ (go : ℕ → Option State → Verdict)
       (goes : (to : ℕ) (after : Option State) (r : Breach) → go to after ≡ Err r → to ≤ r.offset) (at : ℕ) where
     starts_are_beyond : (len : ℕ) (after : Option State) (start : Option ℕ) (r : Breach)
-        → first_start m (at + 1) (len - 1) ≡ start → past_starts go (at + len) after start ≡ Err r → at ≤ r.offset
+        → start_among m (at + 1) (len - 1) ≡ start → past_starts go (at + len) after start ≡ Err r → at ≤ r.offset
     starts_are_beyond len after None r is h = let low = goes (at + len) after r h in omega arith
     starts_are_beyond len after (Some inside) r is h =
         let low = start_is_beyond m (at + 1) (len - 1) inside is in
@@ -77,7 +77,7 @@ module _ (m : Contents) where
     rule_is_beyond : (len : ℕ) (judged : Result (Option State) Rule) (r : Breach)
         → past_rule m go at len judged ≡ Err r → at ≤ r.offset
     rule_is_beyond len (Err broken) r h = let e = offset_is broken at r h in omega arith
-    rule_is_beyond len (Ok after) r h = starts_are_beyond len after (first_start m (at + 1) (len - 1)) r refl h
+    rule_is_beyond len (Ok after) r h = starts_are_beyond len after (start_among m (at + 1) (len - 1)) r refl h
 
     spelling_is_beyond : (before : Option State) (fetch : Result Instr DecodeFault) (r : Breach)
         → past_spelling m go at before fetch ≡ Err r → at ≤ r.offset
@@ -103,9 +103,9 @@ module _ (m : Contents) where
     judged_breaks : (n : ℕ) (judged : Result (Option State) Rule)
         → past_rule m (λ to after. judge n m to after) at i.len judged ≡ refused rule at → judged ≡ Err rule
     judged_breaks n (Err broken) h = ap Err (rule_is broken rule at h)
-    judged_breaks n (Ok after) h = by_start (first_start m (at + 1) (i.len - 1)) refl h
+    judged_breaks n (Ok after) h = by_start (start_among m (at + 1) (i.len - 1)) refl h
       where
-        by_start : (start : Option ℕ) → first_start m (at + 1) (i.len - 1) ≡ start
+        by_start : (start : Option ℕ) → start_among m (at + 1) (i.len - 1) ≡ start
             → past_starts (λ to after. judge n m to after) (at + i.len) after start ≡ refused rule at
             → ◌≡◌ {A = Result (Option State) Rule} (Ok after) (Err rule)
         by_start None is told =
@@ -141,9 +141,9 @@ behind_first at len some = omega arith
 
 -- the starts that were looked for are those within the instruction
 looked_in : (w : Walk) (a : Arrival) (found : Option ℕ) → 1 ≤ a.instr.len
-    → found ≡ first_start (walked w) (a.at + 1) (a.at + a.instr.len - (a.at + 1)) → start_in w a ≡ found
+    → found ≡ start_among (walked w) (a.at + 1) (a.at + a.instr.len - (a.at + 1)) → start_in w a ≡ found
 looked_in w a found some is =
-    ap (first_start (walked w) (a.at + 1)) (sym (behind_first a.at a.instr.len some)) ∙ sym is
+    ap (start_among (walked w) (a.at + 1)) (sym (behind_first a.at a.instr.len some)) ∙ sym is
 
 -- it breaks a rule
 pub breaks_by_rule : (w : Walk) (a : Arrival) (told : Result Bool Rule) (after : State) (rule : Rule) (breach : Breach)
@@ -156,7 +156,7 @@ breaks_by_rule w a told after rule breach judges is made =
 -- a start lies within it
 pub breaks_by_start : (w : Walk) (a : Arrival) (told : Result Bool Rule) (after : State) (falls : Bool)
     (found : Option ℕ) (inside : ℕ) (breach : Breach) → 1 ≤ a.instr.len → Judges told after (judged_of w a)
-    → told ≡ Ok falls → found ≡ first_start (walked w) (a.at + 1) (a.at + a.instr.len - (a.at + 1))
+    → told ≡ Ok falls → found ≡ start_among (walked w) (a.at + 1) (a.at + a.instr.len - (a.at + 1))
     → found ≡ Some inside → breach ≡ record { rule = rules.InstructionStart; offset = inside } → Breaks w a breach
 breaks_by_start w a told after falls found inside breach some judges is looked one made =
     subst (Breaks w a) (sym made)
@@ -166,7 +166,7 @@ breaks_by_start w a told after falls found inside breach some judges is looked o
 -- the walk goes on after it, with this state
 pub has_gone_on : (old : Walk) (a : Arrival) (s : InMemory) (told : Result Bool Rule) (falls : Bool) (found : Option ℕ)
     → HasArrived a old → BelongsTo (walked old) s → Judges told (state_of s) (judged_of old a) → told ≡ Ok falls
-    → found ≡ first_start (walked old) (a.at + 1) (a.at + a.instr.len - (a.at + 1)) → found ≡ None
+    → found ≡ start_among (walked old) (a.at + 1) (a.at + a.instr.len - (a.at + 1)) → found ≡ None
     → HasGoneOn old a (record old { at = a.at + a.instr.len; state = s; is_reached = falls })
 has_gone_on old a s told falls found has belongs judges is looked none =
     let some = has.some in
@@ -206,7 +206,7 @@ pub record HasEntered (m : Contents) (at : ℕ) (before : Option State) (a : Arr
   pub some : 1 ≤ a.instr.len
   pub reached : before_of w ≡ state_at m at before
   pub judged : judged_of w a ≡ judged_at m at before a.instr
-  pub start : start_in w a ≡ first_start m (at + 1) (a.instr.len - 1)
+  pub start : start_in w a ≡ start_among m (at + 1) (a.instr.len - 1)
 
 pub has_entered : (m : Contents) (old arrived entered : Walk) (a : Arrival) → walked old ≡ m → Arrives old a arrived
     → HasArrived a entered → walked entered ≡ walked arrived
@@ -232,8 +232,8 @@ has_entered m old arrived entered a is arr has same state =
       reached = reached;
       judged = judged_as m (walked entered) old.at a.at (before_of old) (before_of entered) a.instr a.entered whole
           there cost reached;
-      start = ap (λ (c : Contents). first_start c (a.at + 1) (a.instr.len - 1)) whole
-          ∙ ap (λ (o : ℕ). first_start m (o + 1) (a.instr.len - 1)) there;
+      start = ap (λ (c : Contents). start_among c (a.at + 1) (a.instr.len - 1)) whole
+          ∙ ap (λ (o : ℕ). start_among m (o + 1) (a.instr.len - 1)) there;
     }
 
 -- what came of the instruction, in the form in which it was matched

@@ -41,9 +41,9 @@ unfoldable pub judged_at : Contents → ℕ → Option State → Instr → Resul
 judged_at m at before i = judged_in m at before i (state_at m at before)
 
 -- the first of a number of offsets from `at` on that the tables say is a start
-abbrev pub first_start : Contents → ℕ → ℕ → Option ℕ
-first_start m at zero = None
-first_start m at (suc more) = if is_start m at then Some at else first_start m (at + 1) more
+abbrev pub start_among : Contents → ℕ → ℕ → Option ℕ
+start_among m at zero = None
+start_among m at (suc more) = if is_start m at then Some at else start_among m (at + 1) more
 
 abbrev pub Verdict : Type 0
 Verdict = Result (Unit {0}) Breach
@@ -62,7 +62,7 @@ past_starts go to after None = go to after
 
 abbrev pub past_rule : Contents → (ℕ → Option State → Verdict) → ℕ → ℕ → Result (Option State) Rule → Verdict
 past_rule m go at len (Err broken) = refused broken at
-past_rule m go at len (Ok after) = past_starts go (at + len) after (first_start m (at + 1) (len - 1))
+past_rule m go at len (Ok after) = past_starts go (at + len) after (start_among m (at + 1) (len - 1))
 
 abbrev pub past_spelling : Contents → (ℕ → Option State → Verdict) → ℕ → Option State → Result Instr DecodeFault
     → Verdict

@@ -13,7 +13,7 @@ use Rattle.verifier.specs.declared.walk.Walk.{Walk}
 use Rattle.verifier.specs.declared.walk.Arrival.{Arrival}
 use Rattle.verifier.specs.declared.walk.Place.{Place}
 use Rattle.verifier.specs.declared.walk.Place.TheVariants as places
-use Rattle.verifier.specs.Judge.{judge, verdict, judged_once, first_start}
+use Rattle.verifier.specs.Judge.{judge, verdict, judged_once, start_among}
 use Rattle.verifier.specs.Judging.{falling_state, AreLeft, IsGiven}
 
 -- the verdict on the whole module is that on the rest of it, which begins at the offset with this state
@@ -79,7 +79,7 @@ judged_of w a = judged_once (walked w) a.at a.entered a.instr (before_of w)
 
 -- the first start that lies within the instruction
 abbrev pub start_in : Walk → Arrival → Option ℕ
-start_in w a = first_start (walked w) (a.at + 1) (a.instr.len - 1)
+start_in w a = start_among (walked w) (a.at + 1) (a.instr.len - 1)
 
 -- The walk is at the offset after the instruction, which breaks no rule.
 pub record HasGoneOn (old : Walk) (a : Arrival) (new : Walk) : Type 0 where

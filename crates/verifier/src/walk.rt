@@ -1,7 +1,7 @@
 //! The walk over the code, one instruction after another, with one state.
 
 ghost use Rattle.std.specs.Prelude.{◌≡◌, ◌-◌, ◌<◌, ◌≤◌, ◌^◌};
-ghost use Rattle.verifier.specs.Judge.{first_start};
+ghost use Rattle.verifier.specs.Judge.{start_among};
 
 use crate::judgement::{entering, judge, take_on};
 use crate::rows::{Given, Rows};
@@ -48,7 +48,7 @@ pub enum Place<'a> {
 /// starts.
 fn start_within(module: &Module, from: usize, end: usize) -> Option<u32>
     requires { (from ≤ end) × (end < 2 ^ 32) }
-    ensures { result ≡ first_start «module».now from (end - from) }
+    ensures { result ≡ start_among «module».now from (end - from) }
 {
     for offset in from as u32..end as u32 {
         if module.is_start(offset) {

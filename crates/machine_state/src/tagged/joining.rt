@@ -1,4 +1,5 @@
 //! The roles of the processes, and how joins change them.
+#![tactic(auto, using(crate::proofs::RolesChanging::changes))]
 
 ghost use Rattle.std.specs.Prelude.{◌≡◌, ◌∷◌, ◌++◌, [], map, Some, None, slice_get, length, MatchOption, MatchResult};
 ghost use Rattle.machine_state.specs.Holding.{nothing};
@@ -116,7 +117,6 @@ impl Role {
 }
 
 /// The process of this number, if there is one, has this join open.
-#[tactic(auto, using(crate::proofs::RolesChanging::changes))]
 fn open_in(roles: &mut [Role], opener: u64, join: Join)
     ensures { map role_view roles.new ≡ with_role opener (with_join (join_view join)) (map role_view roles.old) }
 {
@@ -127,7 +127,6 @@ fn open_in(roles: &mut [Role], opener: u64, join: Join)
 }
 
 /// One more branch of the join that the process has open is started.
-#[tactic(auto, using(crate::proofs::RolesChanging::changes))]
 fn advance_in(roles: &mut [Role], opener: u64, to: Progress, member: u64) -> Result<(), AllocError>
     ensures { let before = map role_view roles.old in
         MatchResult result
@@ -141,7 +140,6 @@ fn advance_in(roles: &mut [Role], opener: u64, to: Progress, member: u64) -> Res
     Ok(())
 }
 
-#[tactic(auto, using(crate::proofs::RolesChanging::changes))]
 fn leave_in(roles: &mut [Role], opener: u64, process: u64)
     ensures { map role_view roles.new ≡ with_role opener (without_member process) (map role_view roles.old) }
 {
@@ -151,7 +149,6 @@ fn leave_in(roles: &mut [Role], opener: u64, process: u64)
     }
 }
 
-#[tactic(auto, using(crate::proofs::RolesChanging::changes))]
 fn close_in(roles: &mut [Role], opener: u64)
     ensures { map role_view roles.new ≡ with_role opener without_join (map role_view roles.old) }
 {
@@ -161,7 +158,6 @@ fn close_in(roles: &mut [Role], opener: u64)
     }
 }
 
-#[tactic(auto, using(crate::proofs::RolesChanging::changes))]
 fn give_back_in(roles: &mut [Role], process: u64)
     ensures { map role_view roles.new ≡ with_role process without_own (map role_view roles.old) }
 {

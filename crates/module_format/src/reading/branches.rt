@@ -10,7 +10,7 @@ ghost use Rattle.module_format.specs.Pars.{Before, IntervalKeeps, behind_interva
 ghost use Rattle.module_format.specs.Pars.{behind_branch, entries_of, first_key, meet};
 ghost use Rattle.module_format.specs.Reading.{list_at};
 ghost use Rattle.module_format.specs.ReadingPars.{interval_end_at, words_at, read_words_at, parameter_number_at};
-ghost use Rattle.module_format.specs.ReadingPars.{end_at, branch_entry_at, branch_counts_at, branch_at};
+ghost use Rattle.module_format.specs.ReadingPars.{end_at, branch_entry_at, branch_counts_at, branch_row_at};
 ghost use Rattle.module_format.specs.Taking.{Takes, MayRunOut};
 
 use crate::fault::FormatFaultKind;
@@ -133,9 +133,9 @@ impl Reader for Branches {
     type Item = BranchRow;
 
     ghost walk = { walk (λ r. r.code_len) (λ r. record { low = r.low; entries = r.taken.entries.items })
-        (listed_as branch_of (λ code_len size. branch_at size code_len) behind_branch) };
+        (listed_as branch_of (λ code_len size. branch_row_at size code_len) behind_branch) };
 
-    #[tactic(auto, unfolding(crate::specs::ReadingPars::branch_at, crate::specs::Reading::and_then))]
+    #[tactic(auto, unfolding(crate::specs::ReadingPars::branch_row_at, crate::specs::Reading::and_then))]
     fn read(&mut self, from: &mut Cursor<'_>) -> BranchRow {
         let entry = self.entry(from);
         let workspace = from.i32();
@@ -177,7 +177,7 @@ impl Branches {
 
     /// `count` branches. The caller sets the entry after which the next row's first branch is.
     pub fn branches(&mut self, count: u16, from: &mut Cursor<'_>) -> Vec<BranchRow>
-        ensures takes { Takes (λ size. list_at (branch_at size self.old.code_len) behind_branch count
+        ensures takes { Takes (λ size. list_at (branch_row_at size self.old.code_len) behind_branch count
             (record { low = self.old.low; entries = self.old.taken.entries.items }))
             from.old (map branch_of result.items) from.new }
         ensures taken { from.new.failure ≡ None

@@ -2,6 +2,7 @@
 //!
 //! Readers that are called in several places are inlined. Where no call takes a cursor's address, its fields stay in
 //! registers, and reading takes half the time.
+#![tactic(auto, unfolding(crate::specs::Reading::number_at))]
 
 ghost use Rattle.std.specs.Prelude.{◌≤◌, length};
 ghost use Rattle.module_format.specs.Order.{IsBytes};
@@ -169,7 +170,6 @@ impl<'a> Cursor<'a> {
         }
     }
 
-    #[tactic(auto, unfolding(crate::specs::Reading::number_at))]
     pub(crate) fn u16(&mut self) -> u16
         ensures { Takes (λ size. number_at size 2) self.old result self.new }
     {
@@ -179,7 +179,6 @@ impl<'a> Cursor<'a> {
         }
     }
 
-    #[tactic(auto, unfolding(crate::specs::Reading::number_at))]
     pub(crate) fn u32(&mut self) -> u32
         ensures { Takes (λ size. number_at size 4) self.old result self.new }
     {
@@ -189,7 +188,6 @@ impl<'a> Cursor<'a> {
         }
     }
 
-    #[tactic(auto, unfolding(crate::specs::Reading::number_at))]
     pub(crate) fn u64(&mut self) -> u64
         ensures { Takes (λ size. number_at size 8) self.old result self.new }
     {

@@ -1,4 +1,5 @@
 //! Single fields with a rule of their own.
+#![tactic(auto, unfolding(crate::specs::Reading::limited_at, crate::specs::Reading::tested))]
 
 ghost use Rattle.module_format.specs.Reading.{limited_at, positive_at, at_most_at, in_code_at, interval_at};
 ghost use Rattle.module_format.specs.Taking.{Takes};
@@ -8,7 +9,6 @@ use crate::reading::cursor::Cursor;
 
 impl Cursor<'_> {
     /// A u16 up to a limit.
-    #[tactic(auto, unfolding(crate::specs::Reading::limited_at, crate::specs::Reading::tested))]
     pub(crate) fn limited_u16(&mut self, limit: u16) -> u16
         ensures { Takes (λ size. limited_at size 2 limit) self.old result self.new }
     {
@@ -19,7 +19,6 @@ impl Cursor<'_> {
     }
 
     /// A u32 up to a limit.
-    #[tactic(auto, unfolding(crate::specs::Reading::limited_at, crate::specs::Reading::tested))]
     pub(crate) fn limited_u32(&mut self, limit: u32) -> u32
         ensures { Takes (λ size. limited_at size 4 limit) self.old result self.new }
     {
@@ -30,7 +29,6 @@ impl Cursor<'_> {
     }
 
     /// A u64 up to a limit.
-    #[tactic(auto, unfolding(crate::specs::Reading::limited_at, crate::specs::Reading::tested))]
     pub(crate) fn limited_u64(&mut self, limit: u64) -> u64
         ensures { Takes (λ size. limited_at size 8 limit) self.old result self.new }
     {

@@ -4,7 +4,7 @@ use Rattle.std.specs.Int.{w64}
 use Rattle.module_format.specs.Rows.{Entry}
 use Rattle.states.specs.Blocks.{block_words}
 use Rattle.states.specs.Frames.{frame_facts}
-use Rattle.states.specs.Implied.{IsWithin}
+use Rattle.states.specs.Implied.{WantsOnlyWithin}
 use Rattle.states.specs.State.{entry_fact}
 use Rattle.states.proofs.Remembering.{remembered-first}
 use Rattle.states.proofs.frame.Frame.before_all.Goals as goal
@@ -22,9 +22,9 @@ returns c =
     let within = rw (to_z-of_z w64 end fits, to_z-of_z w64 c.from.result from_fits) at
     (c.is_row_within.ensures c.if-not-is_row_within.false) in
     let entries = c.args.row.now.entries.items in
-    let inside : IsWithin (entry_fact entries) frame.lo end =
-    subst (λ (es : List Entry). IsWithin (entry_fact es) frame.lo end) c.deref.ensures.value
-    (subst (λ (lo : ℤ). IsWithin (entry_fact c.deref.result.now) lo end) from_is within) in
+    let inside : WantsOnlyWithin (entry_fact entries) frame.lo end =
+    subst (λ (es : List Entry). WantsOnlyWithin (entry_fact es) frame.lo end) c.deref.ensures.value
+    (subst (λ (lo : ℤ). WantsOnlyWithin (entry_fact c.deref.result.now) lo end) from_is within) in
     remembered-first frame.lo end kept (frame_facts frame) entries
     (at ∙ ap (λ (n : ℕ). frame.lo +ℤ pos (n * block_words)) (c.len.ensures ∙ len)) inside
     (c.is_plain.ensures c.if-not-is_plain.false)
