@@ -28,7 +28,8 @@ pub record IsNew (memory : Memory) (k : ℕ) (c : Channel) : Type 0 where
   pub word : address (unwrap_or (word_at memory (4 * k)) (pos 0)) ≡ agree.empty_channel
 
 module _ (m : Contents) (w : World) (machine : PlainMachine) (agrees : Agrees m machine w)
-    (names : Names (λ q. q < length w.tasks) w.queue w.channels w.links) (task : Task) (outside : IsInside task.mode → ⊥)
+    (names : Names (λ q. q < length w.tasks) w.queue w.channels w.links) (task : Task)
+    (outside : IsInside task.mode → ⊥)
     (ready : task.condition ≡ Ready) (offset : agree.KeepsOffset m machine.memory task.registers) (new : ℕ)
     (number : length w.tasks ≡ new) (roles : List Role) (channels : List (Option Channel))
     (words : (k : ℕ) (c : Channel) → slice_get channels k ≡ Some (Some c)

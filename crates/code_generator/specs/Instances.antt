@@ -135,8 +135,8 @@ place_reads_table hs es p = elim p.subscript [
   | Some e ↦ reads_table hs es e
 ]
 
--- Whether the machine knows more after an action than is known of scalars and elements: the range of the value, or which
--- element has it.
+-- Whether the machine knows more after an action than is known of scalars and elements: the range of the value, or
+-- which element has it.
 abbrev pub is_finer : List Home → List Entry → ℕ → Action → Bool
 is_finer hs es t (Assign target value) =
     (is_own_word (target_of hs es t target) && reads_table hs es value) || place_reads_table hs es target

@@ -1,5 +1,6 @@
 -- The code of expressions: it pushes the value. Of the registers it keeps at most A, below the value, if it is small.
-use Rattle.std.specs.Prelude.{ℕ, ◌+◌, ◌/◌, ◌%◌, nat_eq, nat_le, int_le, ℤ, pos, unsigned_abs, Bool, true, false, List, []}
+use Rattle.std.specs.Prelude.{ℕ, ◌+◌, ◌/◌, ◌%◌, nat_eq, nat_le, int_le, ℤ, pos, unsigned_abs, Bool, true, false, List}
+use Rattle.std.specs.Prelude.{[]}
 use Rattle.std.specs.Prelude.{◌∷◌, ◌++◌, if◌then◌else◌, ◌&&◌, Option, Some, None, Result, Ok, Err}
 use Rattle.std.specs.Ordering.{int_eq}
 use Rattle.prefix_decoder.specs.declared.function.Fun.TheVariants as fun

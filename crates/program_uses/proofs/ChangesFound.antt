@@ -118,7 +118,8 @@ pub listed_behind : (t : ChangeLists) (signatures : List (List Parameter)) (es :
 listed_behind t signatures es [] line c x y = (x, y)
 listed_behind t signatures es (d ∷ ds) line c x y = listed_behind t signatures (add_outline d es) ds line c x y
 
-pub listed_in_turn : (t : ChangeLists) (signatures : List (List Parameter)) (es : List Entry) (r : Replicator) (b : Body)
+pub listed_in_turn : (t : ChangeLists) (signatures : List (List Parameter)) (es : List Entry) (r : Replicator)
+    (b : Body)
     (m : Meaning) → m ≡ index_meaning (is_sequence b) None → ListsOne t signatures (add r.name m es) b
     → ListsBody t signatures es r b
 listed_in_turn t signatures es r (One kind c) m means x =
@@ -168,7 +169,11 @@ finds_next signatures f xs i x {t = t} {w = w} {k = k} {m = m} h is before next 
     (record {
       notes = notes_both before.notes last.notes;
       keeps = λ line ns x. last.keeps line ns (before.keeps line ns x);
-      lists = λ e. (kept_components t.lists w.lists signatures es cs last.keeps (before.lists (last.notes.complete e)), last.lists e);
+      lists = λ e. (
+        kept_components t.lists w.lists signatures es cs last.keeps
+            (before.lists (last.notes.complete e)),
+        last.lists e,
+      );
       scope = last.scope;
     })
 

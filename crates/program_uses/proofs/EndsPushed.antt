@@ -113,4 +113,5 @@ pub parameters_pushed : (first count : ℕ) (qs : List Parameter) (us : List Use
     → fold (with_end first) qs (sorted_ends (of_parameters first count us))
     ≡ fold (with_end first) qs (sorted_ends us)
 parameters_pushed first count qs us long =
-    ap (fold (with_end first) qs) (sym (parameters_kept first count us)) ∙ fold_kept first (sorted_ends us) qs count long
+    ap (fold (with_end first) qs) (sym (parameters_kept first count us))
+    ∙ fold_kept first (sorted_ends us) qs count long

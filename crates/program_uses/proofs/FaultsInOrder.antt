@@ -93,7 +93,8 @@ earlier_by {P} f g false e x = record {
   ];
 }
 
-pub earlier_first : {P : UsageFault → Type 0} (o n : Option UsageFault) → IsFirst P n → IsFirst (Among o P) (earlier o n)
+pub earlier_first : {P : UsageFault → Type 0} (o n : Option UsageFault) → IsFirst P n
+    → IsFirst (Among o P) (earlier o n)
 earlier_first None None x = record {
   broken = tt;
   first = λ f h. elim h [ inl e ↦ (let k = e in cc) | inr p ↦ x.first f p ];

@@ -84,7 +84,8 @@ with_links direction s =
 abbrev pub run_shape : Shape
 run_shape = with_links Out (with_links In (subcommand_shape (codes "run")))
 
--- `tpm compile SRC OUT`, `tpm verify MOD`, `tpm run MOD` with files on the links, `tpm list MOD`, `tpm explain MOD`, and
+-- `tpm compile SRC OUT`, `tpm verify MOD`, `tpm run MOD` with files on the links, `tpm list MOD`, `tpm explain MOD`,
+-- and
 -- `tpm upgrade OLD NEW`
 abbrev pub tpm : App
 tpm = record {

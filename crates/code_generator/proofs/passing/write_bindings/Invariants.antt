@@ -14,7 +14,8 @@ invariant-loop-place l =
     record {
       code : l.listing
           ++ bindings_code hs es qs l.place (map expression_of (drop l.place l.actual-items)) (frame_seen l.frame)
-          ≡ l.initial.listing ++ bindings_code hs es qs 0 (map expression_of l.actual-items) (frame_seen l.initial.frame);
+          ≡ l.initial.listing
+          ++ bindings_code hs es qs 0 (map expression_of l.actual-items) (frame_seen l.initial.frame);
       frame : all_bound hs es qs l.place (map expression_of (drop l.place l.actual-items)) (frame_seen l.frame)
           ≡ all_bound hs es qs 0 (map expression_of l.actual-items) (frame_seen l.initial.frame);
     }

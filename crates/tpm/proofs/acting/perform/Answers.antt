@@ -11,5 +11,6 @@ returns-in-Err-Explained g c =
     (inside g.F.Reader.LinkReader.failed) (inside g.F.Writer.LinkWriter.written) (inside g.F.Writer.LinkWriter.failed)
     g.F.Files.reads [] _ _ _ _ _ c.in-Err-Explained.refusal (string_bytes c.in-Err-Explained.text)
     c.in-Err-tell.failure (rw c.in-Err-Explained.field-0-is at c.in-Err-Explained.ensures)
-    (subst (λ (text : Text). Tells (g.O.Write.contents c.args.out.now) (g.O.Write.contents c.tell-in-Err-Explained.new.out)
+    (subst (λ (text : Text). Tells (g.O.Write.contents c.args.out.now)
+    (g.O.Write.contents c.tell-in-Err-Explained.new.out)
     text (Err c.in-Err-tell.failure)) c.as_bytes-in-Err-Explained.ensures.value c.in-Err-tell.ensures)

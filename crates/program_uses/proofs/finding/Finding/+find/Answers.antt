@@ -48,7 +48,8 @@ find-returns t c =
           (noted_since c.count-first.result c.count-first.ensures c.enter.ensures.notes below.notes before
           ∙ ap (λ es. changed_by_construct signatures es k) inner) (c.list.ensures.listed e))
           (subst (λ es. ListsWithin u.lists signatures es k) inner
-          (kept_within c.find_in_construct.new.self.lists u.lists signatures (entries_of c.enter.new.scope) k c.list.ensures.keeps (below.lists before)));
+          (kept_within c.find_in_construct.new.self.lists u.lists signatures
+          (entries_of c.enter.new.scope) k c.list.ensures.keeps (below.lists before)));
       scope = left_again (known_of c.args.scope.now) (known_of c.enter.new.scope)
           (known_of c.find_in_construct.new.scope) (known_of c.leave.new.self) c.len-count.result
           c.args.scope.now.nested c.len-count.ensures c.enter.ensures.extends below.scope c.leave.ensures.entries

@@ -86,7 +86,8 @@ collect_construct-loop-choice-preserved t c =
     collects_next a choice_of c.deref-choice-items.result.now c.loop-choice.choice-index x (omega arith)
     c.choice-item.is c.loop-choice.invariant
     (collects_at (uses_of_component a (entries_of c.loop-choice.scope))
-    (SharesInComponent a (entries_of c.loop-choice.scope)) view (collects_then c.read.ensures c.collect-in-loop-choice.ensures))
+    (SharesInComponent a (entries_of c.loop-choice.scope)) view
+    (collects_then c.read.ensures c.collect-in-loop-choice.ensures))
 
 pub collect_construct-loop-branch-preserved : goal.collect_construct-loop-branch-preserved
 collect_construct-loop-branch-preserved t c =
@@ -99,7 +100,8 @@ collect_construct-returns-after-loop-choice t c =
     let es = entries_of c.args.scope.now in
     collects_whole a es c.args.line _ (construct_of c.args.construct.now)
     (sym (view-If c.in-If.choices) ∙ ap construct_of (sym c.in-If.is)) (λ n x. x)
-    (collects_each a es choice_of c.deref-choice-items.result.now c.in-If.choices.items c.loop-choice.choice-index (omega arith)
+    (collects_each a es choice_of c.deref-choice-items.result.now c.in-If.choices.items c.loop-choice.choice-index
+    (omega arith)
     c.deref-choice-items.ensures.value c.loop-choice.invariant)
 
 pub collect_construct-returns-in-Action : goal.collect_construct-returns-in-Action
@@ -132,7 +134,8 @@ collect_construct-returns-in-Replicated t c =
 pub collect_construct-loop-process-preserved : goal.collect_construct-loop-process-preserved
 collect_construct-loop-process-preserved t c =
     collects_next (around_of c.args.around) plain_component c.deref-process-items.result.now
-    c.loop-process.process-index c.process-item.result (omega arith) c.process-item.is c.loop-process.invariant c.collect.ensures
+    c.loop-process.process-index c.process-item.result
+    (omega arith) c.process-item.is c.loop-process.invariant c.collect.ensures
 
 pub collect_construct-returns-after-loop-branch : goal.collect_construct-returns-after-loop-branch
 collect_construct-returns-after-loop-branch t c =
@@ -140,7 +143,8 @@ collect_construct-returns-after-loop-branch t c =
     let es = entries_of c.args.scope.now in
     collects_whole a es c.args.line _ (construct_of c.args.construct.now)
     (sym (view-Alt c.in-Alt.branches) ∙ ap construct_of (sym c.in-Alt.is)) (λ n x. x)
-    (collects_each a es branch_of c.deref-branch-items.result.now c.in-Alt.branches.items c.loop-branch.branch-index (omega arith)
+    (collects_each a es branch_of c.deref-branch-items.result.now c.in-Alt.branches.items c.loop-branch.branch-index
+    (omega arith)
     c.deref-branch-items.ensures.value c.loop-branch.invariant)
 
 pub collect_construct-returns-after-loop-process : goal.collect_construct-returns-after-loop-process

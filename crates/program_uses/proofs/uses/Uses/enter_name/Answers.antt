@@ -4,7 +4,8 @@ use Rattle.program_uses.proofs.uses.Uses.enter_name.Goals as goal
 
 pub returns-in-Ok-clause-entries : goal.returns-in-Ok-clause-entries
 returns-in-Ok-clause-entries c =
-    enters_ok _ (known_of c.args.scope.now) (known_of c.add_name.new.scope) c.add_name.ensures.extends c.in-Ok.ensures.ok
+    enters_ok _ (known_of c.args.scope.now)
+    (known_of c.add_name.new.scope) c.add_name.ensures.extends c.in-Ok.ensures.ok
 
 pub returns-in-Err-clause-entries : goal.returns-in-Err-clause-entries
 returns-in-Err-clause-entries c =
