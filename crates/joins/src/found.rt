@@ -36,7 +36,8 @@ impl Start<'_, '_> {
     /// Passes if code follows the instruction, else `OutsideCode`.
     pub(crate) fn check_followed(&self) -> Result<(), Fault>
         ensures followed { let at = self.now.here.now.task.registers.at in
-            let fault = fault_in self.now.here.now.process self.now.here.now.task.registers.began FaultKind.OutsideCode in
+            let began = self.now.here.now.task.registers.began in
+            let fault = fault_in self.now.here.now.process began FaultKind.OutsideCode in
             result ≡ (if nat_lt (at + 1) (length self.now.module.now.code) then Ok tt else Err fault) }
         ensures bound { OnOk result (self.now.here.now.task.registers.at + 1 < 2 ^ 32) }
     {

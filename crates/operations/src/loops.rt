@@ -61,7 +61,8 @@ fn turn<S: Store>(
 ) -> Result<Flow, FaultKind>
     requires block { IsTrue (holds_block (S.holding cpu.old.store) block) }
     requires scheduling { IsTrue (holds_scheduling_words (S.holding cpu.old.store) cpu.old.registers.workspace) }
-    ensures { let step = counts_turn (site_of S.LoadStore cpu.old) distance block index count (local_of S.LoadStore cpu.old) in
+    ensures { let before = local_of S.LoadStore cpu.old in
+        let step = counts_turn (site_of S.LoadStore cpu.old) distance block index count before in
         Performs S.LoadStore step cpu.old cpu.new result }
 {
     let to = landing(cpu, loop_target(cpu, distance, count))?;

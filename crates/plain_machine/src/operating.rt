@@ -105,7 +105,8 @@ pub(crate) fn load_pointer_to_instruction(
     registers: &mut PlainRegisters,
     code_start: u32,
 ) -> PlainFlow
-    ensures { let step = plain_operation code_start operation.LoadPointerToInstruction (state_of registers.old bytes.old) in
+    ensures { let before = state_of registers.old bytes.old in
+        let step = plain_operation code_start operation.LoadPointerToInstruction before in
         Does step result registers.new bytes.new }
 {
     let next = registers.code_address(code_start);

@@ -31,7 +31,8 @@ impl Uses {
         component: Uses,
     )
         ensures uses { Joins self.old self.new component }
-        ensures told { IsFirst (Among told.old (At line (BreaksSharing count (has self.old) (has component)))) told.new }
+        ensures told { IsFirst (Among told.old (At line (BreaksSharing count (has self.old) (has component))))
+            told.new }
     {
         let found = fault_of_sharing(count, self, &component);
         *told = earlier(*told, fault_at(line, found));

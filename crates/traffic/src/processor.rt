@@ -15,8 +15,8 @@ impl<S: Store> Traffic<S, ListQueue> {
 
     /// The processor: whoever performs an instruction sets it to the process that runs.
     pub fn cpu(&mut self) -> &mut Cpu<S>
-        ensures* lends { sem 𝓛 (Lends (the_row S.row list_row S.LoadStore ⟦<ListQueue as ReadyQueue<S>>⟧) (cpu_row S.row)
-            self.entry result (with_cpu S.cells S.holding S.roles self.old)) }
+        ensures* lends { sem 𝓛 (Lends (the_row S.row list_row S.LoadStore ⟦<ListQueue as ReadyQueue<S>>⟧)
+            (cpu_row S.row) self.entry result (with_cpu S.cells S.holding S.roles self.old)) }
         ensures memory { S.cells result.now.store ≡ self.old.world.memory }
         ensures roles { (S.roles result.now.store).table ≡ self.old.world.roles }
         ensures holder { (S.roles result.now.store).holder ≡ self.old.holder }

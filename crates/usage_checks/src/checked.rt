@@ -79,8 +79,8 @@ pub fn check<'a>(alloc: Global, program: Program<'a>) -> Result<CheckedProgram<'
         ≡ (after_items (map item_of program.entry.items.items)).signatures) }
     ensures never_stuck { IfOk result (λ c. IsSequentialProgram (map item_of c.program.items.items)
         → NeverStuck (map item_of c.program.items.items)) }
-    ensures err { IfErr result (λ f. (f ≡ out_of_memory) ⊎ IsFirst (BreaksProgram (map item_of program.entry.items.items))
-        (Some f)) }
+    ensures err { IfErr result (λ f. (f ≡ out_of_memory)
+        ⊎ IsFirst (BreaksProgram (map item_of program.entry.items.items)) (Some f)) }
 {
     let mut outside = Outside::new(alloc);
     let mut findings = Findings::new();

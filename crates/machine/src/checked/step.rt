@@ -53,7 +53,8 @@ impl Machine {
         fault
     }
 
-    /// A prefix: its process goes on with this operand, whichever process would run next if it did not. It allocates nothing.
+    /// A prefix: its process goes on with this operand, whichever process would run next if it did not. It allocates
+    /// nothing.
     fn prefix(&mut self, tables: &Tables, here: &Here, operand: i32) -> Result<Act, Stop>
         requires code { length tables.now.code.now < 2 ^ 32 }
         requires executed { self.old.world.counters.executed < most_executed }
