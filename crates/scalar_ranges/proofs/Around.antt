@@ -17,7 +17,7 @@ use Rattle.scalar_ranges.specs.Changes.{with_new, with_restart, with_end, marked
 use Rattle.scalar_ranges.specs.Changes.{is_open_in, is_open, touch_if, touch, noted, put, noted_slot, noted_block}
 use Rattle.scalar_ranges.specs.Changes.{listing_if, touching_if, noted_slots, noted_in, HasRoomFor, AreUpTo, block_in}
 use Rattle.scalar_ranges.specs.Changes.{IsOutside, AreOutside, Follows, changed_to, changed_around, known_around}
-use Rattle.scalar_ranges.specs.Changes.{IsWithin, put_by, with_ends, changed_ends, ends_around}
+use Rattle.scalar_ranges.specs.Changes.{KeepsMarks, put_by, with_ends, changed_ends, ends_around}
 use Rattle.scalar_ranges.specs.ChangeViews.{slots_from, branching_of, branchings_from, tracked_from, BelongTogether}
 use Rattle.scalar_ranges.proofs.Rows.{same_number}
 use Rattle.scalar_ranges.proofs.Counting.{without_same}
@@ -180,7 +180,7 @@ noted_meaning false d s = refl
 
 -- how a slot changes that a block has in its lists, and what is known then
 pub record Changing (n : ℕ) (f : Slot → Slot) (h : Meaning → Meaning) (k : List Block → List Block) : Type 0 where
-  pub within : IsWithin f
+  pub within : KeepsMarks f
   pub means : (s : Slot) → (f s).meaning ≡ h s.meaning
   pub moves : (t : Tracked) → AreTracked t.slots t.blocks → Follows (put_by f n t) (record {
     entries = at_number (with_meaning h) n (known_in t).entries;

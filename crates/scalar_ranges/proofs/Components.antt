@@ -9,7 +9,7 @@ use Rattle.scalar_ranges.specs.Moves.{at_number, with_meaning, is_one_of, of_bot
 use Rattle.scalar_ranges.specs.Moves.{next_component}
 use Rattle.scalar_ranges.specs.Changes.{Slot, Branching, Tracked, modify, entry_in, start_in, end_in, before, seen}
 use Rattle.scalar_ranges.specs.Changes.{ends_seen, block_in, blocks_in, known_in, numbers_of, AreListed, is_recent}
-use Rattle.scalar_ranges.specs.Changes.{AreMarked, AreSettled, AreTracked, IsWithin, noted, with_start, with_end}
+use Rattle.scalar_ranges.specs.Changes.{AreMarked, AreSettled, AreTracked, KeepsMarks, noted, with_start, with_end}
 use Rattle.scalar_ranges.specs.Changes.{put_start, restarted, each, took, component_slots, component_block}
 use Rattle.scalar_ranges.specs.Changes.{component_in, Follows, changed_start, with_ends, put_ends, changed_ends}
 use Rattle.scalar_ranges.proofs.Rows.{same_number}
@@ -24,7 +24,7 @@ use Rattle.scalar_ranges.proofs.Following.{item_of_map, once_marked, twice_marke
 
 -- ---- a condition is excluded
 
-pub start_within : (f : Meaning → Meaning) → IsWithin (with_start f)
+pub start_within : (f : Meaning → Meaning) → KeepsMarks (with_start f)
 start_within f = record { names = λ s. refl; marks = λ s. refl; recents = λ s. refl }
 
 other_start : (d : ℕ) (f : Meaning → Meaning) (s : Slot) → nat_eq s.mark d ≡ true
@@ -63,7 +63,7 @@ start_follows n f t tracked =
 
 -- ---- the ends so far change
 
-pub ends_within : (f : Meaning → Meaning) → IsWithin (with_ends f)
+pub ends_within : (f : Meaning → Meaning) → KeepsMarks (with_ends f)
 ends_within f = record { names = λ s. refl; marks = λ s. refl; recents = λ s. refl }
 
 other_end : (d : ℕ) (f : Meaning → Meaning) (s : Slot) → nat_eq s.mark d ≡ true

@@ -6,7 +6,7 @@ use Rattle.scalar_ranges.specs.Environments.{item_at}
 use Rattle.scalar_ranges.specs.Moves.{is_one_of, at_number, with_meaning}
 use Rattle.scalar_ranges.specs.Changes.{Slot, Branching, Tracked, modify, entry_in, start_in, end_in, before, seen}
 use Rattle.scalar_ranges.specs.Changes.{ends_seen, blocks_in, without, is_recent, IsSettled, AreSettled, AreTracked}
-use Rattle.scalar_ranges.specs.Changes.{IsWithin, touched, touching, note, is_open_in, is_open, touch_if, touch, noted}
+use Rattle.scalar_ranges.specs.Changes.{KeepsMarks, touched, touching, note, is_open_in, is_open, touch_if, touch, noted}
 use Rattle.scalar_ranges.specs.Changes.{put_by}
 use Rattle.scalar_ranges.proofs.Rows.{same_number, one_longer}
 use Rattle.scalar_ranges.proofs.Widening.{one_more}
@@ -179,7 +179,7 @@ notes_well n ss bs tracked =
     }
 
 -- an entry that changes once it is noted
-pub put_tracked : (f : Slot → Slot) (n : ℕ) (t : Tracked) → IsWithin f → AreTracked t.slots t.blocks
+pub put_tracked : (f : Slot → Slot) (n : ℕ) (t : Tracked) → KeepsMarks f → AreTracked t.slots t.blocks
     → AreTracked (put_by f n t).slots (put_by f n t).blocks
 put_tracked f n t within tracked =
     let well = notes_well n t.slots t.blocks tracked in

@@ -7,7 +7,7 @@ use Rattle.scalar_ranges.specs.Moves.{is_one_of, hull_meaning}
 use Rattle.scalar_ranges.specs.Changes.{Slot, Change, Branching, Tracked, modify, entry_in, start_in, end_in, restored}
 use Rattle.scalar_ranges.specs.Changes.{undone, before, ends_seen, blocks_in, numbers_of, AreListed}
 use Rattle.scalar_ranges.specs.Changes.{AreUpTo, without, is_marked, is_recent, AreMarked, IsSettled, AreSettled}
-use Rattle.scalar_ranges.specs.Changes.{AreTracked, IsWithin, marked, listing, note_if, note, with_new, with_end, each}
+use Rattle.scalar_ranges.specs.Changes.{AreTracked, KeepsMarks, marked, listing, note_if, note, with_new, with_end, each}
 use Rattle.scalar_ranges.proofs.Rows.{same_number, one_longer}
 use Rattle.scalar_ranges.proofs.Widening.{one_more}
 use Rattle.scalar_ranges.proofs.Hulls.{meaning_itself}
@@ -134,10 +134,10 @@ settled_kept f n d b ss noted all =
     (λ k s apart is others. all k s is others)
     (λ s is others. absurd (cc (noted s is, others)))
 
-recent_alike : (d : ℕ) (f : Slot → Slot) (s : Slot) → IsWithin f → is_recent d (f s) ≡ is_recent d s
+recent_alike : (d : ℕ) (f : Slot → Slot) (s : Slot) → KeepsMarks f → is_recent d (f s) ≡ is_recent d s
 recent_alike d f s within = λ i. cond (nat_eq (within.marks s i) d) (within.recents s i) false
 
-pub tracked_kept : (f : Slot → Slot) (n : ℕ) (ss : List Slot) (bs : List Branching) → IsWithin f → IsNoted n ss bs
+pub tracked_kept : (f : Slot → Slot) (n : ℕ) (ss : List Slot) (bs : List Branching) → KeepsMarks f → IsNoted n ss bs
     → AreTracked ss bs → AreTracked (modify f n ss) bs
 tracked_kept f n ss [] within noted tracked = up_to_kept f n 0 ss within.marks tracked
 tracked_kept f n ss (b ∷ bs) within noted tracked =
@@ -187,7 +187,7 @@ marked_each f (n ∷ ns) ss b bs inside marked =
     marked_each f ns (modify f n ss) b bs inside (still_marked f n ss b bs inside.marks marked)
 
 -- an entry that means something else
-pub new_within : (m : Meaning) → IsWithin (with_new m)
+pub new_within : (m : Meaning) → KeepsMarks (with_new m)
 new_within m = record { names = λ s. refl; marks = λ s. refl; recents = λ s. refl }
 
 new_start : (d : ℕ) (m : Meaning) (s : Slot) → nat_eq s.mark d ≡ true → start_in d (with_new m s) ≡ start_in d s

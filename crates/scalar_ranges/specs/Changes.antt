@@ -168,7 +168,7 @@ AreTracked ss (b ∷ bs) =
 -- ---- moves
 
 -- a change of a slot that leaves its name and its marks
-pub record IsWithin (f : Slot → Slot) : Type 0 where
+pub record KeepsMarks (f : Slot → Slot) : Type 0 where
   pub names : (s : Slot) → (f s).name ≡ s.name
   pub marks : (s : Slot) → (f s).mark ≡ s.mark
   pub recents : (s : Slot) → (f s).recent ≡ s.recent

@@ -4,7 +4,7 @@ ghost use Rattle.std.specs.Prelude.{◌≡◌, ◌≤◌, ◌<◌, ◌+◌, ℕ,
 ghost use Rattle.std.specs.Prelude.{vec_capacity, MatchOption, take};
 ghost use Rattle.scalar_ranges.specs.Environments.{item_at};
 ghost use Rattle.scalar_ranges.specs.Changes.{modify, numbers_of, each, turned_slots, joined_by, component_slots};
-ghost use Rattle.scalar_ranges.specs.Changes.{undone, restored, meaning_after, known_with, IsWithin, AreForeign};
+ghost use Rattle.scalar_ranges.specs.Changes.{undone, restored, meaning_after, known_with, KeepsMarks, AreForeign};
 ghost use Rattle.scalar_ranges.specs.Changes.{handed, handed_block, HandsOver, HasRoomFor, noted_slots, noted_in};
 ghost use Rattle.scalar_ranges.specs.ChangeViews.{meaning_of, entry_of, slot_of, updated, slots_from, changes_from};
 ghost use Rattle.scalar_ranges.specs.ChangeViews.{branching_of, known_afters};
@@ -164,7 +164,7 @@ impl<'a> Tracked<'a> {
 
     /// An entry is updated, once the innermost block and its branch have it in their lists.
     fn update(&mut self, number: usize, update: Update)
-        requires { IsWithin (updated update) }
+        requires { KeepsMarks (updated update) }
         ensures { tracked_of self.new ≡ put_by (updated update) number (tracked_of self.old) }
     {
         self.note(number);
@@ -572,6 +572,7 @@ fn hand_slots<'a>(
 }
 
 /// The slot with this number is updated, if there is one.
+#[inline(always)]
 fn modify<'a>(slots: &mut [Slot<'a>], number: usize, update: Update)
     ensures { slots_from slots.new ≡ modify (updated update) number (slots_from slots.old) }
 {
@@ -590,6 +591,7 @@ fn restore<'a>(slots: &mut [Slot<'a>], number: usize, before: Slot<'a>)
 }
 
 /// The slots with these numbers are updated, one after another.
+#[inline(always)]
 fn each_numbered<'a>(slots: &mut [Slot<'a>], numbers: &[usize], update: Update)
     ensures { slots_from slots.new ≡ each (updated update) numbers.now (slots_from slots.old) }
 {

@@ -14,9 +14,9 @@ use occam_parser::Comparison;
 use std::alloc::{AllocError, Global};
 
 /// How many changes are looked at where a branch ends.
-const FEW: usize = 64;
+const FEW: usize = 256;
 
-/// How many times as many entries are in a list that stays put off around a block, as the block changed.
+/// How many times as many entries are in a list that stays put off where a block ends, as the block changed.
 const FEWER: usize = 8;
 
 /// What a block that has ended left of an entry.
@@ -61,16 +61,12 @@ pub(crate) struct Deferred<'a> {
 
 impl Left {
     /// What is put off with one mark has another one.
-    fn moved(self, from: usize, to: usize) -> Left
-        ensures { result ≡ moved_mark from to self }
+    fn change_mark(&mut self, from: usize, to: usize)
+        ensures { self.new ≡ moved_mark from to self.old }
     {
         if self.mark == from {
-            return Left {
-                mark: to,
-                meaning: self.meaning,
-            };
+            self.mark = to;
         }
-        self
     }
 }
 
@@ -375,7 +371,9 @@ impl<'a> Deferred<'a> {
     pub(crate) fn next(&mut self)
         ensures { known_now self.new ≡ next (known_now self.old) }
     {
-        self.release_few();
+        if !self.can_turn() {
+            self.release_few();
+        }
         self.turn();
     }
 
@@ -454,11 +452,8 @@ impl<'a> Deferred<'a> {
     /// Whether what is put off is little beside what the innermost block changed.
     fn is_short(&self) -> bool {
         match self.stage {
-            Stage::Ended(_) => self.listed.len() < self.tracked.changed(),
-            Stage::Around(_, _) | Stage::EndedAround(_, _) => {
-                self.listed.len() / FEWER < self.tracked.changed()
-            }
-            _ => false,
+            Stage::Nothing | Stage::Going(_) => false,
+            _ => self.listed.len() / FEWER < self.tracked.changed(),
         }
     }
 
@@ -503,7 +498,7 @@ fn move_mark(lefts: &mut [Left], number: usize, from: usize, to: usize)
     ensures { lefts.new ≡ modify (moved_mark from to) number lefts.old }
 {
     if number < lefts.len() {
-        lefts[number] = lefts[number].moved(from, to);
+        lefts[number].change_mark(from, to);
     }
 }
 

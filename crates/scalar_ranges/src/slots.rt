@@ -197,6 +197,7 @@ impl<'a> Slot<'a> {
     }
 
     /// What an update says becomes of the slot.
+    #[inline(always)]
     pub(crate) fn update(&mut self, update: Update)
         ensures { slot_of self.new ≡ updated update (slot_of self.old) }
     {
