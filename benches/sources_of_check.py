@@ -1,10 +1,12 @@
 """Sources for the figures of `check`: ordinary procedures, and what is made to be slow, as large as the rule on sizes
 lets through. docs/LANGUAGE.md says how sizes are counted. No rule is broken, so all is gone over to the end."""
 
+import re
 from itertools import chain, islice, product
 from string import ascii_letters, ascii_lowercase, digits
 
 MAX_SIZE = 8_388_608
+MIB = 1_048_576
 MAX_LEVEL = 64
 AROUND = 400  # at least the size of what is around a body, in each source that counts with `as_many`
 ENDS = 100_000
@@ -339,6 +341,140 @@ def branches_of_blocks():
     return of_levels(behind=["PAR", "  other := 1"])
 
 
+# ---- nests with more beside them at each level
+
+WORDS = re.compile(r"[A-Za-z][A-Za-z0-9.]*|[0-9]+|[(<&]")
+KEYWORDS = ("PAR", "SEQ", "IF", "ALT", "SKIP")
+
+
+def spellings(count):
+    """The first so many names, of which 52 have one letter and the others two signs."""
+    pairs = (head + sign for head in ascii_letters for sign in ascii_letters + digits)
+    found = list(islice(chain(ascii_letters, (it for it in pairs if not it.isupper())), count))
+    if len(found) < count:
+        raise ValueError("there are no such names any more")
+    return found
+
+
+def size_of(lines):
+    """The size of lines of blocks, choices, assignments of constants, and instances."""
+    words = [word for line in lines for word in WORDS.findall(line) if word not in KEYWORDS]
+    names_of_lines = [word for word in words if word[0].isalpha() and word != "TRUE"]
+    return len(lines) + sum(map(len, names_of_lines)) + len(words) - len(names_of_lines)
+
+
+def passing(name, variables):
+    return f"{name}({','.join(variables)})"
+
+
+def with_procedures(procedures, *body):
+    """Procedures with these parameters, and a body of the main one."""
+    heads = [f"{name}({', '.join(f'INT {it}' for it in formals)})" for name, formals in procedures.items()]
+    return program(*[procedure(head, ["SKIP"]) for head in heads], main(*body))
+
+
+def in_turns(nest, scalars, **procedures):
+    """A nest in turns of an IF, so that the variables have the values from before it where each turn begins."""
+    around = 10 * len(scalars) + sum(10 * len(formals) for formals in procedures.values())
+    heads = [f"IF turn = 0 FOR {as_many(size_of(nest) + 8, around)}", "turn < 0"]
+    return with_procedures(procedures, f"INT {','.join(scalars)}:", *under(heads, nest))
+
+
+def at_levels(levels, level, body):
+    """A body in so many levels, each of which is made of the number of the level and the lines in it."""
+    for number in range(levels):
+        body = level(number, body)
+    return body
+
+
+def of_all(count, level, levels=29, others=()):
+    """So many variables that are passed in a nest of these levels."""
+    scalars = spellings(count)
+    nest = at_levels(levels, level, [passing("change", scalars)])
+    return in_turns(nest, [*scalars, *others], change=scalars)
+
+
+def branches_of_deep_blocks():
+    """An assignment in two PARs in each other behind each level."""
+    behind = ["PAR", "  PAR", "    other := 1"]
+    return of_all(1_000, lambda _, body: ["SEQ", "  PAR", *deeper(body, 2), *deeper(behind)], others=["other"])
+
+
+def branches_of_components():
+    """A PAR in the second component of each level, which assigns to a variable of its own."""
+    others = [f"other{number}" for number in range(59)]
+    level = lambda number, body: ["PAR", *deeper(body), "  PAR", f"    {others[number]} := 1"]
+    return of_all(1_000, level, levels=59, others=others)
+
+
+def branches_of_choices():
+    """A PAR in the second choice of each level."""
+    level = lambda _, body: ["IF", "  TRUE", *deeper(body, 2), "  TRUE", "    PAR", "      other := 1"]
+    return of_all(1_000, level, others=["other"])
+
+
+def two_nests(count):
+    """A nest, and behind it at each of 28 levels another one with so many variables of its own."""
+    levels = 28
+    scalars = spellings(count * (levels + 1))
+    groups = [scalars[start : start + count] for start in range(0, len(scalars), count)]
+
+    def level(number, body):
+        return ["SEQ", "  PAR", *deeper(body, 2), "  PAR", f"    {passing('change', groups[number + 1])}"]
+
+    return in_turns(at_levels(levels, level, [passing("change", groups[0])]), scalars, change=groups[0])
+
+
+def nests_in_choices(count, few):
+    """A nest, and at each level another choice that changes a few of the same variables."""
+    scalars = spellings(count)
+    other = passing("few", scalars[:few])
+    level = lambda _, body: ["IF", "  TRUE", *deeper(body, 2), "  TRUE", f"    {other}"]
+    nest = at_levels(29, level, [passing("change", scalars)])
+    return in_turns(nest, scalars, change=scalars, few=scalars[:few])
+
+
+def assigned_behind(block, condition, count, few):
+    """A nest, and behind each level a block of two branches of which one assigns to so many of the variables."""
+    assigned = ["SEQ", *[f"  {name} := 0" for name in spellings(few)]]
+    branches = [f"  {condition}", *deeper(assigned, 2), f"  {condition}", "    SKIP"]
+    behind = [f"  {block}", *deeper(branches)]
+    return of_all(count, lambda _, body: ["SEQ", "  PAR", *deeper(body, 2), *behind], levels=28)
+
+
+def many_choices(few):
+    """A few variables change in the first of 3,000 choices, and a few more in a PAR in the second one."""
+    scalars = spellings(few + 4)
+    first = ["  TRUE", f"    {passing('few', scalars[:few])}"]
+    second = ["  TRUE", "    PAR", f"      {passing('change', scalars)}"]
+    nest = ["IF", *first, *second, *["  TRUE", "    SKIP"] * 3_000]
+    return in_turns(nest, scalars, change=scalars, few=scalars[:few])
+
+
+def many_choices_behind(few):
+    """2,000 variables in a PAR, and behind it 3,000 choices, of which the first changes a few others."""
+    scalars = spellings(few + 2_000)
+    choices = ["  TRUE", f"    {passing('few', scalars[:few])}", *["  TRUE", "    SKIP"] * 3_000]
+    nest = ["SEQ", "  PAR", f"    {passing('change', scalars[few:])}", "  IF", *deeper(choices)]
+    return in_turns(nest, scalars, change=scalars[few:], few=scalars[:few])
+
+
+def beside_nest(count, few):
+    """Variables in a PAR, and behind it a few others, in 57 PARs."""
+    scalars = spellings(count + few)
+    inside = ["SEQ", "  PAR", f"    {passing('change', scalars[:count])}", f"  {passing('few', scalars[count:])}"]
+    return in_turns(under(["PAR"] * 57, inside), scalars, change=scalars[:count], few=scalars[count:])
+
+
+def nests_outside(count, nest):
+    """Nests one after another, outside all blocks, as many as a source of 1 MiB has."""
+    scalars = spellings(count)
+    lines = nest(passing("change", scalars))
+    copies = (MIB - 3_000 - 20 * count) // sum(len(line) + 5 for line in lines)
+    nests = lines * copies
+    return with_procedures({"change": scalars}, f"INT {','.join(scalars)}:", *under(["SEQ"], nests))
+
+
 def loops_declaring(count, levels):
     """A line that declares so many names."""
     fresh = names(count)
@@ -416,9 +552,34 @@ SLOW = {
     "pars-alone-changing": (pars_alone_changing, 2, "instances that pass 52 variables in 60 PARs of one component"),
     "branches-changing": (branches_changing, 2, "instances that pass 1,000 variables in 59 PARs, in turns of an IF"),
     "branches-of-levels": (branches_of_levels, 2, "the same in 29 PARs, with an assignment before each"),
-}
-
-# Nests that take longer: another block at each level has what is put off put into lists.
-NESTS = {
     "branches-of-blocks": (branches_of_blocks, 2, "1,000 in 29 PARs, with an assignment in a PAR behind each"),
+    "branches-of-deep-blocks": (branches_of_deep_blocks, 2, "the same in two PARs in each other"),
+    "branches-of-components": (branches_of_components, 2, "1,000 in 59 PARs, with a PAR beside the block in each"),
+    "branches-of-choices": (branches_of_choices, 2, "1,000 in 29 IFs, with a PAR in another choice of each"),
+    "two-nests": (lambda: two_nests(52), 2, "52 variables in 28 PARs, with as many others in a PAR behind each"),
+    "two-nests-wide": (lambda: two_nests(75), 2, "the same of 75"),
+    "nests-in-choices": (lambda: nests_in_choices(415, 52), 3, "415 in 29 IFs, each with 52 in another choice"),
+    "nests-in-choices-wide": (lambda: nests_in_choices(2_300, 288), 3, "the same with 2,300 variables and 288"),
+    "nests-in-choices-few": (lambda: nests_in_choices(2_300, 257), 3, "the same with 2,300 variables and 257"),
+    "ifs-behind": (
+        lambda: assigned_behind("IF", "TRUE", 2_300, 257), 2,
+        "2,300 in 28 PARs, with an IF behind each that assigns to 257"
+    ),
+    "alts-behind": (lambda: assigned_behind("ALT", "TRUE & SKIP", 2_300, 257), 2, "the same with an ALT behind each"),
+    "ifs-behind-few": (
+        lambda: assigned_behind("IF", "TRUE", 1_000, 65), 2, "1,000 in 28 PARs, with an IF that assigns to 65"
+    ),
+    "many-choices": (lambda: many_choices(256), 3, "3,000 choices of an IF that changed 256 variables"),
+    "many-choices-behind": (lambda: many_choices_behind(240), 3, "3,000 choices behind 2,000 variables in a PAR"),
+    "beside-nest": (lambda: beside_nest(26, 26), 3, "26 variables in a PAR, and 26 behind it, in 57 PARs"),
+    "beside-nest-few": (lambda: beside_nest(46, 5), 3, "46 variables in a PAR, and 5 behind it, in 57 PARs"),
+    "beside-nest-wide": (lambda: beside_nest(500, 500), 3, "500 variables in a PAR, and 500 behind it, in 57 PARs"),
+    "nests-outside": (
+        lambda: nests_outside(1_000, lambda line: under(["PAR"] * 60, [line])), 2,
+        "1,000 variables in 60 PARs, over and over, outside all blocks"
+    ),
+    "blocks-outside": (
+        lambda: nests_outside(52, lambda line: ["PAR", f"  {line}", "PAR", "  a := 1"]), 2,
+        "52 variables in a PAR and one in another, over and over, outside all blocks"
+    ),
 }

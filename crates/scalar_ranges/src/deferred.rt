@@ -16,9 +16,6 @@ use std::alloc::{AllocError, Global};
 /// How many changes are looked at where a branch ends.
 const FEW: usize = 256;
 
-/// How many times as many entries are in a list that stays put off where a block ends, as the block changed.
-const FEWER: usize = 8;
-
 /// What a block that has ended left of an entry.
 #[derive(Clone, Copy)]
 pub(crate) struct Left {
@@ -55,6 +52,8 @@ pub(crate) struct Deferred<'a> {
     pub(crate) stage: Stage,
     /// The list: it has each entry of which something is put off.
     pub(crate) listed: Vec<Change<'a>>,
+    /// How many changes of their own blocks had that ended beside it.
+    pub(crate) beside: usize,
     ghost kept: { IsKept mark lefts.items listed.items } by { IsKept-prop mark lefts.items listed.items },
     ghost apart: { KeepsApart stage mark lefts.items tracked } by { KeepsApart-prop stage mark lefts.items tracked },
 }
@@ -154,6 +153,7 @@ impl<'a> Deferred<'a> {
             mark: 1,
             stage: Stage::Nothing,
             listed: Vec::new(alloc),
+            beside: 0,
         }
     }
 
@@ -445,6 +445,7 @@ impl<'a> Deferred<'a> {
             self.defer();
         } else {
             self.stage = self.stage.ended(self.tracked.has_ends());
+            self.beside = self.beside.saturating_add(self.tracked.changed());
             self.tracked.end();
         }
     }
@@ -453,7 +454,7 @@ impl<'a> Deferred<'a> {
     fn is_short(&self) -> bool {
         match self.stage {
             Stage::Nothing | Stage::Going(_) => false,
-            _ => self.listed.len() / FEWER < self.tracked.changed(),
+            _ => self.listed.len() < self.beside.saturating_add(self.tracked.changed()),
         }
     }
 
@@ -467,6 +468,7 @@ impl<'a> Deferred<'a> {
                 self.mark += 1;
                 set_all(&mut self.lefts, &changes, self.mark);
                 self.listed = changes;
+                self.beside = 0;
                 self.stage = Stage::Going(Form::Whole);
             } else {
                 self.tracked.put_afters(&changes);
