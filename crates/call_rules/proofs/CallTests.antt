@@ -11,6 +11,8 @@ use Rattle.std.proofs.lemmas.Int.{ints, clamps, SFits-int_wrap}
 use Rattle.module_format.specs.Rows.{Fact}
 use Rattle.module_format.specs.declared.fact.Fact.TheVariants.{Unknown, Number, Pointer, CodeAddress, Loop}
 use Rattle.module_format.specs.declared.fact.Fact.TheVariants.{ReturnAddress}
+use Rattle.module_format.specs.declared.fact.Region.{Region}
+use Rattle.module_format.specs.declared.fact.Region.TheVariants as regions
 use Rattle.module_format.specs.declared.fact.Step.TheVariants.{Word, Byte}
 use Rattle.module_format.specs.declared.rows.Parameter.{Parameter}
 use Rattle.module_format.specs.declared.rows.ParameterKind.{ParameterKind}
@@ -18,6 +20,7 @@ use Rattle.module_format.specs.declared.rows.ParameterKind.TheVariants.{Value, R
 use Rattle.module_format.specs.Order.{is_multiple_of_four, is_stepped}
 use Rattle.module_format.specs.Contents.{Contents, Procedure}
 use Rattle.module_format.specs.Keeping.{is_region}
+use Rattle.module_format.specs.Regions.{is_frame, is_same_region}
 use Rattle.certificate.specs.Starts.{Entered, procedure_from}
 use Rattle.machine_state.specs.Memory.{Memory, byte_at, word_at, joined}
 use Rattle.machine_state.specs.Holding.{Holding}
@@ -49,9 +52,6 @@ use Rattle.rulings.specs.Lends.{IsRegionKind}
 
 -- ---- tests
 
-pub chosen : (b x y : Bool) → b ≡ true → (if b then x else y) ≡ true → x ≡ true
-chosen b x y e h = sym (ap (λ (c : Bool). cond c x y) e) ∙ h
-
 pub other : (b x y : Bool) → b ≡ false → (if b then x else y) ≡ true → y ≡ true
 other b x y e h = sym (ap (λ (c : Bool). cond c x y) e) ∙ h
 
@@ -63,17 +63,27 @@ number_test m n = elim (eqb_tells m n) [ inl e ↦ inl (e.0, e.1) | inr e ↦ in
 pub differs : (m n : ℕ) → (m ≡ n → ⊥) → (m == n) ≡ false
 differs m n h = elim (number_test m n) [ inl e ↦ absurd (h e.1) | inr e ↦ e.0 ]
 
-pub two_at_least : (n : ℕ) → (n ≡ 0 → ⊥) → (n ≡ 1 → ⊥) → 2 ≤ n
-two_at_least zero a b = absurd (a refl)
-two_at_least (suc zero) a b = absurd (b refl)
-two_at_least (suc (suc n)) a b = omega arith
-
 -- a natural offset that is a multiple of four
 pub stepped_natural : (z : ℤ) (n : ℕ) → z ≡ pos n → is_stepped z ≡ true → n ≡ 4 * (n / 4)
 stepped_natural z n is stepped = elim (eqb_tells (n % 4) 0) [
   | inl e ↦ let zero' : n % 4 ≡ 0 = e.1 in omega arith
   | inr e ↦ let no' : false ≡ true = sym e.0 ∙ ap is_stepped (sym is) ∙ stepped in absurd (cc)
 ]
+
+-- a region that passes for the frame is it
+pub frame_is : (region : Region) → is_frame region ≡ true → region ≡ regions.Frame
+frame_is regions.Frame e = refl
+frame_is regions.Constants e = absurd (cc)
+frame_is (regions.Parameter j) e = absurd (cc)
+
+-- a region is the same as its equal
+pub same_as_equal : (region other : Region) → region ≡ other → is_same_region region other ≡ true
+same_as_equal region other e = subst (λ (r : Region). is_same_region region r ≡ true) e (itself region)
+  where
+    itself : (region : Region) → is_same_region region region ≡ true
+    itself regions.Frame = refl
+    itself regions.Constants = refl
+    itself (regions.Parameter j) = eq-eqb j j refl
 
 -- a region's kind is that of its equal
 pub no_region : (kind other : ParameterKind) (total : ℕ) (low high : ℤ) → other ≡ kind
@@ -107,7 +117,7 @@ readable_kind (WrittenRegion bytes lo hi) size e =
 readable_kind (Channels count len ends) size e = absurd (cc)
 
 -- what a parameter of this kind is lent, by where it lies
-abbrev pub LinkedBy : ParameterKind → WordFact → ℕ → ℤ → Type 0
+abbrev pub LinkedBy : ParameterKind → WordFact → Region → ℤ → Type 0
 LinkedBy (Value lo hi) fact region first = ⊤
 LinkedBy (ReadRegion size lo hi) fact region first = lent_from size lo hi false fact
     ≡ Some (record { region = region; first = first; size = size; lo = lo; hi = hi; is_written = false })
@@ -284,10 +294,10 @@ found_row n (p ∷ ps) at e h = elim (number_test p.entry at) [
 -- ---- the tests of what is lent
 
 pub lend_parts : (c : Calling) (l : Lent) → may_lend c l ≡ true
-    → (rule.may_use c l ≡ true) × ((if l.region == 0 then words_fit c l else true) ≡ true)
+    → (rule.may_use c l ≡ true) × ((if is_frame l.region then words_fit c l else true) ≡ true)
 unfolding may_lend
 lend_parts c l h =
-    let both = and-parts (is_near l.first && rule.may_use c l) (if l.region == 0 then words_fit c l else true) h in
+    let both = and-parts (is_near l.first && rule.may_use c l) (if is_frame l.region then words_fit c l else true) h in
     ((and-parts (is_near l.first) (rule.may_use c l) both.0).1, both.1)
 
 pub words_parts : (c : Calling) (l : Lent) → words_fit c l ≡ true
@@ -301,14 +311,14 @@ words_parts c l h =
 -- ---- what is known of a word
 
 -- the exact pointer that a word holds
-pub record HoldsPointer (m : Contents) (layout : Layout) (region : ℕ) (first : ℤ) (v : Option ℤ) : Type 0 where
+pub record HoldsPointer (m : Contents) (layout : Layout) (region : Region) (first : ℤ) (v : Option ℤ) : Type 0 where
   pub x : ℤ
   pub is : v ≡ Some x
   pub stepped : is_stepped first ≡ true
   pub address : x ≡ word_of (region_start m layout region +ℤ first)
   pub fits : FitsSigned w32 x
 
-pub pointer_held : (m : Contents) (act : Activation) (k : ℤ) (region : ℕ) (first : ℤ) (v : Option ℤ)
+pub pointer_held : (m : Contents) (act : Activation) (k : ℤ) (region : Region) (first : ℤ) (v : Option ℤ)
     → MeansWord m act k (Alone (Pointer region first first Word)) v → HoldsPointer m act.layout region first v
 pointer_held m act k region first None (is_fact means) = elim means [ ]
 pointer_held m act k region first (Some x) (is_fact (is_pointer offset low high stepped is)) =
@@ -338,8 +348,10 @@ lent_fact size lo hi w (Alone (Pointer region low high Word)) l h = elim (word_t
       let r : region ≡ l.region = ap (λ (x : Lent). x.region) same in
       let f : low ≡ l.first = ap (λ (x : Lent). x.first) same in (
         ap (λ (z : ℤ). Alone (Pointer region low z Word)) (sym e.1)
-            ∙ ap (λ (n : ℕ). Alone (Pointer n low low Word)) r ∙ ap (λ (z : ℤ). Alone (Pointer l.region z z Word)) f,
-        sym same ∙ ap (λ (n : ℕ). record { region = n; first = low; size = size; lo = lo; hi = hi; is_written = w }) r
+            ∙ ap (λ (t : Region). Alone (Pointer t low low Word)) r
+            ∙ ap (λ (z : ℤ). Alone (Pointer l.region z z Word)) f,
+        sym same
+            ∙ ap (λ (t : Region). record { region = t; first = low; size = size; lo = lo; hi = hi; is_written = w }) r
             ∙ ap (λ (z : ℤ). record { region = l.region; first = z; size = size; lo = lo; hi = hi; is_written = w }) f,
       )
   | inr e ↦

@@ -4,7 +4,7 @@ use Rattle.std.proofs.Common.{FitsSigned, Bool, true, false, cond, if◌then◌e
 use Rattle.std.proofs.Common.{length, Option, Some, None, refl, sym, ap, ◌∙◌, subst, arith, ltb, ◌||◌}
 use Rattle.std.specs.Int.{w32, int_wrap}
 use Rattle.std.proofs.lemmas.Option.{slice_get_within}
-use Rattle.std.specs.Prelude.{nat_lt, nat_abs, ◌==◌, slice_get}
+use Rattle.std.specs.Prelude.{nat_lt, nat_abs, slice_get}
 use Rattle.std.specs.List.{list_all}
 use Rattle.std.proofs.lemmas.Bool.Decides.{leb_tells}
 use Rattle.std.proofs.lemmas.Int.{ints, SFits-int_wrap}
@@ -19,6 +19,7 @@ use Rattle.module_format.specs.declared.fact.Fact.TheVariants.{ReturnAddress}
 use Rattle.module_format.specs.declared.rows.Parameter.{Parameter}
 use Rattle.module_format.specs.Contents.{Contents, Procedure, Par, Branch}
 use Rattle.module_format.specs.Contexts.{first_branch, context_at}
+use Rattle.module_format.specs.Regions.{is_frame}
 use Rattle.certificate.specs.Rights as rights
 use Rattle.certificate.specs.Starts.{Entered, procedure_at}
 use Rattle.machine_state.specs.declared.op.Op.TheVariants as operations
@@ -169,21 +170,21 @@ alone_from facts turns word (suc more) alone =
     let rest = alone_from facts turns (word +ℤ pos 1) more alone in
     omega (arith, here, rest)
 
-parameters_alone : (region : ℕ) (ps : List Parameter) (k : ℤ) → (f : Fact) × (parameter_facts region ps k ≡ Alone f)
-parameters_alone region [] k = (Unknown, refl)
-parameters_alone region (q ∷ ps) k = on_test (is_word k (pos q.word)) (parameters_alone (region + 1) ps k)
+parameters_alone : (number : ℕ) (ps : List Parameter) (k : ℤ) → (f : Fact) × (parameter_facts number ps k ≡ Alone f)
+parameters_alone number [] k = (Unknown, refl)
+parameters_alone number (q ∷ ps) k = on_test (is_word k (pos q.word)) (parameters_alone (number + 1) ps k)
   where
-    on_test : (b : Bool) → (f : Fact) × (parameter_facts (region + 1) ps k ≡ Alone f)
-        → (f : Fact) × (cond b (Alone (parameter_fact region q.kind)) (parameter_facts (region + 1) ps k) ≡ Alone f)
-    on_test true rest = (parameter_fact region q.kind, refl)
+    on_test : (b : Bool) → (f : Fact) × (parameter_facts (number + 1) ps k ≡ Alone f)
+        → (f : Fact) × (cond b (Alone (parameter_fact number q.kind)) (parameter_facts (number + 1) ps k) ≡ Alone f)
+    on_test true rest = (parameter_fact number q.kind, refl)
     on_test false rest = rest
 
 procedure_alone : (p : Procedure) (k : ℤ) → (f : Fact) × (procedure_facts p k ≡ Alone f)
 procedure_alone p k = on_test (is_word k (pos 0))
   where
-    on_test : (b : Bool) → (f : Fact) × (cond b (Alone ReturnAddress) (parameter_facts 2 p.parameters k) ≡ Alone f)
+    on_test : (b : Bool) → (f : Fact) × (cond b (Alone ReturnAddress) (parameter_facts 0 p.parameters k) ≡ Alone f)
     on_test true = (ReturnAddress, refl)
-    on_test false = parameters_alone 2 p.parameters k
+    on_test false = parameters_alone 0 p.parameters k
 
 procedure_dues : (p : Procedure) (turns : ℤ → ℕ) → dues (procedure_facts p) turns ≡ 0
 unfolding dues
@@ -199,7 +200,7 @@ lent_dues c (p ∷ ps) facts turns =
   where
     one : (o : Option Lent) → dues (with_lent o facts) turns ≤ dues facts turns
     one None = omega arith
-    one (Some l) = on_test (l.is_written && (l.region == 0))
+    one (Some l) = on_test (l.is_written && is_frame l.region)
       where
         on_test : (b : Bool) → dues (cond b (changed (lent_span l) facts) facts) turns ≤ dues facts turns
         on_test true = changed_dues (lent_span l) facts turns

@@ -10,6 +10,8 @@ use Rattle.std.proofs.lemmas.Bool.Decides.{leb_tells}
 use Rattle.std.proofs.lemmas.Int.{ints}
 use Rattle.module_format.specs.Rows.{Fact}
 use Rattle.module_format.specs.declared.fact.Fact.TheVariants.{Number, Pointer, ReturnAddress}
+use Rattle.module_format.specs.declared.fact.Region.{Region}
+use Rattle.module_format.specs.declared.fact.Region.TheVariants as regions
 use Rattle.module_format.specs.declared.fact.Step.TheVariants.{Word}
 use Rattle.module_format.specs.declared.rows.Parameter.{Parameter}
 use Rattle.module_format.specs.declared.rows.ParameterKind.{ParameterKind}
@@ -48,7 +50,7 @@ use Rattle.rulings.specs.Reach.{writable_bytes, may_read_bytes, may_write_bytes,
 use Rattle.call_rules.specs.CallRules as rule
 use Rattle.call_rules.specs.declared.lent.Lent.{Lent}
 use Rattle.call_rules.specs.CallRules.{Calling, callee_word, given, lent_from, lent, suits, parameter_suits}
-use Rattle.call_rules.specs.CallRules.{numbers_suit, numbers_fit, is_off_callee, may_use, words_fit, may_lend}
+use Rattle.call_rules.specs.CallRules.{numbers_suit, numbers_fit, is_off_callee, may_use, may_lend}
 use Rattle.call_rules.specs.CallRules.{pointers_fit, frame_size, frame_is_own, end_of, ends_are_held, holds_ends}
 use Rattle.call_rules.specs.CallRules.{clash, are_apart, regions_are_apart, all_below, lengths_fit, give_other_ends}
 use Rattle.rulings.specs.Channels.{channel_of, has_direction, further, is_length, channels_meet, message_length}
@@ -70,7 +72,7 @@ use Rattle.rulings.proofs.Offsets.{address_of_word, place_of_address, place_behi
 use Rattle.rulings.proofs.Offsets.{offset_of_word, words_of_region, all_words_at}
 use Rattle.rulings.proofs.Lending.{byte_index, number_means, wider_means, same_word, run_byte, named_at}
 use Rattle.rulings.specs.Lends.{IsRegionKind, IsPart, of_frame, of_constants, of_parameter, PartOf, Part, Lends}
-use Rattle.call_rules.proofs.CallTests.{chosen, other, differs, two_at_least, stepped_natural, no_region, read_kind}
+use Rattle.call_rules.proofs.CallTests.{other, differs, stepped_natural, no_region, read_kind, same_as_equal}
 use Rattle.call_rules.proofs.CallTests.{write_kind, readable_kind, LinkedBy, list_all_at, each_two_at, constant_known}
 use Rattle.call_rules.proofs.CallTests.{stepped_further, whole_words, more_words, even_place, constants_aligned}
 use Rattle.call_rules.proofs.CallTests.{constants_near, of_kind, lend_parts, words_parts, HoldsPointer, pointer_held}
@@ -216,11 +218,11 @@ module _ (m : Contents) (h : Holding) (mode : machine.Mode) (act : Activation) (
   -- ---- what is lent
 
   -- a region that is lent: it is the caller's, and the callee has it
-  record IsPassed (size : ℕ) (lo hi : ℤ) (w : Bool) (region : ℕ) (first : ℤ) (start : ℕ) : Type 0 where
+  record IsPassed (size : ℕ) (lo hi : ℤ) (w : Bool) (region : Region) (first : ℤ) (start : ℕ) : Type 0 where
     part : IsPart m caller callee base region first (size / 4) lo hi w (place_of start)
     has : IsRegion m (may_use_place h w) callee l.memory (place_of start) size lo hi
 
-  abbrev a_lent : ℕ → ℤ → ℕ → ℤ → ℤ → Bool → Lent
+  abbrev a_lent : Region → ℤ → ℕ → ℤ → ℤ → Bool → Lent
   a_lent region first size lo hi w =
       record { region = region; first = first; size = size; lo = lo; hi = hi; is_written = w }
 
@@ -285,12 +287,12 @@ module _ (m : Contents) (h : Holding) (mode : machine.Mode) (act : Activation) (
         let same : v.place ≡ n = let q = v.is in omega (arith, ints, q, e) in
         subst (λ (q : ℕ). may_read h (q + i) ≡ true) same (bytes_read h v.place v.readable i low)
 
-    frame_passed : (region : ℕ) (first : ℤ) → region ≡ 0 → first ≡ pos 4 *ℤ word → place_of start ≡ first_place.place
-        → IsPassed size lo hi w region first start
-    frame_passed region first r f at = record {
-      part = subst (λ (n : ℕ). IsPart m caller callee base region first n lo hi w (place_of start))
+    frame_passed : (first : ℤ) → first ≡ pos 4 *ℤ word → place_of start ≡ first_place.place
+        → IsPassed size lo hi w regions.Frame first start
+    frame_passed first f at = record {
+      part = subst (λ (n : ℕ). IsPart m caller callee base regions.Frame first n lo hi w (place_of start))
           (omega (arith, whole))
-          (of_frame word r f (omega (arith, ints, at, place_is)) reads writes apart_from);
+          (of_frame word refl f (omega (arith, ints, at, place_is)) reads writes apart_from);
       has = subst (λ (n : ℕ). IsRegion m (may_use_place h w) callee l.memory n size lo hi) (sym at) (record {
         whole = whole_words size count whole;
         aligned = even_place act.layout.origin word first_place.place a.named.even place_is;
@@ -352,12 +354,13 @@ module _ (m : Contents) (h : Holding) (mode : machine.Mode) (act : Activation) (
       part_place = ap place_of at ∙ place_behind (act.layout.starts q) (4 * n)
           (let i = last_inside in let b = a.frame.small in omega arith)
 
-      parameter_passed : (region' : ℕ) (first : ℤ) → region' ≡ 2 + q → first ≡ pos (4 * n)
-          → IsPassed size lo hi w region' first start
-      parameter_passed region' first e f = record {
-        part = subst (λ (c : ℕ). IsPart m caller callee base region' first c lo hi w (place_of start))
+      parameter_passed : (first : ℤ) → first ≡ pos (4 * n)
+          → IsPassed size lo hi w (regions.Parameter q) first start
+      parameter_passed first f = record {
+        part = subst
+            (λ (c : ℕ). IsPart m caller callee base (regions.Parameter q) first c lo hi w (place_of start))
             (omega (arith, whole))
-            (of_parameter q r n total low high e f found kind writes below above part_place fits);
+            (of_parameter q r n total low high refl f found kind writes below above part_place fits);
         has = subst (λ (place : ℕ). IsRegion m (may_use_place h w) callee l.memory place size lo hi)
             (sym part_place) (record {
               whole = whole_words size count whole;
@@ -380,12 +383,11 @@ module _ (m : Contents) (h : Holding) (mode : machine.Mode) (act : Activation) (
       (at : place_of start ≡ constants_start m + n) (fits : n + 4 * count ≤ length m.constants)
       (numbers : (i : ℕ) → i < count → Means m act.layout (Number lo hi)
       (word_at l.memory (constants_start m + n + 4 * i))) where
-    constants_passed : (region : ℕ) (first : ℤ) → region ≡ 1 → first ≡ pos n
-        → IsPassed size lo hi false region first start
-    constants_passed region first e f = record {
-      part = subst (λ (c : ℕ). IsPart m caller callee base region first c lo hi false (place_of start))
+    constants_passed : (first : ℤ) → first ≡ pos n → IsPassed size lo hi false regions.Constants first start
+    constants_passed first f = record {
+      part = subst (λ (c : ℕ). IsPart m caller callee base regions.Constants first c lo hi false (place_of start))
           (omega (arith, whole))
-          (of_constants n e f refl at fits);
+          (of_constants n refl f refl at fits);
       has = subst (λ (place : ℕ). IsRegion m (may_read h) callee l.memory place size lo hi) (sym at) (record {
         whole = whole_words size count whole;
         aligned = constants_aligned m n aligned;
@@ -407,7 +409,7 @@ module _ (m : Contents) (h : Holding) (mode : machine.Mode) (act : Activation) (
 
   -- a parameter that is lent a region: the parameter's word holds its address
   record IsLent (size : ℕ) (lo hi : ℤ) (w : Bool) (j : ℕ) (q : Parameter) : Type 0 where
-    region : ℕ
+    region : Region
     first : ℤ
     whole : size ≡ 4 * (size / 4)
     pointer : HoldsPointer m act.layout region first (value q)
@@ -415,7 +417,7 @@ module _ (m : Contents) (h : Holding) (mode : machine.Mode) (act : Activation) (
     lent_is : lent_from size lo hi w (given call q) ≡ Some (a_lent region first size lo hi w)
 
   -- the place that a parameter's word names
-  at_address : (j : ℕ) (q : Parameter) → slice_get p.parameters j ≡ Some q → (region : ℕ) (first : ℤ)
+  at_address : (j : ℕ) (q : Parameter) → slice_get p.parameters j ≡ Some q → (region : Region) (first : ℤ)
       → (held : HoldsPointer m act.layout region first (value q)) → (place : ℕ)
       → region_start m act.layout region +ℤ first ≡ pos (data_start + place) → place ≤ 2147483391
       → place_of (layout.starts j) ≡ place
@@ -423,18 +425,6 @@ module _ (m : Contents) (h : Holding) (mode : machine.Mode) (act : Activation) (
       ap place_of (start_is j q held.x found held.is)
       ∙ ap (λ (x : ℤ). place_of (cast_unsigned w32 x)) held.address
       ∙ place_of_address (region_start m act.layout region +ℤ first) place is low
-
-  -- where a region starts: the frame, the constants, or what a parameter names
-  start_by : (place : Layout) (region : ℕ) (first : ℤ) (frame constants : Bool) → (region == 0) ≡ frame
-      → (region == 1) ≡ constants
-      → region_start m place region +ℤ first
-      ≡ (if frame then pos data_start +ℤ place.origin
-      else (if constants then pos (data_start + constants_start m) else pos (place.starts (region - 2)))) +ℤ first
-  start_by place region first frame constants r r' =
-      ap (λ (b : Bool). (if b then pos data_start +ℤ place.origin
-      else (if region == 1 then pos (data_start + constants_start m) else pos (place.starts (region - 2)))) +ℤ first) r
-      ∙ ap (λ (b : Bool). (if frame then pos data_start +ℤ place.origin
-      else (if b then pos (data_start + constants_start m) else pos (place.starts (region - 2)))) +ℤ first) r'
 
   -- bytes of a parameter of the caller's that it may use so
   record Uses (w : Bool) (k : ℕ) (first end : ℤ) : Type 0 where
@@ -500,7 +490,7 @@ module _ (m : Contents) (h : Holding) (mode : machine.Mode) (act : Activation) (
     above : high ≤ℤ hi
     same : w ≡ true → (low ≡ lo) × (high ≡ hi)
 
-  ranges_of : (region : ℕ) (first : ℤ) (size : ℕ) (lo hi low high : ℤ) (w : Bool)
+  ranges_of : (region : Region) (first : ℤ) (size : ℕ) (lo hi low high : ℤ) (w : Bool)
       → suits (a_lent region first size lo hi w) low high ≡ true → Ranges lo hi low high w
   ranges_of region first size lo hi low high true h =
       let both = and-parts (is_word low lo) (is_word high hi) h in
@@ -515,59 +505,39 @@ module _ (m : Contents) (h : Holding) (mode : machine.Mode) (act : Activation) (
       (whole : size ≡ 4 * count)
       (at_least : 1 ≤ count) (lo hi : ℤ) (w : Bool) where
     -- a region that may be lent from a byte on, to which the parameter's word points
-    record MayLend (region : ℕ) (first : ℤ) : Type 0 where
+    record MayLend (region : Region) (first : ℤ) : Type 0 where
       suit : numbers_suit call (a_lent region first size lo hi w) ≡ true
       may : may_lend call (a_lent region first size lo hi w) ≡ true
       held : HoldsPointer m act.layout region first (value q)
 
     -- where a parameter of the caller's lends
-    of_own : (region : ℕ) (first : ℤ) → MayLend region first → (region ≡ 0 → ⊥) → (region ≡ 1 → ⊥)
-        → IsPassed size lo hi w region first (layout.starts j)
+    of_own : (k : ℕ) (first : ℤ) → MayLend (regions.Parameter k) first
+        → IsPassed size lo hi w (regions.Parameter k) first (layout.starts j)
     unfolding numbers_suit may_read_bytes may_write_bytes
-    of_own region first lends not_zero not_one =
-        let r : (region == 0) ≡ false = differs region 0 not_zero in
-        let r' : (region == 1) ≡ false = differs region 1 not_one in
-        let k : ℕ = region - 2 in
-        let used = (lend_parts call (a_lent region first size lo hi w) lends.may).0 in
-        let u = uses_bytes w k first (end_of (a_lent region first size lo hi w)) (on_use w r r' used) in
+    of_own k first lends =
+        let used = (lend_parts call (a_lent (regions.Parameter k) first size lo hi w) lends.may).0 in
+        let u = uses_bytes w k first (end_of (a_lent (regions.Parameter k) first size lo hi w)) (on_use w used) in
         let n = natural first u.from in
-        let suit' = other (region == 1) _ _ r' (other (region == 0) _ _ r lends.suit) in
-        let ranges = ranges_of region first size lo hi u.low u.high w
-        (of_kind (a_lent region first size lo hi w) u.r u.total u.low u.high u.kind
-        (sym (suits_used (a_lent region first size lo hi w) u.was u.r u.is_used) ∙ sym (ap (parameter_suits
-        (a_lent region first size lo hi w)) u.was_found) ∙ suit')) in
+        let ranges = ranges_of (regions.Parameter k) first size lo hi u.low u.high w
+        (of_kind (a_lent (regions.Parameter k) first size lo hi w) u.r u.total u.low u.high u.kind
+        (sym (suits_used (a_lent (regions.Parameter k) first size lo hi w) u.was u.r u.is_used)
+        ∙ sym (ap (parameter_suits (a_lent (regions.Parameter k) first size lo hi w)) u.was_found) ∙ lends.suit)) in
         let quarter : n.0 ≡ 4 * (n.0 / 4) = stepped_natural first n.0 n.1 lends.held.stepped in
         let to = u.to in
         let fits : 4 * (n.0 / 4) + 4 * count ≤ u.total = omega (arith, ints, to, n.1, quarter, whole) in
         let address : layout.starts j ≡ (act.layout.starts k + 4 * (n.0 / 4)) % 4294967296 =
         start_is j q lends.held.x found lends.held.is ∙ ap (cast_unsigned w32) lends.held.address
-        ∙ ap (λ (z : ℤ). cast_unsigned w32 (word_of z)) (start_sum region first n.0 r r' n.1)
+        ∙ ap (λ (z : ℤ). cast_unsigned w32 (word_of (pos (act.layout.starts k) +ℤ z))) n.1
         ∙ address_of_word (act.layout.starts k + n.0)
         ∙ ap (λ (i : ℕ). (act.layout.starts k + i) % 4294967296) quarter in
         on_kind u.r.kind k (n.0 / 4) u.r refl u.found u.total u.low u.high u.kind u.written ranges address
-        fits region first
-        (omega (arith, two_at_least region not_zero not_one)) (n.1 ∙ ap pos quarter)
-        (a.named.each k u.r u.found)
+        fits first (n.1 ∙ ap pos quarter) (a.named.each k u.r u.found)
       where
-        on_use : (w : Bool) → (region == 0) ≡ false → (region == 1) ≡ false
-            → rule.may_use call (a_lent region first size lo hi w) ≡ true
-            → lie_in (if w then writable_bytes m s.context (region - 2) else readable_bytes m s.context
-            (region - 2)) first
-            (end_of (a_lent region first size lo hi w)) ≡ true
-        on_use true r r' used =
-            sym (ap (λ (b : Bool). lie_in (if b then None else writable_bytes m s.context (region - 2)) first
-            (end_of (a_lent region first size lo hi w))) r') ∙ other (region == 0) _ _ r used
-        on_use false r r' used =
-            sym
-            (ap (λ (b : Bool). lie_in (if b then Some (length m.constants) else readable_bytes m s.context
-            (region - 2)) first
-            (end_of (a_lent region first size lo hi w))) r') ∙ other (region == 0) _ _ r used
-
-        start_sum : (region : ℕ) (first : ℤ) (n : ℕ) → (region == 0) ≡ false → (region == 1) ≡ false → first ≡ pos n
-            → region_start m act.layout region +ℤ first ≡ pos (act.layout.starts (region - 2) + n)
-        start_sum region first n r r' e =
-            start_by act.layout region first false false r r'
-            ∙ ap (λ (z : ℤ). pos (act.layout.starts (region - 2)) +ℤ z) e
+        on_use : (w : Bool) → rule.may_use call (a_lent (regions.Parameter k) first size lo hi w) ≡ true
+            → lie_in (if w then writable_bytes m s.context k else readable_bytes m s.context k) first
+            (end_of (a_lent (regions.Parameter k) first size lo hi w)) ≡ true
+        on_use true used = used
+        on_use false used = used
 
         on_read : (w : Bool) (place : ℕ) → (w ≡ true → ⊥) → may_read h place ≡ true → may_use_place h w place ≡ true
         on_read true place no' may = absurd (no' refl)
@@ -583,132 +553,117 @@ module _ (m : Contents) (h : Holding) (mode : machine.Mode) (act : Activation) (
             → (w ≡ true → r.kind ≡ WrittenRegion total low high)
             → Ranges lo hi low high w → layout.starts j ≡ (act.layout.starts k + 4 * n) % 4294967296
             → 4 * n + 4 * count ≤ total
-            → (region : ℕ) (first : ℤ) → region ≡ 2 + k → first ≡ pos (4 * n)
+            → (first : ℤ) → first ≡ pos (4 * n)
             → IsNamed m h caller l.memory kind (act.layout.starts k)
-            → IsPassed size lo hi w region first (layout.starts j)
-        on_kind (Value lo' hi') k n r e found total low high is_kind written ranges at fits region first region_is
-            first_is named =
+            → IsPassed size lo hi w (regions.Parameter k) first (layout.starts j)
+        on_kind (Value lo' hi') k n r e found total low high is_kind written ranges at fits first first_is named =
             let no' : false ≡ true = no_region (Value lo' hi') r.kind total low high e is_kind in absurd (cc)
-        on_kind (ReadRegion size' lo' hi') k n r e found total low high is_kind written ranges at fits region
-            first region_is
+        on_kind (ReadRegion size' lo' hi') k n r e found total low high is_kind written ranges at fits first
             first_is named =
             parameter_passed size count whole at_least lo hi w k n r found (layout.starts j) at total low high is_kind
             (may_read h) (same_region (read_kind r.kind size' total lo' hi' low high e is_kind) named)
             (λ place may. on_read w place (λ t. let no' : ReadRegion size' lo' hi' ≡ WrittenRegion total low high =
             sym e ∙ written t in cc) may)
             (λ t. let no' : ReadRegion size' lo' hi' ≡ WrittenRegion total low high = sym e ∙ written t in absurd (cc))
-            ranges.below ranges.above fits region first region_is first_is
-        on_kind (WrittenRegion size' lo' hi') k n r e found total low high is_kind written ranges at fits region
-            first region_is
+            ranges.below ranges.above fits first first_is
+        on_kind (WrittenRegion size' lo' hi') k n r e found total low high is_kind written ranges at fits first
             first_is named =
             parameter_passed size count whole at_least lo hi w k n r found (layout.starts j) at total low high is_kind
             (may_write h) (same_region (write_kind r.kind size' total lo' hi' low high e is_kind) named)
             (λ place may. on_write w place may)
             (λ t. written t ∙ ap (λ (z : ℤ). WrittenRegion total z high) (ranges.same t).0
             ∙ ap (λ (z : ℤ). WrittenRegion total lo z) (ranges.same t).1)
-            ranges.below ranges.above fits region first region_is first_is
-        on_kind (Channels count' len ends) k n r e found total low high is_kind written ranges at fits region
-            first region_is
+            ranges.below ranges.above fits first first_is
+        on_kind (Channels count' len ends) k n r e found total low high is_kind written ranges at fits first
             first_is named = (let no' : false ≡ true =
             no_region (Channels count' len ends) r.kind total low high e is_kind in absurd (cc))
 
     -- where the frame lends
-    of_words : (region : ℕ) (first : ℤ) → MayLend region first → region ≡ 0
-        → IsPassed size lo hi w region first (layout.starts j)
+    of_words : (first : ℤ) → MayLend regions.Frame first → IsPassed size lo hi w regions.Frame first (layout.starts j)
     unfolding numbers_suit may_read_bytes may_write_bytes
-    of_words region first lends zero' =
+    of_words first lends =
         let word : ℤ = word_of_byte first in
         let f : first ≡ pos 4 *ℤ word = offset_of_word first lends.held.stepped in
-        let r : (region == 0) ≡ true = ap (λ (n : ℕ). n == 0) zero' in
         let size_is : size / 4 ≡ count = omega (arith, whole) in
-        let both = lend_parts call (a_lent region first size lo hi w) lends.may in
-        let parts = words_parts call (a_lent region first size lo hi w)
-        (chosen (region == 0) (words_fit call (a_lent region first size lo hi w)) true r both.1) in
-        let many : words_touched first (end_of (a_lent region first size lo hi w)) ≡ count =
+        let both = lend_parts call (a_lent regions.Frame first size lo hi w) lends.may in
+        let parts = words_parts call (a_lent regions.Frame first size lo hi w) both.1 in
+        let many : words_touched first (end_of (a_lent regions.Frame first size lo hi w)) ≡ count =
         ap (λ (z : ℤ). words_touched z (z +ℤ pos size)) f
         ∙ ap (λ (n : ℕ). words_touched (pos 4 *ℤ word) (pos 4 *ℤ word +ℤ pos n)) whole
         ∙ words_of_region word count at_least in
         let usable : all_words (if w then caller.words.writes else caller.words.reads) word count ≡ true =
         subst (λ (n : ℕ). all_words (if w then caller.words.writes else caller.words.reads) word n ≡ true) many
-        (on_use w region first r both.0) in
+        (on_use w first both.0) in
         let number = subst (λ (n : ℕ). (together s.frame word n).are_numbers ≡ true) size_is parts.0 in
         let off = subst (λ (n : ℕ). is_off_callee call word n ≡ true) size_is parts.1 in
         let suits_it = subst (λ (n : ℕ). lies_within (together s.frame word n).lo
-        (together s.frame word n).hi lo hi ≡ true)
-        size_is (chosen (region == 0) _ _ r lends.suit) in
+        (together s.frame word n).hi lo hi ≡ true) size_is lends.suit in
         let there = first_place size count whole at_least lo hi w word (layout.starts j) usable number off suits_it in
+        let start : pos data_start +ℤ act.layout.origin +ℤ first ≡ pos (data_start + there.place) =
+        let e = there.is in omega (arith, ints, e, f) in
         let at : place_of (layout.starts j) ≡ there.place =
-        at_address j q found region first lends.held there.place
-        (start_by act.layout region first true (region == 1) r refl
-        ∙ (let e = there.is in omega (arith, ints, e, f)))
+        at_address j q found regions.Frame first lends.held there.place start
         (let i = there.inside in let b = a.frame.small in omega arith) in
         frame_passed size count whole at_least lo hi w word
-        (layout.starts j) usable number off suits_it region first zero' f at
+        (layout.starts j) usable number off suits_it first f at
       where
-        on_use : (w : Bool) (region : ℕ) (first : ℤ) → (region == 0) ≡ true
-            → rule.may_use call (a_lent region first size lo hi w) ≡ true
+        on_use : (w : Bool) (first : ℤ)
+            → rule.may_use call (a_lent regions.Frame first size lo hi w) ≡ true
             → all_words (if w then caller.words.writes else caller.words.reads) (word_of_byte first)
-            (words_touched first (end_of (a_lent region first size lo hi w))) ≡ true
-        on_use true region first r used = chosen (region == 0) _ _ r used
-        on_use false region first r used = chosen (region == 0) _ _ r used
+            (words_touched first (end_of (a_lent regions.Frame first size lo hi w))) ≡ true
+        on_use true first used = used
+        on_use false first used = used
 
     -- where the constants lend
-    of_the_constants : (region : ℕ) (first : ℤ) → MayLend region first → region ≡ 1
-        → IsPassed size lo hi w region first (layout.starts j)
+    of_the_constants : (first : ℤ) → MayLend regions.Constants first
+        → IsPassed size lo hi w regions.Constants first (layout.starts j)
     unfolding numbers_suit may_read_bytes may_write_bytes
-    of_the_constants region first lends one =
-        let r : (region == 0) ≡ false = differs region 0
-        (λ e. let no' : 1 ≡ 0 = sym one ∙ e in absurd (omega (arith, no'))) in
-        let r' : (region == 1) ≡ true = ap (λ (n : ℕ). n == 1) one in
-        on_written w refl r r' lends.suit (lend_parts call (a_lent region first size lo hi w) lends.may).0
+    of_the_constants first lends =
+        on_written w refl lends.suit (lend_parts call (a_lent regions.Constants first size lo hi w) lends.may).0
       where
-        inside : (lo hi : ℤ) (w : Bool) → (region == 0) ≡ false → (region == 1) ≡ true → w ≡ false
-            → rule.may_use call (a_lent region first size lo hi w) ≡ true
-            → lie_in (Some (length m.constants)) first (end_of (a_lent region first size lo hi w)) ≡ true
-        inside lo hi true r r' no' used = absurd (cc)
-        inside lo hi false r r' no' used =
-            sym
-            (ap (λ (b : Bool). lie_in (if b then Some (length m.constants) else readable_bytes m s.context
-            (region - 2)) first
-            (end_of (a_lent region first size lo hi false))) r') ∙ other (region == 0) _ _ r used
+        inside : (lo hi : ℤ) (w : Bool) → w ≡ false
+            → rule.may_use call (a_lent regions.Constants first size lo hi w) ≡ true
+            → lie_in (Some (length m.constants)) first (end_of (a_lent regions.Constants first size lo hi w)) ≡ true
+        inside lo hi true no' used = absurd (cc)
+        inside lo hi false no' used = used
 
-        not_written : (lo hi : ℤ) (w : Bool) → (region == 0) ≡ false → (region == 1) ≡ true
-            → rule.may_use call (a_lent region first size lo hi w) ≡ true → w ≡ false
-        not_written lo hi false r r' used = refl
-        not_written lo hi true r r' used =
-            let no' : false ≡ true = sym (ap (λ (b : Bool). lie_in
-            (if b then None else writable_bytes m s.context (region - 2)) first
-            (end_of (a_lent region first size lo hi true))) r') ∙ other (region == 0) _ _ r used in
-            absurd (cc)
+        not_written : (lo hi : ℤ) (w : Bool) → rule.may_use call (a_lent regions.Constants first size lo hi w) ≡ true
+            → w ≡ false
+        not_written lo hi false used = refl
+        not_written lo hi true used = let no' : false ≡ true = used in absurd (cc)
 
-        on_written : (v : Bool) → w ≡ v → (region == 0) ≡ false → (region == 1) ≡ true
-            → numbers_suit call (a_lent region first size lo hi w) ≡ true
-            → rule.may_use call (a_lent region first size lo hi w) ≡ true
-            → IsPassed size lo hi w region first (layout.starts j)
-        on_written true e r r' suit used = let no' : true ≡ false = sym e ∙ not_written lo hi w r r' used in absurd (cc)
-        on_written false e r r' suit used =
+        on_written : (v : Bool) → w ≡ v
+            → numbers_suit call (a_lent regions.Constants first size lo hi w) ≡ true
+            → rule.may_use call (a_lent regions.Constants first size lo hi w) ≡ true
+            → IsPassed size lo hi w regions.Constants first (layout.starts j)
+        on_written true e suit used = let no' : true ≡ false = sym e ∙ not_written lo hi w used in absurd (cc)
+        on_written false e suit used =
             let both = and-parts (int_le (pos 0) first)
-            (int_le (end_of (a_lent region first size lo hi w)) (pos (length m.constants)))
-            (inside lo hi w r r' e used) in
+            (int_le (end_of (a_lent regions.Constants first size lo hi w)) (pos (length m.constants)))
+            (inside lo hi w e used) in
             let n = natural first (le-from (pos 0) first both.0) in
-            let to = le-from (end_of (a_lent region first size lo hi w)) (pos (length m.constants)) both.1 in
+            let to = le-from (end_of (a_lent regions.Constants first size lo hi w)) (pos (length m.constants)) both.1 in
             let fits : n.0 + 4 * count ≤ length m.constants = omega (arith, ints, to, n.1, whole) in
-            let range = chosen (region == 1) _ _ r' (other (region == 0) _ _ r suit) in
-            let start : region_start m act.layout region +ℤ first ≡ pos (data_start + (constants_start m + n.0)) =
-            start_by act.layout region first false true r r'
-            ∙ (let f = n.1 in omega (arith, ints, f)) in
-            let at = at_address j q found region first lends.held (constants_start m + n.0) start
+            let start : pos (data_start + constants_start m) +ℤ first ≡ pos (data_start + (constants_start m + n.0)) =
+            let f = n.1 in omega (arith, ints, f) in
+            let at = at_address j q found regions.Constants first lends.held (constants_start m + n.0) start
             (constants_near m n.0 wf (omega (arith, fits))) in
-            subst (λ (b : Bool). IsPassed size lo hi b region first (layout.starts j)) (sym e)
+            subst (λ (b : Bool). IsPassed size lo hi b regions.Constants first (layout.starts j)) (sym e)
             (constants_passed size count whole at_least lo hi n.0 (layout.starts j)
             (stepped_natural first n.0 n.1 lends.held.stepped) at fits
             (λ i low. constant_known m wf act l.memory a.named.constants first n.0
-            (end_of (a_lent region first size lo hi w)) lo hi
+            (end_of (a_lent regions.Constants first size lo hi w)) lo hi
             (constants_start m + n.0 + 4 * i) (n.0 + 4 * i) (omega arith)
             (let q = stepped_natural first n.0 n.1 lends.held.stepped in omega arith)
             (let f = n.1 in omega (arith, ints, f)) (let f = n.1 in omega (arith, ints, f, whole))
-            (omega (arith, fits)) range)
-            region first one n.1)
+            (omega (arith, fits)) suit)
+            first n.1)
+
+    of_region : (region : Region) (first : ℤ) → MayLend region first
+        → IsPassed size lo hi w region first (layout.starts j)
+    of_region regions.Frame first lends = of_words first lends
+    of_region regions.Constants first lends = of_the_constants first lends
+    of_region (regions.Parameter k) first lends = of_own k first lends
 
     -- what a region parameter is lent
     passed_region : (o : Option Lent) → lent_from size lo hi w (given call q) ≡ o
@@ -727,13 +682,7 @@ module _ (m : Contents) (h : Holding) (mode : machine.Mode) (act : Activation) (
           first = l.first;
           whole = omega (arith, whole);
           pointer = held;
-          part_is = elim (cases_eq l.region 0) [
-            | inl zero' ↦ of_words l.region l.first lends zero'
-            | inr not_zero ↦ elim (cases_eq l.region 1) [
-              | inl one ↦ of_the_constants l.region l.first lends one
-              | inr not_one ↦ of_own l.region l.first lends not_zero not_one
-            ]
-          ];
+          part_is = of_region l.region l.first lends;
           lent_is = e ∙ ap (λ (x : Lent). Some x) fact.1;
         }
 
@@ -741,25 +690,20 @@ module _ (m : Contents) (h : Holding) (mode : machine.Mode) (act : Activation) (
 
   -- a parameter's word holds the address of what it names
   address_means : (j : ℕ) (q : Parameter) → slice_get p.parameters j ≡ Some q → (x : ℤ) → value q ≡ Some x
-      → FitsSigned w32 x → Means m layout (Pointer (2 + j) (pos 0) (pos 0) Word) (value q)
+      → FitsSigned w32 x → Means m layout (Pointer (regions.Parameter j) (pos 0) (pos 0) Word) (value q)
   address_means j q found x held fits =
-      subst (λ (v : Option ℤ). Means m layout (Pointer (2 + j) (pos 0) (pos 0) Word) v) (sym held)
+      subst (λ (v : Option ℤ). Means m layout (Pointer (regions.Parameter j) (pos 0) (pos 0) Word) v) (sym held)
       (is_pointer (pos 0) (omega (arith, ints)) (omega (arith, ints)) refl
       (word_of_address x fits ∙ ap word_of (sym region)))
     where
-      region : region_start m layout (2 + j) +ℤ pos 0 ≡ pos (cast_unsigned w32 x)
-      region =
-          start_by layout (2 + j) (pos 0) false false (differs (2 + j) 0 (λ e. omega (arith, e)))
-          (differs (2 + j) 1 (λ e. omega (arith, e)))
-          ∙ ap (λ (n : ℕ). pos (layout.starts n) +ℤ pos 0) (let e : 2 + j - 2 ≡ j = omega arith in e)
-          ∙ ap (λ (n : ℕ). pos n +ℤ pos 0) (start_is j q x found held)
-          ∙ omega (arith, ints)
+      region : region_start m layout (regions.Parameter j) +ℤ pos 0 ≡ pos (cast_unsigned w32 x)
+      region = ap (λ (n : ℕ). pos n +ℤ pos 0) (start_is j q x found held) ∙ omega (arith, ints)
 
   -- what the callee has of a parameter
   pub record Passed (j : ℕ) (kind : ParameterKind) (v : Option ℤ) (fact : WordFact) : Type 0 where
     pub part : Part m caller callee base kind (layout.starts j)
     pub named : IsNamed m h callee l.memory kind (layout.starts j)
-    pub means : Means m layout (parameter_fact (2 + j) kind) v
+    pub means : Means m layout (parameter_fact j kind) v
     pub linked : LinkedBy kind fact part.region part.first
 
   kind_kept : (j : ℕ) (q : Parameter) → slice_get p.parameters j ≡ Some q → KindKeeps q.kind
@@ -783,7 +727,7 @@ module _ (m : Contents) (h : Holding) (mode : machine.Mode) (act : Activation) (
       → slice_get p.parameters j ≡ Some q → (it : IsLent size lo hi w j q)
       → PartOf m caller callee base kind (layout.starts j) it.region it.first (size / 4)
       → IsNamed m h callee l.memory kind (layout.starts j)
-      → parameter_fact (2 + j) kind ≡ Pointer (2 + j) (pos 0) (pos 0) Word
+      → parameter_fact j kind ≡ Pointer (regions.Parameter j) (pos 0) (pos 0) Word
       → LinkedBy kind (given call q) it.region it.first → Passed j kind (value q) (given call q)
   passed_of kind j q size lo hi w found it part named fact linked = record {
     part = record { region = it.region; first = it.first; count = size / 4; is = part };
@@ -802,7 +746,7 @@ module _ (m : Contents) (h : Holding) (mode : machine.Mode) (act : Activation) (
       → Passed j kind (value (record { word = word; kind = kind })) (given call (record { word = word; kind = kind }))
   unfolding numbers_fit pointers_fit ends_are_held lengths_fit
   passed_at j word (Value lo hi) found numbers pointers ends lengths = record {
-    part = record { region = 0; first = pos 0; count = 0; is = tt };
+    part = record { region = regions.Frame; first = pos 0; count = 0; is = tt };
     named = tt;
     means = number_means (implies_means m act.layout (plain (given call (record { word = word; kind = Value lo hi })))
         (Number lo hi) _ numbers
@@ -850,7 +794,7 @@ module _ (m : Contents) (h : Holding) (mode : machine.Mode) (act : Activation) (
       on_channel (Some first) e h g =
           let n = names m act (callee_word s (pos word)) (given call q) first (value q) e (given_means j q found) in
           record {
-            part = record { region = 0; first = pos 0; count = 0; is = tt };
+            part = record { region = regions.Frame; first = pos 0; count = 0; is = tt };
             named = even_start n.x n.is (further first 0) (n.addresses 0)
                 (length_is len _ (all_below_at count 0
                 (λ i. is_length len (message_length m s.context (further first i))) g (kind_kept j q found).some));
@@ -957,7 +901,7 @@ module _ (m : Contents) (h : Holding) (mode : machine.Mode) (act : Activation) (
         (run_byte act.layout.origin k place i at))
 
     -- two parts have a byte in common only where they clash
-    parts_apart : (r1 r2 : ℕ) (f1 f2 : ℤ) (c1 c2 : ℕ) (lo1 hi1 lo2 hi2 : ℤ) (w : Bool) (p1 p2 i1 i2 : ℕ)
+    parts_apart : (r1 r2 : Region) (f1 f2 : ℤ) (c1 c2 : ℕ) (lo1 hi1 lo2 hi2 : ℤ) (w : Bool) (p1 p2 i1 i2 : ℕ)
         → IsPart m caller callee base r1 f1 c1 lo1 hi1 true p1 → IsPart m caller callee base r2 f2 c2 lo2 hi2 w p2
         → p1 + i1 ≡ p2 + i2 → i1 < 4 * c1 → i2 < 4 * c2
         → (r1 ≡ r2 → f1 <ℤ (f2 +ℤ pos (4 * c2)) → f2 <ℤ (f1 +ℤ pos (4 * c1)) → ⊥) → ⊥
@@ -1002,7 +946,7 @@ module _ (m : Contents) (h : Holding) (mode : machine.Mode) (act : Activation) (
           | inl one ↦
               let starts : place_of (act.layout.starts q1) ≡ place_of (act.layout.starts q2) =
               ap (λ (n : ℕ). place_of (act.layout.starts n)) one in
-              no_meet (e1 ∙ ap (λ (n : ℕ). 2 + n) one ∙ sym e2)
+              no_meet (e1 ∙ ap (λ (n : ℕ). regions.Parameter n) one ∙ sym e2)
               (omega (arith, ints, g1, g2, at1, at2, starts, same, low1, low2))
               (omega (arith, ints, g1, g2, at1, at2, starts, same, low1, low2))
           | inr two ↦ a.named.apart q1 q2 u1 u2 found1 found2 two (p1 + i1)
@@ -1014,7 +958,7 @@ module _ (m : Contents) (h : Holding) (mode : machine.Mode) (act : Activation) (
 
     -- what a parameter is lent where it has a byte
     record Piece (place start : ℕ) (kind : ParameterKind) (fact : WordFact) : Type 0 where
-      region : ℕ
+      region : Region
       first : ℤ
       size : ℕ
       count : ℕ
@@ -1028,7 +972,7 @@ module _ (m : Contents) (h : Holding) (mode : machine.Mode) (act : Activation) (
       low : i < 4 * count
       lent_is : rule.lent_to kind fact ≡ Some (a_lent region first size lo hi w)
 
-    region_piece : (region : ℕ) (first : ℤ) (size count : ℕ) (lo hi : ℤ) (w : Bool) (kind : ParameterKind)
+    region_piece : (region : Region) (first : ℤ) (size count : ℕ) (lo hi : ℤ) (w : Bool) (kind : ParameterKind)
         (fact : WordFact) (start place : ℕ) → size ≡ 4 * count
         → IsPart m caller callee base region first count lo hi w (place_of start)
         → (place_of start ≤ place) × (place < place_of start + size)
@@ -1068,8 +1012,9 @@ module _ (m : Contents) (h : Holding) (mode : machine.Mode) (act : Activation) (
     no_clash : (o u : Option Lent) (l k : Lent) → o ≡ Some l → u ≡ Some k → are_apart o u ≡ true
         → (l.is_written || k.is_written) ≡ true → l.region ≡ k.region → l.first <ℤ end_of k → k.first <ℤ end_of l → ⊥
     no_clash o u l k e f apart written same before behind =
-        let yes : clash l k ≡ true = and-both _ _ (and-both _ _ (and-both _ _ written (eq-eqb l.region k.region same))
-        (lt-yes l.first (end_of k) before)) (lt-yes k.first (end_of l) behind) in
+        let yes : clash l k ≡ true = and-both _ _ (and-both _ _ (and-both _ _ written
+        (same_as_equal l.region k.region same)) (lt-yes l.first (end_of k) before))
+        (lt-yes k.first (end_of l) behind) in
         let no' : false ≡ true = sym (ap not yes) ∙ sym (ap (λ (x : Option Lent). are_apart x (Some k)) e
         ∙ refl) ∙ ap (λ (x : Option Lent). are_apart o x) (sym f) ∙ apart in
         (cc)
@@ -1341,22 +1286,22 @@ module _ (m : Contents) (h : Holding) (mode : machine.Mode) (act : Activation) (
     abbrev pub callee_act : Activation
     callee_act = record { layout = layout; turns = λ k. 0 }
 
-    parameters_mean : (region : ℕ) (ps : List Parameter) (k : ℤ)
+    parameters_mean : (number : ℕ) (ps : List Parameter) (k : ℤ)
         → ((j : ℕ) (q : Parameter) → slice_get ps j ≡ Some q
-        → Means m layout (parameter_fact (region + j) q.kind) (value q))
-        → MeansWord m callee_act k (parameter_facts region ps k) (frame_word l.memory origin k)
-    parameters_mean region [] k means = is_fact says_nothing
-    parameters_mean region (q ∷ ps) k means = elim (word_test k (pos q.word)) [
+        → Means m layout (parameter_fact (number + j) q.kind) (value q))
+        → MeansWord m callee_act k (parameter_facts number ps k) (frame_word l.memory origin k)
+    parameters_mean number [] k means = is_fact says_nothing
+    parameters_mean number (q ∷ ps) k means = elim (word_test k (pos q.word)) [
       | inl e ↦ means_same (is_fact (subst (λ (n : ℕ). Means m layout (parameter_fact n q.kind) (value q))
-          (let z : region + 0 ≡ region = omega arith in z) (means 0 q refl)))
-          (sym (ap (λ (b : Bool). if b then Alone (parameter_fact region q.kind) else parameter_facts
-          (region + 1) ps k) e.0))
+          (let z : number + 0 ≡ number = omega arith in z) (means 0 q refl)))
+          (sym (ap (λ (b : Bool). if b then Alone (parameter_fact number q.kind) else parameter_facts
+          (number + 1) ps k) e.0))
           (ap (frame_word l.memory origin) (sym e.1))
-      | inr e ↦ means_same (parameters_mean (region + 1) ps k (λ j r found.
+      | inr e ↦ means_same (parameters_mean (number + 1) ps k (λ j r found.
           subst (λ (n : ℕ). Means m layout (parameter_fact n r.kind) (value r))
-          (let z : region + suc j ≡ region + 1 + j = omega arith in z) (means (suc j) r found)))
-          (sym (ap (λ (b : Bool). if b then Alone (parameter_fact region q.kind) else parameter_facts
-          (region + 1) ps k) e.0)) refl
+          (let z : number + suc j ≡ number + 1 + j = omega arith in z) (means (suc j) r found)))
+          (sym (ap (λ (b : Bool). if b then Alone (parameter_fact number q.kind) else parameter_facts
+          (number + 1) ps k) e.0)) refl
     ]
 
     pub callee_words : frame_word l.memory origin (pos 0) ≡ Some (word_of (pos (code_address m back))) → (k : ℤ)
@@ -1364,9 +1309,11 @@ module _ (m : Contents) (h : Holding) (mode : machine.Mode) (act : Activation) (
     callee_words returned k = elim (word_test k (pos 0)) [
       | inl e ↦ means_same (is_fact (subst (λ (v : Option ℤ). Means m layout ReturnAddress v)
           (sym (ap (frame_word l.memory origin) e.1 ∙ returned)) (is_return_address refl)))
-          (sym (ap (λ (b : Bool). if b then Alone ReturnAddress else parameter_facts 2 p.parameters k) e.0)) refl
-      | inr e ↦ means_same (parameters_mean 2 p.parameters k (λ j q found. (passed_parameter j q found).means))
-          (sym (ap (λ (b : Bool). if b then Alone ReturnAddress else parameter_facts 2 p.parameters k) e.0)) refl
+          (sym (ap (λ (b : Bool). if b then Alone ReturnAddress else parameter_facts 0 p.parameters k) e.0)) refl
+      | inr e ↦ means_same (parameters_mean 0 p.parameters k (λ j q found.
+          subst (λ (n : ℕ). Means m layout (parameter_fact n q.kind) (value q))
+          (let z : j ≡ 0 + j = omega arith in z) (passed_parameter j q found).means))
+          (sym (ap (λ (b : Bool). if b then Alone ReturnAddress else parameter_facts 0 p.parameters k) e.0)) refl
     ]
 
   -- ---- the callee's frame

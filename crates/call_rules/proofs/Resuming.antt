@@ -2,14 +2,16 @@
 use Rattle.std.proofs.Common.{◌≡◌, ℕ, zero, suc, ◌+◌, ◌-◌, ◌*◌, ◌/◌, ◌≤◌, ◌<◌, ℤ, pos, negsuc, ◌+ℤ◌, ◌-ℤ◌, ◌≤ℤ◌, ◌<ℤ◌}
 use Rattle.std.proofs.Common.{Bool, true, false, cond, ◌&&◌, ◌⊎◌, inl, inr, List, [], ◌∷◌, length, Option, Some, None}
 use Rattle.std.proofs.Common.{refl, sym, ap, ◌∙◌, subst, arith}
-use Rattle.std.specs.Prelude.{slice_get, int_le, int_lt, nat_abs, ◌==◌}
-use Rattle.std.proofs.lemmas.Bool.Decides.{eqb_tells}
+use Rattle.std.specs.Prelude.{slice_get, int_le, int_lt, nat_abs}
 use Rattle.std.proofs.lemmas.Int.{ints}
 use Rattle.module_format.specs.declared.fact.Fact.TheVariants.{Number}
+use Rattle.module_format.specs.declared.fact.Region.{Region}
+use Rattle.module_format.specs.declared.fact.Region.TheVariants as regions
 use Rattle.module_format.specs.declared.rows.Parameter.{Parameter}
 use Rattle.module_format.specs.declared.rows.ParameterKind.{ParameterKind}
 use Rattle.module_format.specs.declared.rows.ParameterKind.TheVariants.{Value, ReadRegion, WrittenRegion, Channels}
 use Rattle.module_format.specs.Contents.{Contents, Procedure}
+use Rattle.module_format.specs.Regions.{is_frame}
 use Rattle.machine_state.specs.Memory.{Memory, word_at, place_of}
 use Rattle.machine_state.specs.Holding.{Holding, may_write, may_read}
 use Rattle.states.specs.declared.known.WordFact.TheVariants.{Alone}
@@ -30,14 +32,9 @@ use Rattle.rulings.proofs.Offsets.{word_of_offset}
 use Rattle.rulings.specs.Lends.{IsPart, of_frame, of_constants, of_parameter, PartOf, Lends}
 use Rattle.rulings.proofs.Lending.{number_means, same_word, run_byte, WritesIn, writes_in, writes_of, word_kept}
 use Rattle.rulings.proofs.Lending.{frame_byte}
-use Rattle.call_rules.proofs.CallTests.{lent_fact}
+use Rattle.call_rules.proofs.CallTests.{lent_fact, frame_is}
 use Rattle.rulings.proofs.Reaching.{natural}
 use Rattle.rulings.proofs.Regions.{bytes_read}
-
--- ---- numbers
-
-zero_test : {n : ℕ} → n ≡ 0 → (n == 0) ≡ true
-zero_test e = ap (λ (n : ℕ). n == 0) e
 
 -- ---- one change of what is known
 
@@ -73,7 +70,7 @@ touched_means m act change facts k v e means = means_same (is_fact means)
 -- ---- what all that is lent leaves
 
 abbrev pub to_write : Lent → Bool
-to_write l = l.is_written && (l.region == 0)
+to_write l = l.is_written && is_frame l.region
 
 abbrev pub lent_span : Lent → Change
 lent_span l = on_span (word_of_byte l.first) (l.size / 4) (Become (Number l.lo l.hi))
@@ -201,13 +198,14 @@ module _ (m : Contents) (h : Holding) (act : Activation) (s : State) (p : Proced
       (words : (k : ℤ) → caller.words.reads k ≡ true
       → MeansWord m act k (s.frame k) (frame_word memory act.layout.origin k)) where
     -- what is lent of the frame is numbers in its range
-    lent_part : (k : ℤ) (q : Parameter) (l : Lent) (start size : ℕ) (lo hi : ℤ) (region : ℕ) (first : ℤ) (count : ℕ)
+    lent_part : (k : ℤ) (q : Parameter) (l : Lent) (start size : ℕ) (lo hi : ℤ) (region : Region) (first : ℤ)
+        (count : ℕ)
         → l ≡ record { region = region; first = first; size = size; lo = lo; hi = hi; is_written = true }
-        → l.region ≡ 0 → (lent_span l).touches k ≡ true → size ≡ 4 * count
+        → l.region ≡ regions.Frame → (lent_span l).touches k ≡ true → size ≡ 4 * count
         → IsRegion m (may_write h) callee later (place_of start) size lo hi
         → IsPart m caller callee base region first count lo hi true (place_of start)
         → Means m act.layout (Number l.lo l.hi) (frame_word later act.layout.origin k)
-    lent_part k q l start size lo hi region first count is zero' touches whole has
+    lent_part k q l start size lo hi region first count is at_frame touches whole has
         (of_frame word e f place reads writes off) =
         let first_is : l.first ≡ first = ap (λ (x : Lent). x.first) is in
         let size_is : l.size ≡ size = ap (λ (x : Lent). x.size) is in
@@ -225,12 +223,13 @@ module _ (m : Contents) (h : Holding) (act : Activation) (s : State) (p : Proced
         (subst (λ (z : ℤ). Means m act.layout (Number z hi) (word_at later (place_of start + 4 * i.0)))
         (sym (ap (λ (x : Lent). x.lo) is))
         (number_means (has.numbers i.0 (omega (arith, ints, i.1, high, word_is, size_is, whole))))))
-    lent_part k q l start size lo hi region first count is zero' touches whole has (of_constants n e f no' place fits) =
+    lent_part k q l start size lo hi region first count is at_frame touches whole has
+        (of_constants n e f no' place fits) =
         absurd (cc)
-    lent_part k q l start size lo hi region first count is zero' touches whole has
+    lent_part k q l start size lo hi region first count is at_frame touches whole has
         (of_parameter r t n total low high e f found kind written below above place fits) =
         let region_is : l.region ≡ region = ap (λ (x : Lent). x.region) is in
-        absurd (omega (arith, region_is, zero', e))
+        absurd (cc)
 
     all_hold : (k : ℤ) → AllHold m act c k (frame_word later act.layout.origin k) p.parameters
     all_hold k j q found l is writes touches = on_kind q.kind refl is
@@ -238,14 +237,11 @@ module _ (m : Contents) (h : Holding) (act : Activation) (s : State) (p : Proced
         there : callee.parameters j ≡ Some q
         there = parameters_are j ∙ found
 
-        both : (l.is_written ≡ true) × ((l.region == 0) ≡ true)
-        both = and-parts l.is_written (l.region == 0) writes
+        both : (l.is_written ≡ true) × (is_frame l.region ≡ true)
+        both = and-parts l.is_written (is_frame l.region) writes
 
-        region_is : l.region ≡ 0
-        region_is = elim (eqb_tells l.region 0) [
-          | inl e ↦ e.1
-          | inr e ↦ let no' : false ≡ true = sym e.0 ∙ both.1 in absurd (cc)
-        ]
+        region_is : l.region ≡ regions.Frame
+        region_is = frame_is l.region both.1
 
         on_kind : (kind : ParameterKind) → q.kind ≡ kind → lent_to kind (given c q) ≡ Some l
             → Means m act.layout (Number l.lo l.hi) (frame_word later act.layout.origin k)
@@ -285,13 +281,13 @@ module _ (m : Contents) (h : Holding) (act : Activation) (s : State) (p : Proced
       untouched place at is low high (in_region j q found changes) =
           on_writes (writes_of m caller callee base lends j q at found changes)
         where
-          on_part : (j : ℕ) (q : Parameter) (size : ℕ) (lo hi : ℤ) (region : ℕ) (first : ℤ) (count i : ℕ)
+          on_part : (j : ℕ) (q : Parameter) (size : ℕ) (lo hi : ℤ) (region : Region) (first : ℤ) (count i : ℕ)
               → (found : callee.parameters j ≡ Some q) → (lends.parts j q found).region ≡ region
               → (lends.parts j q found).first ≡ first → q.kind ≡ WrittenRegion size lo hi → size ≡ 4 * count
               → at ≡ place_of (layout.starts j) + i → i < 4 * count
               → IsPart m caller callee base region first count lo hi true (place_of (layout.starts j)) → ⊥
           on_part j q size lo hi region first count i found r f kind whole there less
-              (of_frame word zero' first_is start reads writes off) =
+              (of_frame word at_frame first_is start reads writes off) =
               let same = same_word act.layout.origin k (word +ℤ pos (i / 4)) at
               (record { low = omega (arith, ints, is); high = omega (arith, ints, is) })
               (subst (λ (n : ℕ). IsByteOf act.layout.origin (word +ℤ pos (i / 4)) n) (sym there)
@@ -300,7 +296,7 @@ module _ (m : Contents) (h : Holding) (act : Activation) (s : State) (p : Proced
               let word_is : word_of_byte (lends.parts j q found).first ≡ word =
               ap word_of_byte (f ∙ first_is) ∙ word_of_offset word in
               let none = uncovered j q (sym (parameters_are j) ∙ found) l
-              (linked j q found size lo hi kind) (zero_test (r ∙ zero')) in
+              (linked j q found size lo hi kind) (ap is_frame (r ∙ at_frame)) in
               let yes : (lent_span l).touches k ≡ true =
               and-both _ _ (le-yes (word_of_byte l.first) k (omega (arith, ints, same, word_is)))
               (lt-yes k (word_of_byte l.first +ℤ pos (size / 4)) (omega (arith, ints, same, word_is, whole, less))) in

@@ -1,7 +1,6 @@
 -- What a call may change of its caller's frame.
 use Rattle.std.proofs.Common.{◌≡◌, ℕ, ◌+◌, ◌/◌, ◌≤◌, ℤ, pos, negsuc, ◌+ℤ◌, Bool, true, false, cond, ◌&&◌, List, []}
 use Rattle.std.proofs.Common.{◌∷◌, length, map, Option, Some, None, refl, sym, ap, ◌∙◌, subst, arith, is_some}
-use Rattle.std.proofs.lemmas.Bool.{eq-eqb}
 use Rattle.std.specs.Prelude.{slice_get, ◌||◌, int_le, IfSome}
 use Rattle.std.specs.List.{list_all, AllByRecursion}
 use Rattle.std.proofs.lemmas.Int.{ints}
@@ -10,10 +9,13 @@ use Rattle.module_format.specs.declared.rows.ParameterKind.{ParameterKind}
 use Rattle.module_format.specs.declared.rows.ParameterKind.TheVariants.{Value, ReadRegion, WrittenRegion, Channels}
 use Rattle.module_format.specs.Rows.{Fact, ProcedureRow}
 use Rattle.module_format.specs.declared.fact.Fact.TheVariants.{Unknown, Number}
+use Rattle.module_format.specs.declared.fact.Region.{Region}
+use Rattle.module_format.specs.declared.fact.Region.TheVariants as regions
 use Rattle.module_format.specs.declared.stack.Stack.{Stack}
 use Rattle.module_format.specs.Stack.{of_empty}
 use Rattle.module_format.specs.Contents.{Contents, Procedure, procedure_of}
 use Rattle.module_format.specs.Keeping.{Keeps}
+use Rattle.module_format.specs.Regions.{is_frame}
 use Rattle.module_format.specs.Order.{InOrder}
 use Rattle.module_format.specs.Procedures.{KindKeeps, ParameterKeeps, behind_parameter, ProcedureKeeps}
 use Rattle.certificate.specs.Rights as rights
@@ -54,7 +56,8 @@ each_lent c (p ∷ ps) facts = each_lent c ps (rule.with_lent (lent c p) facts)
 
 -- a region of the frame that may be written is own words
 words_owned : (m : Contents) (context : ℕ) (first : ℤ) (size : ℕ) → 4 ≤ size
-    → may_write_bytes m context 0 first (first +ℤ pos size) ≡ true → OwnsWords m context (word_of_byte first) (size / 4)
+    → may_write_bytes m context regions.Frame first (first +ℤ pos size) ≡ true
+    → OwnsWords m context (word_of_byte first) (size / 4)
 unfolding may_write_bytes
 words_owned m context first size some may = record {
   some = omega arith;
@@ -68,7 +71,7 @@ words_owned m context first size some may = record {
 lent_owned : (c : Calling) (l : Lent) → 4 ≤ l.size → may_lend c l ≡ true → OwnsLent c.contents c.state.context (Some l)
 lent_owned c l some may writes frame =
     words_owned c.contents c.state.context l.first l.size some
-    (subst (λ (r : ℕ). may_write_bytes c.contents c.state.context r l.first (end_of l) ≡ true) frame
+    (subst (λ (r : Region). may_write_bytes c.contents c.state.context r l.first (end_of l) ≡ true) frame
     (sym (ap (λ (b : Bool). cond b (may_write_bytes c.contents c.state.context l.region l.first (end_of l))
     (may_read_bytes c.contents c.state.context l.region l.first (end_of l))) writes) ∙ (lend_parts c l may).0))
 
@@ -127,14 +130,15 @@ owned_room m s context first count belongs owns =
     record { each = λ k low high. belongs.room context k (owns.each k low high) }
 
 -- the words of what was lent of the frame to be written can be written
-pub lent_room : (m : Contents) (s : InMemory) (context : ℕ) (l : Lent) (o : Option Lent) (w : ℤ) (count : ℕ) → o ≡ Some l
-    → l.is_written ≡ true → l.region ≡ 0 → w ≡ word_of_byte l.first → count ≡ l.size / 4
+pub lent_room : (m : Contents) (s : InMemory) (context : ℕ) (l : Lent) (o : Option Lent) (w : ℤ) (count : ℕ)
+    → o ≡ Some l
+    → l.is_written ≡ true → l.region ≡ regions.Frame → w ≡ word_of_byte l.first → count ≡ l.size / 4
     → BelongsTo m s → OwnsLent m context o → CanWriteSpan s w count
-lent_room m s context l o w count o_is writes zero_is w_is count_is belongs owns =
+lent_room m s context l o w count o_is writes at_frame w_is count_is belongs owns =
     subst (λ (z : ℤ). CanWriteSpan s z count) (sym w_is)
     (subst (λ (n : ℕ). CanWriteSpan s (word_of_byte l.first) n) (sym count_is)
     (owned_room m s context (word_of_byte l.first) (l.size / 4) belongs
-    (subst (λ (x : Option Lent). OwnsLent m context x) o_is owns writes zero_is)))
+    (subst (λ (x : Option Lent). OwnsLent m context x) o_is owns writes at_frame)))
 
 -- ---- the procedure's row
 
@@ -235,11 +239,11 @@ passes_not m s e w fact o o_is w_is allowed =
 
 -- what was lent to be written is numbers
 pub lent_told : (l : Lent) (o : Option Lent) (s t : State) (w : ℤ) (count : ℕ) (leaving : Leaving) → o ≡ Some l
-    → l.is_written ≡ true → l.region ≡ 0 → w ≡ word_of_byte l.first → count ≡ l.size / 4
+    → l.is_written ≡ true → l.region ≡ regions.Frame → w ≡ word_of_byte l.first → count ≡ l.size / 4
     → leaving ≡ Become (Number l.lo l.hi) → t ≡ after_change (on_span w count leaving) s
     → t ≡ record s { stack = t.stack; frame = rule.with_lent o s.frame }
 unfolding after_change
-lent_told l o s t w count leaving o_is writes zero_is w_is count_is leaving_is is =
+lent_told l o s t w count leaving o_is writes at_frame w_is count_is leaving_is is =
     is
     ∙ ap (λ (x : Stack Known). record s { stack = x; frame = changed (on_span w count leaving) s.frame })
     (sym (ap (λ (u : State). u.stack) is))
@@ -250,7 +254,7 @@ lent_told l o s t w count leaving o_is writes zero_is w_is count_is leaving_is i
     ∙ sym
     (ap (λ (b : Bool). cond b (changed
     (on_span (word_of_byte l.first) (l.size / 4) (Become (Number l.lo l.hi))) s.frame)
-    s.frame) (and-both _ _ writes (eq-eqb l.region 0 zero_is)))
+    s.frame) (and-both _ _ writes (ap is_frame at_frame)))
     ∙ sym (ap (λ (x : Option Lent). rule.with_lent x s.frame) o_is))
 
 pub after_context : (change : Change) (s t : State) → t ≡ after_change change s → t.context ≡ s.context

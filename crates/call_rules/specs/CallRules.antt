@@ -5,6 +5,7 @@ use Rattle.std.specs.Prelude.{◌∷◌, length, slice_get, Option, Some, None}
 use Rattle.std.specs.List.{list_all}
 use Rattle.module_format.specs.Rows.{Fact}
 use Rattle.module_format.specs.declared.fact.Fact.TheVariants.{Unknown, Number, Pointer, ReturnAddress}
+use Rattle.module_format.specs.declared.fact.Region.TheVariants as regions
 use Rattle.module_format.specs.declared.fact.Step.TheVariants.{Word}
 use Rattle.module_format.specs.declared.rows.Parameter.{Parameter}
 use Rattle.module_format.specs.declared.rows.ParameterKind.{ParameterKind}
@@ -14,6 +15,7 @@ use Rattle.module_format.specs.declared.rows.Direction.{Direction}
 use Rattle.module_format.specs.declared.rows.Direction.TheVariants.{In, Out}
 use Rattle.module_format.specs.Contents.{Contents, Procedure}
 use Rattle.module_format.specs.Contexts.{first_branch, parameters_at}
+use Rattle.module_format.specs.Regions.{is_frame, is_same_region}
 use Rattle.module_format.specs.Places.{owner_at}
 use Rattle.module_format.specs.Stack.{of_empty}
 use Rattle.certificate.specs.Rights.{may_write_word, has_end}
@@ -114,11 +116,12 @@ lent_words c l = together c.state.frame (word_of_byte l.first) (l.size / 4)
 
 -- the numbers that are known of what is lent suit the callee
 unfoldable pub numbers_suit : Calling → Lent → Bool
-numbers_suit c l =
-    if l.region == 0 then lies_within (lent_words c l).lo (lent_words c l).hi l.lo l.hi
-    else if l.region == 1 then lies_within (constant_range c.contents l.first (end_of l)).lo
-    (constant_range c.contents l.first (end_of l)).hi l.lo l.hi
-    else parameter_suits l (slice_get (parameters_at c.contents c.state.context) (l.region - 2))
+numbers_suit c l = elim l.region [
+  | regions.Frame ↦ lies_within (lent_words c l).lo (lent_words c l).hi l.lo l.hi
+  | regions.Constants ↦ lies_within (constant_range c.contents l.first (end_of l)).lo
+      (constant_range c.contents l.first (end_of l)).hi l.lo l.hi
+  | regions.Parameter j ↦ parameter_suits l (slice_get (parameters_at c.contents c.state.context) j)
+]
 
 -- a parameter is passed a number in its range, or what it is lent has numbers that suit
 unfoldable pub numbers_fit : Calling → Parameter → Bool
@@ -153,7 +156,7 @@ words_fit c l =
 
 -- what is lent may be used so, and of the frame it is numbers that the callee's frame does not hold
 unfoldable pub may_lend : Calling → Lent → Bool
-may_lend c l = is_near l.first && may_use c l && (if l.region == 0 then words_fit c l else true)
+may_lend c l = is_near l.first && may_use c l && (if is_frame l.region then words_fit c l else true)
 
 -- a parameter that names a region is lent one
 unfoldable pub pointers_fit : Calling → Parameter → Bool
@@ -168,7 +171,8 @@ pointers_fit c p = elim p.kind [
 -- two are lent so that one may be written that the other has bytes of
 abbrev pub clash : Lent → Lent → Bool
 clash l k =
-    (l.is_written || k.is_written) && (l.region == k.region) && int_lt l.first (end_of k) && int_lt k.first (end_of l)
+    (l.is_written || k.is_written) && is_same_region l.region k.region && int_lt l.first (end_of k)
+    && int_lt k.first (end_of l)
 
 abbrev pub are_apart : Option Lent → Option Lent → Bool
 are_apart None other = true
@@ -262,7 +266,7 @@ frame_is_own c =
 abbrev pub with_lent : Option Lent → Facts → Facts
 with_lent None facts = facts
 with_lent (Some l) facts =
-    if l.is_written && (l.region == 0)
+    if l.is_written && is_frame l.region
     then changed (on_span (word_of_byte l.first) (l.size / 4) (Become (Number l.lo l.hi))) facts else facts
 
 abbrev pub with_all_lent : Calling → List Parameter → Facts → Facts

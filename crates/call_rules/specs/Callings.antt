@@ -6,6 +6,7 @@ use Rattle.module_format.specs.declared.rows.EndKind.{EndKind}
 use Rattle.module_format.specs.declared.rows.Direction.{Direction}
 use Rattle.module_format.specs.declared.rows.Parameter.{Parameter}
 use Rattle.module_format.specs.Rows.{ProcedureRow}
+use Rattle.module_format.specs.declared.fact.Region.TheVariants as regions
 use Rattle.module_format.specs.Contents.{Contents, procedure_of}
 use Rattle.module_format.specs.Contexts.{context_at}
 use Rattle.certificate.specs.Rights.{has_word}
@@ -86,7 +87,7 @@ pub record OwnsWords (m : Contents) (context : ℕ) (first : ℤ) (count : ℕ) 
 abbrev pub OwnsLent : Contents → ℕ → Option Lent → Type 0
 OwnsLent m context None = ⊤
 OwnsLent m context (Some l) =
-    l.is_written ≡ true → l.region ≡ 0 → OwnsWords m context (word_of_byte l.first) (l.size / 4)
+    l.is_written ≡ true → l.region ≡ regions.Frame → OwnsWords m context (word_of_byte l.first) (l.size / 4)
 
 -- the caller may call the procedure, which has this number as a context, and pass it what it passes
 abbrev pub admits : Calling → ℕ → Ruling → Ruling

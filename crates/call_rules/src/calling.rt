@@ -8,7 +8,7 @@ ghost use Rattle.rulings.specs.Telling.{Admits};
 use crate::calls::may_call;
 use crate::lent::{Lent, lent_to};
 use arrayvec::ArrayVec;
-use module_format::{Fact, Parameter, ParameterKind, ProcedureRow};
+use module_format::{Fact, Parameter, ParameterKind, ProcedureRow, Region};
 use rulings::Place;
 use rulings::combinators::{alone, wants};
 use rulings::pointers::{are_near, is_near};
@@ -70,11 +70,12 @@ fn is_near_fact(fact: WordFact) -> bool
 impl Calling<'_, '_, '_, '_> {
     ghost use Rattle.std.specs.Prelude.{◌≡◌, ◌≤◌, ◌/◌, ℕ, length, map, slice_get, is_some, IfSome, IfOk, Some, true};
     ghost use Rattle.std.specs.List.{list_all};
+    ghost use Rattle.module_format.specs.declared.fact.Region.TheVariants as regions;
     ghost use Rattle.module_format.specs.Contents.{procedure_of};
     ghost use Rattle.module_format.specs.Contexts.{parameters_at};
     ghost use Rattle.states.specs.Rows.{LoopFits};
     ghost use Rattle.states.specs.Views.{state_of, BelongsTo, CanWriteSpan};
-    ghost use Rattle.rulings.specs.Reach.{word_of_byte, lie_in};
+    ghost use Rattle.rulings.specs.Reach.{word_of_byte};
     ghost use Rattle.call_rules.specs.CallRules.{callee_word, given, lent, lent_words, numbers_suit, numbers_fit};
     ghost use Rattle.call_rules.specs.CallRules.{is_off_callee, may_use, words_fit, may_lend, pointers_fit, each_two};
     ghost use Rattle.call_rules.specs.CallRules.{end_of, frame_size, frame_is_own, passes_all, parameter_suits};
@@ -139,15 +140,17 @@ impl Calling<'_, '_, '_, '_> {
     fn numbers_suit(&self, lent: Lent) -> bool
         ensures { result ≡ numbers_suit (calling_of self.now) lent }
     {
-        if lent.region == 0 {
-            let words = self.lent_words(lent);
-            return lent.takes(words.lo, words.hi);
+        match lent.region {
+            Region::Frame => {
+                let words = self.lent_words(lent);
+                lent.takes(words.lo, words.hi)
+            }
+            Region::Constants => {
+                let range = self.place.constant_range(lent.first, lent.end());
+                lent.takes(range.lo, range.hi)
+            }
+            Region::Parameter(number) => self.parameter_suits(lent, number),
         }
-        if lent.region == 1 {
-            let range = self.place.constant_range(lent.first, lent.end());
-            return lent.takes(range.lo, range.hi);
-        }
-        self.parameter_suits(lent, lent.region - 2)
     }
 
     /// Whether a parameter is passed a number in its range, or what it is lent has numbers that suit.
@@ -179,7 +182,7 @@ impl Calling<'_, '_, '_, '_> {
     #[tactic(auto, unfolding(rulings::specs::Reach::may_write_bytes, rulings::specs::Reach::may_read_bytes))]
     fn may_use_words(&self, lent: Lent) -> bool
         requires { BelongsTo self.now.place.module.now self.now.state.now }
-        ensures { lent.region ≡ 0 → result ≡ may_use (calling_of self.now) lent }
+        ensures { lent.region ≡ regions.Frame → result ≡ may_use (calling_of self.now) lent }
     {
         let (first, count) = (lent.first_word(), lent.words_touched());
         if lent.is_written {
@@ -189,24 +192,27 @@ impl Calling<'_, '_, '_, '_> {
         }
     }
 
-    /// How many bytes the caller may use so of the region, other than the frame, of what is lent.
+    /// Whether the caller may use what is lent of the constants, which are only read.
     #[tactic(auto, unfolding(rulings::specs::Reach::may_write_bytes, rulings::specs::Reach::may_read_bytes))]
-    fn usable_bytes(&self, lent: Lent) -> Option<u32>
-        requires { 1 ≤ lent.region }
-        ensures { lie_in result lent.first (end_of lent) ≡ may_use (calling_of self.now) lent }
+    fn may_use_constants(&self, lent: Lent) -> bool
+        ensures { lent.region ≡ regions.Constants → result ≡ may_use (calling_of self.now) lent }
+    {
+        let size = self.place.module.tables().constants.len() as u32;
+        !lent.is_written && lent.lies_in(Some(size))
+    }
+
+    /// Whether the caller may use what is lent of what the parameter with this number names.
+    #[tactic(auto, unfolding(rulings::specs::Reach::may_write_bytes, rulings::specs::Reach::may_read_bytes))]
+    fn may_use_named(&self, lent: Lent, number: u16) -> bool
+        ensures { lent.region ≡ regions.Parameter number → result ≡ may_use (calling_of self.now) lent }
     {
         let context = self.state.context;
-        if lent.region == 1 {
-            if lent.is_written {
-                return None;
-            }
-            return Some(self.place.module.tables().constants.len() as u32);
-        }
-        if lent.is_written {
-            self.place.writable_bytes(context, lent.region - 2)
+        let size = if lent.is_written {
+            self.place.writable_bytes(context, number)
         } else {
-            self.place.readable_bytes(context, lent.region - 2)
-        }
+            self.place.readable_bytes(context, number)
+        };
+        lent.lies_in(size)
     }
 
     /// Whether the caller may use what is lent so.
@@ -214,10 +220,11 @@ impl Calling<'_, '_, '_, '_> {
         requires { BelongsTo self.now.place.module.now self.now.state.now }
         ensures { result ≡ may_use (calling_of self.now) lent }
     {
-        if lent.region == 0 {
-            return self.may_use_words(lent);
+        match lent.region {
+            Region::Frame => self.may_use_words(lent),
+            Region::Constants => self.may_use_constants(lent),
+            Region::Parameter(number) => self.may_use_named(lent, number),
         }
-        lent.lies_in(self.usable_bytes(lent))
     }
 
     /// Whether words of the frame that are lent are numbers, where they are written in no loop, and none of the
@@ -239,7 +246,7 @@ impl Calling<'_, '_, '_, '_> {
         if !is_near(i64::from(lent.first)) || !self.may_use(lent) {
             return false;
         }
-        lent.region != 0 || self.words_fit(lent)
+        !lent.region.is_frame() || self.words_fit(lent)
     }
 
     /// Whether a parameter that names a region is lent one.

@@ -71,7 +71,7 @@ fn leaves_lent(place: &Place, state: &mut State, lent: Option<Lent>)
     ensures belongs { BelongsTo place.now.module.now state.new }
 {
     if let Some(lent) = lent {
-        if lent.is_written && lent.region == 0 {
+        if lent.is_written && lent.region.is_frame() {
             state.change_span(lent.first_word(), lent.word_count(), lent.leaving());
         }
     }
@@ -161,7 +161,7 @@ fn sums_lent(place: &Place, state: &mut State, callee: &ProcedureRow, parameter:
         callee,
     };
     if let Some(lent) = calling.lent(parameter) {
-        if lent.region == 0 {
+        if lent.region.is_frame() {
             state.sum_words(lent.first_word(), lent.word_count());
         }
     }

@@ -7,7 +7,7 @@ ghost use Rattle.states.specs.Below.{lies_within};
 ghost use Rattle.rulings.specs.Reach.{word_of_byte, words_touched, lie_in};
 ghost use Rattle.call_rules.specs.CallRules.{end_of, lent_from, lent_to, suits, parameter_suits, clash};
 
-use module_format::{Fact, Parameter, ParameterKind, Step};
+use module_format::{Fact, Parameter, ParameterKind, Region, Step};
 use rulings::reach::{word_of_byte, word_of_offset};
 use states::{Leaving, WordFact};
 
@@ -15,7 +15,7 @@ use states::{Leaving, WordFact};
 /// word of them to be a number from `lo` to `hi`.
 #[derive(Clone, Copy)]
 pub(crate) struct Lent {
-    pub region: u16,
+    pub region: Region,
     pub first: i32,
     pub size: u32,
     pub lo: i32,
@@ -117,7 +117,7 @@ impl Lent {
         if !self.is_written && !other.is_written {
             return false;
         }
-        if self.region != other.region {
+        if !self.region.is_same(other.region) {
             return false;
         }
         self.begins_before_end(other) && other.begins_before_end(self)

@@ -1,6 +1,6 @@
 -- An end of a branch leaves what its opener goes on with, and so does the opener's own; with the last one the opener is
 -- there.
-use Rattle.std.proofs.Common.{◌≡◌, ◌≢◌, ◌⊎◌, ℕ, zero, suc, ◌+◌, ◌-◌, ◌==◌, not, true, false, Bool}
+use Rattle.std.proofs.Common.{◌≡◌, ◌≢◌, ◌⊎◌, ℕ, zero, suc, ◌+◌, ◌==◌, not, true, false, Bool}
 use Rattle.std.proofs.Common.{inl, inr, ℤ, pos, ◌+ℤ◌, if◌then◌else◌, List, [], ◌∷◌, length, Option, Some, None, refl}
 use Rattle.std.proofs.Common.{sym}
 use Rattle.std.proofs.Common.{ap, ◌∙◌, subst, arith}
@@ -10,6 +10,8 @@ use Rattle.std.specs.List.{list_any}
 use Rattle.module_format.specs.declared.contexts.Context.{Context}
 use Rattle.module_format.specs.declared.fact.Fact.TheVariants.{Unknown, Number, Pointer, CodeAddress, Loop}
 use Rattle.module_format.specs.declared.fact.Fact.TheVariants.{ReturnAddress}
+use Rattle.module_format.specs.declared.fact.Region.{Region}
+use Rattle.module_format.specs.declared.fact.Region.TheVariants as regions
 use Rattle.module_format.specs.declared.stack.Stack.{Stack}
 use Rattle.module_format.specs.Rows.{Fact}
 use Rattle.module_format.specs.Contents.{Contents, Par, Branch}
@@ -23,7 +25,7 @@ use Rattle.machine_state.specs.Holding.{Holding}
 use Rattle.machine_state.specs.Memory.{Memory, data_start}
 use Rattle.machine_state.specs.Roles.{members_without}
 use Rattle.machine_state.specs.Waiting.{is_member}
-use Rattle.machine_state.specs.World.{Join, constants_start}
+use Rattle.machine_state.specs.World.{Join}
 use Rattle.machine_state.proofs.Claims.{only_one}
 use Rattle.std.proofs.lemmas.Option.{slice_get_within}
 use Rattle.machine_state.proofs.SpanLaws.{both_true, or_true, or_left, or_right}
@@ -47,14 +49,11 @@ use Rattle.certified_worlds.specs.Pending.{HasMember, IsOut, AfterPar, Pending, 
 
 -- ---- facts in layouts that lie alike
 
-region_alike : (m : Contents) {layout other : Layout} → LieAlike layout other → (region : ℕ)
+region_alike : (m : Contents) {layout other : Layout} → LieAlike layout other → (region : Region)
     → region_start m other region ≡ region_start m layout region
-region_alike m {layout} {other} alike region =
-    ap (λ (z : ℤ). if region == 0 then pos data_start +ℤ z
-    else (if region == 1 then pos (data_start + constants_start m) else pos (other.starts (region - 2))))
-    alike.origin
-    ∙ ap (λ (n : ℕ). if region == 0 then pos data_start +ℤ layout.origin
-    else (if region == 1 then pos (data_start + constants_start m) else pos n)) (alike.starts (region - 2))
+region_alike m alike regions.Frame = ap (λ (z : ℤ). pos data_start +ℤ z) alike.origin
+region_alike m alike regions.Constants = refl
+region_alike m alike (regions.Parameter j) = ap (λ (n : ℕ). pos n) (alike.starts j)
 
 means_alike : {m : Contents} {layout other : Layout} → LieAlike layout other → other.back ≡ layout.back → {f : Fact}
     {v : Option ℤ} → Means m other f v → Means m layout f v

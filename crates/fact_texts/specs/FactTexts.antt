@@ -1,18 +1,20 @@
 -- What is known of a word, in words.
-use Rattle.std.specs.Prelude.{ℕ, zero, suc, ℤ, [], ◌++◌, codes}
+use Rattle.std.specs.Prelude.{ℕ, ℤ, [], ◌++◌, codes}
 use Rattle.std.specs.Fmt.{decimal, signed_decimal}
 use Rattle.module_format.specs.Rows.{Fact}
 use Rattle.module_format.specs.declared.fact.Fact.TheVariants.{Unknown, Number, Pointer, CodeAddress, Loop}
 use Rattle.module_format.specs.declared.fact.Fact.TheVariants.{ReturnAddress}
+use Rattle.module_format.specs.declared.fact.Region.{Region}
+use Rattle.module_format.specs.declared.fact.Region.TheVariants as regions
 use Rattle.module_format.specs.declared.fact.Step.{Step}
 use Rattle.module_format.specs.declared.fact.Step.TheVariants.{Byte, Word}
 use Rattle.fact_texts.specs.Texts.{Text, range_text}
 
--- region 0 is the frame, 1 the constants, and 2 + j that of parameter j
-abbrev pub region_text : ℕ → Text
-region_text zero = codes "frame"
-region_text (suc zero) = codes "constants"
-region_text (suc (suc j)) = codes "parameter " ++ decimal j
+-- a region by its name
+abbrev pub region_text : Region → Text
+region_text regions.Frame = codes "frame"
+region_text regions.Constants = codes "constants"
+region_text (regions.Parameter j) = codes "parameter " ++ decimal j
 
 -- a pointer of words leads to multiples of four
 abbrev pub step_text : Step → Text
@@ -20,7 +22,7 @@ step_text Byte = []
 step_text Word = codes " by 4"
 
 -- the bytes of a region to which a pointer may lead
-abbrev pub pointer_text : ℕ → Text → Text
+abbrev pub pointer_text : Region → Text → Text
 pointer_text region bytes = region_text region ++ (codes " byte " ++ bytes)
 
 abbrev pub loop_text : ℤ → ℕ → ℕ → Text

@@ -4,7 +4,7 @@ ghost use Rattle.std.specs.Prelude.{◌≡◌, Some};
 ghost use Rattle.fact_texts.specs.Texts.{is_one, range_text};
 ghost use Rattle.fact_texts.specs.FactTexts.{region_text, step_text, loop_text, fact_text};
 
-use module_format::{Fact, Step};
+use module_format::{Fact, Region, Step};
 use std::fmt;
 
 /// A range from its least to its greatest number.
@@ -33,18 +33,18 @@ impl fmt::Display for RangeText {
     }
 }
 
-/// A region by its number.
+/// A region by its name.
 #[derive(Clone, Copy)]
-struct RegionText(u16);
+struct RegionText(Region);
 
 impl fmt::Display for RegionText {
     ghost output = { λ region. Some (region_text region.0) };
 
     fn fmt<W: fmt::Write>(&self, f: &mut fmt::Formatter<W>) -> fmt::Result {
         match self.0 {
-            0 => write!(f, "frame"),
-            1 => write!(f, "constants"),
-            region => write!(f, "parameter {}", region - 2),
+            Region::Frame => write!(f, "frame"),
+            Region::Constants => write!(f, "constants"),
+            Region::Parameter(number) => write!(f, "parameter {number}"),
         }
     }
 }

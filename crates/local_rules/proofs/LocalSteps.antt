@@ -5,6 +5,7 @@ use Rattle.std.specs.Prelude.{FitsSigned}
 use Rattle.std.specs.Int.{w32}
 use Rattle.module_format.specs.Rows.{Fact}
 use Rattle.module_format.specs.declared.fact.Fact.TheVariants.{Number, Pointer}
+use Rattle.module_format.specs.declared.fact.Region.TheVariants as regions
 use Rattle.module_format.specs.declared.fact.Step.TheVariants.{Word}
 use Rattle.machine_state.specs.declared.instruction.Instruction.TheVariants.{Jump, LoadConstant, LoadLocal, StoreLocal}
 use Rattle.machine_state.specs.declared.instruction.Instruction.TheVariants.{LoadLocalPointer}
@@ -25,15 +26,17 @@ load_constant-done site s t e d v v_is d_is t_is =
     ap (goes_on site) (sym (t_is ∙ ap (λ x. push x s) (v_is ∙ ap (λ (z : ℤ). known (Number z z)) d_is)))
 
 pub local_pointer-is : (site : Site) (s : State) (e z : ℤ) → z ≡ pos 4 *ℤ (s.depth +ℤ e)
-    → local_rule site LoadLocalPointer e s ≡ near z (goes_on site (push (known (Pointer 0 z z Word)) s))
+    → local_rule site LoadLocalPointer e s ≡ near z (goes_on site (push (known (Pointer regions.Frame z z Word)) s))
 unfolding local_rule
 local_pointer-is site s e z is =
-    sym (ap (λ (z : ℤ). near z (goes_on site (push (known (Pointer 0 z z Word)) s))) is)
+    sym (ap (λ (z : ℤ). near z (goes_on site (push (known (Pointer regions.Frame z z Word)) s))) is)
 
-pub local_pointer-done : (site : Site) (s t : State) (z o : ℤ) (v : Known) → o ≡ z → v ≡ known (Pointer 0 o o Word)
-    → t ≡ push v s → goes_on site (push (known (Pointer 0 z z Word)) s) ≡ goes_on site t
+pub local_pointer-done : (site : Site) (s t : State) (z o : ℤ) (v : Known) → o ≡ z
+    → v ≡ known (Pointer regions.Frame o o Word) → t ≡ push v s
+    → goes_on site (push (known (Pointer regions.Frame z z Word)) s) ≡ goes_on site t
 local_pointer-done site s t z o v o_is v_is t_is =
-    ap (goes_on site) (sym (t_is ∙ ap (λ x. push x s) (v_is ∙ ap (λ (o : ℤ). known (Pointer 0 o o Word)) o_is)))
+    ap (goes_on site)
+    (sym (t_is ∙ ap (λ x. push x s) (v_is ∙ ap (λ (o : ℤ). known (Pointer regions.Frame o o Word)) o_is)))
 
 -- what ldl leaves
 abbrev pub after_load : ℤ → State → State

@@ -8,6 +8,7 @@ use Rattle.std.specs.Prelude.{IsTrue, int_lt, neg_ℤ}
 use Rattle.std.specs.Int.{w32, int_wrap}
 use Rattle.module_format.specs.Rows.{Fact}
 use Rattle.module_format.specs.declared.fact.Fact.TheVariants.{Unknown, Number, Pointer}
+use Rattle.module_format.specs.declared.fact.Region.TheVariants as regions
 use Rattle.module_format.specs.declared.fact.Step.{Step}
 use Rattle.module_format.specs.declared.stack.Stack.{Stack}
 use Rattle.module_format.specs.Order.{is_stepped}
@@ -116,8 +117,8 @@ turned_means m act k j (Count loop) (Some x) one two (is_count some most is fits
 
 -- the address to which a pointer to a word of the frame leads
 pointed_address : (m : Contents) (layout : Layout) (k : ℤ) (st : Step) (u : ℤ) (place : ℕ)
-    → Means m layout (Pointer 0 (pos 4 *ℤ k) (pos 4 *ℤ k) st) (Some u) → pos place ≡ place_in layout.origin k
-    → place < 1048576 → step.address u ≡ data_start + place
+    → Means m layout (Pointer regions.Frame (pos 4 *ℤ k) (pos 4 *ℤ k) st) (Some u)
+    → pos place ≡ place_in layout.origin k → place < 1048576 → step.address u ≡ data_start + place
 pointed_address m layout k st u place (is_pointer offset low high stepped is) there small =
     let at : pos data_start +ℤ layout.origin +ℤ offset ≡ pos (data_start + place) = omega (arith, ints, there) in
     ap step.address (is ∙ ap (int_wrap w32) at) ∙ address_small (data_start + place) (omega arith)

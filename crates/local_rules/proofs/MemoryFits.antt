@@ -12,6 +12,8 @@ use Rattle.word_arithmetic.proofs.WordLaws.{words_fit, words_lie_between}
 use Rattle.module_format.specs.Rows.{Fact}
 use Rattle.module_format.specs.declared.fact.Fact.TheVariants.{Unknown, Number, Pointer, CodeAddress, Loop}
 use Rattle.module_format.specs.declared.fact.Fact.TheVariants.{ReturnAddress}
+use Rattle.module_format.specs.declared.fact.Region.{Region}
+use Rattle.module_format.specs.declared.fact.Region.TheVariants as regions
 use Rattle.module_format.specs.declared.fact.Step.{Step}
 use Rattle.module_format.specs.declared.fact.Step.TheVariants.{Byte, Word}
 use Rattle.module_format.specs.Contents.{Contents}
@@ -98,7 +100,7 @@ module _ (m : Contents) (layout : Layout) where
       between z low high = (words_fit z).0 ((words_lie_between z).1 (low, high))
 
   -- a pointer further by a number between two others
-  near_added : (region : ℕ) (lo hi low high v d : ℤ) (steps further : Step) (fact : Fact)
+  near_added : (region : Region) (lo hi low high v d : ℤ) (steps further : Step) (fact : Fact)
       → near_fact region (lo +ℤ low) (hi +ℤ high) further ≡ Ok fact
       → Means m layout (Pointer region lo hi steps) (Some v)
       → low ≤ℤ d → d ≤ℤ high → ((offset : ℤ) → IsOffset steps offset → IsOffset further (offset +ℤ d))
@@ -139,7 +141,8 @@ module _ (m : Contents) (layout : Layout) where
   shifted_means e v (Loop base count weight) fact is fits means = absurd (cc)
   shifted_means e v ReturnAddress fact is fits means = absurd (cc)
 
-  pointer_word : (region : ℕ) (lo hi v : ℤ) (steps : Step) → Means m layout (Pointer region lo hi steps) (Some v)
+  pointer_word : (region : Region) (lo hi v : ℤ) (steps : Step)
+      → Means m layout (Pointer region lo hi steps) (Some v)
       → FitsSigned w32 v
   pointer_word region lo hi v steps (is_pointer offset low high stepped is) =
       subst (λ (z : ℤ). FitsSigned w32 z) (sym is) (SFits-int_wrap w32 _)
@@ -194,7 +197,8 @@ module _ (m : Contents) (layout : Layout) where
       behind = length m.code + padding (length m.code)
 
       constant : Fact
-      constant = Pointer 1 (pos (n - behind)) (pos (n - behind)) (cond (is_stepped (pos (n - behind))) Word Byte)
+      constant = Pointer regions.Constants (pos (n - behind)) (pos (n - behind))
+          (cond (is_stepped (pos (n - behind))) Word Byte)
 
       on_step : (b : Bool) → is_stepped (pos (n - behind)) ≡ b → IsOffset (cond b Word Byte) (pos (n - behind))
       on_step true t = t
@@ -280,7 +284,7 @@ words_behind_is m layout e v q p is means = on_words q.step is means
           low = omega (arith, ints);
           high = omega (arith, ints);
           stepped = stepped_sum offset (pos 4 *ℤ e) stepped (stepped_words e);
-          at = at ∙ ap (λ (n : ℕ). int_wrap w32 (region_start m layout n +ℤ offset)) region_is;
+          at = at ∙ ap (λ (r : Region). int_wrap w32 (region_start m layout r +ℤ offset)) region_is;
         }
 
 -- ---- the instructions

@@ -1,21 +1,22 @@
 -- The instruction that moves bytes: what its rule says fits its step.
-use Rattle.std.proofs.Common.{◌≡◌, ℕ, ◌+◌, ◌-◌, ◌≤◌, ◌<◌, ◌==◌, ℤ, pos, ◌+ℤ◌, ◌-ℤ◌, nat_abs, Bool, true, false}
-use Rattle.std.proofs.Common.{not, cond, ◌&&◌, ◌||◌, length, Some, None, Ok, refl, sym, ap, ◌∙◌, subst, arith}
+use Rattle.std.proofs.Common.{◌≡◌, ℕ, ◌+◌, ◌-◌, ◌≤◌, ◌<◌, ℤ, pos, ◌+ℤ◌, ◌-ℤ◌, nat_abs, Bool, true, false}
+use Rattle.std.proofs.Common.{not, cond, ◌&&◌, ◌||◌, length, Some, Ok, refl, sym, ap, ◌∙◌, subst, arith}
 use Rattle.std.proofs.Common.{◌⊎◌, inl, inr}
-use Rattle.std.proofs.lemmas.Bool.{cases_lt, cases_eq, eq-eqb}
+use Rattle.std.proofs.lemmas.Bool.{cases_lt, eq-eqb}
 use Rattle.std.proofs.lemmas.Int.{ints}
 use Rattle.std.specs.Prelude.{int_le, nat_lt}
 use Rattle.word_arithmetic.specs.Range.{full}
 use Rattle.module_format.specs.Rows.{Fact}
 use Rattle.module_format.specs.declared.fact.Fact.TheVariants.{Unknown, Pointer}
+use Rattle.module_format.specs.declared.fact.Region.{Region}
+use Rattle.module_format.specs.declared.fact.Region.TheVariants as regions
 use Rattle.module_format.specs.declared.fact.Step.{Step}
+use Rattle.module_format.specs.Regions.{is_frame, is_same_region}
 use Rattle.module_format.specs.Stack.{of_empty}
-use Rattle.certificate.specs.Rights.{may_write_word as context_writes}
 use Rattle.machine_state.specs.declared.op.Op.TheVariants as operations
 use Rattle.machine_state.specs.declared.fault.FaultKind.TheVariants.{NotOwn}
 use Rattle.machine_state.specs.Memory.{Memory, byte_at, place_of}
 use Rattle.machine_state.specs.Holding.{may_read, may_write}
-use Rattle.machine_state.specs.World.{constants_start}
 use Rattle.machine_state.specs.Spans.{all_places}
 use Rattle.machine_state.specs.LocalStep as step
 use Rattle.machine_state.specs.LocalStep.{copied}
@@ -26,6 +27,7 @@ use Rattle.states.specs.declared.span.Leaving.{Leaving}
 use Rattle.states.specs.declared.span.Leaving.TheVariants.{Become}
 use Rattle.states.specs.State.{State, unknown, changed, is_word as is_same}
 use Rattle.states.specs.Spans.{on_span, after_change}
+use Rattle.states.proofs.Claimed.{same-region}
 use Rattle.states.proofs.RowFacts.{and-both, and-parts, le-from}
 use Rattle.rulings.specs.declared.pointers.Pointed.{Pointed}
 use Rattle.rulings.specs.Pointers.{constant_of, wanted_range, is_full, byte_read, number_within}
@@ -34,8 +36,7 @@ use Rattle.local_rules.specs.MoveRules as move
 use Rattle.rulings.specs.Filling as filling
 use Rattle.local_rules.specs.MoveRules.{is_movable, are_apart}
 use Rattle.rulings.specs.Filling.{word_behind, words_within, filled, become_numbers}
-use Rattle.rulings.specs.Reach.{word_of_byte, words_touched, all_touched, lie_in, may_read_bytes, may_write_bytes}
-use Rattle.rulings.specs.Reach.{writable_bytes, parameter_range}
+use Rattle.rulings.specs.Reach.{word_of_byte, words_touched, may_read_bytes, may_write_bytes}
 use Rattle.local_rules.specs.LocalRules as table
 use Rattle.rulings.specs.Meaning.{Means, is_pointer, owed, region_start, IsWellFormed}
 use Rattle.rulings.specs.Regions.{scope_of, Keeps}
@@ -60,6 +61,16 @@ use Rattle.rulings.proofs.PointerFacts.{constant_is, exact_is}
 either : (a b : Bool) → (a || b) ≡ true → (a ≡ true) ⊎ (b ≡ true)
 either true b t = inl refl
 either false b t = inr t
+
+-- a region is the same as itself
+itself : (r : Region) → is_same_region r r ≡ true
+itself regions.Frame = refl
+itself regions.Constants = refl
+itself (regions.Parameter j) = eq-eqb j j refl
+
+regions_differ : (a b : Region) → is_same_region a b ≡ false → a ≡ b → ⊥
+regions_differ a b differ one =
+    let no : false ≡ true = sym differ ∙ (sym (ap (is_same_region a) one) ∙ itself a) in cc
 
 module _ (x : Here) (wf : IsWellFormed x.m) (s : State) (l : Local) (a : Within ArePlain x.m x.h x.mode x.act s l)
     (same : s.context ≡ x.context) (changes : Changes x l.memory) (n : owed s x.act ≤ x.owed) where
@@ -110,7 +121,7 @@ module _ (x : Here) (wf : IsWellFormed x.m) (s : State) (l : Local) (a : Within 
   left_same : (numbers : Bool) (p : Pointed) (end : ℤ)
       → ((filled numbers p end s).context ≡ s.context) × (owed (filled numbers p end s) x.act ≤ owed s x.act)
   unfolding filled become_numbers leaves_words after_change
-  left_same numbers p end = on numbers (p.region == 0) (nat_lt 0 (words_within p.lo end))
+  left_same numbers p end = on numbers (is_frame p.region) (nat_lt 0 (words_within p.lo end))
     where
       touched : Leaving → State
       touched leaving = after_change (on_span (word_of_byte p.lo) (words_touched p.lo end) leaving) s
@@ -145,7 +156,7 @@ module _ (x : Here) (wf : IsWellFormed x.m) (s : State) (l : Local) (a : Within 
 
   -- ---- some bytes
 
-  module _ (k : ℕ) (some : 0 < k) (source_region target_region : ℕ) (source_lo target_lo : ℤ)
+  module _ (k : ℕ) (some : 0 < k) (source_region target_region : Region) (source_lo target_lo : ℤ)
       (source_step target_step : Step) where
     abbrev from : Pointed
     from = record { region = source_region; lo = source_lo; hi = source_lo; step = source_step }
@@ -158,14 +169,14 @@ module _ (x : Here) (wf : IsWellFormed x.m) (s : State) (l : Local) (a : Within 
 
     -- what comes to where a pointer leads
     moved_to : (source : ℕ) → ((i : ℕ) → i < k → may_read x.h (source + i) ≡ true) → (numbers : Bool)
-        → (numbers ≡ true → AreDefined l.memory source k) → ((target_region == 0) || numbers) ≡ true
+        → (numbers ≡ true → AreDefined l.memory source k) → (is_frame target_region || numbers) ≡ true
         → is_full (wanted_range x.m s.context target_region) ≡ true
         → may_write_bytes x.m s.context target_region target_lo end ≡ true
         → (room : Room x.h (length l.memory) (region_place x.m x.act.layout target_region) target_lo k)
         → Moved a l.memory source room.place k (filled numbers to end s)
     unfolding may_write_bytes filled become_numbers leaves_words
     moved_to source held numbers defined allowed wide may room =
-        on numbers (target_region == 0) (target_region == 1) defined allowed wide may room
+        on numbers target_region defined allowed wide may room
       where
         bytes : (i : ℕ) → i < k → (c : ℕ) → byte_at l.memory (source + i) ≡ Some c → c < 256
         bytes i less c e = a.named.bytes.each (source + i) c (held i less) e
@@ -173,31 +184,27 @@ module _ (x : Here) (wf : IsWellFormed x.m) (s : State) (l : Local) (a : Within 
         touched : Leaving → State
         touched leaving = after_change (on_span (word_of_byte target_lo) (words_touched target_lo end) leaving) s
 
-        on : (numbers frame constants : Bool) → (numbers ≡ true → AreDefined l.memory source k)
-            → (frame || numbers) ≡ true
-            → is_full (cond (frame || constants) full (parameter_range x.m s.context (target_region - 2))) ≡ true
-            → cond frame (all_touched (context_writes x.m s.context) target_lo end)
-            (lie_in (cond constants None (writable_bytes x.m s.context (target_region - 2))) target_lo end) ≡ true
-            → (room : Room x.h (length l.memory) (cond frame x.act.layout.origin
-            (cond constants (pos (constants_start x.m)) (pos (place_of (x.act.layout.starts (target_region - 2))))))
-            target_lo k)
+        on : (numbers : Bool) (region : Region) → (numbers ≡ true → AreDefined l.memory source k)
+            → (is_frame region || numbers) ≡ true
+            → is_full (wanted_range x.m s.context region) ≡ true
+            → may_write_bytes x.m s.context region target_lo end ≡ true
+            → (room : Room x.h (length l.memory) (region_place x.m x.act.layout region) target_lo k)
             → Moved a l.memory source room.place k
             (cond numbers
-            (cond (frame && nat_lt 0 (words_within target_lo end))
+            (cond (is_frame region && nat_lt 0 (words_within target_lo end))
             (after_change (on_span (word_behind target_lo) (words_within target_lo end) (Become (number_within full)))
-            (cond frame (touched stored_byte) s)) (cond frame (touched stored_byte) s))
-            (cond frame (touched (Become Unknown)) s))
-        on true true constants defined allowed wide may room =
+            (cond (is_frame region) (touched stored_byte) s)) (cond (is_frame region) (touched stored_byte) s))
+            (cond (is_frame region) (touched (Become Unknown)) s))
+        on true regions.Frame defined allowed wide may room =
             numbers_into_frame a l.memory source k some bytes target_lo target_lo end (omega (arith, ints))
             (omega (arith, ints)) may room (defined refl) (nat_lt 0 (words_within target_lo end)) (λ t. (refl, refl))
-        on false true constants defined allowed wide may room =
+        on false regions.Frame defined allowed wide may room =
             unknown_into_frame a l.memory source k some bytes target_lo target_lo end (omega (arith, ints))
             (omega (arith, ints)) may room
-        on true false true defined allowed wide may room = absurd (cc)
-        on true false false defined allowed wide may room =
-            numbers_into_parameter a l.memory source k some bytes target_lo (defined refl)
-            (target_region - 2) room may wide
-        on false false constants defined allowed wide may room = absurd (cc)
+        on numbers regions.Constants defined allowed wide may room = absurd (cc)
+        on true (regions.Parameter j) defined allowed wide may room =
+            numbers_into_parameter a l.memory source k some bytes target_lo (defined refl) j room may wide
+        on false (regions.Parameter j) defined allowed wide may room = absurd (cc)
 
     -- the two blocks have no place in common
     blocks_apart : (p q : ℕ) → are_apart (pos k) from to ≡ true
@@ -208,42 +215,41 @@ module _ (x : Here) (wf : IsWellFormed x.m) (s : State) (l : Local) (a : Within 
         → not (step.meet p k q k) ≡ true
     blocks_apart p q apart p_is q_is read write = elim (bool_cases (step.meet p k q k)) [
       | inr t ↦ ap not t
-      | inl t ↦ let tells = meet_tells p k q k t in absurd (elim (cases_eq source_region target_region) [
-        | inl one ↦ in_one one tells.0 tells.1
-        | inr differ ↦ elim (cases_lt p q) [
-          | inl low ↦ common differ (q - p) 0 q (omega (arith, low, tells.1)) some (omega (arith, ints, p_is, low))
-              (omega (arith, ints, q_is))
-          | inr high ↦ common differ 0 (p - q) p some (omega (arith, high, tells.0)) (omega (arith, ints, p_is))
-              (omega (arith, ints, q_is, high))
-        ]
-      ])
+      | inl t ↦
+          let tells = meet_tells p k q k t in absurd (elim (bool_cases (is_same_region source_region target_region)) [
+            | inl one ↦ in_one one tells.0 tells.1
+            | inr differ ↦ elim (cases_lt p q) [
+              | inl low ↦ common differ (q - p) 0 q (omega (arith, low, tells.1)) some (omega (arith, ints, p_is, low))
+                  (omega (arith, ints, q_is))
+              | inr high ↦ common differ 0 (p - q) p some (omega (arith, high, tells.0)) (omega (arith, ints, p_is))
+                  (omega (arith, ints, q_is, high))
+            ]
+          ])
     ]
       where
-        common : (source_region ≡ target_region → ⊥) → (i j place : ℕ) → i < k → j < k
+        common : is_same_region source_region target_region ≡ false → (i j place : ℕ) → i < k → j < k
             → pos place ≡ region_place x.m x.act.layout source_region +ℤ source_lo +ℤ pos i
             → pos place ≡ region_place x.m x.act.layout target_region +ℤ target_lo +ℤ pos j → ⊥
         common differ i j place less below is there =
-            regions_apart a source_region target_region place differ
+            regions_apart a source_region target_region place (regions_differ source_region target_region differ)
             (read_at x.m s.context x.act.layout source_region source_lo k i place less is read)
             (written_at x.m s.context x.act.layout target_region target_lo k j place below there write)
 
-        in_one : source_region ≡ target_region → p < q + k → q < p + k → ⊥
+        in_one : is_same_region source_region target_region ≡ true → p < q + k → q < p + k → ⊥
         in_one one low high = elim (either _ (int_le (target_lo +ℤ pos k) source_lo) apart) [
           | inr behind ↦ let le = le-from (target_lo +ℤ pos k) source_lo behind in
               omega (arith, ints, le, start, p_is, q_is, low, high)
-          | inl other ↦ elim (either (not (source_region == target_region))
+          | inl other ↦ elim (either (not (is_same_region source_region target_region))
               (int_le (source_lo +ℤ pos k) target_lo) other) [
                 | inr before ↦
                     let le = le-from (source_lo +ℤ pos k) target_lo before in
                     omega (arith, ints, le, start, p_is, q_is, low, high)
-                | inl differ ↦
-                    let same = eq-eqb source_region target_region one in
-                    let no : false ≡ true = sym (ap not same) ∙ differ in absurd (cc)
+                | inl differ ↦ let no : false ≡ true = sym (ap not one) ∙ differ in absurd (cc)
               ]
         ]
           where
             start : region_place x.m x.act.layout source_region ≡ region_place x.m x.act.layout target_region
-            start = ap (region_place x.m x.act.layout) one
+            start = ap (region_place x.m x.act.layout) (same-region source_region target_region one)
 
     some_fits : (u w : ℤ) → Means x.m x.act.layout (Pointer source_region source_lo source_lo source_step) (Some w)
         → Means x.m x.act.layout (Pointer target_region target_lo target_lo target_step) (Some u)
@@ -254,14 +260,15 @@ module _ (x : Here) (wf : IsWellFormed x.m) (s : State) (l : Local) (a : Within 
     some_fits u w source_means target_means wide =
         reads_bytes_fits x s source_region source_lo (source_lo +ℤ pos k) _ _ (λ read.
         writes_bytes_fits x s target_region target_lo end _ _ (λ write.
-        on_rule_test x (are_apart (pos k) from to && ((target_region == 0) || filling.are_numbers s from (pos k))) _ _ _
+        on_rule_test x
+        (are_apart (pos k) from to && (is_frame target_region || filling.are_numbers s from (pos k))) _ _ _
         (λ t. copies read write (and-parts (are_apart (pos k) from to) _ t).0
         (and-parts (are_apart (pos k) from to) _ t).1)
         (λ t next. it_breaks)))
       where
         copies : may_read_bytes x.m s.context source_region source_lo (source_lo +ℤ pos k) ≡ true
             → may_write_bytes x.m s.context target_region target_lo end ≡ true → are_apart (pos k) from to ≡ true
-            → ((target_region == 0) || filling.are_numbers s from (pos k)) ≡ true
+            → (is_frame target_region || filling.are_numbers s from (pos k)) ≡ true
             → FitsIf x (move.clears (rule_site x) (filled (filling.are_numbers s from (pos k)) to end s))
             (copying (place_of (step.address w)) (place_of (step.address u)) k)
         copies read write apart allowed =

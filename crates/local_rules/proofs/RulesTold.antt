@@ -1,8 +1,9 @@
 -- What functions return of shifted pointers, and of what is stored and moved, with other terms for their arguments.
-use Rattle.std.proofs.Common.{◌≡◌, ℕ, ℤ, pos, ◌*ℤ◌, ◌+ℤ◌, Result, Err, Bool, true, cond, sym, ap, ◌∙◌, subst}
+use Rattle.std.proofs.Common.{◌≡◌, ℤ, pos, ◌*ℤ◌, ◌+ℤ◌, Result, Err, Bool, true, cond, sym, ap, ◌∙◌, subst}
 use Rattle.std.specs.Prelude.{int_le}
 use Rattle.module_format.specs.Rows.{Fact}
 use Rattle.module_format.specs.declared.fact.Fact.TheVariants.{Pointer}
+use Rattle.module_format.specs.declared.fact.Region.{Region}
 use Rattle.module_format.specs.declared.fact.Step.{Step}
 use Rattle.module_format.specs.Contents.{Contents}
 use Rattle.states.specs.declared.rule.Rule.{Rule}
@@ -26,14 +27,15 @@ pub word_told : (r : Result Fact Rule) (lo hi a b : ℤ) → a ≡ lo → b ≡ 
 word_told r lo hi a b a_is b_is told =
     subst (λ (z : ℤ). Tells r (word_fact lo z)) b_is (subst (λ (z : ℤ). Tells r (word_fact z b)) a_is told)
 
-pub near_told : (r : Result Fact Rule) (region : ℕ) (steps : Step) (lo hi a b : ℤ) → a ≡ lo → b ≡ hi
+pub near_told : (r : Result Fact Rule) (region : Region) (steps : Step) (lo hi a b : ℤ) → a ≡ lo → b ≡ hi
     → Tells r (near_fact region a b steps) → Tells r (near_fact region lo hi steps)
 near_told r region steps lo hi a b a_is b_is told =
     subst (λ (z : ℤ). Tells r (near_fact region lo z steps)) b_is
     (subst (λ (z : ℤ). Tells r (near_fact region z b steps)) a_is told)
 
 -- a pointer `by` bytes further, whose offsets are near
-pub pointer_told : (r : Result Fact Rule) (by : ℤ) (region : ℕ) (steps : Step) (lo hi x y a b : ℤ) → true ≡ are_near x y
+pub pointer_told : (r : Result Fact Rule) (by : ℤ) (region : Region) (steps : Step) (lo hi x y a b : ℤ)
+    → true ≡ are_near x y
     → x ≡ lo → y ≡ hi → a ≡ lo +ℤ by → b ≡ hi +ℤ by → Tells r (near_fact region a b steps)
     → Tells r (shifted by (Pointer region lo hi steps))
 unfolding shifted
@@ -53,7 +55,7 @@ place_told m r place z z_is told = subst (λ (z : ℤ). Tells r (place_fact m z)
 abbrev PointsTo : Result Pointed Rule → Result Pointed Rule → Type 0
 PointsTo r answer = Gives (λ (pointer : Pointed). pointer) r (settles answer)
 
-pub words_told : (r : Result Pointed Rule) (region : ℕ) (lo hi a b : ℤ) → a ≡ lo → b ≡ hi
+pub words_told : (r : Result Pointed Rule) (region : Region) (lo hi a b : ℤ) → a ≡ lo → b ≡ hi
     → PointsTo r (words_at region a b) → PointsTo r (words_at region lo hi)
 words_told r region lo hi a b a_is b_is told =
     subst (λ (z : ℤ). PointsTo r (words_at region lo z)) b_is
@@ -64,8 +66,8 @@ pub written_told : (r : Result Continuation Rule) (after : State) (site : Site) 
     → ((k : Ruling) → writes_bytes site s p.region p.lo end k ≡ k) → left ≡ leaves_words p end leaving s
     → Advances r after (pops_two site left) → Advances r after (writes_through site p size leaving s)
 written_told r after site p size end leaving s left end_is passes left_is told =
-    subst (λ (z : ℤ). Advances r after (writes_bytes site s p.region p.lo z (pops_two site (leaves_words p z leaving s))))
-    end_is
+    subst (λ (z : ℤ).
+    Advances r after (writes_bytes site s p.region p.lo z (pops_two site (leaves_words p z leaving s)))) end_is
     (subst (λ (t : Ruling). Advances r after t) (sym (passes (pops_two site (leaves_words p end leaving s))))
     (subst (λ (t : State). Advances r after (pops_two site t)) left_is told))
 

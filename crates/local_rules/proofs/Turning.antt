@@ -1,5 +1,5 @@
 -- What lend finds, what a turn costs, and the words of a loop's block.
-use Rattle.std.proofs.Common.{◌≡◌, ℕ, suc, ◌+◌, ◌-◌, ◌%◌, ◌^◌, ◌<◌, ◌≤◌, ◌==◌, nat_le, ◌&&◌, ◌||◌, ℤ, pos, negsuc}
+use Rattle.std.proofs.Common.{◌≡◌, ℕ, suc, ◌+◌, ◌-◌, ◌%◌, ◌^◌, ◌<◌, ◌≤◌, nat_le, ◌&&◌, ◌||◌, ℤ, pos, negsuc}
 use Rattle.std.proofs.Common.{◌+ℤ◌, ◌-ℤ◌, ◌*ℤ◌, ◌≤ℤ◌, ◌<ℤ◌, FitsSigned, Bool, true, false, cond, ◌⊎◌, inl, inr, Option}
 use Rattle.std.proofs.Common.{Some, None, refl, sym, ap, ◌∙◌, subst, arith}
 use Rattle.std.proofs.lemmas.Bool.{eqb-true}
@@ -8,6 +8,7 @@ use Rattle.std.specs.Prelude.{int_le, int_lt, option_map, option_and_then}
 use Rattle.std.specs.Int.{w32, int_wrap, cast_unsigned}
 use Rattle.module_format.specs.Rows.{Fact}
 use Rattle.module_format.specs.declared.fact.Fact.TheVariants.{Unknown, Number, Pointer, CodeAddress, Loop}
+use Rattle.module_format.specs.declared.fact.Region.TheVariants as regions
 use Rattle.module_format.specs.declared.fact.Fact.TheVariants.{ReturnAddress}
 use Rattle.module_format.specs.declared.fact.Step.{Step}
 use Rattle.module_format.specs.Order.{is_stepped, least_word, greatest_word}
@@ -53,7 +54,7 @@ four_times (negsuc n) h = let e : suc n % 4 ≡ 0 = eqb-true (suc n % 4) 0 h in 
 -- a pointer that leads to a word of the frame
 pub record Leads (fact : Fact) (k : ℤ) : Type 0 where
   pub step : Step
-  pub is : fact ≡ Pointer 0 (pos 4 *ℤ k) (pos 4 *ℤ k) step
+  pub is : fact ≡ Pointer regions.Frame (pos 4 *ℤ k) (pos 4 *ℤ k) step
 
 pub pointed : (fact : Fact) (k : ℤ) → word_pointed fact ≡ Some k → Leads fact k
 unfolding word_pointed
@@ -62,16 +63,17 @@ pointed (Number lo hi) k e = absurd (cc)
 pointed (CodeAddress offset) k e = absurd (cc)
 pointed (Loop base count weight) k e = absurd (cc)
 pointed ReturnAddress k e = absurd (cc)
-pointed (Pointer region lo hi step) k e =
-    let found = cond_some ((region == 0) && is_word lo hi && is_stepped lo) (word_of_offset lo) k e in
-    let tests = and-parts ((region == 0) && is_word lo hi) (is_stepped lo) found.0 in
-    let ends = and-parts (region == 0) (is_word lo hi) tests.0 in
+pointed (Pointer regions.Constants lo hi step) k e = absurd (cc)
+pointed (Pointer (regions.Parameter j) lo hi step) k e = absurd (cc)
+pointed (Pointer regions.Frame lo hi step) k e =
+    let found = cond_some (is_word lo hi && is_stepped lo) (word_of_offset lo) k e in
+    let tests = and-parts (is_word lo hi) (is_stepped lo) found.0 in
     let low : lo ≡ pos 4 *ℤ k = sym (four_times lo tests.1) ∙ ap (λ (z : ℤ). pos 4 *ℤ z) found.1 in
-    let high : hi ≡ pos 4 *ℤ k = sym (same_word_by lo hi ends.1) ∙ low in
+    let high : hi ≡ pos 4 *ℤ k = sym (same_word_by lo hi tests.0) ∙ low in
     record {
       step = step;
-      is = ap (λ (r : ℕ). Pointer r lo hi step) (eqb-true region 0 ends.0)
-          ∙ (ap (λ (z : ℤ). Pointer 0 z hi step) low ∙ ap (λ (z : ℤ). Pointer 0 (pos 4 *ℤ k) z step) high);
+      is = ap (λ (z : ℤ). Pointer regions.Frame z hi step) low
+          ∙ ap (λ (z : ℤ). Pointer regions.Frame (pos 4 *ℤ k) z step) high;
     }
 
 -- The words of a block are the index and the count of its loop, whose last index is a word.

@@ -15,6 +15,7 @@ use Rattle.word_arithmetic.specs.Binary.{result_range}
 use Rattle.word_arithmetic.proofs.EndsLaws.{member_fits}
 use Rattle.module_format.specs.Rows.{Fact}
 use Rattle.module_format.specs.declared.fact.Fact.TheVariants.{Unknown, Number, Pointer, CodeAddress, Loop}
+use Rattle.module_format.specs.declared.fact.Region.TheVariants as regions
 use Rattle.module_format.specs.declared.fact.Fact.TheVariants.{ReturnAddress}
 use Rattle.module_format.specs.declared.fact.Step.TheVariants.{Word}
 use Rattle.module_format.specs.declared.contexts.Context.{Context}
@@ -141,7 +142,7 @@ module _ (x : Here) (s : State) (l : Local) (a : After x.m x.h x.mode x.act s l)
   pointer_fits e fits =
       let offset : ℤ = pos 4 *ℤ (s.depth +ℤ e) in
       on_rule_test x (is_near offset) _ _ _ (λ t.
-      going_on_fits x (rule.push (known (Pointer 0 offset offset Word)) s)
+      going_on_fits x (rule.push (known (Pointer regions.Frame offset offset Word)) s)
       (step.push (Some (step.word_of (local_address l.registers.workspace e))) l)
       (stacked a (record {
         a = record {

@@ -1,7 +1,7 @@
 -- The instructions that write memory through pointers: what their rules say fits their steps.
-use Rattle.std.proofs.Common.{◌≡◌, ℕ, ◌+◌, ◌-◌, ◌*◌, ◌/◌, ◌%◌, ◌≤◌, ◌<◌, ◌==◌, ℤ, pos, ◌+ℤ◌, ◌-ℤ◌, ◌*ℤ◌, ◌≤ℤ◌, ◌<ℤ◌}
+use Rattle.std.proofs.Common.{◌≡◌, ℕ, ◌+◌, ◌*◌, ◌/◌, ◌%◌, ◌≤◌, ◌<◌, ℤ, pos, ◌+ℤ◌, ◌-ℤ◌, ◌*ℤ◌, ◌≤ℤ◌, ◌<ℤ◌}
 use Rattle.std.proofs.Common.{nat_abs, neg_ℤ, FitsSigned, Bool, true, false, cond, ◌&&◌, ◌||◌, length, Option, Some}
-use Rattle.std.proofs.Common.{None, Ok, refl, sym, ap, ◌∙◌, subst, arith, ◌⊎◌, inl, inr, negsuc}
+use Rattle.std.proofs.Common.{Ok, refl, sym, ap, ◌∙◌, subst, arith, ◌⊎◌, inl, inr, negsuc}
 use Rattle.std.proofs.lemmas.Bool.{cases_lt, cases_eq, eqb-true}
 use Rattle.std.proofs.lemmas.Int.{ints}
 use Rattle.std.specs.Prelude.{IsTrue, int_le, int_lt}
@@ -10,7 +10,10 @@ use Rattle.word_arithmetic.specs.Range.{Ends, full}
 use Rattle.module_format.specs.Rows.{Fact}
 use Rattle.module_format.specs.declared.fact.Fact.TheVariants.{Unknown, Number, Pointer, CodeAddress, Loop}
 use Rattle.module_format.specs.declared.fact.Fact.TheVariants.{ReturnAddress}
+use Rattle.module_format.specs.declared.fact.Region.{Region}
+use Rattle.module_format.specs.declared.fact.Region.TheVariants as regions
 use Rattle.module_format.specs.declared.rows.ParameterKind.{ParameterKind}
+use Rattle.module_format.specs.Regions.{is_frame}
 use Rattle.module_format.specs.Order.{is_stepped, least_word, greatest_word}
 use Rattle.module_format.specs.Contents.{Contents}
 use Rattle.certificate.specs.Rights.{may_write_word as context_writes}
@@ -52,7 +55,7 @@ use Rattle.rulings.proofs.Regions.{write_keeps, frame_keeps, keeps_more, may_too
 use Rattle.rulings.proofs.Regions.{byte_small}
 use Rattle.rulings.proofs.ReadThrough.{word_writable}
 use Rattle.rulings.proofs.Reaching.{region_place, place_at, region_at, word_place, even_word, word_of_byte_low}
-use Rattle.rulings.proofs.Reaching.{word_of_byte_high, natural, place_by}
+use Rattle.rulings.proofs.Reaching.{word_of_byte_high, natural}
 use Rattle.rulings.proofs.ReadThroughPointers.{even_place, inside_some}
 use Rattle.rulings.proofs.Addresses.{stepped_quotient}
 use Rattle.rulings.proofs.WriteThrough.{number_wider, widened_means, widened_by_means, LeavesWell, FrameWord}
@@ -514,7 +517,7 @@ module _ (x : Here) (s : State) (l : Local) (a : Within ArePlain x.m x.h x.mode 
 
   left_context : (p : Pointed) (end : ℤ) (leaving : Leaving) → (leaves_words p end leaving s).context ≡ s.context
   unfolding leaves_words after_change
-  left_context p end leaving = on (p.region == 0)
+  left_context p end leaving = on (is_frame p.region)
     where
       on : (frame : Bool)
           → (cond frame (after_change (on_span (word_of_byte p.lo) (words_touched p.lo end) leaving) s) s).context
@@ -524,7 +527,7 @@ module _ (x : Here) (s : State) (l : Local) (a : Within ArePlain x.m x.h x.mode 
 
   left_owed : (p : Pointed) (end : ℤ) (leaving : Leaving) → owed (leaves_words p end leaving s) x.act ≤ owed s x.act
   unfolding leaves_words after_change
-  left_owed p end leaving = on (p.region == 0)
+  left_owed p end leaving = on (is_frame p.region)
     where
       on : (frame : Bool)
           → owed (cond frame (after_change (on_span (word_of_byte p.lo) (words_touched p.lo end) leaving) s) s)
@@ -558,33 +561,30 @@ module _ (x : Here) (s : State) (l : Local) (a : Within ArePlain x.m x.h x.mode 
   word_written_at : (p : Pointed) (b : Fact) (v offset : ℤ) → p.lo ≤ℤ offset → offset ≤ℤ p.hi
       → IsTrue (is_stepped offset)
       → Means x.m x.act.layout b (Some v)
-      → ((p.region == 0) ≡ false → is_number_in (wanted_range x.m s.context p.region) b ≡ true)
+      → (is_frame p.region ≡ false → is_number_in (wanted_range x.m s.context p.region) b ≡ true)
       → may_write_bytes x.m s.context p.region p.lo (p.hi +ℤ pos 4) ≡ true
       → Written a (region_place x.m x.act.layout p.region) offset (λ place. with_word l.memory place (Some v))
       (IsOwnAt x.h) (leaves_words p (p.hi +ℤ pos 4) (stored_word p b) s)
   unfolding may_write_bytes leaves_words
-  word_written_at p b v offset low high aligned means stores may = on (p.region == 0) (p.region == 1) may stores
+  word_written_at p b v offset low high aligned means stores may = on p.region may stores
     where
-      on : (frame constants : Bool)
-          → cond frame (all_touched (context_writes x.m s.context) p.lo (p.hi +ℤ pos 4))
-          (lie_in (cond constants None (writable_bytes x.m s.context (p.region - 2))) p.lo (p.hi +ℤ pos 4)) ≡ true
-          → (frame ≡ false
-          → is_number_in (cond (frame || constants) full (parameter_range x.m s.context (p.region - 2))) b ≡ true)
-          → Written a (place_by x.m x.act.layout p.region frame constants) offset
+      on : (region : Region) → may_write_bytes x.m s.context region p.lo (p.hi +ℤ pos 4) ≡ true
+          → (is_frame region ≡ false → is_number_in (wanted_range x.m s.context region) b ≡ true)
+          → Written a (region_place x.m x.act.layout region) offset
           (λ place. with_word l.memory place (Some v)) (IsOwnAt x.h)
-          (cond frame (after_change (on_span (word_of_byte p.lo) (words_touched p.lo (p.hi +ℤ pos 4))
+          (cond (is_frame region) (after_change (on_span (word_of_byte p.lo) (words_touched p.lo (p.hi +ℤ pos 4))
           (stored_word p b)) s) s)
-      on true constants may stores = word_into_frame a p.lo p.hi offset low high aligned b v means may
-      on false true may stores = absurd (cc)
-      on false false may stores =
-          word_into_parameter a p.lo p.hi offset low high aligned b v means (p.region - 2) may (stores refl)
+      on regions.Frame may stores = word_into_frame a p.lo p.hi offset low high aligned b v means may
+      on regions.Constants may stores = absurd (cc)
+      on (regions.Parameter j) may stores =
+          word_into_parameter a p.lo p.hi offset low high aligned b v means j may (stores refl)
 
   -- B may be stored where a pointer leads that is no word of the frame
   stores_number : (q : Pointed) (b : Fact)
-      → may_store_word x.m s.context (Pointer q.region q.lo q.hi q.step) b ≡ true → (q.region == 0) ≡ false
+      → may_store_word x.m s.context (Pointer q.region q.lo q.hi q.step) b ≡ true → is_frame q.region ≡ false
       → is_number_in (wanted_range x.m s.context q.region) b ≡ true
   unfolding may_store_word
-  stores_number q b t outside = on (q.region == 0) outside t
+  stores_number q b t outside = on (is_frame q.region) outside t
     where
       on : (frame : Bool) → frame ≡ false
           → ((frame && is_same q.lo q.hi) || is_number_in (wanted_range x.m s.context q.region) b) ≡ true
@@ -602,8 +602,10 @@ module _ (x : Here) (s : State) (l : Local) (a : Within ArePlain x.m x.h x.mode 
       step.goes_on (step_site x) (step.pop (step.pop l)))))
   stnl_word e v u q p is fits means other stores may =
       let b = words_behind_is x.m x.act.layout e v q p is means in
-      let number : (p.region == 0) ≡ false → is_number_in (wanted_range x.m s.context p.region) s.stack.b.fact ≡ true =
-      subst (λ (r : ℕ). (r == 0) ≡ false → is_number_in (wanted_range x.m s.context r) s.stack.b.fact ≡ true) b.region
+      let number : is_frame p.region ≡ false
+      → is_number_in (wanted_range x.m s.context p.region) s.stack.b.fact ≡ true =
+      subst (λ (r : Region). is_frame r ≡ false → is_number_in (wanted_range x.m s.context r) s.stack.b.fact ≡ true)
+      b.region
       (stores_number q s.stack.b.fact stores) in
       let w = word_written_at p s.stack.b.fact u (b.offset +ℤ (pos 4 *ℤ e)) b.low b.high b.stepped other number may in
       let from = region_at x.m x.act.layout p.region (b.offset +ℤ (pos 4 *ℤ e)) w.place w.is in
@@ -646,18 +648,17 @@ module _ (x : Here) (s : State) (l : Local) (a : Within ArePlain x.m x.h x.mode 
       → Written a (region_place x.m x.act.layout p.region) offset (λ place. with_byte l.memory place (Some c))
       (λ place. may_write x.h place ≡ true) (leaves_words p (p.hi +ℤ pos 1) stored_byte s)
   unfolding may_write_bytes leaves_words
-  byte_written_at p c offset byte low high wide may = on (p.region == 0) (p.region == 1) may wide
+  byte_written_at p c offset byte low high wide may = on p.region may wide
     where
-      on : (frame constants : Bool)
-          → cond frame (all_touched (context_writes x.m s.context) p.lo (p.hi +ℤ pos 1))
-          (lie_in (cond constants None (writable_bytes x.m s.context (p.region - 2))) p.lo (p.hi +ℤ pos 1)) ≡ true
-          → is_full (cond (frame || constants) full (parameter_range x.m s.context (p.region - 2))) ≡ true
-          → Written a (place_by x.m x.act.layout p.region frame constants) offset
+      on : (region : Region) → may_write_bytes x.m s.context region p.lo (p.hi +ℤ pos 1) ≡ true
+          → is_full (wanted_range x.m s.context region) ≡ true
+          → Written a (region_place x.m x.act.layout region) offset
           (λ place. with_byte l.memory place (Some c)) (λ place. may_write x.h place ≡ true)
-          (cond frame (after_change (on_span (word_of_byte p.lo) (words_touched p.lo (p.hi +ℤ pos 1)) stored_byte) s) s)
-      on true constants may wide = byte_into_frame a p.lo p.hi offset low high c byte may
-      on false true may wide = absurd (cc)
-      on false false may wide = byte_into_parameter a p.lo p.hi offset low high c byte (p.region - 2) may wide
+          (cond (is_frame region)
+          (after_change (on_span (word_of_byte p.lo) (words_touched p.lo (p.hi +ℤ pos 1)) stored_byte) s) s)
+      on regions.Frame may wide = byte_into_frame a p.lo p.hi offset low high c byte may
+      on regions.Constants may wide = absurd (cc)
+      on (regions.Parameter j) may wide = byte_into_parameter a p.lo p.hi offset low high c byte j may wide
 
   stores_any : (q : Pointed) (b : Fact)
       → may_store_byte x.m s.context (Pointer q.region q.lo q.hi q.step) b ≡ true

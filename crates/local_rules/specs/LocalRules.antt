@@ -4,6 +4,7 @@
 use Rattle.std.specs.Prelude.{◌+◌, ◌&&◌, ℤ, pos, ◌+ℤ◌, ◌*ℤ◌}
 use Rattle.word_arithmetic.specs.Word.{least_word}
 use Rattle.module_format.specs.declared.fact.Fact.TheVariants.{Number, Pointer}
+use Rattle.module_format.specs.declared.fact.Region.TheVariants as regions
 use Rattle.module_format.specs.declared.fact.Step.TheVariants.{Byte, Word}
 use Rattle.machine_state.specs.declared.op.Op.{Op}
 use Rattle.machine_state.specs.declared.op.Op.TheVariants.{Reverse, StopProcess, MinimumInteger, Binary, Unary, Shift}
@@ -72,7 +73,7 @@ local_rule site (WithConstant op) e s =
     uses s.stack.a (λ a. becomes site (result_fact op a (Number e e)) (constant_source op s.stack.a e) s)
 local_rule site LoadLocalPointer e s =
     let offset = pos 4 *ℤ (s.depth +ℤ e) in
-    near offset (goes_on site (push (known (Pointer 0 offset offset Word)) s))
+    near offset (goes_on site (push (known (Pointer regions.Frame offset offset Word)) s))
 local_rule site AdjustWorkspace e s =
     let depth = s.depth +ℤ e in
     alone s.mode (in_frame site s depth (goes_on site (record s { depth = depth })))

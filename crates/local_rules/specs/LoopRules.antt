@@ -1,9 +1,10 @@
 -- The rule of lend, which ends a turn of a loop: the loop's block is two words of the frame, its index and its count.
-use Rattle.std.specs.Prelude.{◌≡◌, ℕ, ◌+◌, ◌/◌, nat_lt, nat_le, ◌==◌, ◌&&◌, ◌||◌, ℤ, pos, negsuc, ◌+ℤ◌, ◌-ℤ◌, int_le}
+use Rattle.std.specs.Prelude.{◌≡◌, ℕ, ◌+◌, ◌/◌, nat_lt, nat_le, ◌&&◌, ◌||◌, ℤ, pos, negsuc, ◌+ℤ◌, ◌-ℤ◌, int_le}
 use Rattle.std.specs.Prelude.{int_lt, FitsSigned, Bool, true, false, if◌then◌else◌, Option, Some, None, Result, Ok}
 use Rattle.std.specs.Prelude.{Err, option_map, option_and_then}
 use Rattle.module_format.specs.Rows.{Fact, LabelRow}
 use Rattle.module_format.specs.declared.fact.Fact.TheVariants.{Number, Pointer}
+use Rattle.module_format.specs.Regions.{is_frame}
 use Rattle.module_format.specs.Order.{is_stepped, least_word, greatest_word}
 use Rattle.std.specs.Borrow.{Bor}
 use Rattle.std.specs.Int.{w32}
@@ -32,7 +33,7 @@ word_of_offset (negsuc n) = negsuc (n / 4)
 -- the word of the frame that a pointer leads to, if that is known exactly
 unfoldable pub word_pointed : Fact → Option ℤ
 word_pointed (Pointer region lo hi step) =
-    if region == 0 && is_same lo hi && is_stepped lo then Some (word_of_offset lo) else None
+    if is_frame region && is_same lo hi && is_stepped lo then Some (word_of_offset lo) else None
 word_pointed _ = None
 
 -- the last index of a loop, which is a word

@@ -1,10 +1,13 @@
 -- The rules of instructions that make pointers, and of those that read and write memory through them.
-use Rattle.std.specs.Prelude.{ℕ, ◌+◌, ◌-◌, ◌==◌, ◌&&◌, ◌||◌, nat_lt, nat_le, ℤ, pos, negsuc, ◌+ℤ◌, ◌*ℤ◌, int_le, Bool}
+use Rattle.std.specs.Prelude.{ℕ, ◌+◌, ◌-◌, ◌&&◌, ◌||◌, nat_lt, nat_le, ℤ, pos, negsuc, ◌+ℤ◌, ◌*ℤ◌, int_le, Bool}
 use Rattle.std.specs.Prelude.{if◌then◌else◌, length, Result, Ok, Err}
 use Rattle.module_format.specs.Rows.{Fact}
 use Rattle.module_format.specs.declared.fact.Fact.TheVariants.{Number, Pointer, CodeAddress}
+use Rattle.module_format.specs.declared.fact.Region.{Region}
+use Rattle.module_format.specs.declared.fact.Region.TheVariants as regions
 use Rattle.module_format.specs.declared.fact.Step.{Step}
 use Rattle.module_format.specs.declared.fact.Step.TheVariants.{Byte, Word}
+use Rattle.module_format.specs.Regions.{is_frame}
 use Rattle.module_format.specs.Order.{is_stepped, least_word, greatest_word}
 use Rattle.module_format.specs.Contents.{Contents}
 use Rattle.machine_state.specs.World.{padding}
@@ -28,7 +31,7 @@ with_fact_a site fact s = alone s.mode (goes_on site (with_a (known fact) s))
 -- ---- pointers that are made
 
 -- the fact of a pointer, if its offsets are near
-unfoldable pub near_fact : ℕ → ℤ → ℤ → Step → Result Fact Rule
+unfoldable pub near_fact : Region → ℤ → ℤ → Step → Result Fact Rule
 near_fact region lo hi step = if are_near lo hi then Ok (Pointer region lo hi step) else Err rules.Pointer
 
 -- a number of 32 bits
@@ -79,7 +82,8 @@ place_fact m (pos n) =
     let behind = length m.code + padding (length m.code) in
     if nat_lt n (length m.code) then Ok (CodeAddress n)
     else if nat_le behind n && nat_lt n (behind + length m.constants)
-    then Ok (Pointer 1 (pos (n - behind)) (pos (n - behind)) (if is_stepped (pos (n - behind)) then Word else Byte))
+    then Ok (Pointer regions.Constants (pos (n - behind)) (pos (n - behind))
+    (if is_stepped (pos (n - behind)) then Word else Byte))
     else Err rules.Pointer
 
 -- ldpi: the address at this distance after the instruction
@@ -91,7 +95,7 @@ loads_place site s =
 -- ---- words and bytes that are read
 
 -- a pointer to words, if its offsets are near
-unfoldable pub words_at : ℕ → ℤ → ℤ → Result Pointed Rule
+unfoldable pub words_at : Region → ℤ → ℤ → Result Pointed Rule
 words_at region lo hi =
     if are_near lo hi then Ok (record { region = region; lo = lo; hi = hi; step = Word }) else Err rules.Pointer
 
@@ -118,7 +122,7 @@ loads_byte site s =
 -- parameter's region keeps in its range
 unfoldable pub may_store_word : Contents → ℕ → Fact → Fact → Bool
 may_store_word m context (Pointer region lo hi step) b =
-    ((region == 0) && is_same lo hi) || is_number_in (wanted_range m context region) b
+    (is_frame region && is_same lo hi) || is_number_in (wanted_range m context region) b
 may_store_word m context _ b = is_number_in full b
 
 -- B may be stored as a byte where A points: it is a number, and a parameter's region may hold any

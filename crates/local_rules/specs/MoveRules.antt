@@ -1,6 +1,7 @@
 -- The rule of move, which copies bytes from one place to another.
-use Rattle.std.specs.Prelude.{◌==◌, ◌&&◌, ◌||◌, not, ℤ, pos, ◌+ℤ◌, int_le, Bool, if◌then◌else◌}
+use Rattle.std.specs.Prelude.{◌&&◌, ◌||◌, not, ℤ, pos, ◌+ℤ◌, int_le, Bool, if◌then◌else◌}
 use Rattle.module_format.specs.Rows.{Fact}
+use Rattle.module_format.specs.Regions.{is_frame, is_same_region}
 use Rattle.module_format.specs.Stack.{of_empty}
 use Rattle.machine_state.specs.declared.op.TheConstants.{MOST_MOVED}
 use Rattle.states.specs.declared.rule.Rule.TheVariants as rules
@@ -25,7 +26,7 @@ amount site s a b k =
 -- the `count` bytes from two places on are apart, as those of different regions are
 abbrev pub are_apart : ℤ → Pointed → Pointed → Bool
 are_apart count p q =
-    not (p.region == q.region) || int_le (p.lo +ℤ count) q.lo || int_le (q.lo +ℤ count) p.lo
+    not (is_same_region p.region q.region) || int_le (p.lo +ℤ count) q.lo || int_le (q.lo +ℤ count) p.lo
 
 -- ---- the rule
 
@@ -35,7 +36,7 @@ clears site s = alone s.mode (goes_on site (record s { stack = of_empty unknown 
 
 -- bytes may come to a place that is apart; a parameter's region takes numbers
 abbrev pub may_come : ℤ → Pointed → Pointed → Bool → Bool
-may_come count from to numbers = are_apart count from to && ((to.region == 0) || numbers)
+may_come count from to numbers = are_apart count from to && (is_frame to.region || numbers)
 
 -- `count` bytes that may be read, at least one, come to where they may be written
 unfoldable pub come : Site → ℤ → Pointed → Pointed → State → Ruling

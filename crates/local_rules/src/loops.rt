@@ -15,7 +15,7 @@ ghost use Rattle.local_rules.specs.LocalRules.{local_operation_rule};
 ghost use Rattle.rulings.specs.Telling.{Advances};
 ghost use Rattle.rulings.specs.Places.{site_of};
 
-use module_format::{Fact, LabelRow, Stack};
+use module_format::{Fact, LabelRow, Region, Stack};
 use rulings::combinators::{outside_alternation, outside_starts, uses};
 use rulings::{Continuation, Place};
 use states::{Known, Loop, Rule, State, WordFact, compare, label_rows_are_sound};
@@ -38,7 +38,7 @@ fn word_pointed(fact: Fact) -> Option<i32>
 {
     match fact {
         Fact::Pointer {
-            region: 0,
+            region: Region::Frame,
             lo,
             hi,
             ..

@@ -12,7 +12,7 @@ ghost use Rattle.rulings.specs.Telling.{Gives, Advances};
 ghost use Rattle.rulings.specs.Places.{site_of};
 
 use crate::shifting::{element_of, is_stepped, words_behind, words_further};
-use module_format::{Fact, Step};
+use module_format::{Fact, Region, Step};
 use rulings::combinators::{alone, outside_starts, uses};
 use rulings::pointers::{constant_of, number_of, pointer_of};
 use rulings::reading::{byte_read, sum_reached};
@@ -92,7 +92,7 @@ fn place_fact(place: &Place, offset: i128) -> Result<Fact, Rule>
     }
     let constant = (offset - behind) as i32;
     Ok(Fact::Pointer {
-        region: 1,
+        region: Region::Constants,
         lo: constant,
         hi: constant,
         step: if is_stepped(constant) {

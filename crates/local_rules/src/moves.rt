@@ -2,6 +2,7 @@
 
 ghost use Rattle.std.specs.Prelude.{◌≡◌, ◌≤ℤ◌, ◌<ℤ◌, ◌+ℤ◌, ℤ, pos, true, int_le, IfOk};
 ghost use Rattle.module_format.specs.Contents.{Contents};
+ghost use Rattle.module_format.specs.Regions.{is_frame};
 ghost use Rattle.machine_state.specs.declared.op.TheConstants.{MOST_MOVED};
 ghost use Rattle.states.specs.Views.{state_of, BelongsTo, CanWriteSpan};
 ghost use Rattle.rulings.specs.Reach.{word_of_byte, words_touched};
@@ -67,7 +68,7 @@ fn come(place: &Place, state: &mut State, block: Block) -> Result<Continuation, 
     requires belongs { BelongsTo place.now.module.now state.old }
     requires some { pos 0 <ℤ block.count }
     requires room { let touched = words_touched block.to.lo (block.to.hi +ℤ block.count) in
-        block.to.region ≡ 0 → CanWriteSpan state.old (word_of_byte block.to.lo) touched }
+        is_frame block.to.region ≡ true → CanWriteSpan state.old (word_of_byte block.to.lo) touched }
     ensures ruling { let ruling = come (site_of place.now) block.count block.from block.to (state_of state.old) in
         Advances result (state_of state.new) ruling }
     ensures belongs { BelongsTo place.now.module.now state.new }
@@ -142,7 +143,7 @@ fn end_before(offset: i32, count: i32, other: i32) -> bool
 fn are_apart(count: i32, from: Pointed, to: Pointed) -> bool
     ensures { result ≡ are_apart count from to }
 {
-    from.region != to.region
+    !from.region.is_same(to.region)
         || end_before(from.lo, count, to.lo)
         || end_before(to.lo, count, from.lo)
 }
@@ -151,5 +152,5 @@ fn are_apart(count: i32, from: Pointed, to: Pointed) -> bool
 fn may_come(count: i32, from: Pointed, to: Pointed, numbers: bool) -> bool
     ensures { result ≡ may_come count from to numbers }
 {
-    are_apart(count, from, to) && (to.region == 0 || numbers)
+    are_apart(count, from, to) && (to.region.is_frame() || numbers)
 }

@@ -8,7 +8,7 @@ ghost use Rattle.rulings.specs.Telling.{Gives};
 ghost use Rattle.local_rules.specs.MemoryRules.{near_fact, words_at, words_behind, is_of_a_word, word_fact, shifted};
 ghost use Rattle.local_rules.specs.MemoryRules.{further, step_after, element_of};
 
-use module_format::{Fact, Step};
+use module_format::{Fact, Region, Step};
 use rulings::pointers::{Bounds, Pointed, are_near};
 use states::Rule;
 
@@ -21,7 +21,7 @@ pub(crate) fn is_stepped(number: i32) -> bool
 
 /// The fact of a pointer, if its offsets are near.
 #[tactic(auto, unfolding(rulings::specs::Rulings::settles, crate::specs::MemoryRules::near_fact))]
-fn near_fact(region: u16, lo: i64, hi: i64, step: Step) -> Result<Fact, Rule>
+fn near_fact(region: Region, lo: i64, hi: i64, step: Step) -> Result<Fact, Rule>
     ensures { Gives (λ fact. fact) result (settles (near_fact region lo hi step)) }
 {
     if !are_near(lo, hi) {
@@ -37,7 +37,7 @@ fn near_fact(region: u16, lo: i64, hi: i64, step: Step) -> Result<Fact, Rule>
 
 /// A pointer to words, if its offsets are near.
 #[tactic(auto, unfolding(rulings::specs::Rulings::settles, crate::specs::MemoryRules::words_at))]
-fn words_at(region: u16, lo: i64, hi: i64) -> Result<Pointed, Rule>
+fn words_at(region: Region, lo: i64, hi: i64) -> Result<Pointed, Rule>
     ensures answer { Gives (λ pointer. pointer) result (settles (words_at region lo hi)) }
     ensures near { IfOk result (λ pointer. are_near pointer.lo pointer.hi ≡ true) }
 {

@@ -26,7 +26,7 @@ fn may_store_word(place: &Place, context: u32, a: Fact, b: Fact) -> bool
 {
     match a {
         Fact::Pointer { region, lo, hi, .. } => {
-            (region == 0 && lo == hi) || is_number_in(place.wanted_range(context, region), b)
+            (region.is_frame() && lo == hi) || is_number_in(place.wanted_range(context, region), b)
         }
         _ => is_number_in(full(), b),
     }

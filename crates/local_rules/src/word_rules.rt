@@ -22,15 +22,12 @@ use crate::numbers::{
     result_source, unary_result_fact,
 };
 use machine_state::{LongOp, Shift as ShiftOperation};
-use module_format::{Fact, Step};
+use module_format::{Fact, Region, Step};
 use rulings::combinators::{alone, forward, in_bounds, outside_alternation, outside_starts, uses};
 use rulings::pointers::near;
 use rulings::{Continuation, Place};
 use states::{Known, Rule, Source, State};
 use word_arithmetic::{Binary as BinaryOperation, Unary as UnaryOperation};
-
-/// The region of a pointer into the frame.
-const FRAME: u16 = 0;
 
 /// The number as a word, if it lies between two words, both included.
 fn between(number: i64, lo: i64, hi: i64) -> Option<i32>
@@ -262,7 +259,7 @@ pub(crate) fn load_local_pointer(
 {
     let offset = near(4 * (i64::from(state.depth) + i64::from(distance)))?;
     state.push(Known::of(Fact::Pointer {
-        region: FRAME,
+        region: Region::Frame,
         lo: offset,
         hi: offset,
         step: Step::Word,

@@ -6,7 +6,7 @@ use crate::words::Words;
 use module_builder::{ContextName, Draft, Instructions, Label};
 use module_format::{
     BranchRow, ChannelRow, Ends, Entry, Fact, Interval, LabelRow, ParRow, Parameter, ParameterKind,
-    ProcedureRow, Stack, Step, TableRow,
+    ProcedureRow, Region, Stack, Step, TableRow,
 };
 use smallvec::SmallVec;
 use std::alloc::Global;
@@ -45,6 +45,15 @@ fn step(words: &mut Words) -> Step {
     }
 }
 
+/// 0 for the frame, 1 for the constants, and 2 + j for what parameter j names.
+fn region(words: &mut Words) -> Region {
+    match words.short() {
+        0 => Region::Frame,
+        1 => Region::Constants,
+        number => Region::Parameter(number - 2),
+    }
+}
+
 /// The address of a label.
 fn address(code: &Instructions, words: &mut Words) -> Fact<Label> {
     match next_label(code, words) {
@@ -62,7 +71,7 @@ fn fact(code: &Instructions, words: &mut Words) -> Fact<Label> {
             hi: words.integer(),
         },
         "pointer" => Fact::Pointer {
-            region: words.short(),
+            region: region(words),
             lo: words.integer(),
             hi: words.integer(),
             step: step(words),

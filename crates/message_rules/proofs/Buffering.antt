@@ -1,14 +1,16 @@
 -- What a message leaves of a state, and what is known once its bytes are there.
-use Rattle.std.proofs.Common.{◌≡◌, ℕ, ◌+◌, ◌-◌, ◌≤◌, ◌<◌, ◌==◌, ℤ, pos, ◌+ℤ◌, ◌≤ℤ◌, Bool, true, false, cond, ◌&&◌, ◌||◌}
-use Rattle.std.proofs.Common.{length, Option, Some, None, refl, sym, ap, ◌∙◌, arith}
+use Rattle.std.proofs.Common.{◌≡◌, ℕ, ◌+◌, ◌≤◌, ◌<◌, ℤ, pos, ◌+ℤ◌, ◌≤ℤ◌, Bool, true, false, cond, ◌&&◌}
+use Rattle.std.proofs.Common.{length, Option, Some, refl, sym, ap, ◌∙◌, arith}
 use Rattle.std.proofs.lemmas.Int.{ints}
 use Rattle.std.specs.Prelude.{nat_lt}
 use Rattle.word_arithmetic.specs.Range.{full}
-use Rattle.certificate.specs.Rights.{may_write_word as context_writes}
 use Rattle.machine_state.specs.declared.process.Mode as machine
 use Rattle.machine_state.specs.Memory.{Memory, byte_at}
 use Rattle.machine_state.specs.Holding.{Holding}
 use Rattle.machine_state.specs.Site.{Local}
+use Rattle.module_format.specs.declared.fact.Region.{Region}
+use Rattle.module_format.specs.declared.fact.Region.TheVariants as regions
+use Rattle.module_format.specs.Regions.{is_frame}
 use Rattle.module_format.specs.Contents.{Contents}
 use Rattle.states.specs.declared.span.Leaving.TheVariants.{Become}
 use Rattle.states.specs.State.{State, changed, is_word}
@@ -18,13 +20,12 @@ use Rattle.rulings.specs.declared.pointers.Pointed.{Pointed}
 use Rattle.rulings.specs.Meaning.{Activation, owed}
 use Rattle.rulings.specs.Pointers.{wanted_range, is_full, number_within, stored_byte, leaves_words}
 use Rattle.rulings.specs.Filling.{word_behind, words_within, filled, become_numbers}
-use Rattle.rulings.specs.Reach.{word_of_byte, words_touched, all_touched, lie_in, may_write_bytes, writable_bytes}
-use Rattle.rulings.specs.Reach.{parameter_range}
+use Rattle.rulings.specs.Reach.{word_of_byte, words_touched, lie_in, may_write_bytes}
 use Rattle.rulings.specs.Buffers.{IsByte}
 use Rattle.rulings.proofs.Within.{Within, ArePlain}
 use Rattle.rulings.proofs.Words.{same_word_by}
 use Rattle.rulings.proofs.Dues.{changed_dues}
-use Rattle.rulings.proofs.Reaching.{region_place, place_by, lies_inside}
+use Rattle.rulings.proofs.Reaching.{region_place, lies_inside}
 use Rattle.rulings.proofs.BlocksMove.{AreDefined, Room, Moved, numbers_into_frame, numbers_into_parameter}
 use Rattle.message_rules.specs.MessageRules.{received}
 
@@ -37,7 +38,7 @@ pub record IsLeft (act : Activation) (s t : State) : Type 0 where
 
 pub received_left : (act : Activation) (p : Pointed) (end : ℤ) (s : State) → IsLeft act s (received p end s)
 unfolding received filled become_numbers leaves_words after_change
-received_left act p end s = on (is_word p.lo p.hi) (p.region == 0) (nat_lt 0 (words_within p.lo end))
+received_left act p end s = on (is_word p.lo p.hi) (is_frame p.region) (nat_lt 0 (words_within p.lo end))
   where
     touched : State
     touched = after_change (on_span (word_of_byte p.lo) (words_touched p.lo end) stored_byte) s
@@ -95,7 +96,7 @@ module _ {m : Contents} {h : Holding} {mode : machine.Mode} {act : Activation} {
       → Moved a later room.place room.place n (received p end s)
   unfolding may_write_bytes received filled become_numbers leaves_words
   received_into may wide room bytes =
-      on (is_word p.lo p.hi) (p.region == 0) (p.region == 1) (same_word_by p.lo p.hi) may wide room
+      on (is_word p.lo p.hi) p.region (same_word_by p.lo p.hi) may wide room
       (λ i less. let byte = bytes i less in (byte.0, byte.1)) (λ i less c e. small i c (bytes i less) e)
     where
       touched : State
@@ -108,31 +109,28 @@ module _ {m : Contents} {h : Holding} {mode : machine.Mode} {act : Activation} {
           let same : byte.0 ≡ c = cc in
           omega arith
 
-      on : (exact frame constants : Bool) → (exact ≡ true → p.lo ≡ p.hi)
-          → cond frame (all_touched (context_writes m s.context) p.lo end)
-          (lie_in (cond constants None (writable_bytes m s.context (p.region - 2))) p.lo end) ≡ true
-          → is_full (cond (frame || constants) full (parameter_range m s.context (p.region - 2))) ≡ true
-          → (room : Room h (length l.memory) (place_by m act.layout p.region frame constants) offset n)
+      on : (exact : Bool) (region : Region) → (exact ≡ true → p.lo ≡ p.hi)
+          → may_write_bytes m s.context region p.lo end ≡ true → is_full (wanted_range m s.context region) ≡ true
+          → (room : Room h (length l.memory) (region_place m act.layout region) offset n)
           → AreDefined later room.place n
           → ((i : ℕ) → i < n → (c : ℕ) → byte_at later (room.place + i) ≡ Some c → c < 256)
           → Moved a later room.place room.place n
           (cond exact
-          (cond (frame && nat_lt 0 (words_within p.lo end))
+          (cond (is_frame region && nat_lt 0 (words_within p.lo end))
           (after_change (on_span (word_behind p.lo) (words_within p.lo end) (Become (number_within full)))
-          (cond frame touched s)) (cond frame touched s))
-          (cond frame touched s))
-      on true true constants exact may wide room defined bytes =
+          (cond (is_frame region) touched s)) (cond (is_frame region) touched s))
+          (cond (is_frame region) touched s))
+      on true regions.Frame exact may wide room defined bytes =
           numbers_into_frame a later room.place n some bytes offset p.lo end low (omega (arith, ints)) may room defined
           (nat_lt 0 (words_within p.lo end))
           (λ t. let one = exact refl in (omega (arith, ints, one), omega (arith, ints, one)))
-      on false true constants exact may wide room defined bytes =
+      on false regions.Frame exact may wide room defined bytes =
           numbers_into_frame a later room.place n some bytes offset p.lo end low (omega (arith, ints)) may room defined
           false (λ t. absurd (cc))
-      on true false true exact may wide room defined bytes = absurd (cc)
-      on false false true exact may wide room defined bytes = absurd (cc)
-      on true false false exact may wide room defined bytes =
-          numbers_into_parameter a later room.place n some bytes offset defined (p.region - 2) room
+      on exact regions.Constants e may wide room defined bytes = absurd (cc)
+      on true (regions.Parameter j) exact may wide room defined bytes =
+          numbers_into_parameter a later room.place n some bytes offset defined j room
           (narrower _ p.lo end offset (offset +ℤ pos n) low (omega (arith, ints)) may) wide
-      on false false false exact may wide room defined bytes =
-          numbers_into_parameter a later room.place n some bytes offset defined (p.region - 2) room
+      on false (regions.Parameter j) exact may wide room defined bytes =
+          numbers_into_parameter a later room.place n some bytes offset defined j room
           (narrower _ p.lo end offset (offset +ℤ pos n) low (omega (arith, ints)) may) wide

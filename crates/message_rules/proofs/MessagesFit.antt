@@ -2,9 +2,11 @@
 use Rattle.std.proofs.Common.{◌≡◌, ℕ, ◌+◌, ◌-◌, ◌≤◌, ◌<◌, ℤ, pos, ◌+ℤ◌, ◌-ℤ◌, ◌≤ℤ◌}
 use Rattle.std.proofs.Common.{nat_abs, Bool, true, false, not, ◌||◌, length, Option, Some, Ok}
 use Rattle.std.proofs.Common.{is_some, ltb, refl, sym, ap, ◌∙◌, subst, arith, ◌⊎◌, inl, inr}
-use Rattle.std.proofs.lemmas.Bool.Decides.{eqb_tells}
 use Rattle.std.proofs.lemmas.Int.{ints}
 use Rattle.std.specs.Prelude.{int_le}
+use Rattle.module_format.specs.declared.fact.Region.{Region}
+use Rattle.module_format.specs.declared.fact.Region.TheVariants as regions
+use Rattle.module_format.specs.Regions.{is_frame}
 use Rattle.module_format.specs.Rows.{Fact}
 use Rattle.module_format.specs.declared.fact.Fact.TheVariants.{Pointer}
 use Rattle.module_format.specs.declared.rows.Direction.{Direction}
@@ -106,13 +108,15 @@ module _ (x : Here) (s : State) (l : Local) (a : Within ArePlain x.m x.h x.mode 
       → pos place ≡ region_place x.m x.act.layout p.region +ℤ offset
       → ((i : ℕ) → i < n → IsReadAt x.m s.context x.act.layout p.region (place + i)) → (i : ℕ) → i < n
       → IsOff x.act.layout.origin s.depth (place + i)
-  buffer_off may t place is read i less = elim (eqb_tells p.region 0) [
-    | inr e ↦ off_scheduling a may p.region (place + i) e.1 (read i less)
-    | inl e ↦ off_in_frame
-        (sym (ap (λ (b : Bool). not b || (ends_before s.depth (p.hi +ℤ pos n) || begins_behind s.depth p.lo)) e.0) ∙ t)
-        place i less
-        (is ∙ ap (λ (r : ℕ). region_place x.m x.act.layout r +ℤ offset) e.1)
-  ]
+  buffer_off may t place is read i less = on p.region t is (read i less)
+    where
+      on : (region : Region)
+          → (not (is_frame region) || (ends_before s.depth (p.hi +ℤ pos n) || begins_behind s.depth p.lo)) ≡ true
+          → pos place ≡ region_place x.m x.act.layout region +ℤ offset
+          → IsReadAt x.m s.context x.act.layout region (place + i) → IsOff x.act.layout.origin s.depth (place + i)
+      on regions.Frame t is read = off_in_frame t place i less is
+      on regions.Constants t is read = off_scheduling a may regions.Constants (place + i) (λ e. cc) read
+      on (regions.Parameter j) t is read = off_scheduling a may (regions.Parameter j) (place + i) (λ e. cc) read
 
   -- the bytes from the first to which the pointer may lead on
   byte_among : (place i : ℕ) → i < n → pos place ≡ region_place x.m x.act.layout p.region +ℤ offset

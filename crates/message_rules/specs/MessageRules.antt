@@ -1,11 +1,12 @@
 -- The rules of `in` and `out`, by which a process takes and gives a message over a channel (T414 compiler writer's
 -- guide). Their tests are in rising order of the numbers of rules.
-use Rattle.std.specs.Prelude.{ℕ, ◌==◌, ◌&&◌, ◌||◌, not, ℤ, pos, ◌+ℤ◌, ◌-ℤ◌, int_le, int_lt, Bool, true}
+use Rattle.std.specs.Prelude.{ℕ, ◌&&◌, ◌||◌, not, ℤ, pos, ◌+ℤ◌, ◌-ℤ◌, int_le, int_lt, Bool, true}
 use Rattle.std.specs.Prelude.{if◌then◌else◌, Option, Some, None, false}
 use Rattle.module_format.specs.Rows.{Fact}
 use Rattle.module_format.specs.declared.rows.EndKind.{EndKind}
 use Rattle.module_format.specs.declared.rows.Direction.{Direction}
 use Rattle.module_format.specs.declared.rows.Direction.TheVariants.{In, Out}
+use Rattle.module_format.specs.Regions.{is_frame}
 use Rattle.certificate.specs.Rights.{has_end}
 use Rattle.machine_state.specs.declared.op.Op.{Op}
 use Rattle.machine_state.specs.declared.op.Op.TheVariants.{Input, Output}
@@ -61,7 +62,7 @@ begins_behind depth first = int_le depth (word_of_byte first)
 
 -- bytes of the frame from the first up to `end` lie in none of those three words
 abbrev pub is_off_scheduling : State → Pointed → ℤ → Bool
-is_off_scheduling s p end = not (p.region == 0) || (ends_before s.depth end || begins_behind s.depth p.lo)
+is_off_scheduling s p end = not (is_frame p.region) || (ends_before s.depth end || begins_behind s.depth p.lo)
 
 -- What a message leaves of the words of the frame that have bytes of its buffer. Where the pointer leads to one place
 -- alone, words that have no other bytes are any numbers.

@@ -1,7 +1,8 @@
 //! The rules of `in` and `out`.
 
-ghost use Rattle.std.specs.Prelude.{◌≡◌, ◌==◌, ◌||◌, not, ◌≤ℤ◌, ◌<ℤ◌, ◌+ℤ◌, pos, negsuc, true, IfOk};
+ghost use Rattle.std.specs.Prelude.{◌≡◌, ◌||◌, not, ◌≤ℤ◌, ◌<ℤ◌, ◌+ℤ◌, pos, negsuc, true, IfOk};
 ghost use Rattle.module_format.specs.Contents.{Contents};
+ghost use Rattle.module_format.specs.Regions.{is_frame};
 ghost use Rattle.module_format.specs.Keeping.{Keeps};
 ghost use Rattle.states.specs.Views.{state_of, BelongsTo, CanWriteSpan};
 ghost use Rattle.rulings.specs.Reach.{word_of_byte, words_touched};
@@ -83,9 +84,9 @@ fn begins_behind(depth: i32, first: i32) -> bool
 /// words below a depth.
 fn lies_off(depth: i32, pointer: Pointed, end: i32) -> bool
     requires { negsuc 2147483646 ≤ℤ end }
-    ensures { result ≡ (not (pointer.region == 0) || (ends_before depth end || begins_behind depth pointer.lo)) }
+    ensures { result ≡ (not (is_frame pointer.region) || (ends_before depth end || begins_behind depth pointer.lo)) }
 {
-    pointer.region != 0 || ends_before(depth, end) || begins_behind(depth, pointer.lo)
+    !pointer.region.is_frame() || ends_before(depth, end) || begins_behind(depth, pointer.lo)
 }
 
 /// Whether the buffer of a message lies in none of the three words below the workspace.
@@ -118,7 +119,7 @@ fn exchanges(place: &Place, state: &mut State) -> Result<Continuation, Rule>
 /// What a message leaves of the words of the frame that have bytes of its buffer.
 #[tactic(auto, unfolding(crate::specs::MessageRules::received))]
 fn receive(state: &mut State, message: Message)
-    requires room { message.buffer.region ≡ 0 → CanWriteSpan state.old (word_of_byte message.buffer.lo)
+    requires room { is_frame message.buffer.region ≡ true → CanWriteSpan state.old (word_of_byte message.buffer.lo)
         (words_touched message.buffer.lo (message.buffer.hi +ℤ message.count)) }
     ensures state { state_of state.new
         ≡ received message.buffer (message.buffer.hi +ℤ message.count) (state_of state.old) }
@@ -137,7 +138,7 @@ fn receive(state: &mut State, message: Message)
 fn takes(place: &Place, state: &State, message: Message) -> Result<(), Rule>
     requires belongs { BelongsTo place.now.module.now state.now }
     ensures test { Admits result (takes (site_of place.now) (state_of state.now) message.count message.buffer) }
-    ensures room { IfOk result (λ _. message.buffer.region ≡ 0 → CanWriteSpan state.now
+    ensures room { IfOk result (λ _. is_frame message.buffer.region ≡ true → CanWriteSpan state.now
         (word_of_byte message.buffer.lo)
         (words_touched message.buffer.lo (message.buffer.hi +ℤ message.count))) }
 {
@@ -156,7 +157,8 @@ fn receives(
 ) -> Result<Continuation, Rule>
     requires belongs { BelongsTo place.now.module.now state.old }
     requires keeps { Keeps place.now.module.now }
-    ensures ruling { let ruling = receives (site_of place.now) (state_of state.old) channel message.count message.buffer in
+    ensures ruling { let before = state_of state.old in
+        let ruling = receives (site_of place.now) before channel message.count message.buffer in
         Advances result (state_of state.new) ruling }
     ensures belongs { BelongsTo place.now.module.now state.new }
 {

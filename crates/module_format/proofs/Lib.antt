@@ -8,6 +8,7 @@ pub mod RowOwnerLaws
 pub mod ReadsInSteps
 pub mod OrderLaws
 pub mod FieldLaws
+pub mod RegionLaws
 pub mod RowLaws
 pub mod ProcedureLaws
 pub mod EndLaws

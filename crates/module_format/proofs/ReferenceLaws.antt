@@ -19,6 +19,7 @@ use Rattle.module_format.specs.Keeping.{BranchFits, ParFits, NamesAreThere}
 use Rattle.module_format.specs.Spelling.{u16_bytes, fact_bytes, entry_bytes, label_bytes, channel_bytes, interval_bytes}
 use Rattle.module_format.specs.Spelling.{end_bytes, branch_bytes, par_bytes}
 use Rattle.module_format.specs.Reading.{fault}
+use Rattle.module_format.specs.Regions.{region_number}
 use Rattle.module_format.specs.References.{passes, fact_references, entry_references, list_references, row_references}
 use Rattle.module_format.specs.References.{references_in, label_references}
 use Rattle.module_format.specs.References.{parameter_references, end_references, branch_references, par_references}
@@ -31,7 +32,7 @@ unfolding fact_references
 fact_fits parameters at facts.Unknown = has_ok tt tt
 fact_fits parameters at (facts.Number lo hi) = has_ok tt tt
 fact_fits parameters at (facts.Pointer region lo hi s) =
-    has_if (ltb region (2 + parameters)) (fault faults.Range (at + 1)) passes (λ there. has_ok tt (ltb-true _ _ there))
+    has_if (ltb (region_number region) (2 + parameters)) (fault faults.Range (at + 1)) passes (λ there. has_ok tt (ltb-true _ _ there))
 fact_fits parameters at (facts.CodeAddress offset) = has_ok tt tt
 fact_fits parameters at (facts.Loop base count weight) = has_ok tt tt
 fact_fits parameters at facts.ReturnAddress = has_ok tt tt

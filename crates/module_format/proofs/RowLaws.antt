@@ -9,19 +9,21 @@ use Rattle.std.proofs.lemmas.Bool.{leb-true, le-leb, ltb-true, lt-ltb, eqb-true,
 use Rattle.module_format.specs.declared.fault.FormatFaultKind.TheVariants as faults
 use Rattle.module_format.specs.Rows.{Fact}
 use Rattle.module_format.specs.declared.fact.Fact.TheVariants as facts
+use Rattle.module_format.specs.declared.fact.Region.{Region}
 use Rattle.module_format.specs.declared.fact.Step.{Step}
 use Rattle.module_format.specs.declared.fact.Step.TheVariants as steps
 use Rattle.module_format.specs.Rows.{Entry}
 use Rattle.module_format.specs.declared.stack.Stack.{Stack}
 use Rattle.module_format.specs.Contents.{Procedure, Label}
 use Rattle.module_format.specs.Order.{IsBytes, InOrder, IsInterval, least_word, greatest_word, is_stepped}
+use Rattle.module_format.specs.Regions.{region_number, region_numbered}
 use Rattle.module_format.specs.Facts.{IsStepped, IsPointer, is_loop_length, IsLoop, RegisterKeeps, WordKeeps}
 use Rattle.module_format.specs.Facts.{behind_entry, EntryKeeps, IsLabelOffset, LabelKeeps, behind_label}
 use Rattle.module_format.specs.Spelling.{u16_bytes, u32_bytes, u64_bytes, i32_bytes, step_size, fact_bytes, entry_bytes}
 use Rattle.module_format.specs.Spelling.{label_bytes}
 use Rattle.module_format.specs.Reading.{and_then, fault, place, byte_at, list_at}
-use Rattle.module_format.specs.ReadingRows.{range_at, step_at, pointer_at, code_address_at, count_at, loop_at, fact_at}
-use Rattle.module_format.specs.ReadingRows.{register_at, word_at, first_word_at, span_at, entry_at, entries_at}
+use Rattle.module_format.specs.ReadingRows.{range_at, step_at, pointed_at, pointer_at, code_address_at, count_at}
+use Rattle.module_format.specs.ReadingRows.{loop_at, fact_at, register_at, word_at, first_word_at, span_at, entry_at, entries_at}
 use Rattle.module_format.specs.ReadingRows.{label_offset_at, registers_at, label_row_at, label_rows_at}
 use Rattle.module_format.proofs.ReadsInSteps.{nothing_taken, tag_taken, field, regroup, all_taken}
 use Rattle.module_format.proofs.ReadsInSteps.{Has, has_ok, has_err, has_then, has_if, has_cond, has_weaker, step}
@@ -31,6 +33,7 @@ use Rattle.module_format.proofs.FieldLaws.{IsBytes-rest, eqb-false, eqb-differ, 
 use Rattle.module_format.proofs.FieldLaws.{number_takes, number_again, u32_takes, u32_again, int_takes, int_again}
 use Rattle.module_format.proofs.FieldLaws.{byte_takes, at_most_takes, at_most_again, interval_takes, interval_again}
 use Rattle.module_format.proofs.FieldLaws.{in_code_takes, in_code_again}
+use Rattle.module_format.proofs.RegionLaws.{number_of_numbered, numbered_again}
 
 -- ---- facts
 
@@ -83,15 +86,33 @@ module _ (size : ℕ) where
       ap (range_at size) (append_assoc (i32_bytes lo) (i32_bytes hi) rest)
       ∙ step _ (interval_again size lo hi rest h) refl
 
-  pointer_again : (region : ℕ) (lo hi : ℤ) (s : Step) (rest : List ℕ) → IsPointer region lo hi s
-      → pointer_at size ((u16_bytes region ++ i32_bytes lo ++ i32_bytes hi ++ step_size s ∷ []) ++ rest)
+  pointed_takes : (bytes : List ℕ) → IsBytes bytes → Has (pointed_at size bytes)
+      (Spelled bytes (λ r. u16_bytes (region_number r)) (λ r. region_number r < 2 ^ 16))
+  unfolding pointed_at
+  pointed_takes bytes fits =
+      has_then _ _ (number_takes size 2 u16_bytes (2 ^ 16) wide16 bytes fits) (λ n h.
+      has_ok (region_numbered n.0, n.1) (record {
+        parts = rw (number_of_numbered n.0) h.parts;
+        rest_fits = h.rest_fits;
+        keeps = rw (number_of_numbered n.0) h.keeps;
+      }))
+
+  pointed_again : (region : Region) (rest : List ℕ) → region_number region < 2 ^ 16
+      → pointed_at size (u16_bytes (region_number region) ++ rest) ≡ Ok (region, rest)
+  unfolding pointed_at
+  pointed_again region rest fits =
+      step _ (number_again size 2 u16_bytes (2 ^ 16) wide16 (region_number region) rest fits)
+      (ap (λ (r : Region). Ok (r, rest)) (numbered_again region))
+
+  pointer_again : (region : Region) (lo hi : ℤ) (s : Step) (rest : List ℕ) → IsPointer region lo hi s
+      → pointer_at size ((u16_bytes (region_number region) ++ i32_bytes lo ++ i32_bytes hi ++ step_size s ∷ []) ++ rest)
       ≡ Ok (facts.Pointer region lo hi s, rest)
   unfolding pointer_at
   pointer_again region lo hi s rest h =
-      let regrouped : (u16_bytes region ++ i32_bytes lo ++ i32_bytes hi ++ step_size s ∷ []) ++ rest ≡ u16_bytes region
-      ++ (i32_bytes lo ++ (i32_bytes hi ++ (step_size s ∷ rest))) = simp append_assoc in
+      let regrouped : (u16_bytes (region_number region) ++ i32_bytes lo ++ i32_bytes hi ++ step_size s ∷ []) ++ rest
+      ≡ u16_bytes (region_number region) ++ (i32_bytes lo ++ (i32_bytes hi ++ (step_size s ∷ rest))) = simp append_assoc in
       ap (pointer_at size) regrouped
-      ∙ step _ (number_again size 2 u16_bytes (2 ^ 16) wide16 region
+      ∙ step _ (pointed_again region
       (i32_bytes lo ++ (i32_bytes hi ++ (step_size s ∷ rest))) h.region_fits)
       (step _ (interval_again size lo hi (step_size s ∷ rest) h.interval)
       (step _ (step_again lo hi s rest h.stepped) refl))
@@ -136,7 +157,7 @@ module _ (size code_len : ℕ) where
       → Has (pointer_at size bytes) (Spelled (tag ∷ bytes) fact_bytes (IsCommon code_len))
   unfolding pointer_at fact_bytes
   pointer_takes tag bytes fits e =
-      field (tag_taken e fits) (number_takes size 2 u16_bytes (2 ^ 16) wide16 _) (λ region h t.
+      field (tag_taken e fits) (pointed_takes size _) (λ region h t.
       field t (interval_takes size _) (λ range g u.
       field u (step_takes size range.0.0 range.0.1 _) (λ s k v.
       let kept : IsPointer region.0 range.0.0 range.0.1 s.0 =

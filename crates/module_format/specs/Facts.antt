@@ -5,9 +5,11 @@ use Rattle.std.specs.List.{AllByRecursion}
 use Rattle.std.specs.Int.{w32}
 use Rattle.module_format.specs.Rows.{Fact}
 use Rattle.module_format.specs.declared.fact.Fact.TheVariants as facts
+use Rattle.module_format.specs.declared.fact.Region.{Region}
 use Rattle.module_format.specs.declared.fact.Step.{Step}
 use Rattle.module_format.specs.declared.fact.Step.TheVariants as steps
 use Rattle.module_format.specs.Rows.{Entry}
+use Rattle.module_format.specs.Regions.{region_number}
 use Rattle.module_format.specs.Order.{InOrder, IsInterval, least_word, greatest_word, is_stepped}
 use Rattle.module_format.specs.Contents.{Procedure, Label}
 
@@ -16,8 +18,8 @@ abbrev pub IsStepped : Step → ℤ → ℤ → Type 0
 IsStepped steps.Byte lo hi = ⊤
 IsStepped steps.Word lo hi = IsTrue (is_stepped lo) × IsTrue (is_stepped hi)
 
-pub record IsPointer (region : ℕ) (lo hi : ℤ) (step : Step) : Type 0 where
-  pub region_fits : region < 2 ^ 16
+pub record IsPointer (region : Region) (lo hi : ℤ) (step : Step) : Type 0 where
+  pub region_fits : region_number region < 2 ^ 16
   pub interval : IsInterval lo hi
   pub stepped : IsStepped step lo hi
 

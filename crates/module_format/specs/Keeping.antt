@@ -5,6 +5,7 @@ use Rattle.std.specs.List.{AllByRecursion}
 use Rattle.module_format.specs.Rows.{Fact}
 use Rattle.module_format.specs.declared.fact.Fact.TheVariants as facts
 use Rattle.module_format.specs.Rows.{Entry}
+use Rattle.module_format.specs.Regions.{region_number}
 use Rattle.module_format.specs.declared.rows.Parameter.{Parameter}
 use Rattle.module_format.specs.declared.rows.ParameterKind.{ParameterKind}
 use Rattle.module_format.specs.declared.rows.ParameterKind.TheVariants as kinds
@@ -27,12 +28,11 @@ use Rattle.module_format.specs.Contexts.{context_at, first_branch, parameters_at
 
 -- ---- what rows name is there
 
--- A pointer's region is there: 0 is the frame, 1 the constants, and 2 + j what parameter j names,
--- whatever its kind.
+-- A pointer's region is there: the frame and the constants are, and what a parameter names whatever its kind.
 abbrev pub FactFits : ℕ → Fact → Type 0
 FactFits parameters facts.Unknown = ⊤
 FactFits parameters (facts.Number lo hi) = ⊤
-FactFits parameters (facts.Pointer region lo hi step) = region < 2 + parameters
+FactFits parameters (facts.Pointer region lo hi step) = region_number region < 2 + parameters
 FactFits parameters (facts.CodeAddress offset) = ⊤
 FactFits parameters (facts.Loop base count weight) = ⊤
 FactFits parameters facts.ReturnAddress = ⊤

@@ -1,4 +1,5 @@
 pub mod Rows
+pub mod Regions
 pub mod Order
 pub mod Contents
 pub mod Spelling

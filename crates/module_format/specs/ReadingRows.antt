@@ -9,10 +9,12 @@ use Rattle.module_format.specs.declared.tags.TheConstants.{KIND_CHANNELS}
 use Rattle.module_format.specs.declared.fault.FormatFaultKind.TheVariants as faults
 use Rattle.module_format.specs.Rows.{Fact}
 use Rattle.module_format.specs.declared.fact.Fact.TheVariants as facts
+use Rattle.module_format.specs.declared.fact.Region.{Region}
 use Rattle.module_format.specs.declared.fact.Step.{Step}
 use Rattle.module_format.specs.declared.fact.Step.TheVariants as steps
 use Rattle.module_format.specs.declared.stack.Stack.{Stack}
 use Rattle.module_format.specs.Rows.{Entry}
+use Rattle.module_format.specs.Regions.{region_numbered}
 use Rattle.module_format.specs.declared.rows.Ends.{Ends}
 use Rattle.module_format.specs.declared.rows.Parameter.{Parameter}
 use Rattle.module_format.specs.declared.rows.ParameterKind.{ParameterKind}
@@ -46,9 +48,15 @@ step_at size lo hi rest = do
       else (if (step.0 == 4) && is_stepped lo && is_stepped hi then Ok (steps.Word, step.1)
       else Err (fault faults.Range (place size rest)))
 
+-- the region that a pointer leads to, by its number
+unfoldable pub pointed_at : ℕ → List ℕ → Read Region
+pointed_at size rest = do
+  number ← number_at size 2 rest
+  Ok (region_numbered number.0, number.1)
+
 unfoldable pub pointer_at : ℕ → List ℕ → Read Fact
 pointer_at size rest = do
-  region ← number_at size 2 rest
+  region ← pointed_at size rest
   range ← interval_at size region.1
   step ← step_at size range.0.0 range.0.1 range.1
   Ok (facts.Pointer region.0 range.0.0 range.0.1 step.0, step.1)

@@ -10,6 +10,7 @@ use Rattle.module_format.specs.declared.fault.FormatFaultKind.TheVariants as fau
 use Rattle.module_format.specs.Rows.{Fact}
 use Rattle.module_format.specs.declared.fact.Fact.TheVariants as facts
 use Rattle.module_format.specs.Rows.{Entry}
+use Rattle.module_format.specs.Regions.{region_number}
 use Rattle.module_format.specs.declared.rows.EndRow.{EndRow}
 use Rattle.module_format.specs.declared.rows.Parameter.{Parameter}
 use Rattle.module_format.specs.declared.contexts.Context.{Context}
@@ -39,7 +40,7 @@ unfoldable pub fact_references : ℕ → ℕ → Fact → Result ⊤ FormatFault
 fact_references parameters at facts.Unknown = passes
 fact_references parameters at (facts.Number lo hi) = passes
 fact_references parameters at (facts.Pointer region lo hi step) =
-    if nat_lt region (2 + parameters) then passes else Err (fault faults.Range (at + TAG_SIZE))
+    if nat_lt (region_number region) (2 + parameters) then passes else Err (fault faults.Range (at + TAG_SIZE))
 fact_references parameters at (facts.CodeAddress offset) = passes
 fact_references parameters at (facts.Loop base count weight) = passes
 fact_references parameters at facts.ReturnAddress = passes

@@ -14,6 +14,7 @@ use Rattle.module_format.specs.declared.fact.Step.TheVariants as steps
 use Rattle.module_format.specs.Rows.{Fact}
 use Rattle.module_format.specs.declared.fact.Fact.TheVariants as facts
 use Rattle.module_format.specs.Rows.{Entry}
+use Rattle.module_format.specs.Regions.{region_number}
 use Rattle.module_format.specs.declared.rows.Parameter.{Parameter}
 use Rattle.module_format.specs.declared.rows.ParameterKind.{ParameterKind}
 use Rattle.module_format.specs.declared.rows.ParameterKind.TheVariants as kinds
@@ -53,7 +54,7 @@ unfoldable pub fact_bytes : Fact → List ℕ
 fact_bytes facts.Unknown = TAG_UNKNOWN ∷ []
 fact_bytes (facts.Number lo hi) = TAG_NUMBER ∷ (i32_bytes lo ++ i32_bytes hi)
 fact_bytes (facts.Pointer region lo hi step) =
-    TAG_POINTER ∷ (u16_bytes region ++ i32_bytes lo ++ i32_bytes hi ++ step_size step ∷ [])
+    TAG_POINTER ∷ (u16_bytes (region_number region) ++ i32_bytes lo ++ i32_bytes hi ++ step_size step ∷ [])
 fact_bytes (facts.CodeAddress offset) = TAG_CODE_ADDRESS ∷ u32_bytes offset
 fact_bytes (facts.Loop base count weight) = TAG_LOOP ∷ (i32_bytes base ++ u32_bytes count ++ u64_bytes weight)
 fact_bytes facts.ReturnAddress = TAG_RETURN_ADDRESS ∷ []

@@ -1,5 +1,67 @@
 //! What a certificate says of one word.
 
+ghost use Rattle.std.specs.Prelude.{◌≡◌, ◌+◌, ◌^◌, nat_lt};
+ghost use Rattle.module_format.specs.Regions.{region_number, region_numbered, is_frame, is_same_region};
+
+/// What a pointer leads to.
+#[derive(Clone, Copy, Debug, PartialEq, Eq)]
+pub enum Region {
+    /// The frame, whose offsets count from its word 0.
+    Frame,
+    /// The constants.
+    Constants,
+    /// What the parameter with this number names.
+    Parameter(u16),
+}
+
+impl Region {
+    /// The region with this number in a file: 0 is the frame, 1 the constants, and 2 + j what parameter j names.
+    pub(crate) fn numbered(number: u16) -> Region
+        ensures { result ≡ region_numbered number }
+    {
+        match number {
+            0 => Region::Frame,
+            1 => Region::Constants,
+            _ => Region::Parameter(number - 2),
+        }
+    }
+
+    /// Whether a context with this number of parameters has it.
+    pub(crate) fn is_there(self, parameters: usize) -> bool
+        ensures { result ≡ nat_lt (region_number self) (2 + parameters) }
+    {
+        match self {
+            Region::Frame | Region::Constants => true,
+            Region::Parameter(number) => usize::from(number) < parameters,
+        }
+    }
+
+    /// Whether its number in a file is a u16.
+    pub(crate) fn has_number(self) -> bool
+        ensures { result ≡ nat_lt (region_number self) (2 ^ 16) }
+    {
+        !matches!(self, Region::Parameter(number) if number > u16::MAX - 2)
+    }
+
+    /// Whether it is the frame.
+    pub fn is_frame(self) -> bool
+        ensures { result ≡ is_frame self }
+    {
+        matches!(self, Region::Frame)
+    }
+
+    /// Whether both are the same region.
+    pub fn is_same(self, other: Region) -> bool
+        ensures { result ≡ is_same_region self other }
+    {
+        match (self, other) {
+            (Region::Frame, Region::Frame) | (Region::Constants, Region::Constants) => true,
+            (Region::Parameter(number), Region::Parameter(another)) => number == another,
+            _ => false,
+        }
+    }
+}
+
 /// Whether the offsets of a pointer are all multiples of a word's four bytes.
 #[derive(Clone, Copy, Debug, PartialEq, Eq)]
 pub enum Step {
@@ -20,10 +82,8 @@ pub enum Fact<At = u32> {
         hi: i32,
     },
     /// The address of a region's start plus an offset in bytes from `lo` to `hi`, both included.
-    /// Region 0 is the frame, whose offsets count from its word 0, region 1 the constants, and region
-    /// 2 + j what parameter j names.
     Pointer {
-        region: u16,
+        region: Region,
         lo: i32,
         hi: i32,
         step: Step,

@@ -22,7 +22,7 @@ mod tags;
 mod writing;
 
 pub use contexts::{Context, Contexts};
-pub use fact::{Fact, Step};
+pub use fact::{Fact, Region, Step};
 pub use fault::{FormatFault, LEFT_OVER, LIMIT, MAGIC, MEMORY, ORDER, RANGE, TRUNCATED};
 pub use laws::{
     one_contents_one_file, one_file_one_contents, reading_again, reading_finds, upgraded_is_valid,

@@ -4,6 +4,7 @@ use Rattle.std.specs.Prelude.{ℕ, ◌+◌, ◌==◌, ◌&&◌, Bool, true, fals
 use Rattle.std.specs.List.{list_all}
 use Rattle.word_arithmetic.specs.Word.{least_word}
 use Rattle.module_format.specs.declared.fact.Fact.TheVariants.{Pointer, CodeAddress}
+use Rattle.module_format.specs.declared.fact.Region.TheVariants as regions
 use Rattle.module_format.specs.declared.fact.Step.TheVariants.{Word}
 use Rattle.module_format.specs.declared.rows.ChannelRow.{ChannelRow}
 use Rattle.module_format.specs.declared.rows.EndKind.{EndKind}
@@ -34,16 +35,17 @@ block_is_prepared m s par =
 abbrev pub channel_is_empty : Contents → State → ChannelRow → Bool
 channel_is_empty m s c = may_write_word m s.context c.word && holds_constant (s.frame c.word) least_word
 
--- the word is the address of the first byte of this region
+-- the word is the address of the first byte of what parameter j names
 abbrev pub is_start_of : ℕ → WordFact → Bool
-is_start_of region (Alone (Pointer other lo hi Word)) = (other == region) && is_word lo (pos 0) && is_word hi (pos 0)
-is_start_of region fact = false
+is_start_of j (Alone (Pointer (regions.Parameter number) lo hi Word)) =
+    (number == j) && is_word lo (pos 0) && is_word hi (pos 0)
+is_start_of j fact = false
 
 -- the word of parameter j may be read, and has what the procedure was given
 abbrev pub is_as_given : Contents → State → ℕ → Bool
 is_as_given m s j = elim (slice_get (parameters_at m s.context) j) [
   | None ↦ false
-  | Some p ↦ may_read_word m s.context (pos p.word) && is_start_of (j + 2) (s.frame (pos p.word))
+  | Some p ↦ may_read_word m s.context (pos p.word) && is_start_of j (s.frame (pos p.word))
 ]
 
 -- so is that of the parameter whose channel has this end, if it is a parameter's

@@ -2,6 +2,7 @@
 use Rattle.std.specs.Prelude.{◌≡◌, ℕ, ◌-◌, ℤ, pos, negsuc, false, List, [], ◌∷◌, Some, None}
 use Rattle.module_format.specs.Rows.{Fact, Entry}
 use Rattle.module_format.specs.declared.fact.Fact.TheVariants.{Unknown, Number, Pointer, CodeAddress}
+use Rattle.module_format.specs.declared.fact.Region.TheVariants.{Frame}
 use Rattle.module_format.specs.declared.fact.Step.TheVariants.{Word}
 use Rattle.module_format.specs.declared.rows.Interval.{Interval}
 use Rattle.module_format.specs.Contents.{Contents, Label, Branch}
@@ -49,7 +50,7 @@ entry word fact = record { word = word; span = 1; fact = fact }
 
 -- the address of a word of the frame, by its offset
 abbrev pub address : ℤ → Fact
-address offset = Pointer 0 offset offset Word
+address offset = Pointer Frame offset offset Word
 
 -- ---- the module
 

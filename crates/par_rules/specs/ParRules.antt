@@ -7,6 +7,7 @@ use Rattle.module_format.specs.Rows.{Fact}
 use Rattle.module_format.specs.declared.fact.Fact.TheVariants.{Number, Pointer}
 use Rattle.module_format.specs.declared.fact.Step.TheVariants.{Word}
 use Rattle.module_format.specs.Contents.{Contents, Par, Label, label_at}
+use Rattle.module_format.specs.Regions.{is_frame}
 use Rattle.certificate.specs.Branches.{numbered_branch}
 use Rattle.certificate.specs.Starting.{may_give_words, leaves_loops}
 use Rattle.certificate.specs.Siblings.{is_beside, has_other_ends, leaves_hidden_words}
@@ -30,13 +31,13 @@ use Rattle.par_rules.specs.Comparisons.{branch_view, is_after, agrees_after, cos
 
 -- the exact pointer to word k of the frame
 abbrev pub is_at_word : ℤ → Fact → Bool
-is_at_word k (Pointer region lo hi step) = (region == 0) && is_word lo (pos 4 *ℤ k) && is_word hi (pos 4 *ℤ k)
+is_at_word k (Pointer region lo hi step) = is_frame region && is_word lo (pos 4 *ℤ k) && is_word hi (pos 4 *ℤ k)
 is_at_word k fact = false
 
 -- the same, with a step of words
 abbrev pub is_workspace : ℤ → Fact → Bool
 is_workspace k (Pointer region lo hi step) =
-    (region == 0) && is_word lo (pos 4 *ℤ k) && is_word hi (pos 4 *ℤ k) && step_implies step Word
+    is_frame region && is_word lo (pos 4 *ℤ k) && is_word hi (pos 4 *ℤ k) && step_implies step Word
 is_workspace k fact = false
 
 -- the branch that begins a constant number of bytes after the instruction

@@ -11,7 +11,7 @@ ghost use Rattle.par_rules.specs.Openings.{is_code_address, block_is_prepared, c
 ghost use Rattle.par_rules.specs.Openings.{is_as_given, end_is_as_given, named_are_as_given, is_prepared};
 
 use certificate::Module;
-use module_format::{BranchRow, ChannelRow, EndKind, EndRow, Fact, ParRow, Step};
+use module_format::{BranchRow, ChannelRow, EndKind, EndRow, Fact, ParRow, Region, Step};
 use states::{State, WordFact};
 
 /// Whether a word has this number, which is no loop's.
@@ -113,19 +113,19 @@ fn channel_is_empty(module: &Module, state: &State, channel: &ChannelRow) -> boo
         && holds_constant(state.fact_at(channel.word), i64::from(i32::MIN))
 }
 
-/// Whether a word is the address of the first byte of a region.
-fn is_start_of(region: usize, fact: WordFact) -> bool
-    ensures { result ≡ is_start_of region fact }
+/// Whether a word is the address of the first byte of what the parameter with this number names.
+fn is_start_of(parameter: usize, fact: WordFact) -> bool
+    ensures { result ≡ is_start_of parameter fact }
 {
     match fact {
         WordFact::Alone(
             Fact::Pointer {
-                region: other,
+                region: Region::Parameter(number),
                 lo,
                 hi,
                 step: Step::Word,
             },
-        ) => usize::from(other) == region && lo == 0 && hi == 0,
+        ) => usize::from(number) == parameter && lo == 0 && hi == 0,
         _ => false,
     }
 }
@@ -137,7 +137,7 @@ fn is_as_given(module: &Module, state: &State, parameter: usize) -> bool
     match module.parameters(state.context).get(parameter) {
         Some(row) => {
             module.may_read_word(state.context, i64::from(row.word))
-                && is_start_of(parameter + 2, state.fact_at(i32::from(row.word)))
+                && is_start_of(parameter, state.fact_at(i32::from(row.word)))
         }
         None => false,
     }

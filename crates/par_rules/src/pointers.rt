@@ -19,7 +19,7 @@ pub(crate) fn is_at_word(word: i32, fact: Fact) -> bool
 {
     match fact {
         Fact::Pointer { region, lo, hi, .. } => {
-            region == 0 && is_offset_of(word, lo) && is_offset_of(word, hi)
+            region.is_frame() && is_offset_of(word, lo) && is_offset_of(word, hi)
         }
         _ => false,
     }
@@ -36,7 +36,10 @@ pub(crate) fn is_workspace(word: i32, fact: Fact) -> bool
             hi,
             step,
         } => {
-            region == 0 && is_offset_of(word, lo) && is_offset_of(word, hi) && step == Step::Word
+            region.is_frame()
+                && is_offset_of(word, lo)
+                && is_offset_of(word, hi)
+                && step == Step::Word
         }
         _ => false,
     }

@@ -7,6 +7,7 @@ use Rattle.std.proofs.lemmas.Int.{wrapping_add_onto, wrapping_mul_onto}
 use Rattle.std.specs.Prelude.{IsTrue}
 use Rattle.std.specs.Int.{w32, int_wrap, cast_unsigned, cast_signed}
 use Rattle.module_format.specs.declared.fact.Fact.TheVariants.{Pointer}
+use Rattle.module_format.specs.declared.fact.Region.{Region}
 use Rattle.module_format.specs.declared.fact.Step.{Step}
 use Rattle.module_format.specs.declared.fact.Step.TheVariants.{Byte, Word}
 use Rattle.module_format.specs.Order.{is_stepped}
@@ -73,7 +74,7 @@ stepped_words q = stepped (pos 4 *ℤ q) q refl
 -- ---- pointers
 
 -- A pointer further by a number between two others, at which its offsets are still those of such a step.
-pub pointer_added : (m : Contents) (layout : Layout) (region : ℕ) (lo hi low high a d : ℤ) (steps further : Step)
+pub pointer_added : (m : Contents) (layout : Layout) (region : Region) (lo hi low high a d : ℤ) (steps further : Step)
     → Means m layout (Pointer region lo hi steps) (Some a) → low ≤ℤ d → d ≤ℤ high
     → ((offset : ℤ) → IsOffset steps offset → IsOffset further (offset +ℤ d))
     → Means m layout (Pointer region (lo +ℤ low) (hi +ℤ high) further) (Some (int_wrap w32 (a +ℤ d)))

@@ -1,11 +1,12 @@
 -- What functions return of facts, with other terms for their arguments.
 use Rattle.std.proofs.Common.{◌≡◌, ℕ, ◌+◌, ℤ, pos, ◌-ℤ◌, nat_abs, ◌+ℤ◌, Bool, true, false, cond, ◌≤ℤ◌, negsuc, sym, ap}
 use Rattle.std.proofs.Common.{◌∙◌}
-use Rattle.std.proofs.lemmas.Bool.{eq-eqb}
 use Rattle.std.specs.Prelude.{int_le}
 use Rattle.states.proofs.RowFacts.{and-parts, le-from}
-use Rattle.word_arithmetic.specs.Range.{full}
+use Rattle.word_arithmetic.specs.Range.{Ends, full}
 use Rattle.module_format.specs.Rows.{Fact}
+use Rattle.module_format.specs.declared.fact.Region.{Region}
+use Rattle.module_format.specs.Regions.{is_frame}
 use Rattle.module_format.specs.Contents.{Contents}
 use Rattle.states.specs.declared.rule.Rule.TheVariants as rules
 use Rattle.rulings.specs.Pointers.{is_near, are_near, reads_bytes, number_within, frame_read, word_read, byte_read}
@@ -28,7 +29,7 @@ touched_told first end y z last low n y_is last_is z_is low_is n_is =
 
 -- ---- bytes that may be read, with other terms for their bounds
 
-pub reads_told : (site : Site) (s : State) (region : ℕ) (first end a b : ℤ) → a ≡ first → b ≡ end
+pub reads_told : (site : Site) (s : State) (region : Region) (first end a b : ℤ) → a ≡ first → b ≡ end
     → true ≡ may_read_bytes site.contents s.context region a b → (k : Ruling)
     → reads_bytes site s region first end k ≡ k
 unfolding reads_bytes
@@ -37,7 +38,7 @@ reads_told site s region first end a b a_is b_is may = λ k.
     (ap (may_read_bytes site.contents s.context region first) (sym b_is)
     ∙ (ap (λ (z : ℤ). may_read_bytes site.contents s.context region z b) (sym a_is) ∙ sym may))
 
-pub reads_not_told : (site : Site) (s : State) (region : ℕ) (first end a b : ℤ) → a ≡ first → b ≡ end
+pub reads_not_told : (site : Site) (s : State) (region : Region) (first end a b : ℤ) → a ≡ first → b ≡ end
     → false ≡ may_read_bytes site.contents s.context region a b
     → (k : Ruling) → reads_bytes site s region first end k ≡ breaks rules.Pointer
 unfolding reads_bytes
@@ -64,16 +65,27 @@ together_told facts first lo hi w x y f count r w_is first_is x_is y_is count_is
     let span = span_told first lo hi w x y f count w_is first_is x_is y_is count_is f_is in
     told ∙ (ap (λ (z : ℤ). together facts z count) span.0 ∙ ap (together facts (word_of_byte lo)) span.1)
 
-pub frame_told : (m : Contents) (s : State) (region : ℕ) (first lo hi w x y f : ℤ) (count : ℕ) (r : Fact) → region ≡ 0
-    → w ≡ lo → first ≡ word_of_byte w → x ≡ lo → y ≡ hi +ℤ pos 1 → count ≡ words_touched x y → f ≡ first
-    → r ≡ frame_read s.frame f count → r ≡ word_read m s region lo hi
+pub frame_told : (m : Contents) (s : State) (region : Region) (first lo hi w x y f : ℤ) (count : ℕ) (r : Fact)
+    → is_frame region ≡ true → w ≡ lo → first ≡ word_of_byte w → x ≡ lo → y ≡ hi +ℤ pos 1
+    → count ≡ words_touched x y → f ≡ first → r ≡ frame_read s.frame f count → r ≡ word_read m s region lo hi
 unfolding word_read
-frame_told m s region first lo hi w x y f count r zero_is w_is first_is x_is y_is count_is f_is told =
+frame_told m s region first lo hi w x y f count r frame_is w_is first_is x_is y_is count_is f_is told =
     let span = span_told first lo hi w x y f count w_is first_is x_is y_is count_is f_is in
     told ∙ (ap (λ (z : ℤ). frame_read s.frame z count) span.0
     ∙ (ap (frame_read s.frame (word_of_byte lo)) span.1
     ∙ sym (ap (λ (b : Bool). cond b (frame_read s.frame (word_of_byte lo) (words_touched lo (hi +ℤ pos 1)))
-    (number_within (region_range m s.context region lo (hi +ℤ pos 4)))) (eq-eqb region 0 zero_is))))
+    (number_within (region_range m s.context region lo (hi +ℤ pos 4)))) frame_is)))
+
+pub region_told : (m : Contents) (s : State) (region : Region) (lo hi first end : ℤ) (range : Ends) (r : Fact)
+    → is_frame region ≡ false → first ≡ lo → end ≡ hi +ℤ pos 4 → range ≡ region_range m s.context region first end
+    → r ≡ number_within range → r ≡ word_read m s region lo hi
+unfolding word_read
+region_told m s region lo hi first end range r outside first_is end_is range_is told =
+    told
+    ∙ (ap number_within (range_is ∙ (ap (λ (z : ℤ). region_range m s.context region z end) first_is
+    ∙ ap (region_range m s.context region lo) end_is))
+    ∙ sym (ap (λ (b : Bool). cond b (frame_read s.frame (word_of_byte lo) (words_touched lo (hi +ℤ pos 1)))
+    (number_within (region_range m s.context region lo (hi +ℤ pos 4)))) outside))
 
 -- ---- offsets that are near
 

@@ -1,5 +1,5 @@
 -- Bytes that are moved: where they lie, and what is left of what is known.
-use Rattle.std.proofs.Common.{◌≡◌, ℕ, zero, suc, ◌+◌, ◌-◌, ◌*◌, ◌/◌, ◌%◌, ◌≤◌, ◌<◌, ◌==◌, ℤ, pos, negsuc, ◌+ℤ◌, ◌-ℤ◌}
+use Rattle.std.proofs.Common.{◌≡◌, ℕ, zero, suc, ◌+◌, ◌-◌, ◌*◌, ◌/◌, ◌%◌, ◌≤◌, ◌<◌, ℤ, pos, negsuc, ◌+ℤ◌, ◌-ℤ◌}
 use Rattle.std.proofs.Common.{◌*ℤ◌, ◌≤ℤ◌, ◌<ℤ◌, Bool, true, false, cond, length, Option, Some, None, refl, sym, ap}
 use Rattle.std.proofs.Common.{◌∙◌, subst, arith, ◌⊎◌, inl, inr}
 use Rattle.std.proofs.lemmas.Bool.{cases_lt, eqb-true}
@@ -10,6 +10,8 @@ use Rattle.std.specs.Option.{option_map}
 use Rattle.module_format.specs.Rows.{Fact}
 use Rattle.module_format.specs.declared.fact.Fact.TheVariants.{Unknown, Number, Pointer, CodeAddress, Loop}
 use Rattle.module_format.specs.declared.fact.Fact.TheVariants.{ReturnAddress}
+use Rattle.module_format.specs.declared.fact.Region.{Region}
+use Rattle.module_format.specs.declared.fact.Region.TheVariants as regions
 use Rattle.module_format.specs.declared.rows.Parameter.{Parameter}
 use Rattle.module_format.specs.declared.rows.ParameterKind.{ParameterKind}
 use Rattle.module_format.specs.declared.rows.ParameterKind.TheVariants.{Value, ReadRegion, WrittenRegion, Channels}
@@ -44,7 +46,7 @@ use Rattle.rulings.proofs.Within.{Within, ArePlain}
 use Rattle.rulings.proofs.Words.{frame_word_is, Follows}
 use Rattle.rulings.proofs.Regions.{frame_keeps, keeps_all, keeps_more, may_too, byte_of_own, bytes_read}
 use Rattle.rulings.proofs.ReadThrough.{readable_found}
-use Rattle.rulings.proofs.Reaching.{region_place, place_by, natural, word_of_byte_low, word_of_byte_high}
+use Rattle.rulings.proofs.Reaching.{region_place, natural, word_of_byte_low, word_of_byte_high}
 use Rattle.rulings.proofs.Reaching.{touched_span, touched_passes, lies_inside}
 use Rattle.rulings.proofs.ReadThroughPointers.{ByteThrough, byte_through}
 use Rattle.rulings.proofs.WriteThrough.{byte_left, number_wider, FrameWord, frame_written, after_followed}
@@ -133,7 +135,7 @@ pub record Source (m : Contents) (h : Holding) (layout : Layout) (memory : Memor
   pub means : (i : ℕ) → i < n → Means m layout said (option_map pos (byte_at memory (place + i)))
 
 module _ {m : Contents} {h : Holding} {mode : machine.Mode} {act : Activation} {s : State} {l : Local}
-    (wf : IsWellFormed m) (a : Within ArePlain m h mode act s l) (region : ℕ) (lo : ℤ) (n : ℕ) (some : 0 < n)
+    (wf : IsWellFormed m) (a : Within ArePlain m h mode act s l) (region : Region) (lo : ℤ) (n : ℕ) (some : 0 < n)
     (low high : ℤ) (below : low ≤ℤ lo) (above : (lo +ℤ pos n) ≤ℤ high)
     (may : may_read_bytes m s.context region low high ≡ true) where
   abbrev said : Fact
@@ -168,26 +170,20 @@ module _ {m : Contents} {h : Holding} {mode : machine.Mode} {act : Activation} {
 -- ---- where bytes lie
 
 -- the byte at a place is one that may be read through a region
-pub data IsReadAt (m : Contents) (context : ℕ) (layout : Layout) (region place : ℕ) : Type 0 where
-  read_in_frame : (k : ℤ) → region ≡ 0 → context_reads m context k ≡ true → IsByteOf layout.origin k place
-      → IsReadAt m context layout region place
+pub data IsReadAt (m : Contents) (context : ℕ) (layout : Layout) (region : Region) (place : ℕ) : Type 0 where
+  read_in_frame : (k : ℤ) → region ≡ regions.Frame → context_reads m context k ≡ true
+      → IsByteOf layout.origin k place → IsReadAt m context layout region place
   read_in_constants : (i : ℕ) → i < length m.constants → place ≡ constants_start m + i
       → IsReadAt m context layout region place
-  read_in_parameter : (j : ℕ) (p : Parameter) → region ≡ j + 2 → parameter_used m context j ≡ Some p
+  read_in_parameter : (j : ℕ) (p : Parameter) → region ≡ regions.Parameter j → parameter_used m context j ≡ Some p
       → IsNamedAt p.kind (layout.starts j) place → IsReadAt m context layout region place
 
 -- it is one that may be written
-pub data IsWrittenIn (m : Contents) (context : ℕ) (layout : Layout) (region place : ℕ) : Type 0 where
-  written_in_frame : (k : ℤ) → region ≡ 0 → context_writes m context k ≡ true → IsByteOf layout.origin k place
-      → IsWrittenIn m context layout region place
-  written_in_parameter : (j : ℕ) (p : Parameter) → region ≡ j + 2 → parameter_used m context j ≡ Some p
+pub data IsWrittenIn (m : Contents) (context : ℕ) (layout : Layout) (region : Region) (place : ℕ) : Type 0 where
+  written_in_frame : (k : ℤ) → region ≡ regions.Frame → context_writes m context k ≡ true
+      → IsByteOf layout.origin k place → IsWrittenIn m context layout region place
+  written_in_parameter : (j : ℕ) (p : Parameter) → region ≡ regions.Parameter j → parameter_used m context j ≡ Some p
       → IsWrittenAt p.kind (layout.starts j) place → IsWrittenIn m context layout region place
-
--- the number of the parameter that a region is
-parameter_of : (region : ℕ) → (region == 0) ≡ false → (region == 1) ≡ false → region ≡ region - 2 + 2
-parameter_of zero e f = absurd (cc)
-parameter_of (suc zero) e f = absurd (cc)
-parameter_of (suc (suc j)) e f = omega arith
 
 -- a byte within the size of a region is one that its parameter names
 named_at : (kind : ParameterKind) (size start place : ℕ) → readable_size kind ≡ Some size → place_of start ≤ place
@@ -197,73 +193,54 @@ named_at (ReadRegion bytes lo hi) size start place e low high = let same : bytes
 named_at (WrittenRegion bytes lo hi) size start place e low high = let same : bytes ≡ size = cc in (low, omega arith)
 named_at (Channels count len ends) size start place e low high = absurd (cc)
 
-module _ (m : Contents) (context : ℕ) (layout : Layout) (region : ℕ) (lo : ℤ) (n i place : ℕ) (less : i < n)
-    (is : pos place ≡ region_place m layout region +ℤ lo +ℤ pos i) where
-  pub read_at : may_read_bytes m context region lo (lo +ℤ pos n) ≡ true → IsReadAt m context layout region place
+module _ (m : Contents) (context : ℕ) (layout : Layout) where
+  pub read_at : (region : Region) (lo : ℤ) (n i place : ℕ) → i < n
+      → pos place ≡ region_place m layout region +ℤ lo +ℤ pos i
+      → may_read_bytes m context region lo (lo +ℤ pos n) ≡ true → IsReadAt m context layout region place
   unfolding may_read_bytes
-  read_at may = on (region == 0) (region == 1) refl refl may is
-    where
-      on : (frame constants : Bool) → (region == 0) ≡ frame → (region == 1) ≡ constants
-          → cond frame (all_touched (context_reads m context) lo (lo +ℤ pos n))
-          (lie_in (cond constants (Some (length m.constants)) (readable_bytes m context (region - 2))) lo (lo +ℤ pos n))
-          ≡ true
-          → pos place
-          ≡ cond frame layout.origin (cond constants (pos (constants_start m))
-          (pos (place_of (layout.starts (region - 2)))))
-          +ℤ lo +ℤ pos i
-          → IsReadAt m context layout region place
-      on true constants e f may is =
-          let k = word_of_byte (lo +ℤ pos i) in
-          let from = word_of_byte_low (lo +ℤ pos i) in
-          let to = word_of_byte_high (lo +ℤ pos i) in
-          read_in_frame k (eqb-true region 0 e)
-          (touched_passes (context_reads m context) lo (lo +ℤ pos n) k may (omega (arith, ints)) (omega (arith, ints)))
-          (record { low = omega (arith, ints); high = omega (arith, ints) })
-      on false true e f may is =
-          let inside = lies_inside (Some (length m.constants)) lo (lo +ℤ pos n) may in
-          let same : length m.constants ≡ inside.0 = cc in
-          let from = inside.2 in
-          let to = inside.3 in
-          let q = natural (lo +ℤ pos i) (omega (arith, ints)) in
-          let q_is = q.1 in
-          read_in_constants q.0 (omega (arith, ints)) (omega (arith, ints))
-      on false false e f may is =
-          let inside = lies_inside (readable_bytes m context (region - 2)) lo (lo +ℤ pos n) may in
-          let from = inside.2 in
-          let to = inside.3 in
-          let r = readable_found m context (region - 2) inside.0 inside.1 in
-          read_in_parameter (region - 2) r.parameter (parameter_of region e f) r.found
-          (named_at r.parameter.kind inside.0 (layout.starts (region - 2)) place r.has (omega (arith, ints))
-          (omega (arith, ints)))
+  read_at regions.Frame lo n i place less is may =
+      let k = word_of_byte (lo +ℤ pos i) in
+      let from = word_of_byte_low (lo +ℤ pos i) in
+      let to = word_of_byte_high (lo +ℤ pos i) in
+      read_in_frame k refl
+      (touched_passes (context_reads m context) lo (lo +ℤ pos n) k may (omega (arith, ints)) (omega (arith, ints)))
+      (record { low = omega (arith, ints); high = omega (arith, ints) })
+  read_at regions.Constants lo n i place less is may =
+      let inside = lies_inside (Some (length m.constants)) lo (lo +ℤ pos n) may in
+      let same : length m.constants ≡ inside.0 = cc in
+      let from = inside.2 in
+      let to = inside.3 in
+      let q = natural (lo +ℤ pos i) (omega (arith, ints)) in
+      let q_is = q.1 in
+      read_in_constants q.0 (omega (arith, ints)) (omega (arith, ints))
+  read_at (regions.Parameter j) lo n i place less is may =
+      let inside = lies_inside (readable_bytes m context j) lo (lo +ℤ pos n) may in
+      let from = inside.2 in
+      let to = inside.3 in
+      let r = readable_found m context j inside.0 inside.1 in
+      read_in_parameter j r.parameter refl r.found
+      (named_at r.parameter.kind inside.0 (layout.starts j) place r.has (omega (arith, ints)) (omega (arith, ints)))
 
-  pub written_at : may_write_bytes m context region lo (lo +ℤ pos n) ≡ true → IsWrittenIn m context layout region place
+  pub written_at : (region : Region) (lo : ℤ) (n i place : ℕ) → i < n
+      → pos place ≡ region_place m layout region +ℤ lo +ℤ pos i
+      → may_write_bytes m context region lo (lo +ℤ pos n) ≡ true → IsWrittenIn m context layout region place
   unfolding may_write_bytes
-  written_at may = on (region == 0) (region == 1) refl refl may is
-    where
-      on : (frame constants : Bool) → (region == 0) ≡ frame → (region == 1) ≡ constants
-          → cond frame (all_touched (context_writes m context) lo (lo +ℤ pos n))
-          (lie_in (cond constants None (writable_bytes m context (region - 2))) lo (lo +ℤ pos n)) ≡ true
-          → pos place
-          ≡ cond frame layout.origin (cond constants (pos (constants_start m))
-          (pos (place_of (layout.starts (region - 2)))))
-          +ℤ lo +ℤ pos i
-          → IsWrittenIn m context layout region place
-      on true constants e f may is =
-          let k = word_of_byte (lo +ℤ pos i) in
-          let from = word_of_byte_low (lo +ℤ pos i) in
-          let to = word_of_byte_high (lo +ℤ pos i) in
-          written_in_frame k (eqb-true region 0 e)
-          (touched_passes (context_writes m context) lo (lo +ℤ pos n) k may (omega (arith, ints)) (omega (arith, ints)))
-          (record { low = omega (arith, ints); high = omega (arith, ints) })
-      on false true e f may is = absurd (cc)
-      on false false e f may is =
-          let inside = lies_inside (writable_bytes m context (region - 2)) lo (lo +ℤ pos n) may in
-          let from = inside.2 in
-          let to = inside.3 in
-          let r = writable_found m context (region - 2) inside.0 inside.1 in
-          written_in_parameter (region - 2) r.parameter (parameter_of region e f) r.found
-          (subst (λ (kind : ParameterKind). IsWrittenAt kind (layout.starts (region - 2)) place) (sym r.is)
-          (omega (arith, ints), omega (arith, ints)))
+  written_at regions.Frame lo n i place less is may =
+      let k = word_of_byte (lo +ℤ pos i) in
+      let from = word_of_byte_low (lo +ℤ pos i) in
+      let to = word_of_byte_high (lo +ℤ pos i) in
+      written_in_frame k refl
+      (touched_passes (context_writes m context) lo (lo +ℤ pos n) k may (omega (arith, ints)) (omega (arith, ints)))
+      (record { low = omega (arith, ints); high = omega (arith, ints) })
+  written_at regions.Constants lo n i place less is may = absurd (cc)
+  written_at (regions.Parameter j) lo n i place less is may =
+      let inside = lies_inside (writable_bytes m context j) lo (lo +ℤ pos n) may in
+      let from = inside.2 in
+      let to = inside.3 in
+      let r = writable_found m context j inside.0 inside.1 in
+      written_in_parameter j r.parameter refl r.found
+      (subst (λ (kind : ParameterKind). IsWrittenAt kind (layout.starts j) place) (sym r.is)
+      (omega (arith, ints), omega (arith, ints)))
 
 -- ---- bytes of different regions
 
@@ -284,7 +261,7 @@ module _ (m : Contents) (h : Holding) (scope : Scope) (memory : Memory) (place :
       (let e : place ≡ start + (place - start) = omega arith in e) b)
 
   -- what may be written through a region may be read through it
-  pub written_read : (context : ℕ) (layout : Layout) (region : ℕ) → IsWrittenIn m context layout region place
+  pub written_read : (context : ℕ) (layout : Layout) (region : Region) → IsWrittenIn m context layout region place
       → IsReadAt m context layout region place
   written_read context layout region (written_in_frame k z may b) =
       read_in_frame k z (written_readable m context k may) b
@@ -313,7 +290,7 @@ module _ (m : Contents) (h : Holding) (scope : Scope) (memory : Memory) (place :
   written_mine (Channels count len ends) start named at = absurd at
 
 module _ {m : Contents} {h : Holding} {mode : machine.Mode} {act : Activation} {s : State} {l : Local}
-    (a : Within ArePlain m h mode act s l) (from to place : ℕ) (differ : from ≡ to → ⊥) where
+    (a : Within ArePlain m h mode act s l) (from to : Region) (place : ℕ) (differ : from ≡ to → ⊥) where
   abbrev scope : Scope
   scope = scope_of m s.context act.layout
 
@@ -340,7 +317,7 @@ module _ {m : Contents} {h : Holding} {mode : machine.Mode} {act : Activation} {
       (written_readable m s.context k may) c
   regions_apart (read_in_parameter j p is found at) (written_in_parameter k q e there written) =
       a.named.apart k j q p there found
-      (λ same. differ (is ∙ (ap (λ (x : ℕ). x + 2) (sym same) ∙ sym e))) place written at
+      (λ same. differ (is ∙ (ap regions.Parameter (sym same) ∙ sym e))) place written at
 
 -- ---- words all of whose bytes come
 
@@ -464,18 +441,12 @@ module _ {m : Contents} {h : Holding} {mode : machine.Mode} {act : Activation} {
                 ∙ region.held (q + i) (omega arith);
           }
 
-  pub written_room : (region : ℕ) → may_write_bytes m s.context region low high ≡ true
+  pub written_room : (region : Region) → may_write_bytes m s.context region low high ≡ true
       → Room h (length l.memory) (region_place m act.layout region) lo n
   unfolding may_write_bytes
-  written_room region may = on (region == 0) (region == 1) may
-    where
-      on : (frame constants : Bool)
-          → cond frame (all_touched (context_writes m s.context) low high)
-          (lie_in (cond constants None (writable_bytes m s.context (region - 2))) low high) ≡ true
-          → Room h (length l.memory) (place_by m act.layout region frame constants) lo n
-      on true constants may = frame_room may
-      on false true may = absurd (cc)
-      on false false may = parameter_room (region - 2) may
+  written_room regions.Frame may = frame_room may
+  written_room regions.Constants may = absurd (cc)
+  written_room (regions.Parameter j) may = parameter_room j may
 
 -- ---- what comes
 

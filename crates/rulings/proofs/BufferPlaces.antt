@@ -13,6 +13,8 @@ use Rattle.machine_state.specs.LocalStep as step
 use Rattle.machine_state.specs.Seeing.{Agree}
 use Rattle.machine_state.proofs.Reading.{byte_at-with_word_other}
 use Rattle.machine_state.proofs.Agreeing.{word_agrees}
+use Rattle.module_format.specs.declared.fact.Region.{Region}
+use Rattle.module_format.specs.declared.fact.Region.TheVariants as regions
 use Rattle.module_format.specs.Contents.{Contents}
 use Rattle.states.specs.State.{State}
 use Rattle.rulings.specs.Meaning.{Activation, place_in}
@@ -111,18 +113,22 @@ off_by origin depth place none = elim (int_le_tells (place_in origin depth) (pos
 
 -- so it is where it is read through another region than the frame
 pub off_scheduling : {m : Contents} {h : Holding} {mode : machine.Mode} {act : Activation} {s : State} {l : Local}
-    → Within ArePlain m h mode act s l → MaySchedule m s.context s.depth → (region place : ℕ) → (region ≡ 0 → ⊥)
-    → IsReadAt m s.context act.layout region place → IsOff act.layout.origin s.depth place
+    → Within ArePlain m h mode act s l → MaySchedule m s.context s.depth → (region : Region) (place : ℕ)
+    → (region ≡ regions.Frame → ⊥) → IsReadAt m s.context act.layout region place
+    → IsOff act.layout.origin s.depth place
 off_scheduling {m} {h} {mode} {act} {s} {l} a may region place differ read =
     off_by act.layout.origin s.depth place none
   where
     none : (n : ℕ) → n < 3 → IsByteOf act.layout.origin (s.depth +ℤ negsuc n) place → ⊥
     none zero less b =
-        regions_apart a region 0 place differ read (written_in_frame (s.depth +ℤ negsuc 0) refl may.first b)
+        regions_apart a region regions.Frame place differ read
+        (written_in_frame (s.depth +ℤ negsuc 0) refl may.first b)
     none (suc zero) less b =
-        regions_apart a region 0 place differ read (written_in_frame (s.depth +ℤ negsuc 1) refl may.second b)
+        regions_apart a region regions.Frame place differ read
+        (written_in_frame (s.depth +ℤ negsuc 1) refl may.second b)
     none (suc (suc zero)) less b =
-        regions_apart a region 0 place differ read (written_in_frame (s.depth +ℤ negsuc 2) refl may.third b)
+        regions_apart a region regions.Frame place differ read
+        (written_in_frame (s.depth +ℤ negsuc 2) refl may.third b)
     none (suc (suc (suc n))) less b = omega arith
 
 module _ {E : Modes} {x : Here} {s : State} {l : Local} (d : Scheduled x E s l) where

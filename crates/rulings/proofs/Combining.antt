@@ -10,6 +10,7 @@ use Rattle.std.specs.List.{list_any}
 use Rattle.module_format.specs.Rows.{Fact}
 use Rattle.module_format.specs.declared.fact.Fact.TheVariants.{Unknown, Number, Pointer, CodeAddress, Loop}
 use Rattle.module_format.specs.declared.fact.Fact.TheVariants.{ReturnAddress}
+use Rattle.module_format.specs.declared.fact.Region.{Region}
 use Rattle.module_format.specs.declared.stack.Stack.{Stack}
 use Rattle.module_format.specs.Stack.{AreRelated}
 use Rattle.module_format.specs.Contents.{Contents, Label, label_at, Par, Branch}
@@ -269,14 +270,14 @@ module _ (x : Here) where
   settles_fits (Err broken) k o go = λ next. it_breaks
 
   -- the bytes of a region may be read
-  pub reads_bytes_fits : (s : State) (region : ℕ) (first end : ℤ) (r : Ruling) (o : Outcome)
+  pub reads_bytes_fits : (s : State) (region : Region) (first end : ℤ) (r : Ruling) (o : Outcome)
       → (may_read_bytes x.m s.context region first end ≡ true → FitsIf x r o)
       → FitsIf x (reads_bytes (rule_site x) s region first end r) o
   unfolding reads_bytes
   reads_bytes_fits s region first end r o go = wanted_fits (may_read_bytes x.m s.context region first end) _ _ _ go
 
   -- they may be written
-  pub writes_bytes_fits : (s : State) (region : ℕ) (first end : ℤ) (r : Ruling) (o : Outcome)
+  pub writes_bytes_fits : (s : State) (region : Region) (first end : ℤ) (r : Ruling) (o : Outcome)
       → (may_write_bytes x.m s.context region first end ≡ true → FitsIf x r o)
       → FitsIf x (writes_bytes (rule_site x) s region first end r) o
   unfolding writes_bytes

@@ -8,6 +8,8 @@ use Rattle.std.proofs.lemmas.Bool.Decides.{eqb_tells, leb_tells}
 use Rattle.std.proofs.lemmas.Int.{ints, of_z-to_z, int_rem_euclid_is, SFits-int_wrap}
 use Rattle.module_format.specs.declared.fact.Fact.TheVariants.{Unknown, Number, Pointer, CodeAddress, Loop}
 use Rattle.module_format.specs.declared.fact.Fact.TheVariants.{ReturnAddress}
+use Rattle.module_format.specs.declared.fact.Region.{Region}
+use Rattle.module_format.specs.declared.fact.Region.TheVariants as regions
 use Rattle.module_format.specs.declared.fact.Step.TheVariants.{Word, Byte}
 use Rattle.module_format.specs.declared.rows.EndKind.{EndKind}
 use Rattle.module_format.specs.declared.rows.EndKind.TheVariants.{FrameWord, Link, Parameter as Element}
@@ -15,7 +17,7 @@ use Rattle.module_format.specs.Contents.{Contents}
 use Rattle.module_format.specs.Order.{is_stepped}
 use Rattle.word_arithmetic.specs.Word.{least_word}
 use Rattle.machine_state.specs.Memory.{data_start}
-use Rattle.machine_state.specs.World.{link_words, constants_start}
+use Rattle.machine_state.specs.World.{link_words}
 use Rattle.states.specs.declared.known.WordFact.{WordFact}
 use Rattle.states.specs.declared.known.WordFact.TheVariants.{Alone, Index, Count}
 use Rattle.states.proofs.RowFacts.{and-parts}
@@ -68,10 +70,6 @@ pub record Names (layout : Layout) (first : EndKind) (v : Option ℤ) : Type 0 w
   pub addresses : (n : ℕ) → channel_address layout (further first n) ≡ (cast_unsigned w32 x + 4 * n) % 4294967296
 
 module _ (m : Contents) (act : Activation) (k : ℤ) where
-  abbrev start : ℕ → Bool → Bool → ℤ
-  start region b c = if b then pos data_start +ℤ act.layout.origin
-      else (if c then pos (data_start + constants_start m) else pos (act.layout.starts (region - 2)))
-
   link_names : (lo : ℤ) (first : EndKind) (x : ℤ) → lo ≡ x → FitsSigned w32 x → link_at lo ≡ Some first
       → Names act.layout first (Some x)
   link_names lo first x same fits h = on_offset (lo -ℤ least_word) refl h
@@ -105,80 +103,44 @@ module _ (m : Contents) (act : Activation) (k : ℤ) where
                     ∙ link_address x n i (omega (arith, ints, e, same)) whole low;
               }
 
-  pointer_names : (region : ℕ) (lo : ℤ) (first : EndKind) (x : ℤ) → pos 4 *ℤ word_of_byte lo ≡ lo
+  behind : (x z : ℤ) (i : ℕ) → x ≡ word_of z
+      → cast_unsigned w32 (word_of (z +ℤ pos (4 * i))) ≡ (cast_unsigned w32 x + 4 * i) % 4294967296
+  behind x z i e = address_further z (4 * i) ∙ ap (λ (y : ℤ). (cast_unsigned w32 y + 4 * i) % 4294967296) (sym e)
+
+  element : (s n i : ℕ) (x : ℤ) → pos 4 *ℤ word_of_byte (pos n) ≡ pos n → x ≡ word_of (pos s +ℤ pos n)
+      → (s + 4 * (n / 4 + i)) % 4294967296 ≡ (cast_unsigned w32 x + 4 * i) % 4294967296
+  element s n i x whole is =
+      let quarter : 4 * (n / 4) ≡ n = omega (arith, ints, whole) in
+      let u = ap (λ (z : ℤ). cast_unsigned w32 z) is ∙ address_of_word (s + n) in
+      sum quarter ∙ ap (λ (a : ℕ). (a + 4 * i) % 4294967296) (sym u)
+    where
+      sum : 4 * (n / 4) ≡ n → (s + 4 * (n / 4 + i)) % 4294967296 ≡ ((s + n) % 4294967296 + 4 * i) % 4294967296
+      sum e = omega arith
+
+  pointer_names : (region : Region) (lo : ℤ) (first : EndKind) (x : ℤ) → pos 4 *ℤ word_of_byte lo ≡ lo
       → x ≡ word_of (region_start m act.layout region +ℤ lo) → channel_in region lo ≡ Some first
       → Names act.layout first (Some x)
-  pointer_names region lo first x whole is h = on_frame (region == 0) refl h
-    where
-      fits : FitsSigned w32 x
-      fits = subst (λ (z : ℤ). FitsSigned w32 z) (sym is) (SFits-int_wrap w32 _)
-
-      behind : (z : ℤ) (i : ℕ) → x ≡ word_of z
-          → cast_unsigned w32 (word_of (z +ℤ pos (4 * i))) ≡ (cast_unsigned w32 x + 4 * i) % 4294967296
-      behind z i e = address_further z (4 * i) ∙ ap (λ (y : ℤ). (cast_unsigned w32 y + 4 * i) % 4294967296) (sym e)
-
-      element : (n : ℕ) → region_start m act.layout region ≡ pos (act.layout.starts (region - 2)) → lo ≡ pos n
-          → (i : ℕ) → (act.layout.starts (region - 2) + 4 * (n / 4 + i)) % 4294967296
-          ≡ (cast_unsigned w32 x + 4 * i) % 4294967296
-      element n starts e i =
-          let quarter : 4 * (n / 4) ≡ n = omega (arith, ints, whole, e) in
-          let u = ap (λ (z : ℤ). cast_unsigned w32 z) (is ∙ ap (λ (z : ℤ). word_of (z +ℤ lo)) starts
-          ∙ ap (λ (z : ℤ). word_of (pos (act.layout.starts (region - 2)) +ℤ z)) e)
-          ∙ address_of_word (act.layout.starts (region - 2) + n) in
-          sum (act.layout.starts (region - 2)) n i quarter
-          ∙ ap (λ (a : ℕ). (a + 4 * i) % 4294967296) (sym u)
-        where
-          sum : (s n i : ℕ) → 4 * (n / 4) ≡ n
-              → (s + 4 * (n / 4 + i)) % 4294967296 ≡ ((s + n) % 4294967296 + 4 * i) % 4294967296
-          sum s n i e = omega arith
-
-      on_offset : (z : ℤ) → lo ≡ z → region_start m act.layout region ≡ pos (act.layout.starts (region - 2))
-          → (elim z as (λ z. Option EndKind) [ pos n ↦ Some (Element (pos (region - 2)) (n / 4)) | negsuc n ↦ None ])
-          ≡ Some first
-          → Names act.layout first (Some x)
-      on_offset (negsuc n) e starts g = absurd (cc)
-      on_offset (pos n) e starts g =
-          let is_first : Element (pos (region - 2)) (n / 4) ≡ first = cc in
-          record {
-            x = x;
-            is = refl;
-            fits = fits;
-            addresses = λ i. ap (λ (c : EndKind). channel_address act.layout (further c i)) (sym is_first)
-                ∙ element n starts e i;
-          }
-
-      on_constants : (c : Bool) → (region == 1) ≡ c → (region == 0) ≡ false
-          → (if c then None else (elim lo as (λ z. Option EndKind) [
-            | pos n ↦
-                Some (Element (pos (region - 2)) (n / 4))
-            | negsuc n ↦ None
-          ])) ≡ Some first
-          → Names act.layout first (Some x)
-      on_constants true t r g = absurd (cc)
-      on_constants false t r g =
-          on_offset lo refl (ap (λ (b : Bool). start region b (region == 1)) r
-          ∙ ap (λ (c : Bool). start region false c) t) g
-
-      on_frame : (b : Bool) → (region == 0) ≡ b
-          → (if b then Some (FrameWord (word_of_byte lo)) else if region == 1 then None else
-          (elim lo as (λ z. Option EndKind) [
-            | pos n ↦ Some (Element (pos (region - 2)) (n / 4))
-            | negsuc n ↦
-                None
-          ])) ≡ Some first
-          → Names act.layout first (Some x)
-      on_frame true t g =
-          let is_first : FrameWord (word_of_byte lo) ≡ first = cc in
-          record {
-            x = x;
-            is = refl;
-            fits = fits;
-            addresses = λ i. ap (λ (c : EndKind). channel_address act.layout (further c i)) (sym is_first)
-                ∙ ap (λ (z : ℤ). cast_unsigned w32 (word_of z)) (let w = whole in omega (arith, ints, w))
-                ∙ behind (pos data_start +ℤ act.layout.origin +ℤ lo) i
-                (is ∙ ap (λ (b : Bool). word_of (start region b (region == 1) +ℤ lo)) t);
-          }
-      on_frame false t g = on_constants (region == 1) refl t g
+  pointer_names regions.Frame lo first x whole is h =
+      let is_first : FrameWord (word_of_byte lo) ≡ first = cc in
+      record {
+        x = x;
+        is = refl;
+        fits = subst (λ (z : ℤ). FitsSigned w32 z) (sym is) (SFits-int_wrap w32 _);
+        addresses = λ i. ap (λ (c : EndKind). channel_address act.layout (further c i)) (sym is_first)
+            ∙ ap (λ (z : ℤ). cast_unsigned w32 (word_of z)) (let w = whole in omega (arith, ints, w))
+            ∙ behind x (pos data_start +ℤ act.layout.origin +ℤ lo) i is;
+      }
+  pointer_names regions.Constants lo first x whole is h = absurd (cc)
+  pointer_names (regions.Parameter j) (pos n) first x whole is h =
+      let is_first : Element (pos j) (n / 4) ≡ first = cc in
+      record {
+        x = x;
+        is = refl;
+        fits = subst (λ (z : ℤ). FitsSigned w32 z) (sym is) (SFits-int_wrap w32 _);
+        addresses = λ i. ap (λ (c : EndKind). channel_address act.layout (further c i)) (sym is_first)
+            ∙ element (act.layout.starts j) n i x whole is;
+      }
+  pointer_names (regions.Parameter j) (negsuc n) first x whole is h = absurd (cc)
 
   -- what is known of a word that names a channel holds of its address
   pub names : (fact : WordFact) (first : EndKind) (v : Option ℤ) → channel_of fact ≡ Some first

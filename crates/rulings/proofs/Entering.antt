@@ -11,6 +11,7 @@ use Rattle.std.specs.Int.{w32}
 use Rattle.module_format.specs.Rows.{Fact, Entry}
 use Rattle.module_format.specs.declared.fact.Fact.TheVariants.{Unknown, Number, Pointer, CodeAddress, Loop}
 use Rattle.module_format.specs.declared.fact.Fact.TheVariants.{ReturnAddress}
+use Rattle.module_format.specs.declared.fact.Region.{Region}
 use Rattle.module_format.specs.declared.fact.Step.{Step}
 use Rattle.module_format.specs.declared.fact.Step.TheVariants.{Byte, Word}
 use Rattle.module_format.specs.Order.{least_word}
@@ -38,6 +39,7 @@ use Rattle.rulings.specs.Meaning.{is_index, is_count, frame_word, Words, words_i
 use Rattle.rulings.specs.Meaning.{both_enabling, both_disabling, both_starting, SameMode, both_plain, turns_from}
 use Rattle.rulings.specs.Meaning.{label_turns, at_label, IsSpan, ArePairs, IsWellFormed}
 use Rattle.states.proofs.RowFacts.{and-parts, le-from, lt-from, rise-parts, about-within, about-behind}
+use Rattle.states.proofs.Claimed.{same-region}
 use Rattle.rulings.specs.Regions.{scope_of, HoldsNamed}
 use Rattle.rulings.proofs.Within.{Within, AreStill, is_starting, within}
 use Rattle.rulings.specs.Fitting.{After}
@@ -73,7 +75,7 @@ module _ (m : Contents) (layout : Layout) where
       let range = and-parts (int_le low lo) (int_le hi high) first.1 in
       is_pointer offset (omega (arith, ints, le-from low lo range.0)) (omega (arith, ints, le-from hi high range.1))
       (step_means step stride offset all.1 stepped)
-      (is ∙ ap (λ (r : ℕ). word_of (region_start m layout r +ℤ offset)) (same_number region other first.0))
+      (is ∙ ap (λ (r : Region). word_of (region_start m layout r +ℤ offset)) (same-region region other first.0))
   implies_means (CodeAddress offset) (CodeAddress other) None t means = elim means [ ]
   implies_means (CodeAddress offset) (CodeAddress other) (Some a) t (is_code_address is) =
       is_code_address (is ∙ ap (λ (o : ℕ). word_of (pos (code_address m o))) (same_number offset other t))

@@ -1,10 +1,11 @@
 -- Filling a buffer that a context may write keeps what its activation has, whatever bytes come and however many.
-use Rattle.std.proofs.Common.{◌≡◌, ℕ, ◌+◌, ◌-◌, ◌*◌, ◌≤◌, ◌<◌, ◌==◌, ℤ, pos, ◌+ℤ◌, ◌≤ℤ◌, Bool, true, false, cond}
-use Rattle.std.proofs.Common.{◌||◌, length, Some, None, sym, ap, ◌∙◌, subst, arith, ◌⊎◌, inl, inr}
+use Rattle.std.proofs.Common.{◌≡◌, ℕ, ◌+◌, ◌-◌, ◌*◌, ◌≤◌, ◌<◌, ℤ, pos, ◌+ℤ◌, ◌≤ℤ◌, Bool, true}
+use Rattle.std.proofs.Common.{length, Some, sym, ap, ◌∙◌, subst, arith, ◌⊎◌, inl, inr}
 use Rattle.std.proofs.lemmas.Bool.{cases_eq}
 use Rattle.std.proofs.lemmas.Int.{ints}
 use Rattle.std.specs.Prelude.{int_le}
-use Rattle.word_arithmetic.specs.Range.{full}
+use Rattle.module_format.specs.declared.fact.Region.{Region}
+use Rattle.module_format.specs.declared.fact.Region.TheVariants as regions
 use Rattle.module_format.specs.declared.rows.Parameter.{Parameter}
 use Rattle.module_format.specs.declared.rows.ParameterKind.{ParameterKind}
 use Rattle.module_format.specs.declared.rows.ParameterKind.TheVariants.{WrittenRegion}
@@ -27,7 +28,7 @@ use Rattle.rulings.specs.Buffers.{IsByte, Fills}
 use Rattle.rulings.proofs.Within.{Within, ArePlain}
 use Rattle.rulings.proofs.Words.{bool_cases}
 use Rattle.rulings.proofs.Regions.{Alters, IsBeside, named_left, may_too}
-use Rattle.rulings.proofs.Reaching.{region_place, place_by, lies_inside}
+use Rattle.rulings.proofs.Reaching.{region_place, lies_inside}
 use Rattle.rulings.proofs.WriteThrough.{number_wider, frame_written, writable_found, number_byte}
 use Rattle.rulings.proofs.WriteThrough.{number_of_bytes}
 use Rattle.rulings.proofs.Combining.{written_readable}
@@ -199,13 +200,10 @@ module _ {m : Contents} {h : Holding} {mode : machine.Mode} {act : Activation} {
           → (place_of (act.layout.starts j) ≤ q) × (q < place_of (act.layout.starts j) + size)
       lies q size from to place is after before = (omega (arith, ints), omega (arith, ints))
 
-  pub fills_keep : (region : ℕ) → may_write_bytes m s.context region low high ≡ true
-      → is_full (wanted_range m s.context region) ≡ true
-      → (room : Room h (length l.memory) (region_place m act.layout region) lo n)
-      → ((q : ℕ) → awaited q ≡ true → (room.place ≤ q) × (q < room.place + n)) → (old new : Memory)
-      → Fills h awaited old new → Keeps m h all old new
-  unfolding may_write_bytes
-  fills_keep region may wide room tells = on (region == 0) (region == 1) may wide (record {
+  -- those of a buffer that may be written
+  awaits_in : (start : ℤ) (room : Room h (length l.memory) start lo n)
+      → ((q : ℕ) → awaited q ≡ true → (room.place ≤ q) × (q < room.place + n)) → Awaits start
+  awaits_in start room tells = record {
     place = room.place;
     is = room.is;
     own = λ q t.
@@ -214,14 +212,14 @@ module _ {m : Contents} {h : Holding} {mode : machine.Mode} {act : Activation} {
         ∙ room.own (q - room.place) (omega (arith, both.0, both.1));
     from = λ q t. (tells q t).0;
     to = λ q t. (tells q t).1;
-  })
-    where
-      on : (frame constants : Bool)
-          → cond frame (all_touched (context_writes m s.context) low high)
-          (lie_in (cond constants None (writable_bytes m s.context (region - 2))) low high) ≡ true
-          → is_full (cond (frame || constants) full (parameter_range m s.context (region - 2))) ≡ true
-          → Awaits (place_by m act.layout region frame constants) → (old new : Memory) → Fills h awaited old new
-          → Keeps m h all old new
-      on true constants may wide b = in_words may b
-      on false true may wide b = absurd (cc)
-      on false false may wide b = in_parameter (region - 2) may wide b
+  }
+
+  pub fills_keep : (region : Region) → may_write_bytes m s.context region low high ≡ true
+      → is_full (wanted_range m s.context region) ≡ true
+      → (room : Room h (length l.memory) (region_place m act.layout region) lo n)
+      → ((q : ℕ) → awaited q ≡ true → (room.place ≤ q) × (q < room.place + n)) → (old new : Memory)
+      → Fills h awaited old new → Keeps m h all old new
+  unfolding may_write_bytes
+  fills_keep regions.Frame may wide room tells = in_words may (awaits_in _ room tells)
+  fills_keep regions.Constants may wide room tells = absurd (cc)
+  fills_keep (regions.Parameter j) may wide room tells = in_parameter j may wide (awaits_in _ room tells)

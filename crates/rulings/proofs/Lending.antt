@@ -6,6 +6,7 @@ use Rattle.std.proofs.Common.{inr, Option, Some, None, refl, sym, ap, ◌∙◌,
 use Rattle.std.proofs.lemmas.Bool.{cases_eq}
 use Rattle.std.proofs.lemmas.Int.{ints}
 use Rattle.module_format.specs.declared.fact.Fact.TheVariants.{Number}
+use Rattle.module_format.specs.declared.fact.Region.{Region}
 use Rattle.module_format.specs.declared.rows.Parameter.{Parameter}
 use Rattle.module_format.specs.declared.rows.ParameterKind.{ParameterKind}
 use Rattle.module_format.specs.declared.rows.ParameterKind.TheVariants.{Value, ReadRegion, WrittenRegion, Channels}
@@ -58,7 +59,7 @@ run_byte origin word place i is = record { low = omega (arith, ints); high = ome
 -- the callee changes a byte of a region that it may write: where that is the caller's
 pub data WritesIn (m : Contents) (caller callee : Scope) (base : ℤ) (lends : Lends m caller callee base)
     (place : ℕ) : Type 0 where
-  writes_in : (j : ℕ) (p : Parameter) (size : ℕ) (lo hi : ℤ) (region : ℕ) (first : ℤ) (count : ℕ)
+  writes_in : (j : ℕ) (p : Parameter) (size : ℕ) (lo hi : ℤ) (region : Region) (first : ℤ) (count : ℕ)
       (found : callee.parameters j ≡ Some p) → (lends.parts j p found).region ≡ region
       → (lends.parts j p found).first ≡ first → p.kind ≡ WrittenRegion size lo hi → size ≡ 4 * count
       → IsPart m caller callee base region first count lo hi true (place_of (callee.layout.starts j)) → (i : ℕ)
@@ -89,7 +90,7 @@ module _ (m : Contents) (caller callee : Scope) (base : ℤ) (lends : Lends m ca
       → IsWrittenAt p.kind (callee.layout.starts j) place → WritesIn m caller callee base lends place
   writes_of j p place found there = written_part j p p.kind place refl found there (lends.parts j p found) refl refl
 
-  part_change : {region : ℕ} {first : ℤ} {count : ℕ} {lo hi : ℤ} {start place i : ℕ}
+  part_change : {region : Region} {first : ℤ} {count : ℕ} {lo hi : ℤ} {start place i : ℕ}
       → IsPart m caller callee base region first count lo hi true start → place ≡ start + i → i < 4 * count
       → MayChange caller place
   part_change {start = start} {place = place} {i = i} (of_frame word r f is reads writes off) at inside =
@@ -189,7 +190,7 @@ module _ (m : Contents) (h : Holding) (caller callee : Scope) (base : ℤ) (lend
       start : ℕ
       start = place_of (caller.layout.starts q)
 
-      on_part : (j : ℕ) (r : Parameter) (size : ℕ) (lo' hi' : ℤ) (region' : ℕ) (first : ℤ) (count n : ℕ)
+      on_part : (j : ℕ) (r : Parameter) (size : ℕ) (lo' hi' : ℤ) (region' : Region) (first : ℤ) (count n : ℕ)
           → callee.parameters j ≡ Some r → r.kind ≡ WrittenRegion size lo' hi' → size ≡ 4 * count
           → place_of (caller.layout.starts q) + i ≡ place_of (callee.layout.starts j) + n → n < 4 * count
           → IsPart m caller callee base region' first count lo' hi' true (place_of (callee.layout.starts j))

@@ -1,11 +1,12 @@
 -- In an alternation, and among the starts of a PAR, an instruction that is not allowed there breaks a rule.
-use Rattle.std.proofs.Common.{◌≡◌, ℕ, ℤ, pos, negsuc, Bool, true, false, cond, Result, Ok, Err, refl, sym, ap, ◌∙◌}
+use Rattle.std.proofs.Common.{◌≡◌, ℤ, pos, negsuc, Bool, true, false, cond, Result, Ok, Err, refl, sym, ap, ◌∙◌}
 use Rattle.std.proofs.Common.{subst, Option, Some, None}
-use Rattle.std.specs.Prelude.{◌==◌}
 use Rattle.module_format.specs.Rows.{Fact}
 use Rattle.module_format.specs.declared.fact.Fact.TheVariants.{Unknown, Number, Pointer, CodeAddress, Loop}
 use Rattle.module_format.specs.declared.fact.Fact.TheVariants.{ReturnAddress}
+use Rattle.module_format.specs.declared.fact.Region.{Region}
 use Rattle.module_format.specs.declared.rows.EndKind.{EndKind}
+use Rattle.module_format.specs.Regions.{is_frame}
 use Rattle.machine_state.specs.Site.{Outcome}
 use Rattle.states.specs.declared.rule.Rule.{Rule}
 use Rattle.states.specs.declared.rule.Rule.TheVariants as rules
@@ -66,12 +67,12 @@ unfolding settles
 settles_break (Ok v) r all = all v
 settles_break (Err broken) r all = (broken, refl)
 
-pub reads_break : (site : Site) (s : State) (region : ℕ) (first end : ℤ) (r : Ruling) → Breaks r
+pub reads_break : (site : Site) (s : State) (region : Region) (first end : ℤ) (r : Ruling) → Breaks r
     → Breaks (reads_bytes site s region first end r)
 unfolding reads_bytes
 reads_break site s region first end r all = tested_breaks _ r rules.Pointer all
 
-pub writes_break : (site : Site) (s : State) (region : ℕ) (first end : ℤ) (r : Ruling) → Breaks r
+pub writes_break : (site : Site) (s : State) (region : Region) (first end : ℤ) (r : Ruling) → Breaks r
     → Breaks (writes_bytes site s region first end r)
 unfolding writes_bytes
 writes_break site s region first end r all = tested_breaks _ r rules.Pointer all
@@ -128,7 +129,7 @@ one_mode false t s e = refl
 pub leaves_mode : (p : Pointed) (end : ℤ) (leaving : Leaving) (s : State) → (leaves_words p end leaving s).mode ≡ s.mode
 unfolding leaves_words after_change
 leaves_mode p end leaving s =
-    one_mode (p.region == 0) (after_change (on_span (word_of_byte p.lo) (words_touched p.lo end) leaving) s) s refl
+    one_mode (is_frame p.region) (after_change (on_span (word_of_byte p.lo) (words_touched p.lo end) leaving) s) s refl
 
 pub numbers_mode : (p : Pointed) (end : ℤ) (s : State) → (become_numbers p end s).mode ≡ s.mode
 unfolding become_numbers after_change

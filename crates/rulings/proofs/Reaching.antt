@@ -1,12 +1,14 @@
 -- Where the bytes lie that a pointer leads to, and what is there.
 use Rattle.std.proofs.Common.{◌≡◌, ℕ, ◌+◌, ◌-◌, ◌/◌, ◌%◌, ◌<◌, ◌==◌, ℤ, pos, negsuc, ◌+ℤ◌, ◌-ℤ◌, ◌*ℤ◌, ◌≤ℤ◌, ◌<ℤ◌}
-use Rattle.std.proofs.Common.{nat_abs, FitsSigned, Bool, true, false, cond, length, Option, if◌then◌else◌, Some, None}
+use Rattle.std.proofs.Common.{nat_abs, FitsSigned, Bool, true, length, Option, Some, None}
 use Rattle.std.proofs.Common.{refl, sym, ap, ◌∙◌, subst, arith, inl, inr}
 use Rattle.std.proofs.lemmas.Bool.{eq-eqb, cases_lt}
 use Rattle.std.proofs.lemmas.List.{get_or_past}
 use Rattle.std.proofs.lemmas.Int.{ints, of_z-to_z, int_wrap-add_left, SFits-int_wrap}
 use Rattle.std.specs.Prelude.{unsigned_abs, int_le}
 use Rattle.std.specs.Int.{w32, int_wrap, int_rem_euclid}
+use Rattle.module_format.specs.declared.fact.Region.{Region}
+use Rattle.module_format.specs.declared.fact.Region.TheVariants as regions
 use Rattle.module_format.specs.Contents.{Contents}
 use Rattle.machine_state.specs.Memory.{Memory, byte_at, place_of, local_address, data_start}
 use Rattle.machine_state.specs.World.{constants_start}
@@ -23,14 +25,11 @@ pub natural : (z : ℤ) → pos 0 ≤ℤ z → (n : ℕ) × (z ≡ pos n)
 natural (pos n) h = (n, refl)
 natural (negsuc n) h = absurd (omega (arith, ints))
 
--- the place where a region starts: the frame, the constants, or what a parameter names
-abbrev pub place_by : Contents → Layout → ℕ → Bool → Bool → ℤ
-place_by m layout region frame constants =
-    if frame then layout.origin
-    else (if constants then pos (constants_start m) else pos (place_of (layout.starts (region - 2))))
-
-abbrev pub region_place : Contents → Layout → ℕ → ℤ
-region_place m layout region = place_by m layout region (region == 0) (region == 1)
+-- the place where a region starts
+abbrev pub region_place : Contents → Layout → Region → ℤ
+region_place m layout regions.Frame = layout.origin
+region_place m layout regions.Constants = pos (constants_start m)
+region_place m layout (regions.Parameter j) = pos (place_of (layout.starts j))
 
 -- the address is that of a place, modulo 2^32
 pub record IsAt (z : ℤ) (place : ℕ) : Type 0 where
@@ -66,23 +65,28 @@ pub even_at : (z : ℤ) (place : ℕ) → IsAt z place → place % 4 ≡ 0 → (
 even_at z place at even =
     eq-eqb (step.address (int_wrap w32 z) % 4) 0 (ap (λ (n : ℕ). n % 4) (address_of z) ∙ even_rest z place at even)
 
-start_at : (frame constants : Bool) (origin offset : ℤ) (begin start place : ℕ)
-    → pos place ≡ cond frame origin (cond constants (pos begin) (pos (place_of start))) +ℤ offset
-    → IsAt (cond frame (pos data_start +ℤ origin)
-    (cond constants (pos (data_start + begin)) (pos start)) +ℤ offset) place
+frame_at : (origin offset : ℤ) (place : ℕ) → pos place ≡ origin +ℤ offset
+    → IsAt (pos data_start +ℤ origin +ℤ offset) place
+frame_at origin offset place is = record { turns = pos 0; is = omega (arith, ints) }
+
+constant_at : (begin place : ℕ) (offset : ℤ) → pos place ≡ pos begin +ℤ offset
+    → IsAt (pos (data_start + begin) +ℤ offset) place
+constant_at begin place offset is = record { turns = pos 0; is = omega (arith, ints) }
+
+parameter_at : (start place : ℕ) (offset : ℤ) → pos place ≡ pos (place_of start) +ℤ offset
+    → IsAt (pos start +ℤ offset) place
 unfolding place_of
-start_at true constants origin offset begin start place is = record { turns = pos 0; is = omega (arith, ints) }
-start_at false true origin offset begin start place is = record { turns = pos 0; is = omega (arith, ints) }
-start_at false false origin offset begin start place is = record {
+parameter_at start place offset is = record {
   turns = pos ((start + (4294967296 - data_start)) / 4294967296) -ℤ pos 1;
   is = omega (arith, ints);
 }
 
 -- the address of a byte of a region is that of its place
-pub region_at : (m : Contents) (layout : Layout) (region : ℕ) (offset : ℤ) (place : ℕ)
+pub region_at : (m : Contents) (layout : Layout) (region : Region) (offset : ℤ) (place : ℕ)
     → pos place ≡ region_place m layout region +ℤ offset → IsAt (region_start m layout region +ℤ offset) place
-region_at m layout region offset place is =
-    start_at (region == 0) (region == 1) layout.origin offset (constants_start m) (layout.starts (region - 2)) place is
+region_at m layout regions.Frame offset place is = frame_at layout.origin offset place is
+region_at m layout regions.Constants offset place is = constant_at (constants_start m) place offset is
+region_at m layout (regions.Parameter j) offset place is = parameter_at (layout.starts j) place offset is
 
 -- ---- words of the frame that are touched
 

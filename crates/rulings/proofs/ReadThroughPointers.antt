@@ -1,5 +1,5 @@
 -- Where a pointer leads that a context may read through, and what is there.
-use Rattle.std.proofs.Common.{◌≡◌, ℕ, ◌+◌, ◌-◌, ◌*◌, ◌/◌, ◌%◌, ◌≤◌, ◌<◌, ◌==◌, ℤ, pos, ◌+ℤ◌, ◌*ℤ◌, ◌≤ℤ◌, ◌<ℤ◌, ◌&&◌}
+use Rattle.std.proofs.Common.{◌≡◌, ℕ, ◌+◌, ◌*◌, ◌/◌, ◌%◌, ◌≤◌, ◌<◌, ℤ, pos, ◌+ℤ◌, ◌*ℤ◌, ◌≤ℤ◌, ◌<ℤ◌}
 use Rattle.std.proofs.Common.{Bool, rules, neg_ℤ, not, true, false, cond, length, get_or, FitsSigned, Option, Some}
 use Rattle.std.proofs.Common.{None, refl, sym, ap, ◌∙◌, subst, arith}
 use Rattle.std.proofs.lemmas.Bool.{eqb-true}
@@ -10,6 +10,8 @@ use Rattle.std.specs.Int.{w32}
 use Rattle.word_arithmetic.specs.Range.{Ends, full}
 use Rattle.module_format.specs.Rows.{Fact}
 use Rattle.module_format.specs.declared.fact.Fact.TheVariants.{Unknown, Number}
+use Rattle.module_format.specs.declared.fact.Region.{Region}
+use Rattle.module_format.specs.declared.fact.Region.TheVariants as regions
 use Rattle.module_format.specs.declared.rows.TableRow.{TableRow}
 use Rattle.module_format.specs.Order.{is_stepped}
 use Rattle.module_format.specs.Contents.{Contents}
@@ -31,7 +33,7 @@ use Rattle.rulings.proofs.Words.{plain_means, means_same, frame_word_is}
 use Rattle.rulings.proofs.Regions.{bytes_read}
 use Rattle.rulings.proofs.Addresses.{stepped_quotient}
 use Rattle.rulings.proofs.Reaching.{region_place, word_of_byte_low, word_of_byte_high, touched_span, touched_passes}
-use Rattle.rulings.proofs.Reaching.{lies_inside, natural, place_by}
+use Rattle.rulings.proofs.Reaching.{lies_inside, natural}
 use Rattle.rulings.proofs.Constants.{word_in, row_word}
 use Rattle.rulings.proofs.ReadThrough.{frame_means, word_readable, number_inside, readable_found, readable_region}
 use Rattle.rulings.proofs.ReadThrough.{word_of_bytes, word_fits, no_byte, number_among}
@@ -48,12 +50,6 @@ pub record WordThrough (m : Contents) (h : Holding) (layout : Layout) (memory : 
 
 pub even_place : (place : ℕ) (q : ℤ) → pos place ≡ pos 4 *ℤ q → place % 4 ≡ 0
 even_place place q e = omega (arith, ints)
-
--- a context may read bytes of a region: of the frame, of the constants, or of what a parameter names
-abbrev reads_by : Contents → ℕ → ℕ → ℤ → ℤ → Bool → Bool → Bool
-reads_by m context region first end frame constants =
-    cond frame (all_touched (context_reads m context) first end)
-    (lie_in (cond constants (Some (length m.constants)) (readable_bytes m context (region - 2))) first end)
 
 -- the `width` bytes from an offset on lie in a region, each wherever a pointer points, if it is one
 pub inside_some : (size : Option ℕ) (width : ℕ) (lo hi offset : ℤ) → lo ≤ℤ offset → offset ≤ℤ hi
@@ -225,20 +221,12 @@ module _ {m : Contents} {h : Holding} {mode : machine.Mode} {act : Activation} {
           }
 
   -- a word of any region
-  pub word_through : (region : ℕ) → may_read_bytes m s.context region lo (hi +ℤ pos 4) ≡ true
+  pub word_through : (region : Region) → may_read_bytes m s.context region lo (hi +ℤ pos 4) ≡ true
       → WordThrough m h act.layout l.memory (region_place m act.layout region) offset (word_read m s region lo hi)
   unfolding may_read_bytes word_read region_range
-  word_through region may = on (region == 0) (region == 1) may
-    where
-      on : (frame constants : Bool)
-          → reads_by m s.context region lo (hi +ℤ pos 4) frame constants ≡ true
-          → WordThrough m h act.layout l.memory (place_by m act.layout region frame constants) offset
-          (cond frame (frame_read s.frame (word_of_byte lo) (words_touched lo (hi +ℤ pos 1)))
-          (number_within (cond constants (constant_range m lo (hi +ℤ pos 4))
-          (parameter_range m s.context (region - 2)))))
-      on true constants may = through_frame may
-      on false true may = through_constants may
-      on false false may = through_parameter (region - 2) may
+  word_through regions.Frame may = through_frame may
+  word_through regions.Constants may = through_constants may
+  word_through (regions.Parameter j) may = through_parameter j may
 
 -- A byte of a region, by its offset, that may be read, and what is known of it.
 pub record ByteThrough (m : Contents) (h : Holding) (layout : Layout) (memory : Memory) (start : ℤ) (offset : ℤ)
@@ -371,17 +359,10 @@ module _ {m : Contents} {h : Holding} {mode : machine.Mode} {act : Activation} {
           }
 
   -- a byte of any region
-  pub byte_through : (region : ℕ) → may_read_bytes m s.context region lo (hi +ℤ pos 1) ≡ true
+  pub byte_through : (region : Region) → may_read_bytes m s.context region lo (hi +ℤ pos 1) ≡ true
       → ByteThrough m h act.layout l.memory (region_place m act.layout region) offset (byte_read s region lo hi)
   unfolding may_read_bytes byte_read
-  byte_through region may = on (region == 0) (region == 1) may
-    where
-      on : (frame constants : Bool)
-          → reads_by m s.context region lo (hi +ℤ pos 1) frame constants ≡ true
-          → ByteThrough m h act.layout l.memory (place_by m act.layout region frame constants) offset
-          (cond (frame && not (together s.frame (word_of_byte lo) (words_touched lo (hi +ℤ pos 1))).are_numbers) Unknown
-          (Number (pos 0) (pos 255)))
-      on true constants may = byte_frame may
-          (together s.frame (word_of_byte lo) (words_touched lo (hi +ℤ pos 1))).are_numbers refl
-      on false true may = byte_constants may
-      on false false may = byte_parameter (region - 2) may
+  byte_through regions.Frame may = byte_frame may
+      (together s.frame (word_of_byte lo) (words_touched lo (hi +ℤ pos 1))).are_numbers refl
+  byte_through regions.Constants may = byte_constants may
+  byte_through (regions.Parameter j) may = byte_parameter j may

@@ -1,5 +1,5 @@
 -- The channels that words name, and what a context knows of channels: its ends, and the lengths of messages.
-use Rattle.std.specs.Prelude.{ℕ, pos, negsuc, slice_get, Option, Some, None, ◌+◌, ◌-◌, ◌/◌, ◌%◌, nat_lt, ◌==◌, ◌&&◌}
+use Rattle.std.specs.Prelude.{ℕ, pos, negsuc, slice_get, Option, Some, None, ◌+◌, ◌/◌, ◌%◌, nat_lt, ◌==◌, ◌&&◌}
 use Rattle.std.specs.Prelude.{not, Bool, false, if◌then◌else◌, ℤ, ◌+ℤ◌, ◌-ℤ◌, int_lt, bit_and, ◌<◌, ◌^◌}
 use Rattle.std.specs.Prelude.{FitsSigned}
 use Rattle.module_format.specs.declared.rows.ParameterKind.TheVariants.{Channels}
@@ -10,6 +10,8 @@ use Rattle.module_format.specs.Contexts.{parameters_at}
 use Rattle.certificate.specs.Rights.{channel_length, has_end}
 use Rattle.module_format.specs.Rows.{Fact}
 use Rattle.module_format.specs.declared.fact.Fact.TheVariants.{Number, Pointer}
+use Rattle.module_format.specs.declared.fact.Region.{Region}
+use Rattle.module_format.specs.declared.fact.Region.TheVariants as regions
 use Rattle.module_format.specs.declared.fact.Step.TheVariants.{Word}
 use Rattle.module_format.specs.declared.rows.Direction.{Direction}
 use Rattle.module_format.specs.Pars.{direction_number}
@@ -33,14 +35,11 @@ link_at v = elim (v -ℤ least_word) [
 ]
 
 -- the channel at an offset in a region, a multiple of four: a frame word, or an element of a parameter
-abbrev pub channel_in : ℕ → ℤ → Option EndKind
-channel_in region offset =
-    if region == 0 then Some (ends.FrameWord (word_of_byte offset))
-    else if region == 1 then None
-    else elim offset [
-      | pos n ↦ Some (ends.Parameter (pos (region - 2)) (n / 4))
-      | negsuc n ↦ None
-    ]
+abbrev pub channel_in : Region → ℤ → Option EndKind
+channel_in regions.Frame offset = Some (ends.FrameWord (word_of_byte offset))
+channel_in regions.Constants offset = None
+channel_in (regions.Parameter j) offset =
+    elim offset [ pos n ↦ Some (ends.Parameter (pos j) (n / 4)) | negsuc n ↦ None ]
 
 -- the channel that a word names
 unfoldable pub channel_of : WordFact → Option EndKind

@@ -1,8 +1,9 @@
 -- What bytes that come from elsewhere leave of the words of the frame.
-use Rattle.std.specs.Prelude.{ℕ, ◌==◌, ◌&&◌, nat_lt, ℤ, pos, negsuc, ◌+ℤ◌, ◌-ℤ◌, Bool, if◌then◌else◌}
+use Rattle.std.specs.Prelude.{ℕ, ◌&&◌, nat_lt, ℤ, pos, negsuc, ◌+ℤ◌, ◌-ℤ◌, Bool, if◌then◌else◌}
 use Rattle.word_arithmetic.specs.Range.{full}
 use Rattle.module_format.specs.Rows.{Fact}
 use Rattle.module_format.specs.declared.fact.Fact.TheVariants.{Unknown}
+use Rattle.module_format.specs.Regions.{is_frame}
 use Rattle.states.specs.declared.span.Leaving.TheVariants.{Become}
 use Rattle.states.specs.State.{State}
 use Rattle.states.specs.Spans.{on_span, after_change}
@@ -29,7 +30,7 @@ words_within first end = elim (word_of_byte end -ℤ word_behind first) [ pos n 
 -- the words of the frame that have no other bytes than these are any numbers
 unfoldable pub become_numbers : Pointed → ℤ → State → State
 become_numbers p end s =
-    if (p.region == 0) && nat_lt 0 (words_within p.lo end)
+    if is_frame p.region && nat_lt 0 (words_within p.lo end)
     then after_change (on_span (word_behind p.lo) (words_within p.lo end) (Become (number_within full))) s else s
 
 -- Bytes come from the first place to which a pointer leads up to `end`. Where all are bytes of numbers, a word that has

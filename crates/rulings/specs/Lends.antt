@@ -1,6 +1,8 @@
 -- What a call lends its callee, and a start its branch.
 use Rattle.std.specs.Prelude.{◌≡◌, ◌⊎◌, ⊤, ℕ, ◌+◌, ◌*◌, ◌≤◌, ◌<◌, ℤ, pos, ◌+ℤ◌, ◌*ℤ◌, ◌≤ℤ◌, Bool, true, false, length}
 use Rattle.std.specs.Prelude.{Some}
+use Rattle.module_format.specs.declared.fact.Region.{Region}
+use Rattle.module_format.specs.declared.fact.Region.TheVariants as regions
 use Rattle.module_format.specs.declared.rows.Parameter.{Parameter}
 use Rattle.module_format.specs.declared.rows.ParameterKind.{ParameterKind}
 use Rattle.module_format.specs.declared.rows.ParameterKind.TheVariants.{Value, ReadRegion, WrittenRegion, Channels}
@@ -17,24 +19,25 @@ IsRegionKind kind size lo hi = (kind ≡ ReadRegion size lo hi) ⊎ (kind ≡ Wr
 
 -- The `count` words of a region from a byte on, where the caller has them: `base` is its word that is word 0 of the
 -- callee's frame.
-pub data IsPart (m : Contents) (caller callee : Scope) (base : ℤ) (region : ℕ) (first : ℤ) (count : ℕ) (lo hi : ℤ)
+pub data IsPart (m : Contents) (caller callee : Scope) (base : ℤ) (region : Region) (first : ℤ) (count : ℕ) (lo hi : ℤ)
     (written : Bool) (place : ℕ) : Type 0 where
-  of_frame : (word : ℤ) → region ≡ 0 → first ≡ pos 4 *ℤ word → pos place ≡ place_in caller.layout.origin word
+  of_frame : (word : ℤ) → region ≡ regions.Frame → first ≡ pos 4 *ℤ word
+      → pos place ≡ place_in caller.layout.origin word
       → ((i : ℕ) → i < count → caller.words.reads (word +ℤ pos i) ≡ true)
       → ((i : ℕ) → i < count → written ≡ true → caller.words.writes (word +ℤ pos i) ≡ true)
       → ((i : ℕ) (k : ℤ) → i < count → callee.words.reads k ≡ true → word +ℤ pos i ≡ base +ℤ k → ⊥)
       → IsPart m caller callee base region first count lo hi written place
-  of_constants : (n : ℕ) → region ≡ 1 → first ≡ pos n → written ≡ false → place ≡ constants_start m + n
+  of_constants : (n : ℕ) → region ≡ regions.Constants → first ≡ pos n → written ≡ false → place ≡ constants_start m + n
       → n + 4 * count ≤ length m.constants
       → IsPart m caller callee base region first count lo hi written place
-  of_parameter : (q : ℕ) (p : Parameter) (n total : ℕ) (low high : ℤ) → region ≡ 2 + q → first ≡ pos (4 * n)
-      → caller.parameters q ≡ Some p
+  of_parameter : (q : ℕ) (p : Parameter) (n total : ℕ) (low high : ℤ) → region ≡ regions.Parameter q
+      → first ≡ pos (4 * n) → caller.parameters q ≡ Some p
       → IsRegionKind p.kind total low high → (written ≡ true → p.kind ≡ WrittenRegion total lo hi) → lo ≤ℤ low
       → high ≤ℤ hi → place ≡ place_of (caller.layout.starts q) + 4 * n → 4 * n + 4 * count ≤ total
       → IsPart m caller callee base region first count lo hi written place
 
 -- what a parameter of this kind is lent, where the callee's begins at this address
-abbrev pub PartOf : Contents → Scope → Scope → ℤ → ParameterKind → ℕ → ℕ → ℤ → ℕ → Type 0
+abbrev pub PartOf : Contents → Scope → Scope → ℤ → ParameterKind → ℕ → Region → ℤ → ℕ → Type 0
 PartOf m caller callee base (Value lo hi) start region first count = ⊤
 PartOf m caller callee base (ReadRegion size lo hi) start region first count =
     (size ≡ 4 * count) × IsPart m caller callee base region first count lo hi false (place_of start)
@@ -44,7 +47,7 @@ PartOf m caller callee base (Channels count' len ends) start region first count 
 
 -- where each parameter of the callee lies
 pub record Part (m : Contents) (caller callee : Scope) (base : ℤ) (kind : ParameterKind) (start : ℕ) : Type 0 where
-  pub region : ℕ
+  pub region : Region
   pub first : ℤ
   pub count : ℕ
   pub is : PartOf m caller callee base kind start region first count

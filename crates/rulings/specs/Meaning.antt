@@ -1,5 +1,5 @@
 -- What the facts of a state mean of a process.
-use Rattle.std.specs.Prelude.{◌≡◌, ⊤, ℕ, ◌+◌, ◌*◌, ◌-◌, ◌≤◌, ◌<◌, ◌==◌, ℤ, pos, negsuc, ◌+ℤ◌, ◌-ℤ◌, ◌*ℤ◌, ◌≤ℤ◌}
+use Rattle.std.specs.Prelude.{◌≡◌, ⊤, ℕ, ◌+◌, ◌*◌, ◌-◌, ◌≤◌, ◌<◌, ℤ, pos, negsuc, ◌+ℤ◌, ◌-ℤ◌, ◌*ℤ◌, ◌≤ℤ◌}
 use Rattle.std.specs.Prelude.{FitsSigned, Bool, true, not, ◌&&◌, int_le, IsTrue, if◌then◌else◌, List, length, Option}
 use Rattle.std.specs.Prelude.{◌<ℤ◌, zero, suc, neg_ℤ, slice_get, Some, None, ◌||◌}
 use Rattle.std.specs.Int.{w32, int_wrap}
@@ -7,6 +7,8 @@ use Rattle.std.specs.List.{AllByRecursion}
 use Rattle.module_format.specs.Rows.{Fact, Entry}
 use Rattle.module_format.specs.declared.fact.Fact.TheVariants.{Unknown, Number, Pointer, CodeAddress, Loop}
 use Rattle.module_format.specs.declared.fact.Fact.TheVariants.{ReturnAddress}
+use Rattle.module_format.specs.declared.fact.Region.{Region}
+use Rattle.module_format.specs.declared.fact.Region.TheVariants as regions
 use Rattle.module_format.specs.declared.fact.Step.{Step}
 use Rattle.module_format.specs.declared.fact.Step.TheVariants.{Byte, Word}
 use Rattle.module_format.specs.Order.{IsBytes, InOrder, is_stepped}
@@ -57,12 +59,11 @@ with_turns turns act = record act { turns = turns }
 abbrev pub code_address : Contents → ℕ → ℕ
 code_address m offset = data_start + 4 * m.data_words + offset
 
--- the address where a region starts: 0 is the frame, whose offsets count from its word 0, 1 the constants, and 2 + j
--- what parameter j names
-abbrev pub region_start : Contents → Layout → ℕ → ℤ
-region_start m layout region =
-    if region == 0 then pos data_start +ℤ layout.origin
-    else (if region == 1 then pos (data_start + constants_start m) else pos (layout.starts (region - 2)))
+-- the address where a region starts: the frame at its word 0
+abbrev pub region_start : Contents → Layout → Region → ℤ
+region_start m layout regions.Frame = pos data_start +ℤ layout.origin
+region_start m layout regions.Constants = pos (data_start + constants_start m)
+region_start m layout (regions.Parameter j) = pos (layout.starts j)
 
 -- an address as the machine has it: the word that it is modulo 2^32
 abbrev pub word_of : ℤ → ℤ
@@ -77,7 +78,7 @@ IsOffset Word offset = IsTrue (is_stepped offset)
 pub data Means (m : Contents) (layout : Layout) : Fact → Option ℤ → Type 0 where
   says_nothing : {v : Option ℤ} → Means m layout Unknown v
   is_number : {lo hi x : ℤ} → lo ≤ℤ x → x ≤ℤ hi → FitsSigned w32 x → Means m layout (Number lo hi) (Some x)
-  is_pointer : {region : ℕ} {lo hi x : ℤ} {step : Step} (offset : ℤ) → lo ≤ℤ offset → offset ≤ℤ hi
+  is_pointer : {region : Region} {lo hi x : ℤ} {step : Step} (offset : ℤ) → lo ≤ℤ offset → offset ≤ℤ hi
       → IsOffset step offset → x ≡ word_of (region_start m layout region +ℤ offset)
       → Means m layout (Pointer region lo hi step) (Some x)
   is_code_address : {offset : ℕ} {x : ℤ} → x ≡ word_of (pos (code_address m offset))

@@ -1,8 +1,11 @@
 -- Pointers that rules use, and what is read and left through them.
-use Rattle.std.specs.Prelude.{ℕ, ◌-◌, ◌==◌, ◌&&◌, ◌||◌, not, ℤ, pos, negsuc, ◌+ℤ◌, int_le, Bool, false}
+use Rattle.std.specs.Prelude.{ℕ, ◌==◌, ◌&&◌, not, ℤ, pos, negsuc, ◌+ℤ◌, int_le, Bool, false}
 use Rattle.std.specs.Prelude.{if◌then◌else◌, Result, Ok, Err, true}
 use Rattle.module_format.specs.Rows.{Fact}
 use Rattle.module_format.specs.declared.fact.Fact.TheVariants.{Unknown, Number, Pointer}
+use Rattle.module_format.specs.declared.fact.Region.{Region}
+use Rattle.module_format.specs.declared.fact.Region.TheVariants as regions
+use Rattle.module_format.specs.Regions.{is_frame}
 use Rattle.module_format.specs.Order.{least_word, greatest_word}
 use Rattle.module_format.specs.Contents.{Contents}
 use Rattle.states.specs.declared.rule.Rule.{Rule}
@@ -65,7 +68,7 @@ constant_of _ = Err rules.Number
 -- ---- what is read
 
 -- the context may read the bytes of a region from the first up to `end`
-unfoldable pub reads_bytes : Site → State → ℕ → ℤ → ℤ → Ruling → Ruling
+unfoldable pub reads_bytes : Site → State → Region → ℤ → ℤ → Ruling → Ruling
 reads_bytes site s region first end next =
     if may_read_bytes site.contents s.context region first end then next else breaks rules.Pointer
 
@@ -86,28 +89,29 @@ abbrev pub frame_read : Facts → ℤ → ℕ → Fact
 frame_read facts first count = if count == 1 then plain (facts first) else any_of (together facts first count)
 
 -- what is read of a word of a region whose offset lies from lo to hi
-unfoldable pub word_read : Contents → State → ℕ → ℤ → ℤ → Fact
+unfoldable pub word_read : Contents → State → Region → ℤ → ℤ → Fact
 word_read m s region lo hi =
-    if region == 0 then frame_read s.frame (word_of_byte lo) (words_touched lo (hi +ℤ pos 1))
+    if is_frame region then frame_read s.frame (word_of_byte lo) (words_touched lo (hi +ℤ pos 1))
     else number_within (region_range m s.context region lo (hi +ℤ pos 4))
 
 -- what is read of a byte of a region whose offset lies from lo to hi
-unfoldable pub byte_read : State → ℕ → ℤ → ℤ → Fact
+unfoldable pub byte_read : State → Region → ℤ → ℤ → Fact
 byte_read s region lo hi =
-    if (region == 0) && not (together s.frame (word_of_byte lo) (words_touched lo (hi +ℤ pos 1))).are_numbers
+    if is_frame region && not (together s.frame (word_of_byte lo) (words_touched lo (hi +ℤ pos 1))).are_numbers
     then Unknown else Number (pos 0) (pos 255)
 
 -- ---- what is written
 
 -- the context may write the bytes of a region from the first up to `end`
-unfoldable pub writes_bytes : Site → State → ℕ → ℤ → ℤ → Ruling → Ruling
+unfoldable pub writes_bytes : Site → State → Region → ℤ → ℤ → Ruling → Ruling
 writes_bytes site s region first end next =
     if may_write_bytes site.contents s.context region first end then next else breaks rules.Pointer
 
 -- the range in which the words of a region are kept: that of a parameter's region
-abbrev pub wanted_range : Contents → ℕ → ℕ → Ends
-wanted_range m context region =
-    if (region == 0) || (region == 1) then full else parameter_range m context (region - 2)
+abbrev pub wanted_range : Contents → ℕ → Region → Ends
+wanted_range m context regions.Frame = full
+wanted_range m context regions.Constants = full
+wanted_range m context (regions.Parameter j) = parameter_range m context j
 
 -- a number in a range
 abbrev pub is_number_in : Ends → Fact → Bool
@@ -135,4 +139,4 @@ stored_byte = Widen least_word greatest_word
 -- words of the frame are left so where they have a byte from the first to which a pointer may lead up to `end`
 unfoldable pub leaves_words : Pointed → ℤ → Leaving → State → State
 leaves_words p end leaving s =
-    if p.region == 0 then after_change (on_span (word_of_byte p.lo) (words_touched p.lo end) leaving) s else s
+    if is_frame p.region then after_change (on_span (word_of_byte p.lo) (words_touched p.lo end) leaving) s else s

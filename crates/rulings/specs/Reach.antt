@@ -1,10 +1,12 @@
--- Which bytes of its regions a context may use, by their offsets from where the region starts: region 0 is the frame,
--- whose offsets count from its word 0, 1 the constants, and 2 + j what parameter j names.
-use Rattle.std.specs.Prelude.{ℕ, ◌+◌, ◌-◌, ◌/◌, ◌==◌, ℤ, pos, negsuc, ◌-ℤ◌, int_le, nat_abs, ◌&&◌, ◌||◌, Bool, true}
+-- Which bytes of its regions a context may use, by their offsets from where the region starts. Those of the frame count
+-- from its word 0.
+use Rattle.std.specs.Prelude.{ℕ, ◌+◌, ◌/◌, ◌==◌, ℤ, pos, negsuc, ◌-ℤ◌, int_le, nat_abs, ◌&&◌, ◌||◌, Bool, true}
 use Rattle.std.specs.Prelude.{false, if◌then◌else◌, List, length, Option, Some, None, slice_get, find, option_map}
 use Rattle.std.specs.Prelude.{unwrap_or}
 use Rattle.std.specs.List.{list_any}
 use Rattle.word_arithmetic.specs.Range.{Ends, full}
+use Rattle.module_format.specs.declared.fact.Region.{Region}
+use Rattle.module_format.specs.declared.fact.Region.TheVariants as regions
 use Rattle.module_format.specs.declared.rows.ParameterKind.{ParameterKind}
 use Rattle.module_format.specs.declared.rows.ParameterKind.TheVariants.{Value, ReadRegion, WrittenRegion, Channels}
 use Rattle.module_format.specs.declared.rows.TableRow.{TableRow}
@@ -80,16 +82,16 @@ writable_bytes m context j = elim (slice_get (parameters_at m context) j) [
 -- ---- bytes of regions
 
 -- a context may read the bytes of a region from the first up to `end`
-unfoldable pub may_read_bytes : Contents → ℕ → ℕ → ℤ → ℤ → Bool
-may_read_bytes m context region first end =
-    if region == 0 then all_touched (may_read_word m context) first end
-    else lie_in (if region == 1 then Some (length m.constants) else readable_bytes m context (region - 2)) first end
+unfoldable pub may_read_bytes : Contents → ℕ → Region → ℤ → ℤ → Bool
+may_read_bytes m context regions.Frame first end = all_touched (may_read_word m context) first end
+may_read_bytes m context regions.Constants first end = lie_in (Some (length m.constants)) first end
+may_read_bytes m context (regions.Parameter j) first end = lie_in (readable_bytes m context j) first end
 
 -- it may write them
-unfoldable pub may_write_bytes : Contents → ℕ → ℕ → ℤ → ℤ → Bool
-may_write_bytes m context region first end =
-    if region == 0 then all_touched (may_write_word m context) first end
-    else lie_in (if region == 1 then None else writable_bytes m context (region - 2)) first end
+unfoldable pub may_write_bytes : Contents → ℕ → Region → ℤ → ℤ → Bool
+may_write_bytes m context regions.Frame first end = all_touched (may_write_word m context) first end
+may_write_bytes m context regions.Constants first end = false
+may_write_bytes m context (regions.Parameter j) first end = lie_in (writable_bytes m context j) first end
 
 -- ---- what the words of a region other than the frame are
 
@@ -114,7 +116,8 @@ abbrev pub parameter_range : Contents → ℕ → ℕ → Ends
 parameter_range m context j =
     elim (slice_get (parameters_at m context) j) [ None ↦ full | Some p ↦ kept_range p.kind ]
 
--- the numbers that the words of a region other than the frame may be which have bytes from the first up to `end`
-unfoldable pub region_range : Contents → ℕ → ℕ → ℤ → ℤ → Ends
-region_range m context region first end =
-    if region == 1 then constant_range m first end else parameter_range m context (region - 2)
+-- the numbers that the words of a region may be which have bytes from the first up to `end`: of the frame any
+unfoldable pub region_range : Contents → ℕ → Region → ℤ → ℤ → Ends
+region_range m context regions.Frame first end = full
+region_range m context regions.Constants first end = constant_range m first end
+region_range m context (regions.Parameter j) first end = parameter_range m context j

@@ -10,7 +10,7 @@ use crate::combinators::wants;
 use crate::pointers::is_near_pointer;
 use crate::reach::word_of_byte;
 use bitflags::Flags;
-use module_format::{Direction, EndKind, Ends, Fact, Step};
+use module_format::{Direction, EndKind, Ends, Fact, Region, Step};
 use states::{Rule, WordFact};
 
 /// How many bytes the words of links have.
@@ -28,19 +28,22 @@ fn link_at(number: i32) -> Option<EndKind>
 }
 
 /// The channel at an offset in a region, a multiple of four: a frame word, or an element of a parameter.
-fn channel_in(region: u16, offset: i32) -> Option<EndKind>
+fn channel_in(region: Region, offset: i32) -> Option<EndKind>
     ensures { result ≡ channel_in region offset }
 {
-    if region == 0 {
-        return Some(EndKind::FrameWord(word_of_byte(offset)));
+    match region {
+        Region::Frame => Some(EndKind::FrameWord(word_of_byte(offset))),
+        Region::Constants => None,
+        Region::Parameter(number) => {
+            if offset < 0 {
+                return None;
+            }
+            Some(EndKind::Parameter {
+                number: i32::from(number),
+                element: offset.unsigned_abs() / 4,
+            })
+        }
     }
-    if region == 1 || offset < 0 {
-        return None;
-    }
-    Some(EndKind::Parameter {
-        number: i32::from(region - 2),
-        element: offset.unsigned_abs() / 4,
-    })
 }
 
 /// The channel that a word names.

@@ -2,6 +2,7 @@
 
 ghost use Rattle.std.specs.Prelude.{◌≡◌, ◌≤ℤ◌, ◌<ℤ◌, pos, negsuc, true};
 ghost use Rattle.module_format.specs.Contents.{Contents};
+ghost use Rattle.module_format.specs.Regions.{is_frame};
 ghost use Rattle.states.specs.Views.{state_of, BelongsTo, CanWriteSpan};
 ghost use Rattle.rulings.specs.Reach.{word_of_byte, words_touched};
 ghost use Rattle.rulings.specs.Pointers.{are_near};
@@ -51,13 +52,13 @@ fn words_within(first: i32, end: i32) -> u32
 #[tactic(auto, unfolding(crate::specs::Filling::become_numbers))]
 fn become_numbers(state: &mut State, pointer: Pointed, end: i32)
     requires near { pointer.lo ≤ℤ pos 1073741823 }
-    requires room { pointer.region ≡ 0
+    requires room { is_frame pointer.region ≡ true
         → CanWriteSpan state.old (word_of_byte pointer.lo) (words_touched pointer.lo end) }
     ensures state { state_of state.new ≡ become_numbers pointer end (state_of state.old) }
     ensures belongs { (m : Contents) → BelongsTo m state.old → BelongsTo m state.new }
 {
     let count = words_within(pointer.lo, end);
-    if pointer.region == 0 && 0 < count {
+    if pointer.region.is_frame() && 0 < count {
         let any = Fact::Number {
             lo: i32::MIN,
             hi: i32::MAX,
@@ -71,7 +72,7 @@ fn become_numbers(state: &mut State, pointer: Pointed, end: i32)
 pub fn fill(state: &mut State, numbers: bool, pointer: Pointed, end: i32)
     requires near { pointer.lo ≤ℤ pos 1073741823 }
     requires end { negsuc 2147483646 ≤ℤ end }
-    requires room { pointer.region ≡ 0
+    requires room { is_frame pointer.region ≡ true
         → CanWriteSpan state.old (word_of_byte pointer.lo) (words_touched pointer.lo end) }
     ensures state { state_of state.new ≡ filled numbers pointer end (state_of state.old) }
     ensures belongs { (m : Contents) → BelongsTo m state.old → BelongsTo m state.new }

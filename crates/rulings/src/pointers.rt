@@ -6,7 +6,7 @@ ghost use Rattle.rulings.specs.Pointers.{is_near_pointer};
 ghost use Rattle.rulings.specs.Rulings.{settles};
 ghost use Rattle.rulings.specs.Telling.{Admits, Gives};
 
-use module_format::{Fact, Step};
+use module_format::{Fact, Region, Step};
 use states::Rule;
 
 /// How many bytes from a region's start a pointer may point at most.
@@ -15,7 +15,7 @@ const FARTHEST: i64 = 1 << 24;
 /// A pointer: its region, and how it may point there.
 #[derive(Clone, Copy)]
 pub struct Pointed {
-    pub region: u16,
+    pub region: Region,
     pub lo: i32,
     pub hi: i32,
     pub step: Step,

@@ -13,14 +13,14 @@ use crate::reach::{
     full, is_listed, kept_range, lie_in, lie_in_row, readable_size, word_of_byte, words_touched,
     writable_size,
 };
-use module_format::Fact;
+use module_format::{Fact, Region};
 use states::{Rule, State, Together};
 
 impl Place<'_, '_> {
-    ghost use Rattle.std.specs.Prelude.{◌≡◌, ◌≤◌, ◌≤ℤ◌, ◌+ℤ◌, ℤ, pos, negsuc, true};
+    ghost use Rattle.std.specs.Prelude.{◌≡◌, ◌≤ℤ◌, ◌+ℤ◌, ℤ, pos, negsuc, true};
     ghost use Rattle.states.specs.Views.{state_of, BelongsTo};
     ghost use Rattle.rulings.specs.Reach.{may_read_parameter, readable_bytes, may_read_bytes, constant_range};
-    ghost use Rattle.rulings.specs.Reach.{region_range, may_write_parameter, writable_bytes};
+    ghost use Rattle.rulings.specs.Reach.{region_range, parameter_range, may_write_parameter, writable_bytes};
     ghost use Rattle.rulings.specs.Pointers.{are_near, ends_in, reads_bytes, word_read};
     ghost use Rattle.rulings.specs.Telling.{Admits};
     ghost use Rattle.rulings.specs.Places.{site_of};
@@ -72,20 +72,21 @@ impl Place<'_, '_> {
 
     /// Whether the state's context may read the bytes of a region from the first up to `end`.
     #[tactic(auto, unfolding(crate::specs::Reach::may_read_bytes))]
-    fn may_read_bytes(&self, state: &State, region: u16, first: i32, end: i32) -> bool
+    fn may_read_bytes(&self, state: &State, region: Region, first: i32, end: i32) -> bool
         requires belongs { BelongsTo self.now.module.now state.now }
         requires near { negsuc 2147483646 ≤ℤ end }
         ensures { result ≡ may_read_bytes self.now.module.now state.now.context region first end }
     {
-        if region == 0 {
-            return state.reads_words(word_of_byte(first), words_touched(first, end));
+        match region {
+            Region::Frame => state.reads_words(word_of_byte(first), words_touched(first, end)),
+            Region::Constants => {
+                let size = self.module.tables().constants.len() as u32;
+                lie_in(Some(size), first, end)
+            }
+            Region::Parameter(number) => {
+                lie_in(self.readable_bytes(state.context, number), first, end)
+            }
         }
-        let size = if region == 1 {
-            Some(self.module.tables().constants.len() as u32)
-        } else {
-            self.readable_bytes(state.context, region - 2)
-        };
-        lie_in(size, first, end)
     }
 
     /// The state's context may read `size` bytes wherever a pointer points.
@@ -119,19 +120,25 @@ impl Place<'_, '_> {
         }
     }
 
-    /// The numbers that the words of a region other than the frame may be which have bytes from the first up to
-    /// `end`.
+    /// The range that a parameter keeps of what it names.
+    pub(crate) fn parameter_range(&self, context: u32, parameter: u16) -> Bounds
+        ensures { ends_in result ≡ parameter_range self.now.module.now context parameter }
+    {
+        match self.module.parameters(context).get(usize::from(parameter)) {
+            Some(found) => kept_range(found.kind),
+            None => full(),
+        }
+    }
+
+    /// The numbers that the words of a region may be which have bytes from the first up to `end`: of the frame any.
     #[tactic(auto, unfolding(crate::specs::Reach::region_range))]
-    fn region_range(&self, context: u32, region: u16, first: i32, end: i32) -> Bounds
-        requires { 1 ≤ region }
+    fn region_range(&self, context: u32, region: Region, first: i32, end: i32) -> Bounds
         ensures { ends_in result ≡ region_range self.now.module.now context region first end }
     {
-        if region == 1 {
-            return self.constant_range(first, i64::from(end));
-        }
-        match self.module.parameters(context).get(usize::from(region - 2)) {
-            Some(parameter) => kept_range(parameter.kind),
-            None => full(),
+        match region {
+            Region::Frame => full(),
+            Region::Constants => self.constant_range(first, i64::from(end)),
+            Region::Parameter(number) => self.parameter_range(context, number),
         }
     }
 
@@ -142,7 +149,7 @@ impl Place<'_, '_> {
         ensures { result ≡ word_read self.now.module.now (state_of state.now) pointer.region pointer.lo pointer.hi }
     {
         let Pointed { region, lo, hi, .. } = pointer;
-        if region == 0 {
+        if region.is_frame() {
             return frame_read(state, word_of_byte(lo), words_touched(lo, hi + 1));
         }
         number_within(self.region_range(state.context, region, lo, hi + 4))
@@ -156,7 +163,7 @@ pub fn sum_reached(state: &mut State, pointer: Pointed, size: i32)
     ensures state { state_of state.new ≡ state_of state.old }
     ensures belongs { (m : Contents) → BelongsTo m state.old → BelongsTo m state.new }
 {
-    if pointer.region == 0 {
+    if pointer.region.is_frame() {
         let end = pointer.hi + size;
         state.sum_words(word_of_byte(pointer.lo), words_touched(pointer.lo, end));
     }
@@ -212,7 +219,7 @@ pub fn byte_read(state: &State, pointer: Pointed) -> Fact
     requires { (negsuc 1073741823 ≤ℤ pointer.hi) × (pointer.hi ≤ℤ pos 1073741823) }
     ensures { result ≡ byte_read (state_of state.now) pointer.region pointer.lo pointer.hi }
 {
-    if pointer.region == 0 {
+    if pointer.region.is_frame() {
         let all = touched_together(state, pointer.lo, pointer.hi);
         if !all.are_numbers {
             return Fact::Unknown;

@@ -1,19 +1,21 @@
 //! What a context may write through pointers, and what is left of the words of the frame.
 
-ghost use Rattle.std.specs.Prelude.{◌≡◌, ◌≤ℤ◌, ℤ, negsuc};
+ghost use Rattle.std.specs.Prelude.{◌≡◌, ◌≤ℤ◌, ℤ, negsuc, true};
 ghost use Rattle.module_format.specs.Contents.{Contents};
+ghost use Rattle.module_format.specs.Regions.{is_frame};
 ghost use Rattle.states.specs.Views.{state_of, BelongsTo, CanWrite, CanWriteSpan};
 ghost use Rattle.rulings.specs.Reach.{word_of_byte, words_touched};
 ghost use Rattle.rulings.specs.Pointers.{ends_in, is_number_in, is_full, widened_by, stored_byte, leaves_words};
 
 use crate::place::Place;
 use crate::pointers::{Bounds, Pointed};
-use crate::reach::{full, kept_range, lie_in, word_of_byte, words_touched};
-use module_format::Fact;
+use crate::reach::{full, lie_in, word_of_byte, words_touched};
+use module_format::{Fact, Region};
 use states::{Leaving, Rule, State};
 
 impl Place<'_, '_> {
     ghost use Rattle.std.specs.Prelude.{◌≡◌, ◌≤ℤ◌, negsuc, true, IfOk};
+    ghost use Rattle.module_format.specs.Regions.{is_frame};
     ghost use Rattle.states.specs.Views.{state_of, BelongsTo, CanWriteSpan};
     ghost use Rattle.rulings.specs.Reach.{word_of_byte, words_touched, may_write_bytes};
     ghost use Rattle.rulings.specs.Pointers.{ends_in, writes_bytes, wanted_range, takes_any};
@@ -22,20 +24,20 @@ impl Place<'_, '_> {
 
     /// Whether the state's context may write the bytes of a region from the first up to `end`.
     #[tactic(auto, unfolding(crate::specs::Reach::may_write_bytes))]
-    fn may_write_bytes(&self, state: &State, region: u16, first: i32, end: i32) -> bool
+    fn may_write_bytes(&self, state: &State, region: Region, first: i32, end: i32) -> bool
         requires belongs { BelongsTo self.now.module.now state.now }
         requires near { negsuc 2147483646 ≤ℤ end }
         ensures allowed { result ≡ may_write_bytes self.now.module.now state.now.context region first end }
-        ensures room { region ≡ 0 → result ≡ true
+        ensures room { is_frame region ≡ true → result ≡ true
             → CanWriteSpan state.now (word_of_byte first) (words_touched first end) }
     {
-        if region == 0 {
-            return state.writes_words(word_of_byte(first), words_touched(first, end));
+        match region {
+            Region::Frame => state.writes_words(word_of_byte(first), words_touched(first, end)),
+            Region::Constants => false,
+            Region::Parameter(number) => {
+                lie_in(self.writable_bytes(state.context, number), first, end)
+            }
         }
-        if region == 1 {
-            return false;
-        }
-        lie_in(self.writable_bytes(state.context, region - 2), first, end)
     }
 
     /// The state's context may write the bytes from the first to which a pointer may lead up to `end`.
@@ -45,7 +47,7 @@ impl Place<'_, '_> {
         requires near { negsuc 2147483646 ≤ℤ end }
         ensures test { Admits result
             (writes_bytes (site_of self.now) (state_of state.now) pointer.region pointer.lo end) }
-        ensures room { IfOk result (λ _. pointer.region ≡ 0
+        ensures room { IfOk result (λ _. is_frame pointer.region ≡ true
             → CanWriteSpan state.now (word_of_byte pointer.lo) (words_touched pointer.lo end)) }
     {
         if !self.may_write_bytes(state, pointer.region, pointer.lo, end) {
@@ -55,15 +57,12 @@ impl Place<'_, '_> {
     }
 
     /// The range in which the words of a region are kept.
-    pub fn wanted_range(&self, context: u32, region: u16) -> Bounds
+    pub fn wanted_range(&self, context: u32, region: Region) -> Bounds
         ensures { ends_in result ≡ wanted_range self.now.module.now context region }
     {
-        if region == 0 || region == 1 {
-            return full();
-        }
-        match self.module.parameters(context).get(usize::from(region - 2)) {
-            Some(parameter) => kept_range(parameter.kind),
-            None => full(),
+        match region {
+            Region::Frame | Region::Constants => full(),
+            Region::Parameter(number) => self.parameter_range(context, number),
         }
     }
 
@@ -83,13 +82,13 @@ impl Place<'_, '_> {
 #[tactic(auto, unfolding(crate::specs::Pointers::leaves_words))]
 pub fn leave_words(state: &mut State, pointer: Pointed, end: i32, leaving: Leaving)
     requires near { negsuc 2147483646 ≤ℤ end }
-    requires room { pointer.region ≡ 0
+    requires room { is_frame pointer.region ≡ true
         → CanWriteSpan state.old (word_of_byte pointer.lo) (words_touched pointer.lo end) }
     ensures state { state_of state.new ≡ leaves_words pointer end leaving (state_of state.old) }
     ensures belongs { (m : Contents) → BelongsTo m state.old → BelongsTo m state.new }
     ensures kept { (k : ℤ) → CanWrite state.old k → CanWrite state.new k }
 {
-    if pointer.region == 0 {
+    if pointer.region.is_frame() {
         let count = words_touched(pointer.lo, end);
         state.change_span(word_of_byte(pointer.lo), count, leaving);
     }

@@ -1,8 +1,10 @@
 -- Bytes that move takes to the region of a parameter.
-use Rattle.std.specs.Prelude.{nat_lt, ◌&&◌, not, Bool, false, if◌then◌else◌, ℤ, pos, int_le, [], codes, Option, Some}
+use Rattle.std.specs.Prelude.{◌&&◌, not, Bool, true, false, if◌then◌else◌, ℤ, pos, int_le, [], codes, Option, Some}
 use Rattle.std.specs.Prelude.{None}
 use Rattle.module_format.specs.Rows.{Fact}
 use Rattle.module_format.specs.declared.fact.Fact.TheVariants.{Pointer}
+use Rattle.module_format.specs.declared.fact.Region.{Region}
+use Rattle.module_format.specs.declared.fact.Region.TheVariants as regions
 use Rattle.machine_state.specs.declared.op.TheConstants.{MOST_MOVED}
 use Rattle.states.specs.State.{State}
 use Rattle.rulings.specs.declared.pointers.Pointed.{Pointed}
@@ -17,10 +19,15 @@ place_of (Pointer region lo hi step) =
     if are_near lo hi && is_one lo hi then Some (record { region = region; lo = lo; hi = hi; step = step }) else None
 place_of fact = None
 
+-- it is the region of a parameter
+abbrev pub is_parameter : Region → Bool
+is_parameter (regions.Parameter j) = true
+is_parameter region = false
+
 -- it leads into the region of a parameter
 abbrev pub is_in_parameter : Option Pointed → Bool
 is_in_parameter None = false
-is_in_parameter (Some to) = nat_lt 1 to.region
+is_in_parameter (Some to) = is_parameter to.region
 
 -- this number of bytes is moved, one at least
 abbrev pub is_moved : ℤ → Bool

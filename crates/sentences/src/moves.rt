@@ -3,12 +3,12 @@
 ghost use Rattle.std.specs.Prelude.{◌≡◌, IfSome, true};
 ghost use Rattle.states.specs.Views.{state_of};
 ghost use Rattle.rulings.specs.Pointers.{are_near};
-ghost use Rattle.sentences.specs.Moves.{place_of, is_in_parameter, is_moved, are_mixed, has_mixed, brings_mixed};
-ghost use Rattle.sentences.specs.Moves.{mixed_words};
+ghost use Rattle.sentences.specs.Moves.{place_of, is_parameter, is_in_parameter, is_moved, are_mixed, has_mixed};
+ghost use Rattle.sentences.specs.Moves.{brings_mixed, mixed_words};
 
 use crate::begun::constant_of;
 use machine_state::MOST_MOVED;
-use module_format::Fact;
+use module_format::{Fact, Region};
 use rulings::filling::are_numbers;
 use rulings::pointers::{Pointed, are_near};
 use states::State;
@@ -42,12 +42,19 @@ fn place_of(fact: Fact) -> Option<Pointed>
     }
 }
 
+/// Whether it is the region of a parameter.
+fn is_parameter(region: Region) -> bool
+    ensures { result ≡ is_parameter region }
+{
+    matches!(region, Region::Parameter(_))
+}
+
 /// Whether it leads into the region of a parameter.
 fn is_in_parameter(place: Option<Pointed>) -> bool
     ensures { result ≡ is_in_parameter place }
 {
     match place {
-        Some(to) => 1 < to.region,
+        Some(to) => is_parameter(to.region),
         None => false,
     }
 }

@@ -3,6 +3,7 @@ use Rattle.std.proofs.Common.{◌≡◌, ℕ, ◌+◌, ◌*◌, ◌/◌, ◌&&�
 use Rattle.std.proofs.Common.{Some, None, refl, sym, ap, ◌∙◌, subst, arith, eqb-true}
 use Rattle.std.proofs.lemmas.Int.{ints}
 use Rattle.std.specs.Prelude.{slice_get, option_map, IsTrue, ◌%◌}
+use Rattle.module_format.specs.declared.fact.Region.TheVariants as regions
 use Rattle.module_format.specs.declared.rows.Parameter.{Parameter}
 use Rattle.module_format.specs.declared.rows.ParameterKind.{ParameterKind}
 use Rattle.module_format.specs.declared.rows.ParameterKind.TheVariants.{Value, ReadRegion, WrittenRegion, Channels}
@@ -180,7 +181,7 @@ module _ (m : Contents) (found : Found) (layout other : Layout) (keeps : Keeps m
       on has (takes_to_write raw size lo hi here long listed kind theirs) =
           let was = left_was_written _ _ has.q.kind size lo hi theirs in
           of_kind (WrittenRegion size lo hi) kind (record {
-            region = 2 + j;
+            region = regions.Parameter j;
             first = pos (4 * 0);
             count = size / 4;
             is = (
@@ -192,7 +193,7 @@ module _ (m : Contents) (found : Found) (layout other : Layout) (keeps : Keeps m
       on has (takes_to_read raw size lo hi here long listed kind theirs) =
           let was = left_was_region _ _ has.q.kind size lo hi theirs in
           of_kind (ReadRegion size lo hi) kind (record {
-            region = 2 + j;
+            region = regions.Parameter j;
             first = pos (4 * 0);
             count = size / 4;
             is = (
@@ -202,9 +203,9 @@ module _ (m : Contents) (found : Found) (layout other : Layout) (keeps : Keeps m
             );
           })
       on has (takes_nothing lo hi kind) =
-          of_kind (Value lo hi) kind (record { region = 0; first = pos 0; count = 0; is = tt })
+          of_kind (Value lo hi) kind (record { region = regions.Frame; first = pos 0; count = 0; is = tt })
       on has (takes_channels count len ends kind theirs) =
-          of_kind (Channels count len ends) kind (record { region = 0; first = pos 0; count = 0; is = tt })
+          of_kind (Channels count len ends) kind (record { region = regions.Frame; first = pos 0; count = 0; is = tt })
 
   -- what the branch has its opener has lent it
   pub is_lent : IsLentBy m opener branch

@@ -2,6 +2,7 @@
 use Rattle.std.proofs.Common.{◌≡◌, ◌⊎◌, inl, inr, ℕ, ◌+◌, ◌-◌, ◌*◌, ◌/◌, ◌<◌, ◌≤◌, ℤ, pos, ◌+ℤ◌, Bool, true, false}
 use Rattle.std.proofs.Common.{length, refl, sym, ap, ◌∙◌, subst, arith}
 use Rattle.std.proofs.lemmas.Int.{ints}
+use Rattle.module_format.specs.declared.fact.Region.{Region}
 use Rattle.module_format.specs.declared.rows.ParameterKind.{ParameterKind}
 use Rattle.module_format.specs.declared.rows.ParameterKind.TheVariants.{Value, ReadRegion, WrittenRegion, Channels}
 use Rattle.module_format.specs.Contents.{Contents}
@@ -82,7 +83,7 @@ module _ (m : Contents) (theirs mine : Holding) (opener branch : Scope) (old new
         record { region = x.region; first = x.first; count = x.count; is = same_part p.kind _ _ _ _ x.is };
   }
     where
-      part_alike : {region : ℕ} {first : ℤ} {count : ℕ} {lo hi : ℤ} {written : Bool} {place : ℕ}
+      part_alike : {region : Region} {first : ℤ} {count : ℕ} {lo hi : ℤ} {written : Bool} {place : ℕ}
           → IsPart m opener branch (pos 0) region first count lo hi written place
           → IsPart m opener endless (pos 0) region first count lo hi written place
       part_alike (of_frame word a b c d e f) = of_frame word a b c d e f
@@ -90,7 +91,7 @@ module _ (m : Contents) (theirs mine : Holding) (opener branch : Scope) (old new
       part_alike (of_parameter q p n total low high a b c d e f g i k) =
           of_parameter q p n total low high a b c d e f g i k
 
-      same_part : (kind : ParameterKind) (start region : ℕ) (first : ℤ) (count : ℕ)
+      same_part : (kind : ParameterKind) (start : ℕ) (region : Region) (first : ℤ) (count : ℕ)
           → PartOf m opener branch (pos 0) kind start region first count
           → PartOf m opener endless (pos 0) kind start region first count
       same_part (Value lo hi) start region first count is = tt
@@ -99,7 +100,7 @@ module _ (m : Contents) (theirs mine : Holding) (opener branch : Scope) (old new
       same_part (Channels count' len ends) start region first count is = tt
 
   -- the opener may read the bytes of a part that it has lent
-  part_read : {region : ℕ} {first : ℤ} {count : ℕ} {lo hi : ℤ} {written : Bool} {place : ℕ}
+  part_read : {region : Region} {first : ℤ} {count : ℕ} {lo hi : ℤ} {written : Bool} {place : ℕ}
       → IsPart m opener branch (pos 0) region first count lo hi written place → (i : ℕ) → i < 4 * count
       → may_read theirs (place + i) ≡ true
   part_read {place = place} (of_frame word a b is reads d e) i low =
@@ -133,7 +134,7 @@ module _ (m : Contents) (theirs mine : Holding) (opener branch : Scope) (old new
           (named.held (4 * n + i) (omega (arith, same, low, fits))))
 
   -- and those that it has lent to write it may write
-  part_written : {region : ℕ} {first : ℤ} {count : ℕ} {lo hi : ℤ} {place : ℕ}
+  part_written : {region : Region} {first : ℤ} {count : ℕ} {lo hi : ℤ} {place : ℕ}
       → IsPart m opener branch (pos 0) region first count lo hi true place → (i : ℕ) → i < 4 * count
       → may_write theirs (place + i) ≡ true
   part_written {place = place} (of_frame word a b is reads writes e) i low =
@@ -151,7 +152,7 @@ module _ (m : Contents) (theirs mine : Holding) (opener branch : Scope) (old new
       (named.held (4 * n + i) (omega (arith, low, fits)))
 
   -- what a parameter of the branch names the opener holds, with what is there now
-  named_by_opener : (kind : ParameterKind) (start region : ℕ) (first : ℤ) (count : ℕ)
+  named_by_opener : (kind : ParameterKind) (start : ℕ) (region : Region) (first : ℤ) (count : ℕ)
       → PartOf m opener branch (pos 0) kind start region first count → IsNamed m mine branch new kind start
       → IsNamed m theirs endless new kind start
   named_by_opener (Value lo hi) start region first count is named = tt

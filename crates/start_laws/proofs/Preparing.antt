@@ -1,14 +1,14 @@
 -- Where a first start breaks no rule, the words that its PAR wants are prepared, and are the starter's own.
-use Rattle.std.proofs.Common.{◌≡◌, ℕ, ◌+◌, ◌-◌, ◌==◌, ◌&&◌, Bool, true, false, inl, inr, ℤ, pos}
-use Rattle.std.proofs.Common.{negsuc, ◌+ℤ◌, List, length, Option, Some, None, refl, sym, ap, ◌∙◌}
-use Rattle.std.proofs.Common.{arith, eqb, eqb-true}
-use Rattle.std.proofs.lemmas.Bool.Decides.{nat_tests}
+use Rattle.std.proofs.Common.{◌≡◌, ℕ, ◌==◌, ◌&&◌, Bool, true, false, inl, inr, ℤ, pos}
+use Rattle.std.proofs.Common.{negsuc, ◌+ℤ◌, List, length, Option, Some, None, sym, ap, ◌∙◌}
+use Rattle.std.proofs.Common.{arith, eqb-true}
 use Rattle.std.proofs.lemmas.Int.{ints}
 use Rattle.std.specs.Prelude.{slice_get}
 use Rattle.std.specs.List.{list_any, list_all}
 use Rattle.word_arithmetic.specs.Word.{least_word}
 use Rattle.module_format.specs.declared.fact.Fact.TheVariants.{Unknown, Number, Pointer, CodeAddress, Loop}
 use Rattle.module_format.specs.declared.fact.Fact.TheVariants.{ReturnAddress}
+use Rattle.module_format.specs.declared.fact.Region.TheVariants as regions
 use Rattle.module_format.specs.declared.fact.Step.TheVariants.{Byte, Word}
 use Rattle.module_format.specs.declared.rows.ChannelRow.{ChannelRow}
 use Rattle.module_format.specs.declared.rows.EndKind.{EndKind}
@@ -28,8 +28,8 @@ use Rattle.states.specs.declared.known.WordFact.TheVariants.{Alone, Index, Count
 use Rattle.states.specs.State.{State, is_word}
 use Rattle.states.specs.Below.{holds_constant}
 use Rattle.states.proofs.RowFacts.{and-parts}
-use Rattle.rulings.specs.Meaning.{Layout, Activation, is_pointer, is_code_address, MeansWord, is_fact}
-use Rattle.rulings.specs.Meaning.{frame_word, word_of, code_address, region_start}
+use Rattle.rulings.specs.Meaning.{Activation, is_pointer, is_code_address, MeansWord, is_fact}
+use Rattle.rulings.specs.Meaning.{frame_word, word_of, code_address}
 use Rattle.rulings.specs.Remaining.{is_hidden, is_channel_word}
 use Rattle.rulings.proofs.Combining.{written_readable}
 use Rattle.rulings.proofs.Entering.{constant_means}
@@ -61,31 +61,24 @@ code_value m act k (Alone ReturnAddress) to v t means = absurd (cc)
 code_value m act k (Index loop) to v t means = absurd (cc)
 code_value m act k (Count loop) to v t means = absurd (cc)
 
--- where the region starts that parameter j names
-parameter_start : (m : Contents) (layout : Layout) (j : ℕ) → region_start m layout (j + 2) ≡ pos (layout.starts j)
-parameter_start m layout j =
-    let frame : eqb (j + 2) 0 ≡ false = grind (arith, nat_tests) in
-    let constants : eqb (j + 2) 1 ≡ false = grind (arith, nat_tests) in
-    let number : j + 2 - 2 ≡ j = omega arith in
-    rw (frame, constants, number) refl
-
--- the address of the first byte of a parameter's region
+-- the address of the first byte of what parameter j names
 start_value : (m : Contents) (act : Activation) (k : ℤ) (fact : WordFact) (j : ℕ) (v : Option ℤ)
-    → is_start_of (j + 2) fact ≡ true → MeansWord m act k fact v
+    → is_start_of j fact ≡ true → MeansWord m act k fact v
     → v ≡ Some (word_of (pos (act.layout.starts j)))
-start_value m act k (Alone (Pointer other lo hi Word)) j None t (is_fact means) = elim means [ ]
-start_value m act k (Alone (Pointer other lo hi Word)) j (Some x) t
+start_value m act k (Alone (Pointer regions.Frame lo hi step)) j v t means = absurd (cc)
+start_value m act k (Alone (Pointer regions.Constants lo hi step)) j v t means = absurd (cc)
+start_value m act k (Alone (Pointer (regions.Parameter number) lo hi Byte)) j v t means = absurd (cc)
+start_value m act k (Alone (Pointer (regions.Parameter number) lo hi Word)) j None t (is_fact means) = elim means [ ]
+start_value m act k (Alone (Pointer (regions.Parameter number) lo hi Word)) j (Some x) t
     (is_fact (is_pointer offset low high stepped is)) =
     let both = and-parts _ (is_word hi (pos 0)) t in
-    let one = and-parts (other == j + 2) (is_word lo (pos 0)) both.0 in
+    let one = and-parts (number == j) (is_word lo (pos 0)) both.0 in
     let first = same_word_by lo (pos 0) one.1 in
     let last = same_word_by hi (pos 0) both.1 in
     let none : offset ≡ pos 0 = omega (arith, ints, first, last, low, high) in
     let sum : pos (act.layout.starts j) +ℤ offset ≡ pos (act.layout.starts j) = omega (arith, ints, none) in
-    ap (λ (z : ℤ). Some z) (is ∙ (ap (λ (r : ℕ). word_of (region_start m act.layout r +ℤ offset))
-    (eqb-true other (j + 2) one.0)
-    ∙ (ap (λ (z : ℤ). word_of (z +ℤ offset)) (parameter_start m act.layout j) ∙ ap word_of sum)))
-start_value m act k (Alone (Pointer other lo hi Byte)) j v t means = absurd (cc)
+    ap (λ (z : ℤ). Some z) (is ∙ (ap (λ (n : ℕ). word_of (pos (act.layout.starts n) +ℤ offset))
+    (eqb-true number j one.0) ∙ ap word_of sum))
 start_value m act k (Alone Unknown) j v t means = absurd (cc)
 start_value m act k (Alone (Number lo hi)) j v t means = absurd (cc)
 start_value m act k (Alone (CodeAddress offset)) j v t means = absurd (cc)
@@ -162,7 +155,7 @@ module _ (m : Contents) (s : State) (act : Activation) (memory : Memory) (par : 
       let both = and-parts (may_read_word m s.context (pos p.word)) _
       (ap (λ (o : Option Parameter). elim o as (λ o. Bool) [
         | None ↦ false
-        | Some p ↦ may_read_word m s.context (pos p.word) && is_start_of (j + 2) (s.frame (pos p.word))
+        | Some p ↦ may_read_word m s.context (pos p.word) && is_start_of j (s.frame (pos p.word))
       ]) (sym here) ∙ h) in
       let reads = ap (λ (n : ℕ). may_read_word m n (pos p.word)) context ∙ both.0 in
       record {

@@ -11,10 +11,13 @@ use Rattle.std.proofs.lemmas.List.Sums.{sum_by-cons}
 use Rattle.module_format.specs.Rows.{Fact, Entry}
 use Rattle.module_format.specs.declared.fact.Fact.TheVariants.{Unknown, Number, Pointer, CodeAddress, Loop}
 use Rattle.module_format.specs.declared.fact.Fact.TheVariants.{ReturnAddress}
+use Rattle.module_format.specs.declared.fact.Region.{Region}
+use Rattle.module_format.specs.declared.fact.Region.TheVariants as regions
 use Rattle.module_format.specs.declared.fact.Step.{Step}
 use Rattle.module_format.specs.declared.fact.Step.TheVariants.{Byte, Word}
 use Rattle.module_format.specs.Facts.{end_of}
 use Rattle.module_format.specs.Contents.{Par}
+use Rattle.module_format.specs.Regions.{is_same_region}
 use Rattle.certificate.specs.Starting.{is_written, is_loop, is_written_loop}
 use Rattle.machine_state.proofs.Shares.{number_itself}
 use Rattle.machine_state.proofs.SpanLaws.{both_true}
@@ -40,6 +43,11 @@ step_itself : (step : Step) → step_implies step step ≡ true
 step_itself Byte = refl
 step_itself Word = refl
 
+region_itself : (region : Region) → is_same_region region region ≡ true
+region_itself regions.Frame = refl
+region_itself regions.Constants = refl
+region_itself (regions.Parameter j) = number_itself j
+
 range_itself : (lo hi : ℤ) → (int_le lo lo && int_le hi hi) ≡ true
 range_itself lo hi =
     both_true _ _ (le-yes lo lo (omega (arith, ints))) (le-yes hi hi (omega (arith, ints)))
@@ -48,7 +56,7 @@ implies_itself : (fact : Fact) → (is_loop fact ≡ true → ⊥) → implies f
 implies_itself Unknown other = refl
 implies_itself (Number lo hi) other = range_itself lo hi
 implies_itself (Pointer region lo hi step) other =
-    both_true _ _ (both_true _ _ (number_itself region) (range_itself lo hi)) (step_itself step)
+    both_true _ _ (both_true _ _ (region_itself region) (range_itself lo hi)) (step_itself step)
 implies_itself (CodeAddress offset) other = number_itself offset
 implies_itself (Loop base count weight) other = absurd (other refl)
 implies_itself ReturnAddress other = refl

@@ -1,6 +1,6 @@
 -- What registers name that a start and an end use: a word of the frame, and a branch.
 use Rattle.std.proofs.Common.{◌≡◌, ℕ, ◌+◌, ◌%◌, ◌==◌, ℤ, pos, ◌+ℤ◌, ◌*ℤ◌, ◌≤ℤ◌, Bool, true, false, cond}
-use Rattle.std.proofs.Common.{Option, Some, None, refl, ap, ◌∙◌, subst, arith, eqb-true, if◌then◌else◌}
+use Rattle.std.proofs.Common.{Option, Some, None, refl, ap, ◌∙◌, subst, arith, if◌then◌else◌}
 use Rattle.std.proofs.lemmas.Bool.{eq-eqb}
 use Rattle.std.proofs.lemmas.Int.{ints}
 use Rattle.std.specs.Prelude.{IsTrue}
@@ -8,6 +8,7 @@ use Rattle.module_format.specs.Order.{is_stepped}
 use Rattle.module_format.specs.Rows.{Fact}
 use Rattle.module_format.specs.declared.fact.Fact.TheVariants.{Unknown, Number, Pointer, CodeAddress, Loop}
 use Rattle.module_format.specs.declared.fact.Fact.TheVariants.{ReturnAddress}
+use Rattle.module_format.specs.declared.fact.Region.TheVariants as regions
 use Rattle.module_format.specs.declared.rows.EndKind.TheVariants.{FrameWord}
 use Rattle.module_format.specs.Contents.{Contents}
 use Rattle.machine_state.specs.declared.fault.FaultKind.TheVariants.{Unaligned}
@@ -40,28 +41,29 @@ pub record IsAddress (layout : Layout) (k : ℤ) (v : Option ℤ) : Type 0 where
   pub address : step.address value ≡ channel_address layout (FrameWord k)
 
 -- a pointer to the frame, and to no other byte
-exact_address : (m : Contents) (layout : Layout) (region : ℕ) (lo hi k offset x : ℤ) → region ≡ 0 → lo ≡ pos 4 *ℤ k
-    → hi ≡ pos 4 *ℤ k → lo ≤ℤ offset → offset ≤ℤ hi → x ≡ word_of (region_start m layout region +ℤ offset)
+exact_address : (m : Contents) (layout : Layout) (lo hi k offset x : ℤ) → lo ≡ pos 4 *ℤ k
+    → hi ≡ pos 4 *ℤ k → lo ≤ℤ offset → offset ≤ℤ hi → x ≡ word_of (region_start m layout regions.Frame +ℤ offset)
     → step.address x ≡ channel_address layout (FrameWord k)
-exact_address m layout region lo hi k offset x frame first last low high is =
+exact_address m layout lo hi k offset x first last low high is =
     let there : offset ≡ pos 4 *ℤ k = omega (arith, ints, first, last, low, high) in
     let sum : pos data_start +ℤ layout.origin +ℤ offset ≡ pos data_start +ℤ place_in layout.origin k =
     omega (arith, ints, there) in
-    ap step.address (is ∙ (ap (λ (r : ℕ). word_of (region_start m layout r +ℤ offset)) frame ∙ ap word_of sum))
+    ap step.address (is ∙ ap word_of sum)
 
 -- the pointer to word k has its address
 pub word_address : (m : Contents) (layout : Layout) (fact : Fact) (k : ℤ) (v : Option ℤ) → is_at_word k fact ≡ true
     → Means m layout fact v → IsAddress layout k v
-word_address m layout (Pointer region lo hi step) k None t means = elim means [ ]
-word_address m layout (Pointer region lo hi step) k (Some x) t (is_pointer offset low high stepped is) =
-    let both = and-parts _ (is_word hi (pos 4 *ℤ k)) t in
-    let first = and-parts (region == 0) (is_word lo (pos 4 *ℤ k)) both.0 in
+word_address m layout (Pointer regions.Frame lo hi step) k None t means = elim means [ ]
+word_address m layout (Pointer regions.Frame lo hi step) k (Some x) t (is_pointer offset low high stepped is) =
+    let both = and-parts (is_word lo (pos 4 *ℤ k)) (is_word hi (pos 4 *ℤ k)) t in
     record {
       value = x;
       is = refl;
-      address = exact_address m layout region lo hi k offset x (eqb-true region 0 first.0)
-          (same_word_by lo (pos 4 *ℤ k) first.1) (same_word_by hi (pos 4 *ℤ k) both.1) low high is;
+      address = exact_address m layout lo hi k offset x
+          (same_word_by lo (pos 4 *ℤ k) both.0) (same_word_by hi (pos 4 *ℤ k) both.1) low high is;
     }
+word_address m layout (Pointer regions.Constants lo hi step) k v t means = absurd (cc)
+word_address m layout (Pointer (regions.Parameter j) lo hi step) k v t means = absurd (cc)
 word_address m layout Unknown k v t means = absurd (cc)
 word_address m layout (Number lo hi) k v t means = absurd (cc)
 word_address m layout (CodeAddress offset) k v t means = absurd (cc)

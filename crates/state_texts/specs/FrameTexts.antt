@@ -3,8 +3,10 @@ use Rattle.std.specs.Prelude.{ℕ, zero, suc, ◌+◌, ◌==◌, ◌&&◌, Bool,
 use Rattle.std.specs.Prelude.{ℤ, pos, negsuc, ◌+ℤ◌, int_le}
 use Rattle.std.specs.Prelude.{◌-ℤ◌, [], ◌∷◌, ◌++◌, codes, Option, Some, None}
 use Rattle.module_format.specs.Rows.{Fact}
+use Rattle.module_format.specs.Regions.{is_same_region}
 use Rattle.module_format.specs.declared.fact.Fact.TheVariants.{Unknown, Number, Pointer, CodeAddress}
 use Rattle.module_format.specs.declared.fact.Fact.TheVariants.{ReturnAddress}
+use Rattle.module_format.specs.declared.fact.Region.{Region}
 use Rattle.module_format.specs.declared.fact.Step.{Step}
 use Rattle.module_format.specs.declared.fact.Step.TheVariants.{Byte, Word}
 use Rattle.module_format.specs.declared.contexts.Context.{Context}
@@ -30,8 +32,8 @@ is_same_step _ _ = false
 abbrev pub is_same_range : ℤ → ℤ → ℤ → ℤ → Bool
 is_same_range lo hi low high = is_one lo low && is_one hi high
 
-abbrev pub is_same_place : ℕ → ℕ → Bool → Bool
-is_same_place region other has_range = (region == other) && has_range
+abbrev pub is_same_place : Region → Region → Bool → Bool
+is_same_place region other has_range = is_same_region region other && has_range
 
 abbrev pub is_same_fact : Fact → Fact → Bool
 is_same_fact Unknown Unknown = true

@@ -12,7 +12,7 @@ ghost use Rattle.state_texts.specs.FrameTexts.{is_same_place, run_line, word_tex
 
 use certificate::Module;
 use fact_texts::{FactText, LoopText, RangeText};
-use module_format::{Fact, Step};
+use module_format::{Fact, Region, Step};
 use states::{Loop, State, WordFact};
 use std::alloc::AllocError;
 use std::fmt;
@@ -35,10 +35,10 @@ fn is_same_range(lo: i32, hi: i32, low: i32, high: i32) -> bool
 }
 
 /// Whether pointers to this range lead to the same region.
-fn is_same_place(region: u16, other: u16, has_range: bool) -> bool
+fn is_same_place(region: Region, other: Region, has_range: bool) -> bool
     ensures { result ≡ is_same_place region other has_range }
 {
-    region == other && has_range
+    region.is_same(other) && has_range
 }
 
 /// Whether two facts are the same.

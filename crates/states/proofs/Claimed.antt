@@ -5,9 +5,12 @@ use Rattle.std.specs.Prelude.{◌==◌, Option, is_some}
 use Rattle.std.proofs.lemmas.Bool.Decides.{nat_tests}
 use Rattle.std.proofs.lemmas.Int.{ints}
 use Rattle.module_format.specs.Rows.{Fact, Entry}
+use Rattle.module_format.specs.Regions.{is_same_region}
 use Rattle.module_format.specs.Contents.{Contents, Label, label_at}
 use Rattle.module_format.specs.declared.fact.Fact.TheVariants.{Unknown, Number, Pointer, CodeAddress, Loop}
 use Rattle.module_format.specs.declared.fact.Fact.TheVariants.{ReturnAddress}
+use Rattle.module_format.specs.declared.fact.Region.{Region}
+use Rattle.module_format.specs.declared.fact.Region.TheVariants as regions
 use Rattle.module_format.specs.declared.fact.Step.{Step}
 use Rattle.module_format.specs.declared.fact.Step.TheVariants.{Byte, Word}
 use Rattle.states.specs.declared.claims.Claim.{Claim}
@@ -89,6 +92,23 @@ steps-through Word b Word h g = refl
 same-through : (a b c : ℕ) → (a == b) ≡ true → (b == c) ≡ true → (a == c) ≡ true
 same-through a b c h g = grind (arith, nat_tests)
 
+-- regions that are the same are one
+pub same-region : (a b : Region) → is_same_region a b ≡ true → a ≡ b
+same-region regions.Frame regions.Frame h = refl
+same-region regions.Constants regions.Constants h = refl
+same-region (regions.Parameter j) (regions.Parameter k) h =
+    let same : j ≡ k = grind (arith, nat_tests, h) in ap regions.Parameter same
+same-region regions.Frame regions.Constants h = absurd (cc)
+same-region regions.Frame (regions.Parameter k) h = absurd (cc)
+same-region regions.Constants regions.Frame h = absurd (cc)
+same-region regions.Constants (regions.Parameter k) h = absurd (cc)
+same-region (regions.Parameter j) regions.Frame h = absurd (cc)
+same-region (regions.Parameter j) regions.Constants h = absurd (cc)
+
+regions-through : (a b c : Region) → is_same_region a b ≡ true → is_same_region b c ≡ true
+    → is_same_region a c ≡ true
+regions-through a b c h g = subst (λ (r : Region). is_same_region a r ≡ true) (same-region b c g) h
+
 -- what a fact says says what that one says
 implies-through : (a b c : Fact) → implies a b ≡ true → implies b c ≡ true → implies a c ≡ true
 implies-through a b Unknown h g = unknown-implied a
@@ -107,7 +127,7 @@ implies-through (Pointer region lo hi step) (Pointer other low high stride) (Poi
     let c = le-from from low r.0 in
     let d = le-from high to r.1 in
     and-both _ _
-    (and-both _ _ (same-through region other third regions.0 others.0)
+    (and-both _ _ (regions-through region other third regions.0 others.0)
     (and-both _ _ (le-yes from lo (omega (arith, ints, a, c))) (le-yes hi to (omega (arith, ints, b, d)))))
     (steps-through step stride pace first.1 second.1)
 implies-through (CodeAddress offset) (CodeAddress other) (CodeAddress third) h g = same-through offset other third h g

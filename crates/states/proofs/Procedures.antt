@@ -98,7 +98,7 @@ begins m s n p k b some is =
 
 -- before the last
 pub parameters-none : (ps rest : List Parameter) (facts : Facts) → rest ≡ ps → facts ≡ entry_fact []
-    → (ps ≡ rest ++ drop (length rest) ps) × (facts ≡ parameter_facts (2 + length rest) (drop (length rest) ps))
+    → (ps ≡ rest ++ drop (length rest) ps) × (facts ≡ parameter_facts (length rest) (drop (length rest) ps))
 parameters-none ps rest facts all none =
     let behind : drop (length rest) ps ≡ [] =
     ap (λ (qs : List Parameter). drop (length qs) ps) all ∙ drop-length ps in (
@@ -118,17 +118,17 @@ behind-last ps rest earlier last is front =
     ap (drop (length earlier)) (split ps rest earlier last is front)
     ∙ drop-append_seam earlier (last ∷ drop (length rest) ps)
 
-pub parameters-more : (ps rest earlier : List Parameter) (last : Parameter) (facts new : Facts) (word : ℤ) (region : ℕ)
+pub parameters-more : (ps rest earlier : List Parameter) (last : Parameter) (facts new : Facts) (word : ℤ) (number : ℕ)
     (fact : Fact) → rest ≡ earlier ++ last ∷ [] → length earlier + 1 ≡ length rest → ps ≡ rest ++ drop (length rest) ps
-    → facts ≡ parameter_facts (2 + length rest) (drop (length rest) ps) → word ≡ pos last.word
-    → region ≡ 2 + length earlier → fact ≡ parameter_fact region last.kind → new ≡ with_alone word fact facts
+    → facts ≡ parameter_facts (length rest) (drop (length rest) ps) → word ≡ pos last.word
+    → number ≡ length earlier → fact ≡ parameter_fact number last.kind → new ≡ with_alone word fact facts
     → (ps ≡ earlier ++ drop (length earlier) ps)
-    × (new ≡ parameter_facts (2 + length earlier) (drop (length earlier) ps))
-parameters-more ps rest earlier last facts new word region fact is len front so_far word_is region_is fact_is placed =
+    × (new ≡ parameter_facts (length earlier) (drop (length earlier) ps))
+parameters-more ps rest earlier last facts new word number fact is len front so_far word_is number_is fact_is placed =
     let behind = behind-last ps rest earlier last is front in
-    let next : 2 + length rest ≡ 2 + length earlier + 1 = omega arith in (
+    let next : length rest ≡ length earlier + 1 = omega arith in (
       split ps rest earlier last is front ∙ ap (λ (qs : List Parameter). earlier ++ qs) (sym behind),
-      rw behind (placed ∙ rw (word_is, fact_is, region_is, so_far, next) (fun_ext (λ k. refl))),
+      rw behind (placed ∙ rw (word_is, fact_is, number_is, so_far, next) (fun_ext (λ k. refl))),
     )
 
 -- the word of the next one can be written
@@ -151,7 +151,7 @@ parameter-room old new ps rest earlier last word all same is front word_is =
 
 -- all of them, and the return address
 pub parameters-all : (p : Procedure) (rest : List Parameter) (facts new : Facts) (word : ℤ) → length rest ≡ 0
-    → facts ≡ parameter_facts (2 + length rest) (drop (length rest) p.parameters) → word ≡ pos 0
+    → facts ≡ parameter_facts (length rest) (drop (length rest) p.parameters) → word ≡ pos 0
     → new ≡ with_alone word ReturnAddress facts
     → new ≡ procedure_facts p
 parameters-all p rest facts new word none so_far word_is placed =

@@ -1,5 +1,6 @@
 -- What is remembered of comparisons with labels, once words are changed or asked again.
-use Rattle.std.proofs.Common.{◌≡◌, ◌≢◌, ◌⊎◌, ℕ, suc, ◌+◌, ◌-◌, ◌*◌, ◌/◌, ◌%◌, ◌<◌, ◌≤◌, ℤ, pos, negsuc, ◌+ℤ◌, ◌-ℤ◌, ◌≤ℤ◌, ◌<ℤ◌}
+use Rattle.std.proofs.Common.{◌≡◌, ◌≢◌, ◌⊎◌, ℕ, suc, ◌+◌, ◌-◌, ◌*◌, ◌/◌, ◌%◌, ◌<◌, ◌≤◌, ℤ, pos, negsuc, ◌+ℤ◌, ◌-ℤ◌}
+use Rattle.std.proofs.Common.{◌≤ℤ◌, ◌<ℤ◌}
 use Rattle.std.proofs.Common.{Bool, true, false, ◌&&◌, List, [], ◌∷◌, length, Option, Some, None, refl, sym, ap, ◌∙◌}
 use Rattle.std.proofs.Common.{subst, arith, inl, inr, cond}
 use Rattle.std.specs.Prelude.{nat_le, nat_lt, is_none, sum_by, if◌then◌else◌, Result, Ok, Err, vec_len}
@@ -28,13 +29,15 @@ use Rattle.states.specs.declared.rule.Rule.{Rule}
 use Rattle.states.specs.declared.rule.Rule.TheVariants as rules
 use Rattle.states.specs.State.{State, Facts, by_itself, is_alone, said_of, entry_fact}
 use Rattle.states.specs.Spans.{left_of}
-use Rattle.states.specs.Below.{View, implies, says, are_alike, is_whole, holds_constant, price, entries_hold, agrees, cost}
+use Rattle.states.specs.Below.{View, implies, says, are_alike, is_whole, holds_constant, price, entries_hold, agrees}
+use Rattle.states.specs.Below.{cost}
 use Rattle.states.specs.Below.{view, below, below_at}
 use Rattle.states.specs.Blocks.{block_words, first_of, is_widening, HaveRoom}
 use Rattle.states.specs.Implied.{BlockImplied, WantsOnlyWithin}
 use Rattle.states.specs.Comparing.{BlockSaysAll, loop_of, stands}
 use Rattle.states.specs.Frames.{with_alone, with_span}
-use Rattle.states.specs.Remembered.{never, compared_at, time_of, index_time, word_time, HasTimes, loop_stays, loops_stay}
+use Rattle.states.specs.Remembered.{never, compared_at, time_of, index_time, word_time, HasTimes, loop_stays}
+use Rattle.states.specs.Remembered.{loops_stay}
 use Rattle.states.specs.Remembered.{wants_no_loop, IsPaid, IsRecalled, ChangedSay, allows, index_written}
 use Rattle.states.specs.Remembered.{word_written, no_changes, changes_of, since_at, since_in, range_of, range_at}
 use Rattle.states.specs.Remembered.{range_in, became_until}
@@ -98,7 +101,8 @@ AreSame times later facts others time = (k : ℤ) → later k ≤ time → (othe
 
 loop-stays : (fact : Fact) (first second first' second' time : ℕ)
     → (first' ≤ time → first ≤ time) → (second' ≤ time → second ≤ time)
-    → (elim fact as (λ _. Bool) [ Loop base count weight ↦ nat_le first' time && nat_le second' time | _ ↦ true ]) ≡ true
+    → (elim fact as (λ _. Bool) [ Loop base count weight ↦ nat_le first' time && nat_le second' time | _ ↦ true ])
+    ≡ true
     → (elim fact as (λ _. Bool) [ Loop base count weight ↦ nat_le first time && nat_le second time | _ ↦ true ]) ≡ true
 loop-stays (Loop base count weight) first second first' second' time f g stays =
     let both = and-parts _ _ stays in
@@ -437,7 +441,8 @@ outside-block lo number leaving facts others is = record {
 -- the words that were not written are what they were, and so is what their block became
 fixed-kept : (lo : ℤ) (old new : Remembered) (facts others : Facts) (k : ℤ) (n : ℕ) → k -ℤ lo ≡ pos n
     → new.began ≡ old.began → time_of new.words.items n ≡ time_of old.words.items n
-    → (changes_of new.by_block.items (n / block_words)).became ≡ (changes_of old.by_block.items (n / block_words)).became
+    → (changes_of new.by_block.items (n / block_words)).became
+    ≡ (changes_of old.by_block.items (n / block_words)).became
     → others k ≡ facts k → AreFixed facts lo old
     → new.began < (changes_of new.by_block.items (n / block_words)).became.time
     → time_of new.words.items n < (changes_of new.by_block.items (n / block_words)).became.time
@@ -510,7 +515,8 @@ left-fixed lo number leaving facts others old new left is fixed = λ k n here la
     ]
 
 -- what the words of a block became says what an entry wants of one that was not written since
-became-implies : (began : ℕ) (became : Became) (wanted : Fact) (written : ℕ) → written < became_until began became wanted
+became-implies : (began : ℕ) (became : Became) (wanted : Fact) (written : ℕ)
+    → written < became_until began became wanted
     → (began < became.time) × ((written < became.time) × (implies became.fact wanted ≡ true))
 became-implies began became wanted written l =
     on (nat_lt began became.time) (implies became.fact wanted) refl refl l

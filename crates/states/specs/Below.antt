@@ -8,6 +8,7 @@ use Rattle.module_format.specs.declared.fact.Fact.TheVariants.{ReturnAddress}
 use Rattle.module_format.specs.declared.fact.Step.{Step}
 use Rattle.module_format.specs.declared.fact.Step.TheVariants.{Byte, Word}
 use Rattle.module_format.specs.Rows.{Entry}
+use Rattle.module_format.specs.Regions.{is_same_region}
 use Rattle.module_format.specs.declared.stack.Stack.{Stack}
 use Rattle.module_format.specs.Stack.{mapped}
 use Rattle.module_format.specs.Contents.{Contents, Label, label_at}
@@ -37,7 +38,7 @@ abbrev pub implies : Fact → Fact → Bool
 implies fact Unknown = true
 implies (Number lo hi) (Number low high) = lies_within lo hi low high
 implies (Pointer region lo hi step) (Pointer other low high stride) =
-    (region == other) && lies_within lo hi low high && step_implies step stride
+    is_same_region region other && lies_within lo hi low high && step_implies step stride
 implies (CodeAddress offset) (CodeAddress other) = offset == other
 implies ReturnAddress ReturnAddress = true
 implies _ _ = false

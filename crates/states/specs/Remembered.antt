@@ -1,4 +1,5 @@
--- What is remembered of comparisons with labels: what a label wants is known still of words that were not changed since.
+-- What is remembered of comparisons with labels: what a label wants is known still of words that were not changed
+-- since.
 use Rattle.std.specs.Prelude.{◌≡◌, ◌≤◌, ◌<◌, ℕ, ◌+◌, ◌*◌, ◌/◌, ℤ, pos, negsuc, ◌+ℤ◌, ◌-ℤ◌, Bool, true, false}
 use Rattle.std.specs.Prelude.{◌&&◌, nat_le, nat_lt, is_none, List, get_or, Option, Some, None, sum_by, if◌then◌else◌}
 use Rattle.std.specs.List.{list_all}
@@ -122,8 +123,8 @@ abbrev pub ChangedSay : ℤ → List ℕ → Facts → Facts → ℕ → Type 0
 ChangedSay lo times facts wanted time =
     (k : ℤ) → time < word_time lo times k → says (facts k) (wanted k) ≡ true
 
--- A word of which this was known is known to be so still once it is left so: it was not left, or widened by a range that
--- says what is wanted.
+-- A word of which this was known is known to be so still once it is left so: it was not left, or widened by a range
+-- that says what is wanted.
 abbrev pub allows : Option Leaving → WordFact → Bool
 allows None wanted = true
 allows (Some (Widen lo hi)) (Alone wanted) = implies (Number lo hi) wanted

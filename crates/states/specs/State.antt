@@ -3,6 +3,7 @@ use Rattle.std.specs.Prelude.{ℕ, ◌+◌, ℤ, pos, ◌+ℤ◌, ◌-ℤ◌, in
 use Rattle.std.specs.Prelude.{[], ◌∷◌}
 use Rattle.module_format.specs.Rows.{Fact}
 use Rattle.module_format.specs.declared.fact.Fact.TheVariants.{Unknown, Number, Pointer, Loop, ReturnAddress}
+use Rattle.module_format.specs.declared.fact.Region.TheVariants as regions
 use Rattle.module_format.specs.declared.fact.Step.TheVariants.{Word}
 use Rattle.module_format.specs.Rows.{Entry}
 use Rattle.module_format.specs.declared.rows.Parameter.{Parameter}
@@ -168,22 +169,22 @@ label_state t = record (begun t.context t.depth t.number (entry_fact t.entries))
 
 -- ---- procedures
 
--- What a parameter's word holds where the procedure begins: a number, or the address of what the parameter names, which
--- is this region.
+-- What the word of the parameter with this number holds where the procedure begins: a number, or the address of what
+-- the parameter names.
 abbrev pub parameter_fact : ℕ → ParameterKind → Fact
-parameter_fact region (Value lo hi) = Number lo hi
-parameter_fact region kind = Pointer region (pos 0) (pos 0) Word
+parameter_fact number (Value lo hi) = Number lo hi
+parameter_fact number kind = Pointer (regions.Parameter number) (pos 0) (pos 0) Word
 
--- what the words of parameters hold, where this is the region of the first of them
+-- what the words of parameters hold, where this is the number of the first of them
 abbrev pub parameter_facts : ℕ → List Parameter → Facts
-parameter_facts region [] k = Alone Unknown
-parameter_facts region (parameter ∷ parameters) k =
-    if is_word k (pos parameter.word) then Alone (parameter_fact region parameter.kind) else parameter_facts
-    (region + 1) parameters k
+parameter_facts number [] k = Alone Unknown
+parameter_facts number (parameter ∷ parameters) k =
+    if is_word k (pos parameter.word) then Alone (parameter_fact number parameter.kind)
+    else parameter_facts (number + 1) parameters k
 
--- word 0 is the return address, and parameter j has region 2 + j
+-- word 0 is the return address, and the others are those of parameters
 abbrev pub procedure_facts : Procedure → Facts
-procedure_facts p k = if is_word k (pos 0) then Alone ReturnAddress else parameter_facts 2 p.parameters k
+procedure_facts p k = if is_word k (pos 0) then Alone ReturnAddress else parameter_facts 0 p.parameters k
 
 -- the state in which a procedure begins, whose number as a context is this
 abbrev pub procedure_state : ℕ → Procedure → State

@@ -25,8 +25,8 @@ state_of s = record {
 pub record CanWrite (s : InMemory) (k : ℤ) : Type 0 where
   pub room : HasRoom s.frame k
 
--- The state is one of this valid module: it asks the module, remembers comparisons with its labels, and has capacity for
--- each word of each context.
+-- The state is one of this valid module: it asks the module, remembers comparisons with its labels, and has capacity
+-- for each word of each context.
 pub record BelongsTo (m : Contents) (s : InMemory) : Type 0 where
   pub kept : Keeps m
   pub is : s.module.now ≡ m

@@ -23,7 +23,7 @@ use crate::remembered::Remembered;
 use crate::row::{row_fact, said_of};
 use crate::span::Leaving;
 use certificate::Module;
-use module_format::{Entry, Fact, ParameterKind, ProcedureRow, Step};
+use module_format::{Entry, Fact, ParameterKind, ProcedureRow, Region, Step};
 use std::alloc::{AllocError, Global};
 
 /// What is known of a frame's words: what was written since the last label, over the row of that label.
@@ -39,7 +39,8 @@ pub(crate) struct Frame<'a> {
     pub(crate) claims: Claims<'a>,
     ghost apart: { AreApart row.now },
     ghost loops: { ∥ ((k : ℤ) → LoopFits (entry_fact row.now k)) ∥₁ },
-    ghost inside: { (k : ℤ) → is_silent (entry_fact row.now k) ≡ false → (lo ≤ℤ k) × (k <ℤ (lo +ℤ pos (vec_len overlay.places))) },
+    ghost inside: { (k : ℤ) → is_silent (entry_fact row.now k) ≡ false
+        → (lo ≤ℤ k) × (k <ℤ (lo +ℤ pos (vec_len overlay.places))) },
     ghost low: { least_word ≤ℤ lo },
     ghost high: { (lo +ℤ pos (vec_len overlay.places)) ≤ℤ pos (2 ^ 31) },
     ghost whole: { HaveRoom (vec_len overlay.places) by_block.room } by { HaveRoom-prop (vec_len overlay.places) by_block.room },
@@ -266,8 +267,8 @@ impl<'a> Frame<'a> {
         self.restart(&[]);
         let mut rest = row.parameters.as_slice();
         while let Some((last, earlier)) = rest.split_last() {
-            let region = 2 + earlier.len() as u16;
-            self.place(i64::from(last.word), parameter_fact(region, last.kind));
+            let number = earlier.len() as u16;
+            self.place(i64::from(last.word), parameter_fact(number, last.kind));
             rest = earlier;
         }
         self.place(0, Fact::ReturnAddress);
@@ -350,7 +351,7 @@ impl<'a> Frame<'a> {
     /// constants. `None` if that is no number of 128 bits.
     #[inline(always)]
     fn price(&self, entry: &Entry) -> Option<u128>
-        ensures { SomeIff result (price (frame_facts self.now) entry.now < 2 ^ 128) (price (frame_facts self.now) entry.now) }
+        ensures { let paid = price (frame_facts self.now) entry.now in SomeIff result (paid < 2 ^ 128) paid }
     {
         match entry.fact {
             Fact::Loop {
@@ -374,7 +375,8 @@ impl<'a> Frame<'a> {
     /// What is left of a number once the loops that a row wants are entered, if the number covers them.
     #[inline(never)]
     pub(crate) fn left_of(&self, number: u128, row: &[Entry]) -> Option<u128>
-        ensures { let prices = sum_by (price (frame_facts self.now)) row.now in SomeIff result (prices ≤ number) (number - prices) }
+        ensures { let prices = sum_by (price (frame_facts self.now)) row.now in
+            SomeIff result (prices ≤ number) (number - prices) }
     {
         let mut left = number;
         for entry in row {
@@ -386,14 +388,14 @@ impl<'a> Frame<'a> {
     }
 }
 
-/// What a parameter's word holds when the procedure begins.
-fn parameter_fact(region: u16, kind: ParameterKind) -> Fact
-    ensures { result ≡ parameter_fact region kind }
+/// What the word of the parameter with this number holds when the procedure begins.
+fn parameter_fact(number: u16, kind: ParameterKind) -> Fact
+    ensures { result ≡ parameter_fact number kind }
 {
     match kind {
         ParameterKind::Value { lo, hi } => Fact::Number { lo, hi },
         _ => Fact::Pointer {
-            region,
+            region: Region::Parameter(number),
             lo: 0,
             hi: 0,
             step: Step::Word,

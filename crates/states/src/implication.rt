@@ -43,7 +43,7 @@ pub fn implies(fact: Fact, wanted: Fact) -> bool
                 hi: high,
                 step: stride,
             },
-        ) => region == other && lies_within(lo, hi, low, high) && step_implies(step, stride),
+        ) => region.is_same(other) && lies_within(lo, hi, low, high) && step_implies(step, stride),
         (Fact::CodeAddress { offset }, Fact::CodeAddress { offset: other }) => offset == other,
         _ => false,
     }

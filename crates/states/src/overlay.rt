@@ -46,7 +46,8 @@ impl Overlay {
 
     /// Where an index is in the list, if it was written.
     fn place(&self, index: usize) -> Option<usize>
-        ensures found { IfSome result (λ p. (p < vec_len self.now.written) × (slice_index (indices self.now.written.items) p ≡ index)) }
+        ensures found { IfSome result (λ p.
+            (p < vec_len self.now.written) × (slice_index (indices self.now.written.items) p ≡ index)) }
         ensures none { IfNone result (lookup self.now.written.items index ≡ None) }
     {
         if index >= self.places.len() {
@@ -79,7 +80,8 @@ impl Overlay {
     /// Writes a fact, in place of the one that was written before.
     pub(crate) fn set(&mut self, index: usize, fact: Fact)
         requires { index < vec_len self.old.places }
-        ensures facts { (j : ℕ) → lookup self.new.written.items j ≡ (if j == index then Some fact else lookup self.old.written.items j) }
+        ensures facts { (j : ℕ) → lookup self.new.written.items j
+            ≡ (if j == index then Some fact else lookup self.old.written.items j) }
         ensures room { vec_len self.new.places ≡ vec_len self.old.places }
     {
         match self.place(index) {

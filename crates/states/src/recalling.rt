@@ -10,7 +10,8 @@ ghost use Rattle.states.specs.Below.{says};
 ghost use Rattle.states.specs.Frames.{frame_facts, IsKnown, StayKnown, IsAsking, WordIsSaid, EntryIsSaid};
 ghost use Rattle.states.specs.Frames.{SameRoom};
 ghost use Rattle.states.specs.Implied.{BlockImplied};
-ghost use Rattle.states.specs.Remembered.{compared_at, time_of, changes_of, word_time, word_written, loop_stays, loops_stay};
+ghost use Rattle.states.specs.Remembered.{compared_at, time_of, changes_of, word_time, word_written, loop_stays};
+ghost use Rattle.states.specs.Remembered.{loops_stay};
 ghost use Rattle.states.specs.Remembered.{wants_no_loop, range_says, became_until, IsPaid, IsRecalled, ChangedSay};
 ghost use Rattle.states.specs.Rows.{AreApart};
 ghost use Rattle.states.specs.State.{entry_fact, is_word, said_of};
@@ -49,7 +50,8 @@ pub(crate) struct Asking {
     pub is_written: bool,
     /// How the others were left. They are asked where this does not say what is wanted.
     pub range: Option<Leaving>,
-    /// What all words of the block became. Those that were not written since are not asked where it says what is wanted.
+    /// What all words of the block became. Those that were not written since are not asked where it says what is
+    /// wanted.
     pub became: Became,
 }
 
@@ -159,8 +161,8 @@ impl Frame<'_> {
         self.fact_says(number, row, all)
     }
 
-    /// Whether no word of a block was changed since the state went on from a label, whose row says of each what is claimed
-    /// that the label at a code offset wants.
+    /// Whether no word of a block was changed since the state went on from a label, whose row says of each what is
+    /// claimed that the label at a code offset wants.
     fn row_says(&self, offset: u32, number: usize, row: &LabelRow) -> bool
         requires some { number < vec_len self.now.remembered.times }
         requires label { label_at self.now.remembered.«module».now offset ≡ Some (label_of row.now) }
@@ -532,8 +534,8 @@ impl Frame<'_> {
         }
     }
 
-    /// What is paid at the label at a code offset, if a comparison with it is remembered that tells so. It is remembered
-    /// from now on.
+    /// What is paid at the label at a code offset, if a comparison with it is remembered that tells so. It is
+    /// remembered from now on.
     pub(crate) fn recall(&mut self, offset: u32, row: &LabelRow) -> Option<u64>
         requires label { label_at self.old.remembered.«module».now offset ≡ Some (label_of row.now) }
         requires apart { AreApart row.now.entries.items }

@@ -251,7 +251,8 @@ fn begins_no_loop(row: &[Entry], end: i64) -> bool
 fn past_apart<'a>(row: &'a [Entry], entry: &Entry) -> Option<&'a [Entry]>
     requires { AreApart row.now }
     ensures apart { IfSome result (λ left. AreApart left.now) }
-    ensures same { IfSome result (λ left. (k : ℤ) → entry.now.word ≤ℤ k → entry_fact left.now k ≡ entry_fact row.now k) }
+    ensures same { IfSome result (λ left.
+        (k : ℤ) → entry.now.word ≤ℤ k → entry_fact left.now k ≡ entry_fact row.now k) }
     ensures alone { IfSome result (λ left. IsApartFrom entry.now row.now) }
 {
     if loop_of(entry.fact).is_none() {

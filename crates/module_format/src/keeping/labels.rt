@@ -5,18 +5,19 @@ ghost use Rattle.module_format.specs.Contents.{label_of, procedure_of};
 ghost use Rattle.module_format.specs.Offsets.{EntriesRise};
 ghost use Rattle.module_format.specs.Facts.{IsPointer, ValueKeeps, RegisterKeeps, WordKeeps, IsLabelOffset, FactsKeep};
 
-use crate::fact::{Fact, Step};
+use crate::fact::{Fact, Region, Step};
 use crate::keeping::list::all_keep;
 use crate::offsets::is_entry;
 use crate::reading::LEAST_WORD;
 use crate::rows::{LabelRow, ProcedureRow};
 use crate::rules::{is_loop_length, is_stepped, lies_after};
 
-/// A pointer's bounds and step.
-fn pointer_keeps(region: u16, lo: i32, hi: i32, step: Step) -> bool
+/// A pointer's region, bounds and step.
+fn pointer_keeps(region: Region, lo: i32, hi: i32, step: Step) -> bool
     ensures { IsTrue result ↔ IsPointer region lo hi step }
 {
-    lo <= hi
+    region.has_number()
+        && lo <= hi
         && match step {
             Step::Byte => true,
             Step::Word => is_stepped(lo) && is_stepped(hi),

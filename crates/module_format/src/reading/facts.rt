@@ -2,12 +2,12 @@
 
 ghost use Rattle.std.specs.Prelude.{◌≡◌};
 ghost use Rattle.module_format.specs.Facts.{end_of};
-ghost use Rattle.module_format.specs.ReadingRows.{range_at, step_at, pointer_at, code_address_at, count_at, loop_at};
-ghost use Rattle.module_format.specs.ReadingRows.{fact_at, register_at, word_at, first_word_at, span_at};
+ghost use Rattle.module_format.specs.ReadingRows.{range_at, step_at, pointed_at, pointer_at, code_address_at, count_at};
+ghost use Rattle.module_format.specs.ReadingRows.{loop_at, fact_at, register_at, word_at, first_word_at, span_at};
 ghost use Rattle.module_format.specs.ReadingRows.{entries_at, registers_at};
 ghost use Rattle.module_format.specs.Taking.{Takes};
 
-use crate::fact::{Fact, Step};
+use crate::fact::{Fact, Region, Step};
 use crate::fault::FormatFaultKind;
 use crate::reading::cursor::Cursor;
 use crate::reading::list::read_list;
@@ -48,13 +48,21 @@ fn read_step(lo: i32, hi: i32, from: &mut Cursor<'_>) -> Step
     Step::Word
 }
 
+/// The region that a pointer leads to.
+#[tactic(auto, unfolding(crate::specs::ReadingRows::pointed_at, crate::specs::Reading::and_then))]
+fn read_pointed(from: &mut Cursor<'_>) -> Region
+    ensures { Takes pointed_at from.old result from.new }
+{
+    Region::numbered(from.u16())
+}
+
 /// A pointer's region, bounds and step.
 #[tactic(auto, unfolding(crate::specs::ReadingRows::pointer_at, crate::specs::Reading::and_then))]
 #[inline(always)]
 fn read_pointer(from: &mut Cursor<'_>) -> Fact
     ensures { Takes pointer_at from.old result from.new }
 {
-    let region = from.u16();
+    let region = read_pointed(from);
     let (lo, hi) = from.interval();
     let step = read_step(lo, hi, from);
     Fact::Pointer {

@@ -78,8 +78,7 @@ fn fact_references(parameters: usize, at: usize, fact: &Fact) -> Result<(), Form
 {
     match fact {
         Fact::Pointer { region, .. } => {
-            let region = usize::from(*region);
-            if region < 2 || region - 2 < parameters {
+            if region.is_there(parameters) {
                 return Ok(());
             }
             Err(not_there(at + TAG_SIZE))

@@ -2,10 +2,11 @@
 
 ghost use Rattle.std.specs.Prelude.{◌≡◌};
 ghost use Rattle.module_format.specs.declared.fact.Fact.TheVariants.{Pointer};
-ghost use Rattle.module_format.specs.Spelling.{step_size, fact_bytes};
+ghost use Rattle.module_format.specs.Regions.{region_number};
+ghost use Rattle.module_format.specs.Spelling.{step_size, fact_bytes, u16_bytes};
 ghost use Rattle.module_format.specs.Writable.{Writes};
 
-use crate::fact::{Fact, Step};
+use crate::fact::{Fact, Region, Step};
 use crate::tags::{
     TAG_CODE_ADDRESS, TAG_LOOP, TAG_NUMBER, TAG_POINTER, TAG_RETURN_ADDRESS, TAG_UNKNOWN,
 };
@@ -21,14 +22,26 @@ fn step_size(step: Step) -> u8
     }
 }
 
+/// The number of a region, of which a valid fact has one that is a u16.
+#[tactic(auto, using(crate::proofs::RegionLaws::wrapped_number))]
+fn put_region(out: &mut Writer, region: Region)
+    ensures { Writes out.old (u16_bytes (region_number region)) out.new }
+{
+    out.u16(match region {
+        Region::Frame => 0,
+        Region::Constants => 1,
+        Region::Parameter(number) => number.wrapping_add(2),
+    });
+}
+
 /// A pointer: its region, bounds and step, after the tag.
 #[tactic(auto, unfolding(crate::specs::Spelling::fact_bytes))]
 #[inline(always)]
-fn put_pointer(out: &mut Writer, region: u16, lo: i32, hi: i32, step: Step)
+fn put_pointer(out: &mut Writer, region: Region, lo: i32, hi: i32, step: Step)
     ensures { Writes out.old (fact_bytes (Pointer region lo hi step)) out.new }
 {
     out.u8(TAG_POINTER);
-    out.u16(region);
+    put_region(out, region);
     out.i32(lo);
     out.i32(hi);
     out.u8(step_size(step));

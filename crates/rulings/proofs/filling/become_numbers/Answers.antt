@@ -1,4 +1,4 @@
-use Rattle.std.proofs.Common.{arith, to_z, of_z}
+use Rattle.std.proofs.Common.{rules, arith, to_z, of_z}
 use Rattle.std.proofs.lemmas.Int.{ints}
 use Rattle.std.specs.Int.{w32}
 use Rattle.rulings.proofs.BlocksMove.{within_told}
@@ -12,5 +12,5 @@ change_span-requires-clause-room c = record {
       (to_z w32 (of_z w32 c.word_behind.result)) k c.words_within-count.result
       (omega (arith, ints)) c.word_behind.ensures
       (omega (arith, ints)) (omega (arith, ints)) c.words_within-count.ensures (omega (arith, ints)) low high in
-      (c.requires.room c.if-pointer-eq0.true).each k span.0 span.1;
+      (c.requires.room (search rules)).each k span.0 span.1;
 }

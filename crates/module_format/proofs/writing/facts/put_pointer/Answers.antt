@@ -10,4 +10,4 @@ returns c =
     let lo = rw (to_z-of_z w32 c.args.lo c.ranges.lo) at c.i32.ensures in
     let hi = rw (to_z-of_z w32 c.args.hi c.ranges.hi) at c.i32-2.ensures in
     let step = rw c.step_size.ensures at c.u8-2.ensures in
-    (piece _ _ c.u8.ensures >> piece _ _ c.u16.ensures >> piece _ _ lo >> piece _ _ hi >> piece _ _ step).wrote
+    (piece _ _ c.u8.ensures >> piece _ _ c.put_region.ensures >> piece _ _ lo >> piece _ _ hi >> piece _ _ step).wrote

@@ -1,4 +1,4 @@
-use Rattle.std.proofs.Common.{rules, arith, ◌+◌, ◌∙◌, refl, length}
+use Rattle.std.proofs.Common.{rules, arith, ◌∙◌, refl, length}
 use Rattle.std.proofs.lemmas.Int.{ints}
 use Rattle.module_format.specs.Contents.{procedure_of}
 use Rattle.states.specs.Frames.{frame_facts}
@@ -23,7 +23,7 @@ loop-last-preserved c =
     let h =
     parameters-more c.args.row.now.parameters.items c.loop-last.rest.now c.in-Some.earlier.now c.in-Some.last.now
     (frame_facts c.loop-last.self) (frame_facts c.place.new.self) _
-    (2 + length c.in-Some.earlier.now) c.parameter_fact.result
+    (length c.in-Some.earlier.now) c.parameter_fact.result
     (search rules) (search rules) c.loop-last.invariant.front c.loop-last.invariant.facts
     (let e = c.from.ensures in omega (arith, ints, e)) refl c.parameter_fact.ensures c.place.ensures.facts in
     let same = c.loop-last.invariant.room in

@@ -1,4 +1,4 @@
-use Rattle.std.proofs.Common.{◌≡◌, ◌+◌, ◌++◌, length, drop}
+use Rattle.std.proofs.Common.{◌≡◌, ◌++◌, length, drop}
 use Rattle.states.specs.State.{parameter_facts}
 use Rattle.states.specs.Frames.{frame_facts, SameRoom}
 use Rattle.states.proofs.frame.Frame.begin.Given as goal
@@ -6,7 +6,7 @@ use Rattle.states.proofs.frame.Frame.begin.Given as goal
 abbrev pub invariant-loop-last : goal.invariant-loop-last
 invariant-loop-last l = record {
   front : l.row.parameters.items ≡ l.rest ++ drop (length l.rest) l.row.parameters.items;
-  facts : frame_facts l.self ≡ parameter_facts (2 + length l.rest) (drop (length l.rest) l.row.parameters.items);
+  facts : frame_facts l.self ≡ parameter_facts (length l.rest) (drop (length l.rest) l.row.parameters.items);
   room : SameRoom l.fn.self l.self;
 }
 
