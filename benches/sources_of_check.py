@@ -302,16 +302,23 @@ def ifs_changing():
     return with_change(in_nest(["IF", "TRUE"] * 30, 3 * 30, [PASSING], 60, declared=[f"INT {SCALARS}:"]))
 
 
+def passing(name, variables):
+    return f"{name}({','.join(variables)})"
+
+
+def with_procedures(procedures, *body):
+    """Procedures with these parameters, and a body of the main one."""
+    heads = [f"{name}({', '.join(f'INT {it}' for it in formals)})" for name, formals in procedures.items()]
+    return program(*[procedure(head, ["SKIP"]) for head in heads], main(*body))
+
+
 def in_branches(count, size, nest):
     """A nest around an instance that passes so many variables, in turns of an IF: where each of these begins, the
     variables have the values that they had before it."""
     scalars = names(count)
     turns = as_many(size + sum(map(len, scalars)) + 30, 10 * count)
-    heads = [f"IF turn = 0 FOR {turns}", "turn < 0"]
-    formals = ", ".join(f"INT {name}" for name in scalars)
-    passing = [f"change({','.join(scalars)})"]
-    body = main(f"INT {','.join(scalars)}:", "INT other:", *under(heads, nest(passing)))
-    return program(procedure(f"change({formals})", ["SKIP"]), body)
+    nested = under([f"IF turn = 0 FOR {turns}", "turn < 0"], nest([passing("change", scalars)]))
+    return with_procedures({"change": scalars}, f"INT {','.join(scalars)}:", "INT other:", *nested)
 
 
 def branches_changing():
@@ -361,16 +368,6 @@ def size_of(lines):
     words = [word for line in lines for word in WORDS.findall(line) if word not in KEYWORDS]
     names_of_lines = [word for word in words if word[0].isalpha() and word != "TRUE"]
     return len(lines) + sum(map(len, names_of_lines)) + len(words) - len(names_of_lines)
-
-
-def passing(name, variables):
-    return f"{name}({','.join(variables)})"
-
-
-def with_procedures(procedures, *body):
-    """Procedures with these parameters, and a body of the main one."""
-    heads = [f"{name}({', '.join(f'INT {it}' for it in formals)})" for name, formals in procedures.items()]
-    return program(*[procedure(head, ["SKIP"]) for head in heads], main(*body))
 
 
 def in_turns(nest, scalars, **procedures):
