@@ -47,11 +47,7 @@ fn step(words: &mut Words) -> Step {
 
 /// 0 for the frame, 1 for the constants, and 2 + j for what parameter j names.
 fn region(words: &mut Words) -> Region {
-    match words.short() {
-        0 => Region::Frame,
-        1 => Region::Constants,
-        number => Region::Parameter(number - 2),
-    }
+    Region::numbered(words.short())
 }
 
 /// The address of a label.

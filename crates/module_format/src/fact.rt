@@ -16,7 +16,7 @@ pub enum Region {
 
 impl Region {
     /// The region with this number in a file: 0 is the frame, 1 the constants, and 2 + j what parameter j names.
-    pub(crate) fn numbered(number: u16) -> Region
+    pub fn numbered(number: u16) -> Region
         ensures { result ≡ region_numbered number }
     {
         match number {

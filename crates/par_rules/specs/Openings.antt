@@ -1,6 +1,6 @@
 -- What a PAR wants where its first branch is started: its block, its channels, and the words of the parameters that its
 -- branches name.
-use Rattle.std.specs.Prelude.{ℕ, ◌+◌, ◌==◌, ◌&&◌, Bool, true, false, pos, negsuc, ◌+ℤ◌, length, slice_get, Some, None}
+use Rattle.std.specs.Prelude.{ℕ, ◌==◌, ◌&&◌, Bool, true, false, pos, negsuc, ◌+ℤ◌, length, slice_get, Some, None}
 use Rattle.std.specs.List.{list_all}
 use Rattle.word_arithmetic.specs.Word.{least_word}
 use Rattle.module_format.specs.declared.fact.Fact.TheVariants.{Pointer, CodeAddress}
