@@ -121,6 +121,15 @@ noted_not n ss o bs none =
     ap (λ (k : Tracked). touch n k.slots k.blocks) (ap (note_if (suc (length bs)) n ss o bs) none)
     ∙ ap (λ x. touch_if (is_open_in (suc (length bs)) x) n ss o bs) none
 
+-- either of both
+innermost_noted : (n : ℕ) (ss : List Slot) (o : Branching) (bs : List Branching) (x : Option Slot)
+    → item_at n (take o.count ss) ≡ x → noted n ss (o ∷ bs) ≡ record {
+      slots = noted_slots (suc (length bs)) n x ss;
+      blocks = noted_in (suc (length bs)) n x o ∷ bs;
+    }
+innermost_noted n ss o bs None none = noted_not n ss o bs none
+innermost_noted n ss o bs (Some s) is = noted_here n ss o bs s is
+
 item_cut_by : (k n : ℕ) (xs ys : List Slot) → item_at n xs ≡ item_at n ys → (n < k) ⊎ (k ≤ n)
     → item_at n (take k xs) ≡ item_at n (take k ys)
 item_cut_by k n xs ys same (inl less) = item_within n k xs less ∙ same ∙ sym (item_within n k ys less)
@@ -630,3 +639,59 @@ module _ (n a place : ℕ) (slots : List code_slot.Slot) (blocks : List code_bra
       (subst (λ bs. StayApart a (inner ++ branching_of o ∷ rest) a bs) (sym (now_seen after all put))
       (subst (λ k. StayApart k (inner ++ branching_of o ∷ rest) k (inner ++ branching_of after ∷ rest)) many
       (λ p. same_apart p inner (branching_of o) (branching_of after) rest)))
+
+-- ---- the innermost block
+
+none_long : (bs : List Branching) → length bs ≡ 0 → bs ≡ []
+none_long [] none = refl
+none_long (b ∷ bs) none = absurd (omega arith)
+
+-- where there is no block
+pub noted_outside : (n : ℕ) (slots : List code_slot.Slot) (blocks : List code_branching.Branching)
+    → length blocks ≡ 0 → tracked_from slots blocks ≡ noted n (slots_from slots) (branchings_from blocks)
+noted_outside n slots [] none = refl
+noted_outside n slots (b ∷ blocks) none = absurd (omega arith)
+
+module _ (n place : ℕ) (slots : List code_slot.Slot) (blocks : List code_branching.Branching)
+    (o : code_branching.Branching) (less : place < length blocks) (found : o ≡ get_or blocks place o)
+    (size : length blocks ≡ place + 1 + 0) (tracked : BelongTogether slots blocks) where
+  abbrev ss_here : List Slot
+  ss_here = slots_from slots
+
+  abbrev rest_here : List Branching
+  rest_here = branchings_from (take place blocks)
+
+  outside_none : (bs : List Branching) → 0 < length bs → AreOutside n 0 bs
+  outside_none [] long = absurd (omega arith)
+  outside_none (b ∷ bs) long = tt
+
+  outside_here : AreOutside n 0 (branchings_from blocks)
+  outside_here = let long = branchings_long blocks in outside_none (branchings_from blocks) (omega arith)
+
+  none_inner : branchings_from (drop (suc place) blocks) ≡ []
+  none_inner =
+      none_long (branchings_from (drop (suc place) blocks))
+      (many n 0 place slots blocks o less found size tracked outside_here)
+
+  pub room_here : HasRoomFor (place + 1) (item_at n (take o.count ss_here)) (vec_capacity o.changes)
+      (vec_capacity o.recent) (branching_of o)
+  room_here = has_room n 0 place slots blocks o less found size tracked outside_here
+
+  pub noted_inside : (whole : List code_slot.Slot) (all : List code_branching.Branching)
+      (after : code_branching.Branching)
+      → slots_from whole ≡ noted_slots (place + 1) n (item_at n (take o.count ss_here)) ss_here
+      → branching_of after ≡ noted_in (place + 1) n (item_at n (take o.count ss_here)) (branching_of o)
+      → all ≡ set blocks place after
+      → tracked_from whole all ≡ noted n ss_here (branchings_from blocks)
+  noted_inside whole all after noting block put =
+      let slot = item_at n (take o.count ss_here) in
+      let d = suc (length rest_here) in
+      let down = deep n 0 place slots blocks o less found size tracked outside_here in
+      let changed = noting ∙ (λ i. noted_slots (down i) n slot ss_here) in
+      let now = now_seen n 0 place slots blocks o less found size tracked outside_here after all put
+      ∙ (λ i. none_inner i ++ (block ∙ (λ j. noted_in (down j) n slot (branching_of o))) i ∷ rest_here) in
+      let seen = apart_seen n 0 place slots blocks o less found size tracked outside_here
+      ∙ (λ i. none_inner i ++ branching_of o ∷ rest_here) in
+      (λ i. record { slots = changed i; blocks = now i })
+      ∙ sym (innermost_noted n ss_here (branching_of o) rest_here slot refl)
+      ∙ ap (noted n ss_here) (sym seen)

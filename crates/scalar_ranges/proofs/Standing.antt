@@ -160,7 +160,7 @@ are_short t =
 
 pub still_for : (s : Stage) (p : ℕ → Option Meaning) (k : Known) → IsStill p k.entries k.blocks
     → IsStillFor s p k.entries k.blocks
-still_for stages.Nothing p k still = still
+still_for stages.Nothing p k still = tt
 still_for (stages.Going f) p k still = still
 still_for (stages.Ended f) p k still = still
 still_for (stages.Around f a) p k still = still

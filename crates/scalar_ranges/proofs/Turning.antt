@@ -10,7 +10,7 @@ use Rattle.scalar_ranges.specs.declared.slots.Branching as code_branching
 use Rattle.scalar_ranges.specs.Changes.{Slot, Branching, Tracked, modify, undone, before, numbers_of, AreTracked}
 use Rattle.scalar_ranges.specs.Changes.{turned_slots, turned_block, next_in, component_slots, component_block}
 use Rattle.scalar_ranges.specs.Changes.{component_in, meaning_after, puts, ended_in, fresh, cut}
-use Rattle.scalar_ranges.specs.Changes.{note, touch, put_by, put_if, known_if, known_in, Follows}
+use Rattle.scalar_ranges.specs.Changes.{noted, put_by, put_if, known_if, known_in, Follows}
 use Rattle.scalar_ranges.specs.Changes.{handed, handed_block, handed_over, HandsOver}
 use Rattle.scalar_ranges.specs.Moves.{Known, end}
 use Rattle.scalar_ranges.specs.ChangeViews.{slot_of, slots_from, change_of, changes_from, branching_of}
@@ -55,16 +55,14 @@ pub cut_is : (count : ℕ) (slots now : List code_slot.Slot) (blocks : List Bran
 cut_is count slots now blocks is = λ i. record { slots = slots_cut slots now count is i; blocks = blocks }
 
 -- an entry means something else, once the innermost block and its branch have it in their lists
-pub put_is : (f : Slot → Slot) (n : ℕ) (old listed both : code_tracked.Tracked) (lent now all : List code_slot.Slot)
-    → tracked_of listed ≡ note n (tracked_of old).slots (tracked_of old).blocks
-    → tracked_of both ≡ touch n (tracked_of listed).slots (tracked_of listed).blocks → lent ≡ both.slots.items
+pub put_is : (f : Slot → Slot) (n : ℕ) (old both : code_tracked.Tracked) (lent now all : List code_slot.Slot)
+    → tracked_of both ≡ noted n (tracked_of old).slots (tracked_of old).blocks → lent ≡ both.slots.items
     → slots_from now ≡ modify f n (slots_from lent) → all ≡ now
     → tracked_from all both.blocks.items ≡ put_by f n (tracked_of old)
-put_is f n old listed both lent now all noting touching same changes whole =
+put_is f n old both lent now all noting same changes whole =
     let changed = slots_modified f n same changes whole in
     (λ i. record { slots = changed i; blocks = branchings_from both.blocks.items })
-    ∙ ap (λ (k : Tracked). record { slots = modify f n k.slots; blocks = k.blocks })
-    (touching ∙ ap (λ (k : Tracked). touch n k.slots k.blocks) noting)
+    ∙ ap (λ (k : Tracked). record { slots = modify f n k.slots; blocks = k.blocks }) noting
 
 -- a block more, if there was memory for it
 pub begun_is : (t ended : Bool) (slots : List code_slot.Slot) (blocks now : List code_branching.Branching)

@@ -71,7 +71,7 @@ begun_stage (stages.EndedAround f a) = Some (stages.EndedAround f (suc a))
 
 -- that a branch may end where the list stays put off
 abbrev pub IsStillFor : Stage → (ℕ → Option Meaning) → List Entry → List Block → Type 0
-IsStillFor stages.Nothing p es bs = IsStill p es bs
+IsStillFor stages.Nothing p es bs = Unit {0}
 IsStillFor (stages.Going f) p es bs = IsStill p es bs
 IsStillFor (stages.Ended f) p es bs = IsStill p es bs
 IsStillFor (stages.Around f a) p es bs = IsStill p es bs

@@ -14,6 +14,7 @@ ghost use Rattle.scalar_ranges.specs.ChangeViews.{AfterBlock, BelongTogether, Be
 use crate::moves::is_same;
 use crate::scope::{Entry, Meaning};
 use crate::slots::{Branching, Change, Form, Slot, Turn, Update};
+use crate::spare::Spare;
 use occam_parser::Comparison;
 use std::alloc::{AllocError, Global};
 
@@ -31,7 +32,7 @@ impl<'a> Tracked<'a> {
     ghost use Rattle.scalar_ranges.specs.Moves.{begun_with, next, next_component, end};
     ghost use Rattle.scalar_ranges.specs.Entries.{entry_at};
     ghost use Rattle.scalar_ranges.specs.MoveLaws.{meaning_at};
-    ghost use Rattle.scalar_ranges.specs.Changes.{is_new, note, is_open, touch, put_by, put, put_start, begun};
+    ghost use Rattle.scalar_ranges.specs.Changes.{noted, put_by, put, put_start, begun};
     ghost use Rattle.scalar_ranges.specs.Changes.{put_ends, AreOutside, known_around, ends_around};
     ghost use Rattle.scalar_ranges.specs.Deferring.{of_form, is_inside, has_ends};
     ghost use Rattle.scalar_ranges.specs.Changes.{declared, cut};
@@ -108,57 +109,14 @@ impl<'a> Tracked<'a> {
         self.slots.truncate(count);
     }
 
-    /// Whether the innermost block began with this entry and does not have it in its list.
-    fn is_new(&self, number: usize) -> bool
-        ensures { result ≡ is_new number (tracked_of self.now).slots (tracked_of self.now).blocks }
-    {
-        match self.blocks.last() {
-            None => false,
-            Some(block) => { number < block.count && self.slots[number].mark != self.blocks.len() }
-        }
-    }
-
-    /// The innermost block has this entry in its list, if it began with it.
+    /// The innermost block and its branch have this entry in their lists, if the block began with it.
     fn note(&mut self, number: usize)
-        ensures { tracked_of self.new ≡ note number (tracked_of self.old).slots (tracked_of self.old).blocks }
+        ensures { tracked_of self.new ≡ noted number (tracked_of self.old).slots (tracked_of self.old).blocks }
     {
-        if !self.is_new(number) {
-            return;
-        }
         let depth = self.blocks.len();
-        if let Some(mut block) = self.blocks.pop() {
-            let before = self.slots[number];
-            block.changes.push_reserved(Change {
-                number,
-                before,
-                after: None,
-            });
-            modify(&mut self.slots, number, Update::Mark { depth });
-            self.blocks.push_reserved(block);
-        }
-    }
-
-    /// Whether the innermost block has this entry in its list, and its branch does not.
-    fn is_open(&self, number: usize) -> bool
-        ensures { result ≡ is_open number (tracked_of self.now).slots (tracked_of self.now).blocks }
-    {
-        match self.blocks.last() {
-            None => false,
-            Some(block) => number < block.count && self.slots[number].is_open(self.blocks.len()),
-        }
-    }
-
-    /// The branch has this entry in its list, if the innermost block has it in its own.
-    fn touch(&mut self, number: usize)
-        ensures { tracked_of self.new ≡ touch number (tracked_of self.old).slots (tracked_of self.old).blocks }
-    {
-        if !self.is_open(number) {
-            return;
-        }
-        if let Some(mut block) = self.blocks.pop() {
-            block.recent.push_reserved(number);
-            modify(&mut self.slots, number, Update::Touch);
-            self.blocks.push_reserved(block);
+        if depth > 0 {
+            let place = depth - 1;
+            note_in(&mut self.blocks[place], &mut self.slots, number, place + 1);
         }
     }
 
@@ -168,7 +126,6 @@ impl<'a> Tracked<'a> {
         ensures { tracked_of self.new ≡ put_by (updated update) number (tracked_of self.old) }
     {
         self.note(number);
-        self.touch(number);
         modify(&mut self.slots, number, update);
     }
 
@@ -245,14 +202,19 @@ impl<'a> Tracked<'a> {
 
     /// A block begins, which has ends if it is a `PAR`. Its lists get the capacity for all entries. If memory runs out,
     /// all is as it was.
-    pub(crate) fn begin(&mut self, alloc: Global, ended: bool) -> Result<(), AllocError>
+    pub(crate) fn begin(
+        &mut self,
+        alloc: Global,
+        ended: bool,
+        spare: &mut Spare<'a>,
+    ) -> Result<(), AllocError>
         ensures ok { OnOk result (tracked_of self.new ≡ begun ended (tracked_of self.old)) }
         ensures err { OnErr result (tracked_of self.new ≡ tracked_of self.old) }
     {
         let count = self.slots.len();
-        let changes = Vec::with_capacity(alloc, count)?;
-        let earlier = Vec::with_capacity(alloc, count)?;
-        let recent = Vec::with_capacity(alloc, count)?;
+        let changes = spare.changes(alloc, count)?;
+        let earlier = spare.numbers(alloc, count)?;
+        let recent = spare.numbers(alloc, count)?;
         self.blocks.push(Branching {
             count,
             ended,
@@ -291,14 +253,14 @@ impl<'a> Tracked<'a> {
     }
 
     /// A block ends.
-    pub(crate) fn end(&mut self)
+    pub(crate) fn end(&mut self, spare: &mut Spare<'a>)
         ensures known { known_by self.new ≡ end (known_by self.old) }
         ensures apart { (a : ℕ) → StayApart (suc a) (tracked_of self.old).blocks a (tracked_of self.new).blocks }
     {
         if self.hands_over() {
-            self.hand_over();
+            self.hand_over(spare);
         } else {
-            self.put_back();
+            self.put_back(spare);
         }
     }
 
@@ -317,7 +279,7 @@ impl<'a> Tracked<'a> {
     }
 
     /// A block ends, and the block around has its list. It costs a step for each change, and nothing is copied.
-    fn hand_over(&mut self)
+    fn hand_over(&mut self, spare: &mut Spare<'a>)
         requires { HandsOver (tracked_of self.old).blocks }
         ensures known { known_by self.new ≡ end (known_by self.old) }
         ensures apart { (a : ℕ) → StayApart (suc a) (tracked_of self.old).blocks a (tracked_of self.new).blocks }
@@ -328,28 +290,34 @@ impl<'a> Tracked<'a> {
                 count,
                 ended,
                 changes,
+                earlier,
+                recent,
                 ..
             } = block;
+            spare.keep_numbers(earlier);
+            spare.keep_numbers(recent);
             if let Some(outer) = self.blocks.pop() {
                 self.slots.truncate(count);
                 hand_slots(&mut self.slots, &changes, depth, depth - 1, ended);
-                self.blocks.push_reserved(handed_block(outer, changes));
+                self.blocks
+                    .push_reserved(handed_block(outer, changes, spare));
             }
         }
     }
 
     /// A block ends: its changes are taken back, and what is known after it changes what is around it.
-    fn put_back(&mut self)
+    fn put_back(&mut self, spare: &mut Spare<'a>)
         ensures known { known_by self.new ≡ end (known_by self.old) }
         ensures apart { (a : ℕ) → StayApart (suc a) (tracked_of self.old).blocks a (tracked_of self.new).blocks }
     {
-        if let Some(changes) = self.end_apart() {
+        if let Some(changes) = self.end_apart(spare) {
             self.put_afters(&changes);
+            spare.keep_changes(changes);
         }
     }
 
     /// A block ends: its changes are taken back, and each says what its entry means after the block.
-    pub(crate) fn end_apart(&mut self) -> Option<Vec<Change<'a>>>
+    pub(crate) fn end_apart(&mut self, spare: &mut Spare<'a>) -> Option<Vec<Change<'a>>>
         ensures known { MatchOption result (known_by self.new ≡ end (known_by self.old))
             (λ changes. known_afters changes.items (known_by self.new) ≡ end (known_by self.old)) }
         ensures apart { MatchOption result
@@ -364,8 +332,12 @@ impl<'a> Tracked<'a> {
                     count,
                     ended,
                     mut changes,
+                    earlier,
+                    recent,
                     ..
                 } = block;
+                spare.keep_numbers(earlier);
+                spare.keep_numbers(recent);
                 self.slots.truncate(count);
                 take_back(&mut self.slots, &mut changes, depth, ended);
                 Some(changes)
@@ -494,7 +466,11 @@ fn are_foreign(changes: &[Change], count: usize, depth: usize) -> bool
 }
 
 /// The outer block with the list of a block in it as its own, which its branch has too. It had none itself.
-fn handed_block<'a>(outer: Branching<'a>, changes: Vec<Change<'a>>) -> Branching<'a>
+fn handed_block<'a>(
+    outer: Branching<'a>,
+    changes: Vec<Change<'a>>,
+    spare: &mut Spare<'a>,
+) -> Branching<'a>
     requires room { outer.count ≤ vec_capacity changes }
     requires count { length changes.items ≤ outer.count }
     requires none { outer.recent.items ≡ [] }
@@ -504,10 +480,11 @@ fn handed_block<'a>(outer: Branching<'a>, changes: Vec<Change<'a>>) -> Branching
         count,
         ended,
         even,
+        changes: unused,
         earlier,
         mut recent,
-        ..
     } = outer;
+    spare.keep_changes(unused);
     add_numbers(&mut recent, &changes);
     Branching {
         count,

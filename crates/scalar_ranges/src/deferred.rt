@@ -10,11 +10,13 @@ ghost use Rattle.scalar_ranges.specs.Changes.{modify, each};
 use crate::changes::Tracked;
 use crate::scope::{Entry, Meaning};
 use crate::slots::{Change, Form};
+use crate::spare::Spare;
 use occam_parser::Comparison;
 use std::alloc::{AllocError, Global};
+use std::mem::replace;
 
-/// How many changes are looked at where a branch ends.
-const FEW: usize = 256;
+/// How often an entry of the list may be tested in the mean, where branches end, before the list is settled.
+const TESTS: usize = 16;
 
 /// What a block that has ended left of an entry.
 #[derive(Clone, Copy)]
@@ -54,6 +56,9 @@ pub(crate) struct Deferred<'a> {
     pub(crate) listed: Vec<Change<'a>>,
     /// How many changes of their own blocks had that ended beside it.
     pub(crate) beside: usize,
+    /// How many changes of blocks were tested where a branch ended.
+    pub(crate) tested: usize,
+    pub(crate) spare: Spare<'a>,
     ghost kept: { IsKept mark lefts.items listed.items } by { IsKept-prop mark lefts.items listed.items },
     ghost apart: { KeepsApart stage mark lefts.items tracked } by { KeepsApart-prop stage mark lefts.items tracked },
 }
@@ -154,6 +159,8 @@ impl<'a> Deferred<'a> {
             stage: Stage::Nothing,
             listed: Vec::new(alloc),
             beside: 0,
+            tested: 0,
+            spare: Spare::new(alloc),
         }
     }
 
@@ -309,7 +316,7 @@ impl<'a> Deferred<'a> {
             Some(stage) if self.tracked.is_inside() => self.begin_beside(alloc, ended, stage),
             _ => {
                 self.settle();
-                self.tracked.begin(alloc, ended)
+                self.tracked.begin(alloc, ended, &mut self.spare)
             }
         }
     }
@@ -321,7 +328,7 @@ impl<'a> Deferred<'a> {
         ensures ok { OnOk result (known_now self.new ≡ begin_with ended (known_now self.old)) }
         ensures err { OnErr result (known_now self.new ≡ known_now self.old) }
     {
-        match self.tracked.begin(alloc, ended) {
+        match self.tracked.begin(alloc, ended, &mut self.spare) {
             Ok(()) => {
                 self.lefts.truncate(self.tracked.len());
                 self.stage = stage;
@@ -331,15 +338,33 @@ impl<'a> Deferred<'a> {
         }
     }
 
-    /// Whether the innermost block has no ends, or few changes, of entries of which nothing is put off.
+    /// Whether the innermost block has no ends, or nothing is put off of its entries, which are tested if that was not
+    /// done too often.
     fn is_still(&self) -> bool
         ensures { result ≡ true
             → IsStill (left_by self.now) (known_by self.now.tracked).entries (known_by self.now.tracked).blocks }
     {
         match self.tracked.blocks.last() {
             None => true,
-            Some(block) => {
-                !block.ended || block.changes.len() <= FEW && self.are_released(&block.changes)
+            Some(block) => !block.ended || self.may_test() && self.are_released(&block.changes),
+        }
+    }
+
+    /// Whether few changes were tested, for the length of the list.
+    fn may_test(&self) -> bool {
+        self.tested <= self.listed.len().saturating_mul(TESTS)
+    }
+
+    /// Counts the changes that are tested where a branch ends.
+    fn count_tests(&mut self)
+        ensures { known_now self.new ≡ known_now self.old }
+    {
+        match self.stage {
+            Stage::Nothing | Stage::EndedAround(_, _) => (),
+            _ => {
+                if self.tracked.has_ends() {
+                    self.tested = self.tested.saturating_add(self.tracked.changed());
+                }
             }
         }
     }
@@ -350,7 +375,7 @@ impl<'a> Deferred<'a> {
             (known_by self.now.tracked).blocks }
     {
         match self.stage {
-            Stage::EndedAround(_, _) => true,
+            Stage::Nothing | Stage::EndedAround(_, _) => true,
             _ => self.is_still(),
         }
     }
@@ -371,37 +396,50 @@ impl<'a> Deferred<'a> {
     pub(crate) fn next(&mut self)
         ensures { known_now self.new ≡ next (known_now self.old) }
     {
-        if !self.can_turn() {
-            self.release_few();
+        self.count_tests();
+        if self.can_turn() {
+            self.go_on();
+        } else {
+            self.release_changed();
+            self.turn();
         }
-        self.turn();
     }
 
-    /// If the innermost block has few changes, nothing is put off any more of their entries.
-    fn release_few(&mut self)
+    /// Nothing is put off any more of what the innermost block changed, unless that was tested too often.
+    fn release_changed(&mut self)
         ensures { known_now self.new ≡ known_now self.old }
     {
-        if let Stage::Nothing = self.stage {
+        if !self.may_test() {
             return;
         }
-        for place in 0..FEW {
-            match self.tracked.changed_at(place) {
-                None => return,
-                Some(number) => self.release(number),
+        for place in 0..self.tracked.changed() {
+            if let Some(number) = self.tracked.changed_at(place) {
+                self.release(number);
             }
         }
     }
 
-    /// A branch ends, and the next one begins. It costs little if nothing is put off of what the block has in its list.
+    /// A branch ends, and the next one begins. The list is settled if something is put off of what the block has in its
+    /// list.
     fn turn(&mut self)
         ensures { known_now self.new ≡ next (known_now self.old) }
     {
         if self.can_turn() {
-            if self.tracked.is_inside() {
-                self.stage = self.stage.turned(self.tracked.has_ends());
-            }
+            self.go_on();
         } else {
             self.settle();
+            self.tracked.next();
+        }
+    }
+
+    /// A branch ends, and the next one begins, where the list stays put off.
+    fn go_on(&mut self)
+        requires { IsStillFor self.old.stage (left_by self.old) (known_by self.old.tracked).entries
+            (known_by self.old.tracked).blocks }
+        ensures { known_now self.new ≡ next (known_now self.old) }
+    {
+        if self.tracked.is_inside() {
+            self.stage = self.stage.turned(self.tracked.has_ends());
         }
         self.tracked.next();
     }
@@ -446,7 +484,7 @@ impl<'a> Deferred<'a> {
         } else {
             self.stage = self.stage.ended(self.tracked.has_ends());
             self.beside = self.beside.saturating_add(self.tracked.changed());
-            self.tracked.end();
+            self.tracked.end(&mut self.spare);
         }
     }
 
@@ -463,15 +501,18 @@ impl<'a> Deferred<'a> {
         requires { self.old.stage ≡ Nothing }
         ensures { known_now self.new ≡ end (known_now self.old) }
     {
-        if let Some(changes) = self.tracked.end_apart() {
+        if let Some(changes) = self.tracked.end_apart(&mut self.spare) {
             if self.mark < usize::MAX && are_below(&changes, self.lefts.len()) {
                 self.mark += 1;
                 set_all(&mut self.lefts, &changes, self.mark);
-                self.listed = changes;
+                let before = replace(&mut self.listed, changes);
+                self.spare.keep_changes(before);
                 self.beside = 0;
+                self.tested = 0;
                 self.stage = Stage::Going(Form::Whole);
             } else {
                 self.tracked.put_afters(&changes);
+                self.spare.keep_changes(changes);
             }
         }
     }

@@ -18,6 +18,7 @@ mod reading;
 mod results;
 mod scope;
 mod slots;
+mod spare;
 mod steps;
 mod types;
 

@@ -10,12 +10,12 @@ use Rattle.scalar_ranges.proofs.changes.Tracked.update.Goals as goal
 use Rattle.scalar_ranges.proofs.changes.Tracked.update.Goals.{After-modify}
 
 changed : (c : After-modify)
-    → tracked_from (with_items c.touch.new.self.slots c.modify.new.slots).items c.touch.new.self.blocks.items
+    → tracked_from (with_items c.note.new.self.slots c.modify.new.slots).items c.note.new.self.blocks.items
     ≡ put_by (updated c.args.update) c.args.number (tracked_of c.args.self.now)
 changed c =
-    put_is (updated c.args.update) c.args.number c.args.self.now c.note.new.self c.touch.new.self
-    c.deref_mut.result.now c.modify.new.slots _ c.note.ensures c.touch.ensures c.deref_mut.ensures.value
-    c.modify.ensures (with_items_is c.touch.new.self.slots c.modify.new.slots (search (rules, places)))
+    put_is (updated c.args.update) c.args.number c.args.self.now c.note.new.self c.deref_mut.result.now
+    c.modify.new.slots _ c.note.ensures c.deref_mut.ensures.value c.modify.ensures
+    (with_items_is c.note.new.self.slots c.modify.new.slots (search (rules, places)))
 
 pub invariant_of-self : goal.invariant_of-self
 invariant_of-self c =

@@ -24,8 +24,10 @@ invariant_of-self c =
     let old = c.args.self.now in
     let cs = c.in-Some.changes.items in
     record {
-      kept = subst (λ ls. IsKept (old.mark + 1) ls cs) (sym (items (goal.at.invariant_of-self c).After-set_all))
-          (kept_set old.mark (old.mark + 1) cs old.listed.items old.lefts.items old.kept (omega arith));
+      kept = subst (IsKept (old.mark + 1) (with_items old.lefts c.set_all.new.lefts).items)
+          (λ i. (sym c.replace-before.ensures.after i).items)
+          (subst (λ ls. IsKept (old.mark + 1) ls cs) (sym (items (goal.at.invariant_of-self c).After-set_all))
+          (kept_set old.mark (old.mark + 1) cs old.listed.items old.lefts.items old.kept (omega arith)));
       apart = tt;
     }
 

@@ -1,12 +1,9 @@
 use Rattle.std.proofs.Common.{ap, ◌∙◌}
-use Rattle.scalar_ranges.specs.LeftViews.{known_now}
 use Rattle.scalar_ranges.specs.Moves.{next}
 use Rattle.scalar_ranges.proofs.deferred.Deferred.next.Goals as goal
-use Rattle.scalar_ranges.proofs.deferred.Deferred.next.Goals.{then-not-can_turn, else-not-can_turn}
 
-pub returns : goal.returns
-returns c =
-    c.turn.ensures ∙ ap next (elim c.if-not-can_turn.branch [
-      | then-not-can_turn w ↦ ap known_now w.self-is ∙ w.release_few.ensures
-      | else-not-can_turn w ↦ ap known_now w.self-is
-    ])
+pub returns-then-can_turn : goal.returns-then-can_turn
+returns-then-can_turn c = c.go_on.ensures ∙ ap next c.count_tests.ensures
+
+pub returns-else-can_turn : goal.returns-else-can_turn
+returns-else-can_turn c = c.turn.ensures ∙ ap next (c.release_changed.ensures ∙ c.count_tests.ensures)

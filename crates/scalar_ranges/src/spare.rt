@@ -1,0 +1,66 @@
+//! Lists that blocks had which have ended, for the blocks that begin next.
+
+ghost use Rattle.std.specs.Prelude.{◌≡◌, ◌≤◌, [], IfOk, vec_capacity};
+
+use crate::slots::Change;
+use std::alloc::{AllocError, Global};
+
+/// Lists that no block has. There are no more of them than blocks were open at once, since a block that begins takes
+/// one of each if there is any.
+#[derive(Drop)]
+pub(crate) struct Spare<'a> {
+    changes: Vec<Vec<Change<'a>>>,
+    numbers: Vec<Vec<usize>>,
+}
+
+impl<'a> Spare<'a> {
+    /// No lists.
+    pub(crate) fn new(alloc: Global) -> Spare<'a> {
+        Spare {
+            changes: Vec::new(alloc),
+            numbers: Vec::new(alloc),
+        }
+    }
+
+    /// No changes, with the capacity for so many: the list that was kept last, if it has that capacity.
+    pub(crate) fn changes(
+        &mut self,
+        alloc: Global,
+        count: usize,
+    ) -> Result<Vec<Change<'a>>, AllocError>
+        ensures items { IfOk result (λ list. list.items ≡ []) }
+        ensures capacity { IfOk result (λ list. count ≤ vec_capacity list) }
+    {
+        match self.changes.pop() {
+            Some(mut list) if list.capacity() >= count => {
+                list.clear();
+                Ok(list)
+            }
+            _ => Vec::with_capacity(alloc, count),
+        }
+    }
+
+    /// The same of numbers.
+    pub(crate) fn numbers(&mut self, alloc: Global, count: usize) -> Result<Vec<usize>, AllocError>
+        ensures items { IfOk result (λ list. list.items ≡ []) }
+        ensures capacity { IfOk result (λ list. count ≤ vec_capacity list) }
+    {
+        match self.numbers.pop() {
+            Some(mut list) if list.capacity() >= count => {
+                list.clear();
+                Ok(list)
+            }
+            _ => Vec::with_capacity(alloc, count),
+        }
+    }
+
+    /// No block has this list any more. It is let go if there is no memory to keep it.
+    pub(crate) fn keep_changes(&mut self, list: Vec<Change<'a>>) {
+        let _ = self.changes.push(list);
+    }
+
+    /// The same of numbers.
+    pub(crate) fn keep_numbers(&mut self, list: Vec<usize>) {
+        let _ = self.numbers.push(list);
+    }
+}
