@@ -53,11 +53,11 @@ open_in n ss b bs (Some s) is free =
     let both = both_hold (nat_eq s.mark (suc (length bs))) (not s.recent) free in
     record { slot = s; is = is; here = both.0; apart = not_true s.recent both.1 }
 
-pub open_is : (n : ℕ) (ss : List Slot) (b : Branching) (bs : List Branching) → is_open n ss (b ∷ bs) ≡ true
+open_is : (n : ℕ) (ss : List Slot) (b : Branching) (bs : List Branching) → is_open n ss (b ∷ bs) ≡ true
     → IsOpen n ss b bs
 open_is n ss b bs free = open_in n ss b bs (item_at n (take b.count ss)) refl free
 
-pub open_recent : {n : ℕ} {ss : List Slot} {b : Branching} {bs : List Branching} (o : IsOpen n ss b bs)
+open_recent : {n : ℕ} {ss : List Slot} {b : Branching} {bs : List Branching} (o : IsOpen n ss b bs)
     → is_recent (suc (length bs)) o.slot ≡ false
 open_recent {n} {ss} {b} {bs} o = ap (λ t. cond t o.slot.recent false) o.here ∙ o.apart
 
@@ -158,13 +158,6 @@ touches_well : (n : ℕ) (ss : List Slot) (bs : List Branching) → AreTracked s
     → NotesWell n ss bs (touch n ss bs)
 touches_well n ss [] tracked noting = record { entries = refl; blocks = refl; tracked = tracked; noted = tt }
 touches_well n ss (b ∷ bs) tracked noting = touches_by (is_open n ss (b ∷ bs)) n ss b bs tracked noting refl
-
-pub touch_tracked : (n : ℕ) (ss : List Slot) (bs : List Branching) → AreTracked ss bs → is_open n ss bs ≡ true
-    → AreTracked (touch n ss bs).slots (touch n ss bs).blocks
-touch_tracked n ss [] tracked free = tracked
-touch_tracked n ss (b ∷ bs) tracked free =
-    subst (λ t. AreTracked (touch_if t n ss b bs).slots (touch_if t n ss b bs).blocks) (sym free)
-    (touched_tracked n ss b bs tracked (open_is n ss b bs free))
 
 pub notes_well : (n : ℕ) (ss : List Slot) (bs : List Branching) → AreTracked ss bs
     → NotesWell n ss bs (noted n ss bs)

@@ -380,7 +380,3 @@ noted_if n ss b bs (Some s) tracked is = note_by (nat_eq s.mark (suc (length bs)
 pub lists_well : (n : ℕ) (ss : List Slot) (bs : List Branching) → AreTracked ss bs → ListsWell n ss bs (note n ss bs)
 lists_well n ss [] tracked = record { entries = refl; blocks = refl; tracked = tracked; listed = tt }
 lists_well n ss (b ∷ bs) tracked = noted_if n ss b bs (item_at n (take b.count ss)) tracked refl
-
-pub note_tracked : (n : ℕ) (ss : List Slot) (bs : List Branching) → AreTracked ss bs
-    → AreTracked (note n ss bs).slots (note n ss bs).blocks
-note_tracked n ss bs tracked = (lists_well n ss bs tracked).tracked

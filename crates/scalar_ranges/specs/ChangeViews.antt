@@ -12,7 +12,7 @@ use Rattle.scalar_ranges.specs.declared.slots.Branching as code_branching
 use Rattle.scalar_ranges.specs.Entries.{Meaning}
 use Rattle.scalar_ranges.specs.Environments.{item_at}
 use Rattle.scalar_ranges.specs.Changes.{Slot, Change, Branching, Tracked, before, AreTracked, numbers_of, put_if}
-use Rattle.scalar_ranges.specs.Changes.{with_new, with_start, with_ends, with_end, with_restart, marked, touched}
+use Rattle.scalar_ranges.specs.Changes.{with_new, with_start, with_ends, with_end, with_restart}
 use Rattle.scalar_ranges.specs.Changes.{known_if}
 use Rattle.scalar_ranges.specs.Changes.{handed_slot, noted_slot}
 use Rattle.scalar_ranges.specs.Deferring.{of_form}
@@ -40,9 +40,7 @@ turned d turn s = if nat_eq s.mark d then turned_to turn s else s
 
 -- a slot after what the program makes of it
 abbrev pub updated : code_update.Update → Slot → Slot
-updated (updates.Mark depth) = marked depth
 updated (updates.List depth) = noted_slot depth
-updated updates.Touch = touched
 updated (updates.Mean m) = with_new (meaning_of m)
 updated (updates.Begin comparison constant) = with_start (with_range (left_of comparison constant))
 updated (updates.Leave form left) = with_ends (λ m. of_form form m (meaning_of left))

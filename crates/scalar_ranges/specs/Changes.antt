@@ -187,19 +187,6 @@ with_ends f s = record s { ends = f s.ends }
 abbrev pub marked : ℕ → Slot → Slot
 marked d s = record s { mark = d; recent = false; start = s.meaning; ends = s.meaning }
 
--- whether a test holds in the innermost block, of its depth and of the entry with this number if it began with it
-abbrev pub in_innermost : (ℕ → Option Slot → Bool) → ℕ → List Slot → List Branching → Bool
-in_innermost test n ss [] = false
-in_innermost test n ss (b ∷ bs) = test (suc (length bs)) (item_at n (take b.count ss))
-
--- whether the innermost block began with an entry that it does not have in its list
-abbrev pub is_new_in : ℕ → Option Slot → Bool
-is_new_in d None = false
-is_new_in d (Some s) = if nat_eq s.mark d then false else true
-
-abbrev pub is_new : ℕ → List Slot → List Branching → Bool
-is_new n ss bs = in_innermost is_new_in n ss bs
-
 -- an entry comes to the innermost block's list
 abbrev pub listing : ℕ → Slot → Branching → Branching
 listing n s b = record b { changes = b.changes ++ record { number = n; before = s } ∷ [] }
@@ -224,7 +211,8 @@ is_open_in d None = false
 is_open_in d (Some s) = if nat_eq s.mark d then not s.recent else false
 
 abbrev pub is_open : ℕ → List Slot → List Branching → Bool
-is_open n ss bs = in_innermost is_open_in n ss bs
+is_open n ss [] = false
+is_open n ss (b ∷ bs) = is_open_in (suc (length bs)) (item_at n (take b.count ss))
 
 -- an entry comes to the list of the branch
 abbrev pub touching : ℕ → Branching → Branching

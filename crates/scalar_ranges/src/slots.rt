@@ -55,12 +55,6 @@ pub(crate) struct Branching<'a> {
 /// What becomes of an entry, and of what a block has of it.
 #[derive(Clone, Copy)]
 pub(crate) enum Update {
-    /// The block of this depth has it in its list from now on.
-    Mark {
-        depth: usize,
-    },
-    /// Its branch has it in its list from now on.
-    Touch,
     /// The block of this depth and its branch have it in their lists from now on.
     List {
         depth: usize,
@@ -179,7 +173,7 @@ impl Form {
 }
 
 impl<'a> Slot<'a> {
-    ghost use Rattle.scalar_ranges.specs.Changes.{fresh, meaning_after, is_open_in, handed_slot, noted_slot};
+    ghost use Rattle.scalar_ranges.specs.Changes.{fresh, meaning_after, handed_slot, noted_slot};
     ghost use Rattle.scalar_ranges.specs.ChangeViews.{meaning_of, entry_of, slot_of, updated, turned, turned_to};
 
     /// An entry that no block has in its list.
@@ -202,13 +196,6 @@ impl<'a> Slot<'a> {
         ensures { slot_of self.new ≡ updated update (slot_of self.old) }
     {
         match update {
-            Update::Mark { depth } => {
-                self.mark = depth;
-                self.recent = false;
-                self.start = self.meaning;
-                self.ends = self.meaning;
-            }
-            Update::Touch => self.recent = true,
             Update::List { depth } => self.list(depth),
             Update::Mean(meaning) => self.meaning = meaning,
             Update::Begin {
@@ -281,13 +268,6 @@ impl<'a> Slot<'a> {
                 self.recent = false;
             }
         }
-    }
-
-    /// Whether the block of this depth has it in its list, and its branch does not.
-    pub(crate) fn is_open(self, depth: usize) -> bool
-        ensures { result ≡ is_open_in depth (Some (slot_of self.entry)) }
-    {
-        self.mark == depth && !self.recent
     }
 
     /// What the entry means after a block of this depth.

@@ -22,7 +22,7 @@ impl<'a> Spare<'a> {
         }
     }
 
-    /// No changes, with the capacity for so many: the list that was kept last, if it has that capacity.
+    /// No changes, with the capacity for so many.
     pub(crate) fn changes(
         &mut self,
         alloc: Global,
@@ -31,27 +31,15 @@ impl<'a> Spare<'a> {
         ensures items { IfOk result (λ list. list.items ≡ []) }
         ensures capacity { IfOk result (λ list. count ≤ vec_capacity list) }
     {
-        match self.changes.pop() {
-            Some(mut list) if list.capacity() >= count => {
-                list.clear();
-                Ok(list)
-            }
-            _ => Vec::with_capacity(alloc, count),
-        }
+        emptied(self.changes.pop(), alloc, count)
     }
 
-    /// The same of numbers.
+    /// No numbers, with the capacity for so many.
     pub(crate) fn numbers(&mut self, alloc: Global, count: usize) -> Result<Vec<usize>, AllocError>
         ensures items { IfOk result (λ list. list.items ≡ []) }
         ensures capacity { IfOk result (λ list. count ≤ vec_capacity list) }
     {
-        match self.numbers.pop() {
-            Some(mut list) if list.capacity() >= count => {
-                list.clear();
-                Ok(list)
-            }
-            _ => Vec::with_capacity(alloc, count),
-        }
+        emptied(self.numbers.pop(), alloc, count)
     }
 
     /// No block has this list any more. It is let go if there is no memory to keep it.
@@ -62,5 +50,19 @@ impl<'a> Spare<'a> {
     /// The same of numbers.
     pub(crate) fn keep_numbers(&mut self, list: Vec<usize>) {
         let _ = self.numbers.push(list);
+    }
+}
+
+/// An empty list with the capacity for so many: this one without its items, if it has that capacity.
+fn emptied<T: Drop>(kept: Option<Vec<T>>, alloc: Global, count: usize) -> Result<Vec<T>, AllocError>
+    ensures items { IfOk result (λ list. list.items ≡ []) }
+    ensures capacity { IfOk result (λ list. count ≤ vec_capacity list) }
+{
+    match kept {
+        Some(mut list) if list.capacity() >= count => {
+            list.clear();
+            Ok(list)
+        }
+        _ => Vec::with_capacity(alloc, count),
     }
 }
