@@ -1,6 +1,6 @@
 -- The innermost block, among those that the program has.
-use Rattle.std.proofs.Common.{◌≡◌, ℕ, suc, ◌<◌, ◌≤◌, List, [], ◌∷◌, ◌++◌, length, map, take, ◌+◌, ◌-◌, reverse}
-use Rattle.std.proofs.Common.{get_or, refl, sym, ap, subst, arith, ◌∙◌}
+use Rattle.std.proofs.Common.{◌≡◌, ℕ, suc, ◌<◌, List, [], ◌∷◌, ◌++◌, length, map, take, ◌+◌, ◌-◌, reverse}
+use Rattle.std.proofs.Common.{get_or, sym, ap, arith, ◌∙◌}
 use Rattle.std.proofs.lemmas.List.{take_all, take_more, length-map, length-reverse, map-append, reverse-append}
 use Rattle.scalar_ranges.specs.declared.slots.Slot as code_slot
 use Rattle.scalar_ranges.specs.declared.slots.Branching as code_branching
