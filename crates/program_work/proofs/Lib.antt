@@ -1,0 +1,3 @@
+pub mod SequentialTested
+pub mod SumsTogether
+pub mod LastItem

@@ -1,0 +1,29 @@
+use Rattle.std.proofs.Common.{◌≡◌, map, sum_by, arith, ap, sym, ◌∙◌, rules}
+use Rattle.occam_parser.specs.declared.tree.Operand.TheFolds.{the_lemmas}
+use Rattle.occam_parser.specs.declared.tree.Operation.{Chain}
+use Rattle.occam_parser.specs.Expressions.{Two}
+use Rattle.occam_parser.specs.Views.{expression_of, operation_of, term_of, with_others}
+use Rattle.occam_parser.proofs.Seen.{view-Chain}
+use Rattle.usage_checks.specs.Sizes.{size_of_expression, size_of_terms}
+use Rattle.program_work.specs.Readings.{again_in, again_in_terms, again_in_term}
+use Rattle.program_work.proofs.SumsTogether.{further_size, chain_size, chain_again}
+use Rattle.program_work.proofs.reading.+read.Goals as goal
+
+pub read_expression-returns-in-Chain : goal.read_expression-returns-in-Chain
+read_expression-returns-in-Chain t c =
+    let chain = c.in-Chain in
+    let both = Two (term_of chain.first) (term_of chain.second) in
+    let others = map term_of chain.others.items in
+    let is : expression_of c.args.expr.now
+    ≡ operation_of (Chain chain.operator chain.first chain.second chain.others) = search (rules, the_lemmas) in
+    let view = sym (view-Chain chain.operator chain.first chain.second chain.others) ∙ sym is in
+    let size : size_of_terms (with_others both others) ≡ size_of_expression (expression_of c.args.expr.now) =
+    ap size_of_expression view in
+    let again : again_in_terms (with_others both others) ≡ again_in (expression_of c.args.expr.now) =
+    ap again_in view in
+    let sizes = ap (λ xs. sum_by further_size (map term_of xs)) c.deref-in-Chain.ensures.value in
+    let agains = ap (λ xs. sum_by again_in_term (map term_of xs)) c.deref-in-Chain.ensures.value in
+    record {
+      size = omega (arith, chain_size both others, size, sizes);
+      again = omega (arith, chain_again both others, again, agains);
+    }

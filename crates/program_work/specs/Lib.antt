@@ -1,0 +1,4 @@
+pub mod Readings
+pub mod Processes
+pub mod Programs
+pub mod Sums
