@@ -28,7 +28,7 @@ use Rattle.code_generator.proofs.PartsWritten.{appends_before, appends_closed, a
 -- ---- an action
 
 -- The row comes after whatever the code is.
-with_row_is : (finer : Bool) (s : Site) (after : Known) (code : Option Code)
+pub with_row_is : (finer : Bool) (s : Site) (after : Known) (code : Option Code)
     → with_row finer s.frame after code ≡ then_code code (λ label. with_row finer s.frame after (no_code label))
 with_row_is true s after None = refl
 with_row_is true s after (Some c) = refl

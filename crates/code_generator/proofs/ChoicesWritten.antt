@@ -87,7 +87,7 @@ choices_start around end n is_open part s h =
     subst (λ b. WritesUpTo s s around end b is_open (all_of {part = part} [])) (sym (other_number 0 n h))
     (writes_none s)
 
-both_where : (b one other : Bool) → (b ≡ true → one ≡ other) → (b && one) ≡ (b && other)
+pub both_where : (b one other : Bool) → (b ≡ true → one ≡ other) → (b && one) ≡ (b && other)
 both_where true one other same = same refl
 both_where false one other same = refl
 
@@ -126,13 +126,12 @@ choices_done around end f xs i is_open {s} {t} h x =
     subst (λ ys. WritesChoices s t around end (all_of (map f ys))) (take_all i xs (omega arith)) whole
 
 -- an IF without a choice
-pub no_choices : {part : Part} {A U E : Type 0} (around : calling.Surroundings) (end : ℕ) (f : A → Component part)
-    (xs : List A) (s : ProcessWriter) (listing : List Piece) (r : Result U E) → length xs ≡ 0
-    → IfOk r (λ _. listing ≡ s.listing ++ operates STOP_PROCESS ∷ [])
-    → IfOk r (λ _. WritesChoices s (record s { listing = listing }) around end (all_of (map f xs)))
-no_choices around end f [] s listing (Ok u) none stops = record { code = (stops, refl); known = refl; frame = refl }
-no_choices around end f (x ∷ xs) s listing (Ok u) none stops = absurd (omega (arith, none))
-no_choices around end f xs s listing (Err e) none stops = tt
+pub no_choices : {part : Part} {A : Type 0} (around : calling.Surroundings) (end : ℕ) (f : A → Component part)
+    (xs : List A) (s : ProcessWriter) (listing : List Piece) → length xs ≡ 0
+    → listing ≡ s.listing ++ operates STOP_PROCESS ∷ []
+    → WritesChoices s (record s { listing = listing }) around end (all_of (map f xs))
+no_choices around end f [] s listing none stops = record { code = (stops, refl); known = refl; frame = refl }
+no_choices around end f (x ∷ xs) s listing none stops = absurd (omega (arith, none))
 
 -- ---- the last choice
 

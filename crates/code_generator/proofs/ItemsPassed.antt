@@ -54,7 +54,15 @@ use Rattle.line_pieces.specs.Declarations.{Frame}
 use Rattle.code_generator.specs.Programs.{callable, last_item_code, items_code, main_code, code_of}
 use Rattle.code_generator.specs.MainWritten.{behind_item, Globals, with_item, globals_of, Precedes}
 use Rattle.code_generator.specs.MainWritten.{WritesMain}
-use Rattle.code_generator.specs.Written.{site_of, first_site, Appends}
+use Rattle.program_meaning.specs.Sequential.{IsSequentialProgram}
+use Rattle.program_work.specs.Readings.{capped}
+use Rattle.program_work.specs.Processes.{is_sequential}
+use Rattle.program_work.specs.Programs.{main_of, names_in}
+use Rattle.program_work.proofs.LastItem.{last_is_main}
+use Rattle.program_work.proofs.SequentialTested.{main_tested}
+use Rattle.code_generator.specs.declared.limits.Limits.{Limits}
+use Rattle.code_generator.specs.TooMuch.{IsMuchCode}
+use Rattle.code_generator.specs.Written.{site_of, first_site, Appends, Exceeds}
 
 -- ---- outside of procedures
 
@@ -342,14 +350,12 @@ signed_before before p all rest x signed is =
     ∙ ap (λ (o : Outside). o.signatures) (sym (outside_of before (globals_of [])))
 
 -- The code of main after the items before it is that of the program.
-main_is_whole : (before : List ProgramItem) (p : Procedure) (s : Start) (t : ProcessWriter)
-    (around : calling.Surroundings) → BreaksNoRule (before ++ GlobalProcedure p ∷ []) → Precedes s before
+main_code_is : (before : List ProgramItem) (p : Procedure) (s : Start) (around : calling.Surroundings)
+    → BreaksNoRule (before ++ GlobalProcedure p ∷ []) → Precedes s before
     → (around_of around.around).signatures ≡ (globals_of before).outside.signatures → around.around.uncounted ≡ None
     → around.callees.now ≡ s.callees.items → around.count ≡ length s.callees.items
-    → WritesMain s.writer t around p
-    → IfSome (code_of (before ++ GlobalProcedure p ∷ [])) (λ c. record { pieces = t.listing; labels = t.label } ≡ c)
-main_is_whole before p s t around unbroken precedes signed uncounted those all x =
-    let w = s.writer in
+    → code_of (before ++ GlobalProcedure p ∷ []) ≡ main_code (surroundings_of around) p (site_of s.writer)
+main_code_is before p s around unbroken precedes signed uncounted those all =
     let item = GlobalProcedure p in
     let g = globals_of before in
     let m = weighed item g.outside in
@@ -362,29 +368,65 @@ main_is_whole before p s t around unbroken precedes signed uncounted those all x
     let callees : g.callees ≡ callees_of around.callees.now = sym precedes.callees ∙ ap callees_of (sym those) in
     let count : length g.callees ≡ around.count =
     ap length (sym precedes.callees) ∙ length-map s.callees.items callee_of ∙ sym all in
-    let written = subst (λ old. Appends old t.listing t.label (main_code (surroundings_of around) p (site_of w)))
-    precedes.listing x in
-    let code = whole_code (before ++ item ∷ []) ∙ code_of_last before item (globals_of [])
+    whole_code (before ++ item ∷ []) ∙ code_of_last before item (globals_of [])
     ∙ (λ i. main_code (where_called (callees i) (record { signatures = signatures i; uncounted = none i }) (count i)) p
-    (site i)) in
-    subst (λ o. IfSome o (λ c. record { pieces = t.listing; labels = t.label } ≡ c)) (sym code)
-    (appended (main_code (surroundings_of around) p (site_of w)) t.listing t.label written)
+    (site i))
 
-pub program_written : (all before : List Item) (p : code_proc.Proc) (signatures rest : List Signature) (x : Signature)
-    (s : Start) (t : ProcessWriter) (around : calling.Surroundings) → all ≡ before ++ Proc p ∷ []
+-- The items of a program, where those before main are known, and where main begins.
+pub record Begins (all before : List Item) (p : code_proc.Proc) (s : Start) (around : calling.Surroundings) : Type 0
+  where
+    pub items : map item_of all ≡ map item_of before ++ GlobalProcedure (procedure_of p) ∷ []
+    pub precedes : Precedes s (map item_of before)
+    pub code : code_of (map item_of before ++ GlobalProcedure (procedure_of p) ∷ [])
+        ≡ main_code (surroundings_of around) (procedure_of p) (site_of s.writer)
+
+pub begins : (all before : List Item) (p : code_proc.Proc) (signatures rest : List Signature) (x : Signature)
+    (s : Start) (around : calling.Surroundings) → all ≡ before ++ Proc p ∷ []
     → BreaksNoRule (map item_of all) → signatures_of signatures ≡ (after_items (map item_of all)).signatures
     → signatures ≡ rest ++ x ∷ [] → around.around.signatures.now ≡ rest → around.around.uncounted ≡ None
     → around.callees.now ≡ s.callees.items → around.count ≡ length s.callees.items
-    → Precedes s (map item_of before) → WritesMain s.writer t around (procedure_of p)
-    → IfSome (code_of (map item_of all)) (λ c. record { pieces = t.listing; labels = t.label } ≡ c)
-program_written all before p signatures rest x s t around is unbroken signed split those uncounted callees count
-    precedes written =
+    → Precedes s (map item_of before) → Begins all before p s around
+begins all before p signatures rest x s around is unbroken signed split those uncounted callees count precedes =
     let items = map item_of before in
     let main = procedure_of p in
     let seen : map item_of all ≡ items ++ GlobalProcedure main ∷ [] =
     ap (map item_of) is ∙ map-append item_of before (Proc p ∷ []) in
     let before_main = ap signatures_of those ∙ signed_before items main signatures rest x
     (subst (λ ys. signatures_of signatures ≡ (after_items ys).signatures) seen signed) split in
-    subst (λ ys. IfSome (code_of ys) (λ c. record { pieces = t.listing; labels = t.label } ≡ c)) (sym seen)
-    (main_is_whole items main s t around (subst BreaksNoRule seen unbroken) precedes before_main uncounted callees count
-    written)
+    record {
+      items = seen;
+      precedes = precedes;
+      code = main_code_is items main s around (subst BreaksNoRule seen unbroken) precedes before_main uncounted callees
+          count;
+    }
+
+pub program_written : (all before : List Item) (p : code_proc.Proc) (s : Start) (t : ProcessWriter)
+    (around : calling.Surroundings) → Begins all before p s around → WritesMain s.writer t around (procedure_of p)
+    → IfSome (code_of (map item_of all)) (λ c. record { pieces = t.listing; labels = t.label } ≡ c)
+program_written all before p s t around x written =
+    let code = main_code (surroundings_of around) (procedure_of p) (site_of s.writer) in
+    subst (λ o. IfSome o (λ c. record { pieces = t.listing; labels = t.label } ≡ c))
+    (sym x.code ∙ ap code_of (sym x.items))
+    (appended code t.listing t.label
+    (subst (λ old. Appends old t.listing t.label code) x.precedes.listing written))
+
+much_code : (l : Limits) (code : Option Code) → l.is_sequential ≡ true → Exceeds l [] code → IsMuchCode l.names code
+much_code l None sequential h = tt
+much_code l (Some c) sequential h = h sequential
+
+-- If the code of main is too much, so is that of the program.
+pub program_exceeds : (all before : List Item) (p : code_proc.Proc) (s : Start) (around : calling.Surroundings)
+    → Begins all before p s around → around.limits.names ≡ capped (names_in (map item_of all))
+    → around.limits.is_sequential ≡ is_sequential (procedure_of p).body → IsSequentialProgram (map item_of all)
+    → Exceeds around.limits s.writer.listing (main_code (surroundings_of around) (procedure_of p) (site_of s.writer))
+    → IsMuchCode (capped (names_in (map item_of all))) (code_of (map item_of all))
+program_exceeds all before p s around x names tested sequential h =
+    let main = procedure_of p in
+    let code = main_code (surroundings_of around) main (site_of s.writer) in
+    let found = main_tested (map item_of all) sequential in
+    let same : found.0 ≡ main =
+    cc (found.1, ap main_of x.items, last_is_main (map item_of before) main) in
+    let yes : around.limits.is_sequential ≡ true = tested ∙ ap (λ (q : Procedure). is_sequential q.body) (sym same)
+    ∙ found.2 in
+    subst (λ (y : ℕ × Option Code). IsMuchCode y.0 y.1) (λ i. (names i, (sym x.code ∙ ap code_of (sym x.items)) i))
+    (much_code around.limits code yes (subst (λ old. Exceeds around.limits old code) x.precedes.listing h))

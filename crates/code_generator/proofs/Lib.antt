@@ -5,11 +5,15 @@ pub mod CallsFound
 pub mod ChoicesPassed
 pub mod ChoicesWritten
 pub mod DeclarationsWritten
+pub mod Exceeding
 pub mod ItemsPassed
 pub mod LinksNumbered
+pub mod LoopsExceed
 pub mod LoopsWritten
 pub mod OutermostNames
+pub mod PartsExceed
 pub mod PartsWritten
+pub mod SequentialCode
 pub mod TablesRead
 pub mod TurnsWritten
 pub mod WordsForgotten

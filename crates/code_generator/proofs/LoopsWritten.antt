@@ -74,7 +74,7 @@ loop_code_is here line r p s =
     (λ after. repeated_seq s changed after base (loop_code s inner after base count (process_code here p inner)) count)
     (after_loop_is here.around line r p s.known)
 
-with_turns : (s : Site) (changed : List ℕ) (after : Known) (base : ℤ) (loop : Option Code) (count : ℤ)
+pub with_turns : (s : Site) (changed : List ℕ) (after : Known) (base : ℤ) (loop : Option Code) (count : ℤ)
     → count ≢ pos 0 → repeated_seq s changed after base loop count ≡ loop
 with_turns s changed after base loop (pos zero) some = absurd (some refl)
 with_turns s changed after base loop (pos (suc n)) some = refl

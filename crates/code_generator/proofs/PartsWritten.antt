@@ -124,7 +124,7 @@ before_both ps qs None = refl
 before_both ps qs (Some c) =
     ap (λ l. Some (record { pieces = l; labels = c.labels })) (sym (append_assoc ps qs c.pieces))
 
-code_behind : (here : Surroundings) (ds : List Declaration) (line : ℕ) (c : Construct) (s : Site)
+pub code_behind : (here : Surroundings) (ds : List Declaration) (line : ℕ) (c : Construct) (s : Site)
     → process_code here (with_declarations ds (Does line c)) s
     ≡ before (declarations_code ds s) (construct_code here line c (in_turn with_declaration ds s))
 code_behind here [] line c s = sym (before_none (construct_code here line c s))

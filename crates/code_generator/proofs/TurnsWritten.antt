@@ -128,7 +128,7 @@ nothing_happens a name c repeats k sequential =
     ap end (ended_block turns (record { start = h.start; ends = h.ends }) (begin k).blocks
     (ap (λ (x : Known). x.blocks) h.is))
 
-turns_end : (a : Around) (line : ℕ) (r : Replicator) (c : Component Choices) (k : Known)
+pub turns_end : (a : Around) (line : ℕ) (r : Replicator) (c : Component Choices) (k : Known)
     → (let repeats = repeats_of (is_before line a.uncounted) k.entries false r in
     end (turn_by_turn (turned a (Mark mark.If) r.name c repeats) (times repeats) (begin k))
     ≡ after_construct a line (under_if r c) k)
@@ -146,7 +146,7 @@ turns_end a line r c k = by_happens (repeats_of (is_before line a.uncounted) k.e
 
 -- ---- an IF under a replicator
 
-repeated_if_is : (here : Surroundings) (line : ℕ) (r : Replicator) (c : Component Choices) (s : Site)
+pub repeated_if_is : (here : Surroundings) (line : ℕ) (r : Replicator) (c : Component Choices) (s : Site)
     → (let repeats = repeats_of (is_before line here.around.uncounted) s.known.entries false r in
     construct_code here line (under_if r c) s
     ≡ closed_by (row_of s.label s.frame (after_construct here.around line (under_if r c) s.known) ∷ [])

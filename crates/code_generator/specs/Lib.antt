@@ -7,6 +7,8 @@ pub mod PassedViews
 pub mod MainWritten
 pub mod Processes
 pub mod Programs
+pub mod TooMuch
+pub mod SequentialCode
 pub mod SmallCode
 pub mod Written
 pub mod Branches

@@ -25,7 +25,7 @@ use Rattle.usage_checks.specs.AfterProcesses.{begun, ended, begun_body, chosen, 
 use Rattle.usage_checks.specs.AfterProcesses.{after_component, after_body}
 use Rattle.code_pieces.specs.declared.operations.TheConstants.{STOP_PROCESS}
 use Rattle.code_pieces.specs.Pieces.{Piece, Jump, LoopBack, Row, operates, stores, points, constant, Code, no_code}
-use Rattle.code_pieces.specs.Pieces.{written, before, then_code, closed_by}
+use Rattle.code_pieces.specs.Pieces.{written, before, then_code, closed_by, word_after}
 use Rattle.line_pieces.specs.Homes.{Nowhere}
 use Rattle.line_pieces.specs.Declarations.{Frame, facts_in, with_home, with_block, declared, declaration_code}
 use Rattle.line_pieces.specs.Actions.{action_code, test_code}
@@ -160,7 +160,7 @@ value_or_zero es e = unwrap_or (value_as es types.Int e) (pos 0)
 -- before the head: the base and the count
 abbrev pub loop_start : ℕ → ℤ → ℤ → List Piece
 loop_start word base count =
-    constant base ∷ stores word ∷ constant count ∷ stores (word + 1) ∷ []
+    constant base ∷ stores word ∷ constant count ∷ stores (word_after word 1) ∷ []
 
 -- after the body
 abbrev pub loop_end : ℕ → ℕ → Piece → List Piece

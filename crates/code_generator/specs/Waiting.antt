@@ -10,6 +10,7 @@ use Rattle.scalar_ranges.specs.Bounds.{bound_of, exact_value}
 use Rattle.code_pieces.specs.declared.operations.TheConstants.{ALTERNATE, ALTERNATION_WAIT, ENABLE_CHANNEL, ENABLE_SKIP}
 use Rattle.code_pieces.specs.declared.operations.TheConstants.{DISABLE_CHANNEL, DISABLE_SKIP, OR, STOP_PROCESS}
 use Rattle.code_pieces.specs.Pieces.{Piece, Distance, Select, Place, operates, loads, stores, points, constant}
+use Rattle.code_pieces.specs.Pieces.{word_after}
 use Rattle.code_generator.specs.declared.guards.Source.{Source}
 use Rattle.code_generator.specs.declared.guards.Source.TheVariants as awaits
 use Rattle.code_generator.specs.declared.guards.Ready.{Ready}
@@ -85,7 +86,7 @@ with_guard s r number (Some place) rest = made_ready r place (slice_get rest pla
 abbrev pub above : Ready → ℕ → ℕ
 above may.Never top = top
 above may.Always top = top
-above (may.If w) top = max top (w + 1)
+above (may.If w) top = max top (word_after w 1)
 
 -- One of some guards has a condition in A, which is kept in a word that is free, or with others in theirs.
 abbrev pub either_code : Ready → ℕ → List Piece

@@ -9,6 +9,7 @@ use Rattle.scalar_ranges.specs.Moves.{Known, begin, end, begin_loop, widen}
 use Rattle.scalar_ranges.specs.Entries.{Meaning}
 use Rattle.scalar_ranges.specs.Scopes.{known_of, meaning_of}
 use Rattle.code_generator.specs.declared.calling.Surroundings as calling
+use Rattle.code_generator.specs.declared.limits.Limits.{Limits}
 use Rattle.program_uses.specs.Actions.{is_before}
 use Rattle.program_uses.specs.Indices.{Repeats, repeats_of, index_in, turn_by_turn}
 use Rattle.program_uses.specs.InTurn.{in_turn}
@@ -18,6 +19,7 @@ use Rattle.usage_checks.specs.NameRules.{with_entries}
 use Rattle.code_generator.specs.declared.loops.Turning.{Turning}
 use Rattle.code_generator.specs.declared.processes.ProcessWriter.{ProcessWriter}
 use Rattle.code_pieces.specs.Pieces.{Piece, Code, no_code, closed_by}
+use Rattle.line_pieces.specs.Limits.{is_too_much}
 use Rattle.line_pieces.specs.Declarations.{declaration_code}
 use Rattle.code_generator.specs.Instances.{cleaning_code}
 use Rattle.code_generator.specs.Calls.{Callee, callee_start, in_callee, callee_code}
@@ -50,6 +52,17 @@ pub record Writes (s t : ProcessWriter) (wanted : Option Code) (after : Known) :
   pub code : Appends s.listing t.listing t.label wanted
   pub known : known_of t.scope ≡ after
   pub frame : frame_seen t.frame ≡ frame_seen s.frame
+
+-- ---- too much code
+
+-- What was there and these pieces are together more than is written of a sequential program.
+abbrev pub IsTooMuch : Limits → (old pieces : List Piece) → Type 0
+IsTooMuch l old ps = l.is_sequential ≡ true → is_too_much l.names (old ++ ps) ≡ true
+
+-- so it is with this code, if there is some
+abbrev pub Exceeds : Limits → List Piece → Option Code → Type 0
+Exceeds l old None = ⊤
+Exceeds l old (Some c) = IsTooMuch l old c.pieces
 
 -- ---- declarations
 
@@ -93,10 +106,12 @@ WritesOne s t a c =
 abbrev pub WritesLine : (s t : ProcessWriter) → calling.Surroundings → Action → Type 0
 WritesLine s t a action = Writes s t (line_code (surroundings_of a) action (site_of s)) (known_of s.scope)
 
--- A row says what is known here, if the machine knows more.
+-- a row that says what is known here, if the machine knows more
+abbrev pub row_code : Bool → Site → Option Code
+row_code is_finer s = with_row is_finer s.frame s.known (no_code s.label)
+
 abbrev pub WritesRow : (s t : ProcessWriter) → Bool → Type 0
-WritesRow s t is_finer =
-    Writes s t (with_row is_finer (frame_seen s.frame) (known_of s.scope) (no_code s.label)) (known_of s.scope)
+WritesRow s t is_finer = Writes s t (row_code is_finer (site_of s)) (known_of s.scope)
 
 -- A procedure with this meaning is called: its instances have code as those of this one.
 abbrev pub IsCall : Surroundings → Option Meaning → Call → Type 0
@@ -177,11 +192,15 @@ after_loop changed k = with_entries (widen changed) k
 abbrev pub in_turning : Site → Turning → List ℕ → Site
 in_turning s l changed = in_loop s (begin_loop changed s.known) l.name.now (meaning_of l.index)
 
+-- what is before the body, the row at the head with it
+abbrev pub entering_code : Turning → List ℕ → Site → List Piece
+entering_code l changed s =
+    let inner = in_turning s l changed in
+    loop_start s.frame.top l.base l.count ++ row_of s.label inner.frame inner.known ∷ []
+
 -- All is written as far as the row at the head, where the body begins.
 pub record EntersLoop (s t : ProcessWriter) (l : Turning) (changed : List ℕ) : Type 0 where
-  pub code : t.listing ≡ s.listing
-      ++ (loop_start s.frame.top l.base l.count
-      ++ row_of s.label (in_turning (site_of s) l changed).frame (in_turning (site_of s) l changed).known ∷ [])
+  pub code : t.listing ≡ s.listing ++ entering_code l changed (site_of s)
   pub site : site_of t ≡ in_turning (site_of s) l changed
 
 -- where the names are left that a loop's body has, with this number before them
@@ -192,11 +211,15 @@ behind_loop names word s = record {
   label = s.label;
 }
 
+-- what is after the body
+abbrev pub leaving_code : (names word head : ℕ) → Site → List Piece
+leaving_code names word head s =
+    let left = behind_loop names word s in
+    loop_end word head (row_of (head + 1) left.frame left.known)
+
 -- What is after the body is written, and the names of the body are left.
 pub record LeavesLoop (s t : ProcessWriter) (names word head : ℕ) : Type 0 where
-  pub code : t.listing ≡ s.listing
-      ++ loop_end word head
-      (row_of (head + 1) (behind_loop names word (site_of s)).frame (behind_loop names word (site_of s)).known)
+  pub code : t.listing ≡ s.listing ++ leaving_code names word head (site_of s)
   pub site : site_of t ≡ behind_loop names word (site_of s)
 
 -- a loop of a process, which changes these variables
@@ -213,10 +236,12 @@ abbrev pub WritesLoop : (s t : ProcessWriter) → calling.Surroundings → ℕ �
 WritesLoop s t a line r changed p =
     Writes s t (looped_code (surroundings_of a) line r changed p (site_of s)) (after_loop changed (known_of s.scope))
 
+-- a loop without turns
+abbrev pub idle_code : List ℕ → Site → Option Code
+idle_code changed s = no_loop (has_scalar changed s.known.entries) s (after_loop changed s.known)
+
 abbrev pub WritesNoLoop : (s t : ProcessWriter) → List ℕ → Type 0
-WritesNoLoop s t changed =
-    let after = after_loop changed (known_of s.scope) in
-    Writes s t (no_loop (has_scalar changed (known_of s.scope).entries) (site_of s) after) after
+WritesNoLoop s t changed = Writes s t (idle_code changed (site_of s)) (after_loop changed (known_of s.scope))
 
 -- ---- choices under a replicator
 

@@ -11,12 +11,14 @@ ghost use Rattle.code_generator.specs.Alternations.{FollowsAlt, FollowsRepeatedA
 
 use crate::calling::Surroundings;
 use crate::guards::{Exits, Guards, Labels, condition_of, source_of, write_choosing, write_ready};
+use crate::limits::Limits;
 use crate::processes::{ProcessWriter, times};
 use code_pieces::{Piece, operations};
 use line_pieces::{Home, Setting, label_after};
 use module_builder::GenFault;
 use occam_parser::{Branch, Expr, Guard, Place, Replicator};
 use program_uses::{Repeats, add_name, is_before, repeats_of};
+use program_work::reading_of_guard;
 use scalar_ranges::{Meaning, narrow_by, test_of, value_of};
 use usage_checks::{after_input, size_of_guard};
 
@@ -31,10 +33,15 @@ pub(crate) struct Replication<'a> {
 
 impl<'a> ProcessWriter<'a> {
     /// A guard more, with its condition.
-    fn add_guard(&mut self, guards: &mut Guards, guard: &Guard) -> Result<(), GenFault>
+    fn add_guard(
+        &mut self,
+        limits: Limits,
+        guards: &mut Guards,
+        guard: &Guard,
+    ) -> Result<(), GenFault>
         ensures { IfOk result (λ _. StaysSo self.old self.new) }
     {
-        self.walk_over(size_of_guard(guard))?;
+        self.walk_over(limits, size_of_guard(guard), reading_of_guard(guard))?;
         let setting = Setting {
             scope: &self.scope,
             homes: &self.frame.homes,
@@ -49,6 +56,7 @@ impl<'a> ProcessWriter<'a> {
     /// The guard under a replicator more, where the index means this.
     fn add_turn(
         &mut self,
+        limits: Limits,
         guards: &mut Guards,
         name: &'a [u8],
         index: Meaning,
@@ -58,29 +66,35 @@ impl<'a> ProcessWriter<'a> {
     {
         self.scope.begin()?;
         add_name(&mut self.scope, name, index)?;
-        self.add_guard(guards, guard)?;
+        self.add_guard(limits, guards, guard)?;
         self.scope.end();
         Ok(())
     }
 
     /// The guards of branches.
-    fn guards_of(&mut self, branches: &[Branch<'a>]) -> Result<Guards, GenFault>
+    fn guards_of(&mut self, limits: Limits, branches: &[Branch<'a>]) -> Result<Guards, GenFault>
         ensures { IfOk result (λ _. StaysSo self.old self.new) }
     {
         let mut guards = Guards::new(self.alloc, self.frame.top);
         for branch in branches {
-            self.add_guard(&mut guards, &branch.guard)?;
+            self.add_guard(limits, &mut guards, &branch.guard)?;
         }
         Ok(guards)
     }
 
     /// A guard under a replicator, once for each turn.
-    fn guards_in_turns(&mut self, turns: Replication<'a>, guard: &Guard) -> Result<Guards, GenFault>
+    fn guards_in_turns(
+        &mut self,
+        limits: Limits,
+        turns: Replication<'a>,
+        guard: &Guard,
+    ) -> Result<Guards, GenFault>
         ensures { IfOk result (λ _. StaysSo self.old self.new) }
     {
         let mut guards = Guards::new(self.alloc, self.frame.top);
         for turn in 0..turns.count {
-            self.add_turn(&mut guards, turns.name, turns.repeats.index_in(turn), guard)?;
+            let index = turns.repeats.index_in(turn);
+            self.add_turn(limits, &mut guards, turns.name, index, guard)?;
         }
         Ok(guards)
     }
@@ -104,12 +118,12 @@ impl<'a> ProcessWriter<'a> {
     ) -> Result<(), GenFault>
         ensures { IfOk result (λ _. FollowsAlt self.old self.new around.entry (all_branches branches.now)) }
     {
-        let guards = self.guards_of(branches)?;
+        let guards = self.guards_of(around.limits, branches)?;
         let labels = self.choose(&guards)?;
         self.scope.begin()?;
         self.write_branches(around, labels, &guards, branches)?;
         self.scope.end();
-        self.write_row(labels.end)?;
+        self.write_row(around.limits, labels.end)?;
         Ok(())
     }
 
@@ -151,7 +165,7 @@ impl<'a> ProcessWriter<'a> {
             repeats,
             count: times(repeats),
         };
-        let guards = self.guards_in_turns(turns, &branch.guard)?;
+        let guards = self.guards_in_turns(around.limits, turns, &branch.guard)?;
         let labels = self.choose(&guards)?;
         let names = self.frame.homes.len();
         let top = self.frame.top;
@@ -160,7 +174,7 @@ impl<'a> ProcessWriter<'a> {
         self.write_branch_turns(around, labels, &guards, turns, branch)?;
         self.frame.leave(names, top);
         self.scope.end();
-        self.write_row(labels.end)?;
+        self.write_row(around.limits, labels.end)?;
         Ok(())
     }
 
@@ -195,21 +209,26 @@ impl<'a> ProcessWriter<'a> {
     ) -> Result<(), GenFault>
         ensures { IfOk result (λ _. WritesBranch self.old self.new around.entry exits (branch_of branch.now)) }
     {
-        self.write_row(exits.here)?;
-        let stops = self.write_guard(exits.next, &branch.guard)?;
+        self.write_row(around.limits, exits.here)?;
+        let stops = self.write_guard(around.limits, exits.next, &branch.guard)?;
         self.write(around, &branch.process)?;
         self.scope.next();
         self.listing.push(Piece::Jump { to: exits.end })?;
-        self.write_stop_at(stops)?;
+        self.write_stop_at(around.limits, stops)?;
         Ok(())
     }
 
     /// A guard that is chosen. Where it does not hold, code goes on at the next one that waits for the same. If there
     /// is none, the result is the label where it goes on.
-    fn write_guard(&mut self, next: Option<usize>, guard: &Guard) -> Result<Option<usize>, GenFault>
+    fn write_guard(
+        &mut self,
+        limits: Limits,
+        next: Option<usize>,
+        guard: &Guard,
+    ) -> Result<Option<usize>, GenFault>
         ensures { IfOk result (λ stops. Chooses self.old self.new next stops (guard_of guard.now)) }
     {
-        let stops = self.write_condition(next, condition_of(guard))?;
+        let stops = self.write_condition(limits, next, condition_of(guard))?;
         match guard {
             Guard::Input {
                 channel,
@@ -238,6 +257,7 @@ impl<'a> ProcessWriter<'a> {
     /// The condition of a guard that is chosen, which narrows.
     fn write_condition(
         &mut self,
+        limits: Limits,
         next: Option<usize>,
         condition: Option<&Expr>,
     ) -> Result<Option<usize>, GenFault>
@@ -247,7 +267,7 @@ impl<'a> ProcessWriter<'a> {
         let Some(condition) = condition else {
             return Ok(None);
         };
-        let stops = self.write_unless(next, condition)?;
+        let stops = self.write_unless(limits, next, condition)?;
         narrow_by(&mut self.scope, condition, true);
         Ok(stops)
     }
@@ -255,6 +275,7 @@ impl<'a> ProcessWriter<'a> {
     /// A jump to the next guard where a condition does not hold, or to a new label, if it is tested.
     fn write_unless(
         &mut self,
+        limits: Limits,
         next: Option<usize>,
         condition: &Expr,
     ) -> Result<Option<usize>, GenFault>
@@ -264,12 +285,12 @@ impl<'a> ProcessWriter<'a> {
             return Ok(None);
         }
         if let Some(next) = next {
-            self.write_test(condition, next)?;
+            self.write_test(limits, condition, next)?;
             return Ok(None);
         }
         let stops = self.label;
         self.label = label_after(stops)?;
-        self.write_test(condition, stops)?;
+        self.write_test(limits, condition, stops)?;
         Ok(Some(stops))
     }
 
@@ -285,11 +306,11 @@ impl<'a> ProcessWriter<'a> {
     }
 
     /// The process stops at a label, if there is one.
-    fn write_stop_at(&mut self, label: Option<usize>) -> Result<(), GenFault>
+    fn write_stop_at(&mut self, limits: Limits, label: Option<usize>) -> Result<(), GenFault>
         ensures { IfOk result (λ _. Stops self.old self.new label) }
     {
         if let Some(label) = label {
-            self.write_row(label)?;
+            self.write_row(limits, label)?;
             self.listing.operate(operations::STOP_PROCESS)?;
         }
         Ok(())

@@ -1,6 +1,6 @@
 //! Which procedures may be called at a place.
 
-ghost use Rattle.std.specs.Prelude.{◌≡◌, ◌+◌, IfOk, IfSome, Some, option_map, slice_get};
+ghost use Rattle.std.specs.Prelude.{◌≡◌, ◌+◌, IfOk, IfSome, Some, Err, false, option_map, slice_get};
 ghost use Rattle.scalar_ranges.specs.Entries.{Procedure};
 ghost use Rattle.scalar_ranges.specs.Scopes.{meaning_of};
 ghost use Rattle.program_uses.specs.ActionViews.{around_of};
@@ -8,6 +8,7 @@ ghost use Rattle.code_generator.specs.Calls.{around_before};
 ghost use Rattle.code_generator.specs.CallViews.{callee_of, callees_of, surroundings_of};
 ghost use Rattle.code_generator.specs.Written.{IsCall};
 
+use crate::limits::Limits;
 use module_builder::GenFault;
 use occam_parser::Proc;
 use program_uses::Around;
@@ -31,6 +32,7 @@ pub struct Surroundings<'s, 'a> {
     pub count: usize,
     /// How many processes may be in one another here, bodies of procedures among them.
     pub deeper: u32,
+    pub limits: Limits,
 }
 
 /// A procedure that is called, and what is around its body.
@@ -74,19 +76,28 @@ fn around_before<'s>(around: Around<'s>, number: usize) -> Option<Around<'s>>
 }
 
 impl<'s, 'a> Surroundings<'s, 'a> {
-    /// Inside of a process. The error is [`GenFault::Limit`] if too many are in one another.
+    /// Inside of a process. The error is [`GenFault::Limit`] if too many are in one another. In a sequential program,
+    /// whose processes are as deep as its lines are at most, it would be the stack's memory.
     pub(crate) fn inside(self) -> Result<Surroundings<'s, 'a>, GenFault>
         ensures same { IfOk result (λ inner. surroundings_of inner ≡ surroundings_of self.entry) }
         ensures deeper { IfOk result (λ inner. inner.deeper + 1 ≡ self.entry.deeper) }
+        ensures limits { IfOk result (λ inner. inner.limits ≡ self.entry.limits) }
+        ensures limit { result ≡ Err GenFault.Limit → self.entry.limits.is_sequential ≡ false }
     {
-        let deeper = self.deeper.checked_sub(1).ok_or(GenFault::Limit)?;
-        Ok(Surroundings { deeper, ..self })
+        if self.deeper == 0 {
+            return Err(self.limits.too_deep());
+        }
+        Ok(Surroundings {
+            deeper: self.deeper - 1,
+            ..self
+        })
     }
 
     /// The procedure with this meaning, if it may be called.
     pub(crate) fn call(self, procedure: Option<Meaning>) -> Option<Call<'s, 'a>>
         ensures call { IfSome result (λ c. IsCall (surroundings_of self.entry) (option_map meaning_of procedure) c) }
         ensures deeper { IfSome result (λ c. c.inside.deeper ≡ self.entry.deeper) }
+        ensures limits { IfSome result (λ c. c.inside.limits ≡ self.entry.limits) }
     {
         let number = number_of(procedure)?;
         let count = number as usize;

@@ -38,7 +38,7 @@ impl Context {
         }
         Ok(Context {
             name: CodeContext::Branch { entry },
-            depth: word_after(first, SCHEDULING_WORDS)?,
+            depth: word_after(first, SCHEDULING_WORDS),
             nesting: self.nesting + 1,
         })
     }
@@ -53,7 +53,7 @@ impl Context {
 
     /// The first word that it has for names: those at the workspace are for the selection of an alternation and the
     /// block of a `PAR`.
-    pub(crate) fn first_word(self) -> Result<u32, GenFault> {
+    pub(crate) fn first_word(self) -> u32 {
         word_after(self.depth, WORKSPACE_WORDS)
     }
 }

@@ -17,7 +17,7 @@ use line_pieces::{Home, Listing, Setting, label_after, single, word_after};
 use module_builder::GenFault;
 use occam_parser::{Expr, Guard, Place};
 use scalar_ranges::{range_of, value_of};
-use std::alloc::Global;
+use std::alloc::{AllocError, Global};
 
 /// How many guards an alternation may have, those under a replicator once for each index.
 const GREATEST_GUARDS: usize = 64;
@@ -104,7 +104,7 @@ fn channel_source(setting: Setting, channel: &Place) -> Result<Source, GenFault>
         (Some(Home::Word(word) | Home::Passed(word)), None) => Ok(Source::Channel(*word)),
         (Some(Home::Word(word) | Home::Passed(word)), Some(subscript)) => {
             match single(range_of(setting.scope, subscript)) {
-                Some(number) => Ok(Source::Channel(word_after(*word, number.unsigned_abs())?)),
+                Some(number) => Ok(Source::Channel(word_after(*word, number.unsigned_abs()))),
                 None => Err(GenFault::Invalid),
             }
         }
@@ -161,7 +161,7 @@ fn next_in(sources: &[Source], from: usize, source: Source) -> Option<usize>
 
 impl Labels {
     /// Those from one on, which are free.
-    pub(crate) fn from(label: usize) -> Result<Labels, GenFault>
+    pub(crate) fn from(label: usize) -> Result<Labels, AllocError>
         ensures { IfOk result (λ labels. labels ≡ labels_from label) }
     {
         let chosen = label_after(label)?;
@@ -174,14 +174,14 @@ impl Labels {
     }
 
     /// That of the guard with a number.
-    pub(crate) fn of(self, number: usize) -> Result<usize, GenFault>
+    pub(crate) fn of(self, number: usize) -> Result<usize, AllocError>
         ensures { IfOk result (λ label. label ≡ self.first + number) }
     {
-        self.first.checked_add(number).ok_or(GenFault::Limit)
+        self.first.checked_add(number).ok_or(AllocError)
     }
 
     /// That of a guard with a number, if there is one.
-    fn of_any(self, number: Option<usize>) -> Result<Option<usize>, GenFault>
+    fn of_any(self, number: Option<usize>) -> Result<Option<usize>, AllocError>
         ensures { IfOk result (λ label. label ≡ option_map (λ n. self.first + n) number) }
     {
         match number {
@@ -191,7 +191,7 @@ impl Labels {
     }
 
     /// Those that the guard with a number knows of.
-    pub(crate) fn exits(self, guards: &Guards, number: usize) -> Result<Exits, GenFault>
+    pub(crate) fn exits(self, guards: &Guards, number: usize) -> Result<Exits, AllocError>
         ensures { IfOk result (λ exits. exits ≡ exits_of self (next_of number guards.now.sources.items) number) }
     {
         Ok(Exits {
@@ -231,10 +231,10 @@ impl Guards {
     }
 
     /// The number of the next guard that waits for the same as the one with this number.
-    fn next_of(&self, number: usize) -> Result<Option<usize>, GenFault>
+    fn next_of(&self, number: usize) -> Result<Option<usize>, AllocError>
         ensures { IfOk result (λ next. next ≡ next_of number self.now.sources.items) }
     {
-        let after = number.checked_add(1).ok_or(GenFault::Limit)?;
+        let after = label_after(number)?;
         match self.sources.get(number) {
             Some(source) => Ok(next_in(&self.sources, after, *source)),
             None => Ok(None),
@@ -273,18 +273,18 @@ impl Guards {
             })?,
         }
         self.sources.push(source)?;
-        self.top = above(ready, self.top)?;
+        self.top = above(ready, self.top);
         Ok(())
     }
 }
 
 /// The first word that is free, if this one was, and what is known of guards is kept.
-fn above(ready: Ready, top: u32) -> Result<u32, GenFault>
-    ensures { IfOk result (λ word. word ≡ above ready top) }
+fn above(ready: Ready, top: u32) -> u32
+    ensures { result ≡ above ready top }
 {
     match ready {
-        Ready::Never | Ready::Always => Ok(top),
-        Ready::If(word) => Ok(top.max(word_after(word, 1)?)),
+        Ready::Never | Ready::Always => top,
+        Ready::If(word) => top.max(word_after(word, 1)),
     }
 }
 
@@ -305,7 +305,7 @@ pub(crate) fn write_ready(
     setting: Setting,
     others: Ready,
     condition: Option<&Expr>,
-) -> Result<Ready, GenFault>
+) -> Result<Ready, AllocError>
     ensures code { IfOk result (λ _. listing.new ≡ listing.old
         ++ ready_code (homes_in setting.entry) (entries_in setting.entry) setting.entry.top others
         (option_map (λ e. expression_of e.now) condition.entry)) }
@@ -327,7 +327,7 @@ pub(crate) fn write_ready(
 }
 
 /// The condition in A is kept in a word that is free, or with others in theirs.
-fn write_either(listing: &mut Listing, others: Ready, word: u32) -> Result<(), GenFault>
+fn write_either(listing: &mut Listing, others: Ready, word: u32) -> Result<(), AllocError>
     ensures { IfOk result (λ _. listing.new ≡ listing.old ++ either_code others word) }
 {
     match others {
@@ -342,7 +342,7 @@ fn write_either(listing: &mut Listing, others: Ready, word: u32) -> Result<(), G
 }
 
 /// Pushes the address of the channel that guards wait for.
-fn write_source(listing: &mut Listing, source: Source) -> Result<(), GenFault>
+fn write_source(listing: &mut Listing, source: Source) -> Result<(), AllocError>
     ensures { IfOk result (λ _. listing.new ≡ listing.old ++ source_code source) }
 {
     match source {
@@ -353,7 +353,7 @@ fn write_source(listing: &mut Listing, source: Source) -> Result<(), GenFault>
 }
 
 /// Pushes whether guards may be chosen.
-fn write_flag(listing: &mut Listing, ready: Ready) -> Result<(), GenFault>
+fn write_flag(listing: &mut Listing, ready: Ready) -> Result<(), AllocError>
     ensures { IfOk result (λ _. listing.new ≡ listing.old ++ flag ready ∷ []) }
 {
     match ready {
@@ -364,7 +364,7 @@ fn write_flag(listing: &mut Listing, ready: Ready) -> Result<(), GenFault>
 }
 
 /// What guards wait for is enabled.
-fn write_enabling(listing: &mut Listing, awaited: Awaited) -> Result<(), GenFault>
+fn write_enabling(listing: &mut Listing, awaited: Awaited) -> Result<(), AllocError>
     ensures { IfOk result (λ _. listing.new ≡ listing.old ++ enabling_code awaited) }
 {
     write_source(listing, awaited.source)?;
@@ -373,7 +373,11 @@ fn write_enabling(listing: &mut Listing, awaited: Awaited) -> Result<(), GenFaul
 }
 
 /// What guards wait for is disabled. If it was ready, the process goes on at the first one of them.
-fn write_disabling(listing: &mut Listing, labels: Labels, awaited: Awaited) -> Result<(), GenFault>
+fn write_disabling(
+    listing: &mut Listing,
+    labels: Labels,
+    awaited: Awaited,
+) -> Result<(), AllocError>
     ensures { IfOk result (λ _. listing.new ≡ listing.old ++ disabling_code labels awaited) }
 {
     write_source(listing, awaited.source)?;
@@ -386,7 +390,7 @@ fn write_disabling(listing: &mut Listing, labels: Labels, awaited: Awaited) -> R
 }
 
 /// All that guards wait for is enabled.
-fn write_all_enabling(listing: &mut Listing, awaited: &[Awaited]) -> Result<(), GenFault>
+fn write_all_enabling(listing: &mut Listing, awaited: &[Awaited]) -> Result<(), AllocError>
     ensures { IfOk result (λ _. listing.new ≡ listing.old ++ all_enabling awaited.now) }
 {
     for one in awaited {
@@ -400,7 +404,7 @@ fn write_all_disabling(
     listing: &mut Listing,
     labels: Labels,
     awaited: &[Awaited],
-) -> Result<(), GenFault>
+) -> Result<(), AllocError>
     ensures { IfOk result (λ _. listing.new ≡ listing.old ++ all_disabling labels awaited.now) }
 {
     for one in awaited {
@@ -415,7 +419,7 @@ fn write_waiting(
     alloc: Global,
     labels: Labels,
     awaited: &[Awaited],
-) -> Result<(), GenFault>
+) -> Result<(), AllocError>
     ensures { IfOk result (λ _. listing.new ≡ listing.old ++ waiting_code labels awaited.now) }
 {
     listing.operate(operations::ALTERNATE)?;
@@ -432,7 +436,7 @@ pub(crate) fn write_choosing(
     alloc: Global,
     labels: Labels,
     guards: &Guards,
-) -> Result<(), GenFault>
+) -> Result<(), AllocError>
     ensures { IfOk result (λ _. listing.new ≡ listing.old ++ choosing_code labels guards.now.awaited.items) }
 {
     if guards.awaited.is_empty() {
@@ -466,7 +470,7 @@ fn disabling(source: Source) -> i32
 }
 
 /// The labels at which the process may go on.
-fn targets_of(alloc: Global, labels: Labels, awaited: &[Awaited]) -> Result<Vec<usize>, GenFault>
+fn targets_of(alloc: Global, labels: Labels, awaited: &[Awaited]) -> Result<Vec<usize>, AllocError>
     ensures { IfOk result (λ targets. targets.items ≡ targets_of labels awaited.now) }
 {
     let mut targets = Vec::new(alloc);

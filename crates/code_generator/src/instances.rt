@@ -9,6 +9,7 @@ ghost use Rattle.code_generator.specs.PassedViews.{parameters_of, actuals_of};
 ghost use Rattle.code_generator.specs.Written.{BeginsInstance, EndsInstance};
 
 use crate::calling::Callee;
+use crate::limits::Limits;
 use crate::passing::{Passed, all_forgotten, write_bindings, write_cleaning};
 use crate::processes::ProcessWriter;
 use line_pieces::{Frame, Listing, Setting, facts_in, label_after, outermost_homes};
@@ -46,6 +47,7 @@ impl<'a> ProcessWriter<'a> {
     /// Where the body of a procedure begins that is passed this: the pieces go on there, until it ends.
     pub(crate) fn begin_instance(
         &mut self,
+        limits: Limits,
         callee: Callee<'_, 'a>,
         passed: Passed,
     ) -> Result<ProcessWriter<'a>, GenFault>
@@ -77,7 +79,7 @@ impl<'a> ProcessWriter<'a> {
             listing: mem::replace(&mut self.listing, Listing::new(self.alloc)),
             spent,
         };
-        body.write_row(self.label)?;
+        body.write_row(limits, self.label)?;
         Ok(body)
     }
 
@@ -98,6 +100,7 @@ impl<'a> ProcessWriter<'a> {
             homes: &self.frame.homes,
             top: self.frame.top,
         };
-        write_cleaning(&mut self.listing, setting, passed)
+        write_cleaning(&mut self.listing, setting, passed)?;
+        Ok(())
     }
 }

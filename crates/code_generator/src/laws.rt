@@ -1,5 +1,6 @@
 //! The laws of what code programs have, each the contract of a function that does nothing.
 
+ghost use Rattle.code_generator.specs.SequentialCode.{SequentialProgramsHaveCode};
 ghost use Rattle.code_generator.specs.SmallCode.{SumsHaveCode, PiecesFollow};
 
 /// Small programs have the code that they should have. One that adds up what it receives has it piece by piece and byte
@@ -8,4 +9,10 @@ ghost use Rattle.code_generator.specs.SmallCode.{SumsHaveCode, PiecesFollow};
 pub fn small_programs_have_code()
     ensures sums { SumsHaveCode }
     ensures pieces { PiecesFollow }
+{}
+
+/// A program whose last item is a procedure without `PAR`, `ALT` and instances has code.
+#[tactic(auto, using(crate::proofs::SequentialCode::sequential_programs_have_code))]
+pub fn sequential_programs_have_code()
+    ensures { SequentialProgramsHaveCode }
 {}

@@ -16,6 +16,7 @@ mod processes;
 mod program;
 
 pub use calling::{Callee, Surroundings};
-pub use laws::small_programs_have_code;
+pub use laws::{sequential_programs_have_code, small_programs_have_code};
+pub use limits::Limits;
 pub use processes::ProcessWriter;
 pub use program::{Code, code_of};

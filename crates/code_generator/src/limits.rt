@@ -1,26 +1,44 @@
 //! How much is gone over and said at most, so that the time and the memory of a program are bounded.
 
-ghost use Rattle.std.specs.Prelude.{◌≡◌, IfOk};
+ghost use Rattle.std.specs.Prelude.{◌≡◌, IfOk, Err, false, true};
+ghost use Rattle.line_pieces.specs.Limits.{is_too_much};
 
 use crate::processes::ProcessWriter;
-use line_pieces::{plus, size_of_count};
+use line_pieces::{GREATEST_ROWS, GREATEST_SAID, plus, size_of_count};
 use module_builder::GenFault;
 use usage_checks::GREATEST_SIZE;
 
 /// How many processes may be in one another, bodies of procedures among them.
 pub(crate) const GREATEST_DEPTH: u32 = 4_096;
 
-/// How many rows a module may have.
-const GREATEST_ROWS: u32 = 8_192;
-
-/// How many entries all rows may have.
-const GREATEST_SAID: u32 = 4_194_304;
-
 /// How many PARs a module may have.
 const GREATEST_PARS: u32 = 1_024;
 
 /// How many names the scopes that are open may have which procedures have from before them.
 const GREATEST_OPEN: u32 = 1_048_576;
+
+/// What bounds the code of a program. Of a sequential one what is gone over is bounded before (`program_work`), and
+/// while it is written only its rows are asked.
+#[derive(Clone, Copy)]
+pub struct Limits {
+    /// How many names the program declares.
+    pub names: u32,
+    /// Whether it has no `PAR`, no `ALT` and no instance.
+    pub is_sequential: bool,
+}
+
+impl Limits {
+    /// What it is that processes are too deep in one another.
+    pub(crate) fn too_deep(self) -> GenFault
+        ensures { result ≡ GenFault.Limit → self.is_sequential ≡ false }
+    {
+        if self.is_sequential {
+            GenFault::Memory
+        } else {
+            GenFault::Limit
+        }
+    }
+}
 
 /// What was done so far.
 #[derive(Clone, Copy)]
@@ -65,7 +83,7 @@ impl Spent {
 
     /// A branch uses `notes` words and ends of channels.
     pub(crate) fn count_notes(&mut self, notes: usize) -> Result<(), GenFault> {
-        self.said = plus(self.said, size_of_count(notes)?, GREATEST_SAID)?;
+        self.said = plus(self.said, size_of_count(notes)?, GREATEST_SAID as u32)?;
         Ok(())
     }
 
@@ -79,26 +97,70 @@ impl Spent {
 }
 
 impl ProcessWriter<'_> {
-    /// A line of this size is gone over.
-    pub(crate) fn walk_over(&mut self, size: u32) -> Result<(), GenFault>
+    /// A line of this size is gone over, on which so much is read. Of a sequential program nothing is counted.
+    pub(crate) fn walk_over(
+        &mut self,
+        limits: Limits,
+        size: u32,
+        reading: u32,
+    ) -> Result<(), GenFault>
         ensures listing { IfOk result (λ _. self.new.listing ≡ self.old.listing) }
         ensures scope { IfOk result (λ _. self.new.scope ≡ self.old.scope) }
         ensures frame { IfOk result (λ _. self.new.frame ≡ self.old.frame) }
         ensures label { IfOk result (λ _. self.new.label ≡ self.old.label) }
+        ensures limit { result ≡ Err GenFault.Limit → limits.is_sequential ≡ false }
     {
+        if limits.is_sequential {
+            return Ok(());
+        }
         self.spent.walked = plus(self.spent.walked, size, GREATEST_SIZE)?;
+        self.listing.spend(reading)
+    }
+
+    /// The names that are known are looked at for a row. Of a sequential program nothing is counted.
+    pub(crate) fn look_around(&mut self, limits: Limits) -> Result<(), GenFault>
+        ensures listing { IfOk result (λ _. self.new.listing ≡ self.old.listing) }
+        ensures scope { IfOk result (λ _. self.new.scope ≡ self.old.scope) }
+        ensures frame { IfOk result (λ _. self.new.frame ≡ self.old.frame) }
+        ensures label { IfOk result (λ _. self.new.label ≡ self.old.label) }
+        ensures limit { result ≡ Err GenFault.Limit → limits.is_sequential ≡ false }
+    {
+        if limits.is_sequential {
+            return Ok(());
+        }
+        self.listing.look_at(self.frame.homes.len())
+    }
+
+    /// A row has `entries` entries. Of a sequential program nothing is counted.
+    pub(crate) fn say(&mut self, limits: Limits, entries: usize) -> Result<(), GenFault>
+        ensures listing { IfOk result (λ _. self.new.listing ≡ self.old.listing) }
+        ensures scope { IfOk result (λ _. self.new.scope ≡ self.old.scope) }
+        ensures frame { IfOk result (λ _. self.new.frame ≡ self.old.frame) }
+        ensures label { IfOk result (λ _. self.new.label ≡ self.old.label) }
+        ensures limit { result ≡ Err GenFault.Limit → limits.is_sequential ≡ false }
+    {
+        if limits.is_sequential {
+            return Ok(());
+        }
+        let entries = size_of_count(entries)?;
+        self.spent.rows = plus(self.spent.rows, 1, GREATEST_ROWS as u32)?;
+        self.spent.said = plus(self.spent.said, entries, GREATEST_SAID as u32)?;
         Ok(())
     }
 
-    /// A row has `entries` entries.
-    pub(crate) fn say(&mut self, entries: usize) -> Result<(), GenFault>
-        ensures listing { IfOk result (λ _. self.new.listing ≡ self.old.listing) }
-        ensures scope { IfOk result (λ _. self.new.scope ≡ self.old.scope) }
-        ensures frame { IfOk result (λ _. self.new.frame ≡ self.old.frame) }
-        ensures label { IfOk result (λ _. self.new.label ≡ self.old.label) }
+    /// The error is [`GenFault::Limit`] if what was written is too much.
+    pub(crate) fn ask_room(&self, limits: Limits) -> Result<(), GenFault>
+        ensures { result ≡ Err GenFault.Limit → limits.is_sequential ≡ true
+            → is_too_much limits.names self.now.listing ≡ true }
     {
-        self.spent.rows = plus(self.spent.rows, 1, GREATEST_ROWS)?;
-        self.spent.said = plus(self.spent.said, size_of_count(entries)?, GREATEST_SAID)?;
+        let is_full = if limits.is_sequential {
+            self.listing.is_too_much(limits.names)
+        } else {
+            self.listing.is_full()
+        };
+        if is_full {
+            return Err(GenFault::Limit);
+        }
         Ok(())
     }
 }

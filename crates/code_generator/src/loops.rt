@@ -1,12 +1,14 @@
 //! Writing what is around the body of a loop. If a function fails, some pieces more may have come.
 
-ghost use Rattle.std.specs.Prelude.{◌≡◌, ◌++◌, ◌∷◌, [], IfOk, option_map};
+ghost use Rattle.std.specs.Prelude.{◌≡◌, ◌++◌, ◌∷◌, [], IfOk, Err, false, option_map};
 ghost use Rattle.occam_parser.specs.Views.{expression_of};
 ghost use Rattle.scalar_ranges.specs.Scopes.{entries_of, meaning_of};
 ghost use Rattle.code_pieces.specs.Pieces.{LoopBack, points};
 ghost use Rattle.code_generator.specs.Processes.{is_scalar, has_scalar, value_or_zero, loop_start};
-ghost use Rattle.code_generator.specs.Written.{EntersLoop, LeavesLoop, WritesNoLoop};
+ghost use Rattle.code_generator.specs.Written.{site_of, EntersLoop, LeavesLoop, WritesNoLoop, IsTooMuch, Exceeds};
+ghost use Rattle.code_generator.specs.Written.{entering_code, leaving_code, idle_code};
 
+use crate::limits::Limits;
 use crate::processes::ProcessWriter;
 use code_pieces::Piece;
 use line_pieces::{Listing, label_after, word_after};
@@ -14,6 +16,7 @@ use module_builder::GenFault;
 use occam_parser::{Expr, Process};
 use program_uses::{add_name, value_as};
 use scalar_ranges::{ExprType, Meaning, Scope};
+use std::alloc::AllocError;
 
 /// The turns of a loop: its index, from the base on, and how many there are.
 #[derive(Clone, Copy)]
@@ -52,21 +55,19 @@ pub(crate) fn value_or_zero(scope: &Scope, expr: &Expr) -> i32
     value_as(scope, ExprType::Int, expr).unwrap_or(0)
 }
 
-/// Before the head of a loop of this process: its base and its count, each in its word.
+/// Before the head of a loop: its base and its count, each in its word.
 fn write_loop_start(
     listing: &mut Listing,
-    process: &Process,
     word: u32,
     base: i32,
     count: i32,
-) -> Result<(), GenFault>
+) -> Result<(), AllocError>
     ensures { IfOk result (λ _. listing.new ≡ listing.old ++ loop_start word base count) }
 {
-    listing.find(process)?;
     listing.constant(base)?;
     listing.store(word)?;
     listing.constant(count)?;
-    listing.store(word_after(word, 1)?)
+    listing.store(word_after(word, 1))
 }
 
 /// After the body of a loop: back to its head, or on after it.
@@ -75,7 +76,7 @@ fn write_loop_end(
     word: u32,
     head: usize,
     behind: usize,
-) -> Result<(), GenFault>
+) -> Result<(), AllocError>
     ensures { IfOk result (λ _. listing.new ≡ listing.old ++ points word ∷ LoopBack head behind ∷ []) }
 {
     listing.point(word)?;
@@ -83,21 +84,36 @@ fn write_loop_end(
 }
 
 impl<'a> ProcessWriter<'a> {
+    /// What a process changes was found. Of a sequential program nothing is counted.
+    pub(crate) fn find(&mut self, limits: Limits, process: &Process) -> Result<(), GenFault>
+        ensures listing { IfOk result (λ _. self.new.listing ≡ self.old.listing) }
+        ensures scope { IfOk result (λ _. self.new.scope ≡ self.old.scope) }
+        ensures frame { IfOk result (λ _. self.new.frame ≡ self.old.frame) }
+        ensures label { IfOk result (λ _. self.new.label ≡ self.old.label) }
+        ensures limit { result ≡ Err GenFault.Limit → limits.is_sequential ≡ false }
+    {
+        if limits.is_sequential {
+            return Ok(());
+        }
+        self.listing.find(process)
+    }
+
     /// The head of a loop, whose body changes the variables with these numbers.
     pub(crate) fn enter_loop(
         &mut self,
+        limits: Limits,
         turning: Turning<'a>,
         changed: &[usize],
-        process: &Process,
     ) -> Result<(), GenFault>
-        ensures { IfOk result (λ _. EntersLoop self.old self.new turning.entry changed.now) }
+        ensures ok { IfOk result (λ _. EntersLoop self.old self.new turning.entry changed.now) }
+        ensures limit { result ≡ Err GenFault.Limit → IsTooMuch limits self.old.listing
+            (entering_code turning.entry changed.now (site_of self.old)) }
     {
         let head = self.label;
         let behind = label_after(head)?;
         self.label = label_after(behind)?;
         write_loop_start(
             &mut self.listing,
-            process,
             self.frame.top,
             turning.base,
             turning.count,
@@ -105,36 +121,40 @@ impl<'a> ProcessWriter<'a> {
         self.frame.add_block(head)?;
         self.scope.begin_loop(changed)?;
         add_name(&mut self.scope, turning.name, turning.index)?;
-        self.write_row(head)?;
+        self.write_row(limits, head)?;
         Ok(())
     }
 
     /// The end of a loop with its head at this label and its block at this word. There were `names` names before it.
     pub(crate) fn leave_loop(
         &mut self,
+        limits: Limits,
         names: usize,
         word: u32,
         head: usize,
     ) -> Result<(), GenFault>
-        ensures { IfOk result (λ _. LeavesLoop self.old self.new names word head) }
+        ensures ok { IfOk result (λ _. LeavesLoop self.old self.new names word head) }
+        ensures limit { result ≡ Err GenFault.Limit → IsTooMuch limits self.old.listing
+            (leaving_code names word head (site_of self.old)) }
     {
         let behind = label_after(head)?;
         self.scope.end();
         self.frame.leave(names, word);
         write_loop_end(&mut self.listing, word, head, behind)?;
-        self.write_row(behind)?;
+        self.write_row(limits, behind)?;
         Ok(())
     }
 
     /// A loop without turns, whose body changes the variables with these numbers.
     pub(crate) fn write_no_loop(
         &mut self,
+        limits: Limits,
         changed: &[usize],
-        process: &Process,
     ) -> Result<(), GenFault>
-        ensures { IfOk result (λ _. WritesNoLoop self.old self.new changed.now) }
+        ensures ok { IfOk result (λ _. WritesNoLoop self.old self.new changed.now) }
+        ensures limit { result ≡ Err GenFault.Limit
+            → Exceeds limits self.old.listing (idle_code changed.now (site_of self.old)) }
     {
-        self.listing.find(process)?;
         let is_less_known = has_scalar(&self.scope, changed);
         self.scope.widen(changed);
         if !is_less_known {
@@ -142,7 +162,7 @@ impl<'a> ProcessWriter<'a> {
         }
         let label = self.label;
         self.label = label_after(label)?;
-        self.write_row(label)?;
+        self.write_row(limits, label)?;
         Ok(())
     }
 }

@@ -11,6 +11,7 @@ ghost use Rattle.code_generator.specs.Branches.{WritesTurns, WritesRepeatedPar};
 
 use crate::calling::Surroundings;
 use crate::context::Context;
+use crate::limits::Limits;
 use crate::processes::ProcessWriter;
 use code_pieces::{Par, Piece};
 use line_pieces::{
@@ -87,6 +88,7 @@ impl<'a> ProcessWriter<'a> {
     /// The code of a branch begins, which has its entry at this label.
     fn begin_branch(
         &mut self,
+        limits: Limits,
         fork: &Fork,
         entry: usize,
         process: &Process,
@@ -102,11 +104,11 @@ impl<'a> ProcessWriter<'a> {
         let listing = self.listing.branch(self.alloc, fork.next, fork.pieces);
         let outside = Outside {
             context: mem::replace(&mut self.context, context),
-            top: mem::replace(&mut self.frame.top, context.first_word()?),
+            top: mem::replace(&mut self.frame.top, context.first_word()),
             listing: mem::replace(&mut self.listing, listing),
         };
         self.listing.push(Piece::Within(context.workspace()?))?;
-        self.write_row(entry)?;
+        self.write_row(limits, entry)?;
         Ok(outside)
     }
 
@@ -173,7 +175,7 @@ impl<'a> ProcessWriter<'a> {
     }
 
     /// The code of a `PAR` whose branches are written.
-    fn write_fork(&mut self, fork: Fork) -> Result<(), GenFault>
+    fn write_fork(&mut self, limits: Limits, fork: Fork) -> Result<(), GenFault>
         ensures { IfOk result (λ _. IsKept self.old self.new) }
     {
         if fork.branches.is_empty() {
@@ -186,7 +188,7 @@ impl<'a> ProcessWriter<'a> {
         self.write_opener(&fork.branches, &channels, successor)?;
         let branches = self.listing.take_branches(self.alloc, fork.branches)?;
         self.listing.push(Piece::Within(opener))?;
-        self.write_row(successor)?;
+        self.write_row(limits, successor)?;
         self.listing.push(Piece::Par(Par {
             opener,
             successor,
@@ -211,7 +213,7 @@ impl<'a> ProcessWriter<'a> {
             self.write_component(around, &mut fork, process)?;
         }
         self.scope.end();
-        self.write_fork(fork)?;
+        self.write_fork(around.limits, fork)?;
         Ok(())
     }
 
@@ -228,7 +230,7 @@ impl<'a> ProcessWriter<'a> {
         let signatures = around.around.signatures;
         let changed = variables_changed(self.alloc, signatures, &mut self.scope, process)?;
         let entry = self.label;
-        let outside = self.begin_branch(fork, entry, process)?;
+        let outside = self.begin_branch(around.limits, fork, entry, process)?;
         self.write(around, process)?;
         self.end_branch(fork, entry, outside)?;
         self.scope.next_component(&changed);
@@ -260,7 +262,7 @@ impl<'a> ProcessWriter<'a> {
         self.write_components(around, &mut fork, replicator.name, repeats, process)?;
         self.frame.leave(names, top);
         self.scope.end();
-        self.write_fork(fork)?;
+        self.write_fork(around.limits, fork)?;
         Ok(())
     }
 

@@ -17,11 +17,10 @@ ghost use Rattle.line_pieces.specs.TargetViews.{target_seen};
 
 use code_pieces::RowEntry;
 use line_pieces::{Frame, Home, Listing, Setting, Target, is_in, single, target_of, word_after};
-use module_builder::GenFault;
 use occam_parser::Expr;
 use program_uses::{PlaceRef, Signature, parameter_at, place_in};
 use scalar_ranges::{Meaning, ScalarKind, range_of};
-use std::alloc::Global;
+use std::alloc::{AllocError, Global};
 use std::collections::BTreeSet;
 use word_arithmetic::Range;
 
@@ -48,7 +47,7 @@ impl Passed<'_, '_> {
 // ---- formals
 
 /// A place as a procedure has it that it is passed to.
-fn as_passed(home: &Home) -> Result<Home, GenFault>
+fn as_passed(home: &Home) -> Result<Home, AllocError>
     ensures { IfOk result (λ h. home_seen h ≡ as_passed (Some (home_seen home.now))) }
 {
     match home {
@@ -59,7 +58,7 @@ fn as_passed(home: &Home) -> Result<Home, GenFault>
 }
 
 /// Where an element of an array of channels is, as a procedure has it that it is passed to.
-fn passed_element(home: &Home, number: Option<i32>) -> Result<Home, GenFault>
+fn passed_element(home: &Home, number: Option<i32>) -> Result<Home, AllocError>
     ensures { IfOk result (λ h. home_seen h
         ≡ as_passed (element_home number (Some (home_seen home.now)))) }
 {
@@ -68,14 +67,14 @@ fn passed_element(home: &Home, number: Option<i32>) -> Result<Home, GenFault>
     };
     match home {
         Home::Word(word) | Home::Passed(word) => {
-            Ok(Home::Passed(word_after(*word, number.unsigned_abs())?))
+            Ok(Home::Passed(word_after(*word, number.unsigned_abs())))
         }
         Home::Nowhere | Home::Block { .. } | Home::Link(_) | Home::Table(_) => home.copy(),
     }
 }
 
 /// Where a place is, as a procedure has it that it is passed to.
-fn passed_place(setting: Setting, place: PlaceRef) -> Result<Home, GenFault>
+fn passed_place(setting: Setting, place: PlaceRef) -> Result<Home, AllocError>
     ensures { IfOk result (λ h. home_seen h
         ≡ as_passed (channel_home (homes_in setting.entry) (entries_in setting.entry) (place_at place.entry))) }
 {
@@ -89,7 +88,7 @@ fn passed_place(setting: Setting, place: PlaceRef) -> Result<Home, GenFault>
 }
 
 /// Where an actual is, as a procedure has it that it is passed to.
-fn passed_home(setting: Setting, actual: &Expr) -> Result<Home, GenFault>
+fn passed_home(setting: Setting, actual: &Expr) -> Result<Home, AllocError>
     ensures { IfOk result (λ h. home_seen h
         ≡ passed_home (homes_in setting.entry) (entries_in setting.entry) (expression_of actual.now)) }
 {
@@ -106,7 +105,7 @@ fn write_binding(
     parameter: Option<Meaning>,
     actual: &Expr,
     frame: &mut Frame,
-) -> Result<(), GenFault>
+) -> Result<(), AllocError>
     ensures code { IfOk result (λ _. listing.new ≡ listing.old ++ binding_code (homes_in setting.entry)
         (entries_in setting.entry) (option_map meaning_of parameter) (expression_of actual.now) frame.old.top) }
     ensures frame { IfOk result (λ _. frame_seen frame.new ≡ bound (homes_in setting.entry)
@@ -135,7 +134,7 @@ pub(crate) fn write_bindings(
     setting: Setting,
     passed: Passed,
     frame: &mut Frame,
-) -> Result<(), GenFault>
+) -> Result<(), AllocError>
     ensures code { IfOk result (λ _. listing.new ≡ listing.old ++ bindings_code (homes_in setting.entry)
         (entries_in setting.entry) (parameters_of passed.entry) 0 (actuals_of passed.entry)
         (frame_seen frame.old)) }
@@ -182,7 +181,7 @@ struct Words {
 
 impl Words {
     /// One word more, if the target is one.
-    fn add(&mut self, setting: Setting, target: Target) -> Result<(), GenFault>
+    fn add(&mut self, setting: Setting, target: Target) -> Result<(), AllocError>
         ensures { IfOk result (λ _. (word : ℕ) → is_found self.new word
             ≡ with_target (target_seen setting.entry target.entry) (is_found self.old) word) }
     {
@@ -207,7 +206,11 @@ impl Words {
     }
 
     /// The same of all that is known.
-    fn all_forgotten(&self, alloc: Global, entries: &[RowEntry]) -> Result<Vec<RowEntry>, GenFault>
+    fn all_forgotten(
+        &self,
+        alloc: Global,
+        entries: &[RowEntry],
+    ) -> Result<Vec<RowEntry>, AllocError>
         ensures { IfOk result (λ rs. rs.items ≡ map (unknown_in (is_found self.now)) entries.now) }
     {
         let mut known = Vec::with_capacity(alloc, entries.len())?;
@@ -224,7 +227,7 @@ pub(crate) fn all_forgotten(
     setting: Setting,
     passed: Passed,
     entries: Vec<RowEntry>,
-) -> Result<Vec<RowEntry>, GenFault>
+) -> Result<Vec<RowEntry>, AllocError>
     ensures { IfOk result (λ rs. rs.items ≡ all_forgotten (homes_in setting.entry) (entries_in setting.entry)
         setting.entry.top (parameters_of passed.entry) 0 (actuals_of passed.entry) entries.items) }
 {
@@ -245,7 +248,7 @@ pub(crate) fn write_cleaning(
     listing: &mut Listing,
     setting: Setting,
     passed: Passed,
-) -> Result<(), GenFault>
+) -> Result<(), AllocError>
     ensures { IfOk result (λ _. listing.new ≡ listing.old ++ cleaning_code (homes_in setting.entry)
         (entries_in setting.entry) setting.entry.top (parameters_of passed.entry) 0 (actuals_of passed.entry)) }
 {

@@ -1,6 +1,6 @@
 //! Writing the code of processes. If a function fails, some pieces more may have come.
 
-ghost use Rattle.std.specs.Prelude.{◌≡◌, ◌++◌, ◌∷◌, [], IfOk, map, ◌+◌, ◌<◌, ◌&&◌, nat_eq, length, false, true};
+ghost use Rattle.std.specs.Prelude.{◌≡◌, ◌++◌, ◌∷◌, [], IfOk, Err, map, ◌+◌, ◌<◌, ◌&&◌, nat_eq, length, false, true};
 ghost use Rattle.occam_parser.specs.Expressions.{Alone};
 ghost use Rattle.occam_parser.specs.Views.{expression_of, term_of};
 ghost use Rattle.occam_parser.specs.Lines.{Constants, Variables, Channels, Stop, Instance};
@@ -11,19 +11,23 @@ ghost use Rattle.occam_parser.specs.BlockViews.{all_processes, all_choices};
 ghost use Rattle.scalar_ranges.specs.Scopes.{entries_of, known_of};
 ghost use Rattle.program_uses.specs.Indices.{seen_repeats};
 ghost use Rattle.line_pieces.specs.Actions.{action_code, test_code};
+ghost use Rattle.code_generator.specs.CallViews.{surroundings_of};
 ghost use Rattle.line_pieces.specs.FrameViews.{frame_seen};
 ghost use Rattle.code_generator.specs.Processes.{is_true, is_skip_action, does_nothing, is_skip, passes, ends_passing};
-ghost use Rattle.code_generator.specs.Processes.{row_of, times, under_if};
+ghost use Rattle.code_generator.specs.Processes.{row_of, times, under_if, act_code, line_code, process_code};
+ghost use Rattle.code_generator.specs.Processes.{construct_code, body_code, components_code, component_code};
+ghost use Rattle.code_generator.specs.Processes.{choices_code, choice_code};
 ghost use Rattle.code_generator.specs.Written.{site_of, Appends, Declares, DeclaresAll, WritesConstruct, WritesProcess};
 ghost use Rattle.code_generator.specs.Written.{WritesSeq, WritesOne, WritesIf, WritesChoices, WritesChoice};
 ghost use Rattle.code_generator.specs.Written.{WritesPart, WritesChosen, WritesLoop, WritesTurns};
-ghost use Rattle.code_generator.specs.Written.{first_site, WritesLine, WritesRow};
+ghost use Rattle.code_generator.specs.Written.{first_site, WritesLine, WritesRow, IsTooMuch, Exceeds, row_code};
+ghost use Rattle.code_generator.specs.Written.{if_code, part_code, chosen_code, looped_code, turns_written};
 ghost use Rattle.code_generator.specs.Instances.{is_finer};
 
 use crate::calling::Surroundings;
 use crate::context::Context;
 use crate::finer::is_finer;
-use crate::limits::Spent;
+use crate::limits::{Limits, Spent};
 use crate::loops::{Turning, value_or_zero};
 use crate::passing::Passed;
 use code_pieces::{Piece, operations};
@@ -40,8 +44,9 @@ use program_uses::{
     Repeats, add_name, channel_meaning, constant_meaning, is_before, repeats_of, variable_meaning,
     variables_changed_in,
 };
+use program_work::{reading_of_action, reading_of_condition};
 use scalar_ranges::{Scope, narrow_by};
-use std::alloc::Global;
+use std::alloc::{AllocError, Global};
 use usage_checks::{after_action, size_of_action, size_of_condition, size_of_declaration};
 
 /// Writes code, and knows what holds where it goes on.
@@ -186,7 +191,7 @@ impl<'a> ProcessWriter<'a> {
     }
 
     /// A constant. It takes no words.
-    pub(crate) fn declare_constant(&mut self, constant: &Constant<'a>) -> Result<(), GenFault>
+    pub(crate) fn declare_constant(&mut self, constant: &Constant<'a>) -> Result<(), AllocError>
         ensures { IfOk result (λ _. Declares self.old self.new (Constants (constant_of constant.now))) }
     {
         let home = home_for(
@@ -202,10 +207,10 @@ impl<'a> ProcessWriter<'a> {
     }
 
     /// Variables, which are 0.
-    fn declare_variables(&mut self, names: &Names<'a>) -> Result<(), GenFault>
+    fn declare_variables(&mut self, names: &Names<'a>) -> Result<(), AllocError>
         ensures { IfOk result (λ _. Declares self.old self.new (Variables (names_of names.now))) }
     {
-        let count = words_in(&self.scope, names.value_type, &names.size)?;
+        let count = words_in(&self.scope, names.value_type, &names.size);
         let meaning = variable_meaning(&self.scope, names.value_type, &names.size);
         self.listing
             .write_zeros(&names.size, count, &names.names, self.frame.top)?;
@@ -215,7 +220,7 @@ impl<'a> ProcessWriter<'a> {
     }
 
     /// Channels.
-    fn declare_channels(&mut self, names: &Names<'a>) -> Result<(), GenFault>
+    fn declare_channels(&mut self, names: &Names<'a>) -> Result<(), AllocError>
         ensures { IfOk result (λ _. Declares self.old self.new (Channels (names_of names.now))) }
     {
         let count = channels_in(&self.scope, &names.size);
@@ -226,60 +231,74 @@ impl<'a> ProcessWriter<'a> {
     }
 
     /// A declaration.
-    fn declare(&mut self, declaration: &Declaration<'a>) -> Result<(), GenFault>
-        ensures { IfOk result (λ _. Declares self.old self.new (declaration_of declaration.now)) }
+    fn declare(&mut self, limits: Limits, declaration: &Declaration<'a>) -> Result<(), GenFault>
+        ensures ok { IfOk result (λ _. Declares self.old self.new (declaration_of declaration.now)) }
+        ensures limit { result ≡ Err GenFault.Limit → limits.is_sequential ≡ false }
     {
-        self.walk_over(size_of_declaration(declaration))?;
+        self.walk_over(limits, size_of_declaration(declaration), 0)?;
         match declaration {
-            Declaration::Constant(constant) => self.declare_constant(constant),
-            Declaration::Variables(names) => self.declare_variables(names),
-            Declaration::Channels(names) => self.declare_channels(names),
+            Declaration::Constant(constant) => Ok(self.declare_constant(constant)?),
+            Declaration::Variables(names) => Ok(self.declare_variables(names)?),
+            Declaration::Channels(names) => Ok(self.declare_channels(names)?),
         }
     }
 
     /// The declarations before a construct.
-    fn declare_all(&mut self, declarations: &[Declaration<'a>]) -> Result<(), GenFault>
-        ensures { IfOk result (λ _. DeclaresAll self.old self.new (map declaration_of declarations.now)) }
+    fn declare_all(
+        &mut self,
+        limits: Limits,
+        declarations: &[Declaration<'a>],
+    ) -> Result<(), GenFault>
+        ensures ok { IfOk result (λ _. DeclaresAll self.old self.new (map declaration_of declarations.now)) }
+        ensures limit { result ≡ Err GenFault.Limit → limits.is_sequential ≡ false }
     {
         for declaration in declarations {
-            self.declare(declaration)?;
+            self.declare(limits, declaration)?;
         }
         Ok(())
     }
 
     /// A label, and what is known here.
-    pub(crate) fn write_row(&mut self, label: usize) -> Result<(), GenFault>
+    pub(crate) fn write_row(&mut self, limits: Limits, label: usize) -> Result<(), GenFault>
         ensures row { IfOk result (λ _. self.new.listing
             ≡ self.old.listing ++ row_of label (frame_seen self.old.frame) (known_of self.old.scope) ∷ []) }
         ensures site { IfOk result (λ _. site_of self.new ≡ site_of self.old) }
+        ensures limit { result ≡ Err GenFault.Limit → IsTooMuch limits self.old.listing
+            (row_of label (frame_seen self.old.frame) (known_of self.old.scope) ∷ []) }
     {
-        self.listing.look_at(self.frame.homes.len())?;
+        self.look_around(limits)?;
         let entries = facts_in(self.alloc, &self.scope, &self.frame)?;
-        self.say(entries.len())?;
-        self.listing.push(Piece::Row { label, entries })
+        self.say(limits, entries.len())?;
+        self.listing.push(Piece::Row { label, entries })?;
+        self.ask_room(limits)
     }
 
     /// `STOP`: a row says what is known where code goes on that nothing reaches.
-    fn write_stop(&mut self) -> Result<(), GenFault>
+    fn write_stop(&mut self, limits: Limits) -> Result<(), GenFault>
         ensures code { IfOk result (λ _. Appends self.old.listing self.new.listing self.new.label
             (action_code (frame_seen self.old.frame) (entries_of self.old.scope) self.old.label Stop)) }
         ensures scope { IfOk result (λ _. known_of self.new.scope ≡ known_of self.old.scope) }
         ensures frame { IfOk result (λ _. frame_seen self.new.frame ≡ frame_seen self.old.frame) }
+        ensures limit { result ≡ Err GenFault.Limit → Exceeds limits self.old.listing
+            (action_code (frame_seen self.old.frame) (entries_of self.old.scope) self.old.label Stop) }
     {
         let label = self.label;
         self.label = label_after(label)?;
         self.listing.operate(operations::STOP_PROCESS)?;
-        self.write_row(label)?;
+        self.write_row(limits, label)?;
         Ok(())
     }
 
     /// The code of an action that is no instance. The error is [`GenFault::Invalid`] for one.
-    fn write_action(&mut self, action: &Action) -> Result<(), GenFault>
+    fn write_action(&mut self, limits: Limits, action: &Action) -> Result<(), GenFault>
         ensures code { IfOk result (λ _. Appends self.old.listing self.new.listing self.new.label
             (action_code (frame_seen self.old.frame) (entries_of self.old.scope) self.old.label
             (action_of action.now))) }
         ensures scope { IfOk result (λ _. known_of self.new.scope ≡ known_of self.old.scope) }
         ensures frame { IfOk result (λ _. frame_seen self.new.frame ≡ frame_seen self.old.frame) }
+        ensures limit { result ≡ Err GenFault.Limit → Exceeds limits self.old.listing
+            (action_code (frame_seen self.old.frame) (entries_of self.old.scope) self.old.label
+            (action_of action.now)) }
     {
         let setting = Setting {
             scope: &self.scope,
@@ -288,30 +307,42 @@ impl<'a> ProcessWriter<'a> {
         };
         match action {
             Action::Skip => Ok(()),
-            Action::Stop => self.write_stop(),
+            Action::Stop => self.write_stop(limits),
             Action::Assign { target, value } => {
-                self.listing.write_assignment(setting, target, value)
+                Ok(self.listing.write_assignment(setting, target, value)?)
             }
-            Action::Input { channel, target } => self.listing.write_input(setting, channel, target),
-            Action::Output { channel, value } => self.listing.write_output(setting, channel, value),
+            Action::Input { channel, target } => {
+                Ok(self.listing.write_input(setting, channel, target)?)
+            }
+            Action::Output { channel, value } => {
+                Ok(self.listing.write_output(setting, channel, value)?)
+            }
             Action::Instance { .. } => Err(GenFault::Invalid),
         }
     }
 
     /// A condition, and a jump to a label where it does not hold.
-    pub(crate) fn write_test(&mut self, condition: &Expr, label: usize) -> Result<(), GenFault>
+    pub(crate) fn write_test(
+        &mut self,
+        limits: Limits,
+        condition: &Expr,
+        label: usize,
+    ) -> Result<(), GenFault>
         ensures code { IfOk result (λ _. self.new.listing
             ≡ self.old.listing ++ test_code (frame_seen self.old.frame).homes (entries_of self.old.scope)
             self.old.frame.top (expression_of condition.now) label) }
         ensures site { IfOk result (λ _. site_of self.new ≡ site_of self.old) }
+        ensures limit { result ≡ Err GenFault.Limit → limits.is_sequential ≡ false }
     {
-        self.walk_over(size_of_condition(condition))?;
+        let reading = reading_of_condition(condition);
+        self.walk_over(limits, size_of_condition(condition), reading)?;
         let setting = Setting {
             scope: &self.scope,
             homes: &self.frame.homes,
             top: self.frame.top,
         };
-        self.listing.write_test(setting, condition, label)
+        self.listing.write_test(setting, condition, label)?;
+        Ok(())
     }
 
     /// Whether the machine knows more of a scalar after an action than its range.
@@ -328,15 +359,17 @@ impl<'a> ProcessWriter<'a> {
     }
 
     /// A row, if the machine knows more than is known here.
-    fn write_finer(&mut self, is_finer: bool) -> Result<(), GenFault>
-        ensures { IfOk result (λ _. WritesRow self.old self.new is_finer) }
+    fn write_finer(&mut self, limits: Limits, is_finer: bool) -> Result<(), GenFault>
+        ensures ok { IfOk result (λ _. WritesRow self.old self.new is_finer) }
+        ensures limit { result ≡ Err GenFault.Limit
+            → Exceeds limits self.old.listing (row_code is_finer (site_of self.old)) }
     {
         if !is_finer {
             return Ok(());
         }
         let label = self.label;
         self.label = label_after(label)?;
-        self.write_row(label)?;
+        self.write_row(limits, label)?;
         Ok(())
     }
 
@@ -347,12 +380,14 @@ impl<'a> ProcessWriter<'a> {
         around: Surroundings<'_, 'a>,
         process: &Process<'a>,
     ) -> Result<(), GenFault>
-        ensures { IfOk result (λ _. WritesProcess self.old self.new around.entry (process_of process.now)) }
+        ensures ok { IfOk result (λ _. WritesProcess self.old self.new around.entry (process_of process.now)) }
+        ensures limit { result ≡ Err GenFault.Limit → Exceeds around.entry.limits self.old.listing
+            (process_code (surroundings_of around.entry) (process_of process.now) (site_of self.old)) }
     {
         let inside = around.inside()?;
         let count = self.frame.homes.len();
         let top = self.frame.top;
-        self.declare_all(&process.declarations)?;
+        self.declare_all(around.limits, &process.declarations)?;
         self.write_construct(inside, process.line, &process.construct)?;
         self.frame.leave(count, top);
         Ok(())
@@ -366,7 +401,10 @@ impl<'a> ProcessWriter<'a> {
         line: u32,
         construct: &Construct<'a>,
     ) -> Result<(), GenFault>
-        ensures { IfOk result (λ _. WritesConstruct self.old self.new around.entry line (construct_of construct.now)) }
+        ensures ok { IfOk result (λ _. WritesConstruct self.old self.new around.entry line
+            (construct_of construct.now)) }
+        ensures limit { result ≡ Err GenFault.Limit → Exceeds around.entry.limits self.old.listing
+            (construct_code (surroundings_of around.entry) line (construct_of construct.now) (site_of self.old)) }
     {
         match construct {
             Construct::Action(action) => self.act(around, line, action),
@@ -388,13 +426,17 @@ impl<'a> ProcessWriter<'a> {
         line: u32,
         action: &Action<'a>,
     ) -> Result<(), GenFault>
-        ensures { IfOk result (λ _. WritesConstruct self.old self.new around.entry line (Act (action_of action.now))) }
+        ensures ok { IfOk result (λ _. WritesConstruct self.old self.new around.entry line
+            (Act (action_of action.now))) }
+        ensures limit { result ≡ Err GenFault.Limit → Exceeds around.entry.limits self.old.listing
+            (act_code (surroundings_of around.entry) (action_of action.now) (site_of self.old)) }
     {
-        self.walk_over(size_of_action(action))?;
+        let reading = reading_of_action(action);
+        self.walk_over(around.limits, size_of_action(action), reading)?;
         let is_finer = self.is_finer(action);
         self.write_line(around, action)?;
         after_action(&mut self.scope, around.around.signatures, action);
-        self.write_finer(is_finer)?;
+        self.write_finer(around.limits, is_finer)?;
         Ok(())
     }
 
@@ -405,11 +447,13 @@ impl<'a> ProcessWriter<'a> {
         around: Surroundings<'_, 'a>,
         action: &Action<'a>,
     ) -> Result<(), GenFault>
-        ensures { IfOk result (λ _. WritesLine self.old self.new around.entry (action_of action.now)) }
+        ensures ok { IfOk result (λ _. WritesLine self.old self.new around.entry (action_of action.now)) }
+        ensures limit { result ≡ Err GenFault.Limit → Exceeds around.entry.limits self.old.listing
+            (line_code (surroundings_of around.entry) (action_of action.now) (site_of self.old)) }
     {
         match action {
             Action::Instance { name, actuals } => self.write_instance(around, name, actuals),
-            _ => self.write_action(action),
+            _ => self.write_action(around.limits, action),
         }
     }
 
@@ -421,9 +465,13 @@ impl<'a> ProcessWriter<'a> {
         name: &[u8],
         actuals: &[Expr<'a>],
     ) -> Result<(), GenFault>
-        ensures { IfOk result (λ _. WritesLine self.old self.new around.entry
+        ensures ok { IfOk result (λ _. WritesLine self.old self.new around.entry
             (Instance name.now (map expression_of actuals.now))) }
+        ensures limit { result ≡ Err GenFault.Limit → around.entry.limits.is_sequential ≡ false }
     {
+        if around.limits.is_sequential {
+            return Err(GenFault::Invalid);
+        }
         let procedure = self.scope.meaning(name);
         let Some(call) = around.call(procedure) else {
             return Err(GenFault::Invalid);
@@ -433,7 +481,7 @@ impl<'a> ProcessWriter<'a> {
             procedure,
             actuals,
         };
-        let mut body = self.begin_instance(call.callee, passed)?;
+        let mut body = self.begin_instance(around.limits, call.callee, passed)?;
         body.write(call.inside, &call.callee.proc.body)?;
         self.end_instance(body, passed)?;
         Ok(())
@@ -446,7 +494,9 @@ impl<'a> ProcessWriter<'a> {
         around: Surroundings<'_, 'a>,
         processes: &[Process<'a>],
     ) -> Result<(), GenFault>
-        ensures { IfOk result (λ _. WritesSeq self.old self.new around.entry (all_processes processes.now)) }
+        ensures ok { IfOk result (λ _. WritesSeq self.old self.new around.entry (all_processes processes.now)) }
+        ensures limit { result ≡ Err GenFault.Limit → Exceeds around.entry.limits self.old.listing
+            (components_code (surroundings_of around.entry) (all_processes processes.now) (site_of self.old)) }
     {
         for process in processes {
             self.write_one(around, process)?;
@@ -461,7 +511,9 @@ impl<'a> ProcessWriter<'a> {
         around: Surroundings<'_, 'a>,
         process: &Process<'a>,
     ) -> Result<(), GenFault>
-        ensures { IfOk result (λ _. WritesOne self.old self.new around.entry (plain_component process.now)) }
+        ensures ok { IfOk result (λ _. WritesOne self.old self.new around.entry (plain_component process.now)) }
+        ensures limit { result ≡ Err GenFault.Limit → Exceeds around.entry.limits self.old.listing
+            (component_code (surroundings_of around.entry) (plain_component process.now) (site_of self.old)) }
     {
         let count = self.scope.len();
         self.write(around, process)?;
@@ -476,14 +528,16 @@ impl<'a> ProcessWriter<'a> {
         around: Surroundings<'_, 'a>,
         choices: &[Choice<'a>],
     ) -> Result<(), GenFault>
-        ensures { IfOk result (λ _. WritesIf self.old self.new around.entry (all_choices choices.now)) }
+        ensures ok { IfOk result (λ _. WritesIf self.old self.new around.entry (all_choices choices.now)) }
+        ensures limit { result ≡ Err GenFault.Limit → Exceeds around.entry.limits self.old.listing
+            (if_code (surroundings_of around.entry) (all_choices choices.now) (site_of self.old)) }
     {
         let end = self.label;
         self.label = label_after(end)?;
         self.scope.begin()?;
         self.write_choices(around, end, choices)?;
         self.scope.end();
-        self.write_row(end)?;
+        self.write_row(around.limits, end)?;
         Ok(())
     }
 
@@ -495,10 +549,12 @@ impl<'a> ProcessWriter<'a> {
         end: usize,
         choices: &[Choice<'a>],
     ) -> Result<(), GenFault>
-        ensures { IfOk result (λ _. WritesChoices self.old self.new around.entry end (all_choices choices.now)) }
+        ensures ok { IfOk result (λ _. WritesChoices self.old self.new around.entry end (all_choices choices.now)) }
+        ensures limit { result ≡ Err GenFault.Limit → Exceeds around.entry.limits self.old.listing
+            (choices_code (surroundings_of around.entry) end (all_choices choices.now) (site_of self.old)) }
     {
         if choices.is_empty() {
-            return self.listing.operate(operations::STOP_PROCESS);
+            return Ok(self.listing.operate(operations::STOP_PROCESS)?);
         }
         for (place, choice) in choices.iter().enumerate() {
             let is_last = place + 1 == choices.len();
@@ -518,8 +574,11 @@ impl<'a> ProcessWriter<'a> {
         is_open: bool,
         choice: &Choice<'a>,
     ) -> Result<(), GenFault>
-        ensures { IfOk result (λ _. WritesPart self.old self.new around.entry end is_last is_open
+        ensures ok { IfOk result (λ _. WritesPart self.old self.new around.entry end is_last is_open
             (choice_of choice.now)) }
+        ensures limit { result ≡ Err GenFault.Limit → Exceeds around.entry.limits self.old.listing
+            (part_code (surroundings_of around.entry) end is_last is_open (choice_of choice.now)
+            (site_of self.old)) }
     {
         if !is_last {
             if is_open {
@@ -543,14 +602,16 @@ impl<'a> ProcessWriter<'a> {
         end: usize,
         choice: &Choice<'a>,
     ) -> Result<(), GenFault>
-        ensures { IfOk result (λ _. WritesChoice self.old self.new around.entry end false (choice_of choice.now)) }
+        ensures ok { IfOk result (λ _. WritesChoice self.old self.new around.entry end false (choice_of choice.now)) }
+        ensures limit { result ≡ Err GenFault.Limit → Exceeds around.entry.limits self.old.listing
+            (choice_code (surroundings_of around.entry) end false (choice_of choice.now) (site_of self.old)) }
     {
         let other = self.label;
         self.label = label_after(other)?;
-        self.write_test(&choice.condition, other)?;
+        self.write_test(around.limits, &choice.condition, other)?;
         self.write_chosen(around, choice)?;
         self.listing.push(Piece::Jump { to: end })?;
-        self.write_row(other)?;
+        self.write_row(around.limits, other)?;
         Ok(())
     }
 
@@ -562,9 +623,11 @@ impl<'a> ProcessWriter<'a> {
         end: usize,
         choice: &Choice<'a>,
     ) -> Result<(), GenFault>
-        ensures { IfOk result (λ _. WritesChoice self.old self.new around.entry end true (choice_of choice.now)) }
+        ensures ok { IfOk result (λ _. WritesChoice self.old self.new around.entry end true (choice_of choice.now)) }
+        ensures limit { result ≡ Err GenFault.Limit → Exceeds around.entry.limits self.old.listing
+            (choice_code (surroundings_of around.entry) end true (choice_of choice.now) (site_of self.old)) }
     {
-        self.write_test(&choice.condition, end)?;
+        self.write_test(around.limits, &choice.condition, end)?;
         self.write_chosen(around, choice)?;
         Ok(())
     }
@@ -576,7 +639,9 @@ impl<'a> ProcessWriter<'a> {
         around: Surroundings<'_, 'a>,
         choice: &Choice<'a>,
     ) -> Result<(), GenFault>
-        ensures { IfOk result (λ _. WritesChosen self.old self.new around.entry (choice_of choice.now)) }
+        ensures ok { IfOk result (λ _. WritesChosen self.old self.new around.entry (choice_of choice.now)) }
+        ensures limit { result ≡ Err GenFault.Limit → Exceeds around.entry.limits self.old.listing
+            (chosen_code (surroundings_of around.entry) (choice_of choice.now) (site_of self.old)) }
     {
         self.scope.exclude(&choice.condition);
         narrow_by(&mut self.scope, &choice.condition, true);
@@ -594,11 +659,15 @@ impl<'a> ProcessWriter<'a> {
         replicator: &Replicator<'a>,
         body: &Body<'a>,
     ) -> Result<(), GenFault>
-        ensures { IfOk result (λ _. WritesConstruct self.old self.new around.entry line
+        ensures ok { IfOk result (λ _. WritesConstruct self.old self.new around.entry line
             (Replicated (replicator_of replicator.now) (body_of body.now))) }
+        ensures limit { result ≡ Err GenFault.Limit → Exceeds around.entry.limits self.old.listing
+            (body_code (surroundings_of around.entry) line (replicator_of replicator.now) (body_of body.now)
+            (site_of self.old)) }
     {
         match body {
             Body::Seq(process) => {
+                self.find(around.limits, process)?;
                 let changed = variables_changed_in(
                     self.alloc,
                     around.around.signatures,
@@ -625,12 +694,15 @@ impl<'a> ProcessWriter<'a> {
         changed: &[usize],
         process: &Process<'a>,
     ) -> Result<(), GenFault>
-        ensures { IfOk result (λ _. WritesLoop self.old self.new around.entry line (replicator_of replicator.now)
+        ensures ok { IfOk result (λ _. WritesLoop self.old self.new around.entry line (replicator_of replicator.now)
             changed.now (process_of process.now)) }
+        ensures limit { result ≡ Err GenFault.Limit → Exceeds around.entry.limits self.old.listing
+            (looped_code (surroundings_of around.entry) line (replicator_of replicator.now) changed.now
+            (process_of process.now) (site_of self.old)) }
     {
         let count = value_or_zero(&self.scope, &replicator.count);
         if count == 0 {
-            return self.write_no_loop(changed, process);
+            return self.write_no_loop(around.limits, changed);
         }
         let head = self.label;
         let names = self.frame.homes.len();
@@ -643,9 +715,9 @@ impl<'a> ProcessWriter<'a> {
             base: value_or_zero(&self.scope, &replicator.base),
             count,
         };
-        self.enter_loop(turning, changed, process)?;
+        self.enter_loop(around.limits, turning, changed)?;
         self.write_one(around, process)?;
-        self.leave_loop(names, word, head)?;
+        self.leave_loop(around.limits, names, word, head)?;
         Ok(())
     }
 
@@ -658,8 +730,11 @@ impl<'a> ProcessWriter<'a> {
         replicator: &Replicator<'a>,
         choice: &Choice<'a>,
     ) -> Result<(), GenFault>
-        ensures { IfOk result (λ _. WritesConstruct self.old self.new around.entry line
+        ensures ok { IfOk result (λ _. WritesConstruct self.old self.new around.entry line
             (under_if (replicator_of replicator.now) (choice_of choice.now))) }
+        ensures limit { result ≡ Err GenFault.Limit → Exceeds around.entry.limits self.old.listing
+            (construct_code (surroundings_of around.entry) line
+            (under_if (replicator_of replicator.now) (choice_of choice.now)) (site_of self.old)) }
     {
         let end = self.label;
         self.label = label_after(end)?;
@@ -679,7 +754,7 @@ impl<'a> ProcessWriter<'a> {
         )?;
         self.frame.leave(names, top);
         self.scope.end();
-        self.write_row(end)?;
+        self.write_row(around.limits, end)?;
         Ok(())
     }
 
@@ -694,11 +769,14 @@ impl<'a> ProcessWriter<'a> {
         count: u32,
         choice: &Choice<'a>,
     ) -> Result<(), GenFault>
-        ensures { IfOk result (λ _. WritesTurns self.old self.new around.entry end name.now (seen_repeats repeats)
+        ensures ok { IfOk result (λ _. WritesTurns self.old self.new around.entry end name.now (seen_repeats repeats)
             count (choice_of choice.now)) }
+        ensures limit { result ≡ Err GenFault.Limit → Exceeds around.entry.limits self.old.listing
+            (turns_written (surroundings_of around.entry) end name.now (choice_of choice.now) (seen_repeats repeats)
+            count (site_of self.old)) }
     {
         if count == 0 {
-            return self.listing.operate(operations::STOP_PROCESS);
+            return Ok(self.listing.operate(operations::STOP_PROCESS)?);
         }
         for turn in 0..count {
             add_name(&mut self.scope, name, repeats.index_in(turn))?;

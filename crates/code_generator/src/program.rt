@@ -1,27 +1,33 @@
 //! The code of a program.
 
-ghost use Rattle.std.specs.Prelude.{◌≡◌, ◌≤◌, length, map, IfOk, IfSome};
+ghost use Rattle.std.specs.Prelude.{◌≡◌, ◌≤◌, length, map, IfOk, IfSome, Err};
 ghost use Rattle.occam_parser.specs.LineViews.{formal_of};
 ghost use Rattle.occam_parser.specs.Blocks.{GlobalProcedure};
 ghost use Rattle.occam_parser.specs.BlockViews.{item_of, procedure_of};
 ghost use Rattle.program_meaning.specs.Meaning.{link_number, port_for};
+ghost use Rattle.program_meaning.specs.Sequential.{IsSequentialProgram};
 ghost use Rattle.line_pieces.specs.HomeViews.{home_seen};
 ghost use Rattle.line_pieces.specs.FrameViews.{frame_seen};
-ghost use Rattle.code_generator.specs.CallViews.{callees_of};
+ghost use Rattle.code_generator.specs.CallViews.{callees_of, surroundings_of};
 ghost use Rattle.code_generator.specs.MainWritten.{behind_item, Precedes, WritesMain};
-ghost use Rattle.code_generator.specs.Programs.{home_of_port, with_links, callable, code_of};
-ghost use Rattle.code_generator.specs.Written.{site_of};
+ghost use Rattle.code_generator.specs.Programs.{home_of_port, with_links, callable, code_of, main_code};
+ghost use Rattle.code_generator.specs.TooMuch.{IsTooMuchToWrite};
+ghost use Rattle.code_generator.specs.Written.{site_of, Exceeds};
+ghost use Rattle.program_work.specs.Readings.{capped};
+ghost use Rattle.program_work.specs.Programs.{names_in};
+ghost use Rattle.program_work.specs.Processes.{is_sequential};
 
 use crate::calling::{Callee, Surroundings};
-use crate::limits::GREATEST_DEPTH;
+use crate::limits::{GREATEST_DEPTH, Limits};
 use crate::processes::ProcessWriter;
 use code_pieces::operations;
 use line_pieces::{Frame, Home, Listing};
 use module_builder::GenFault;
 use occam_parser::{Formal, Item, Proc};
 use program_uses::{Around, Direction, Signature, add_name, link_way};
+use program_work::{is_sequential, is_too_much_to_write, names_in};
 use scalar_ranges::Meaning;
-use std::alloc::Global;
+use std::alloc::{AllocError, Global};
 use std::marker::Model;
 use usage_checks::{CheckedProgram, add_formals};
 
@@ -65,7 +71,7 @@ fn home_of_formal(formal: &Formal) -> Home
 }
 
 /// The parameters of `main` more, which are links.
-fn add_links(frame: &mut Frame, formals: &[Formal]) -> Result<(), GenFault>
+fn add_links(frame: &mut Frame, formals: &[Formal]) -> Result<(), AllocError>
     ensures { IfOk result (λ _. frame_seen frame.new
         ≡ with_links (map formal_of formals.now) (frame_seen frame.old)) }
 {
@@ -84,7 +90,7 @@ struct Start<'s, 'a> {
 
 impl<'a> ProcessWriter<'a> {
     /// A procedure before `main`, which has no code of its own. `number` procedures were before it.
-    fn declare_procedure(&mut self, proc: &Proc<'a>, number: u32) -> Result<(), GenFault>
+    fn declare_procedure(&mut self, proc: &Proc<'a>, number: u32) -> Result<(), AllocError>
         ensures listing { IfOk result (λ _. self.new.listing ≡ self.old.listing) }
         ensures site { IfOk result (λ _. site_of self.new
             ≡ behind_item (GlobalProcedure (procedure_of proc.now)) number (site_of self.old)) }
@@ -99,7 +105,7 @@ impl<'a> ProcessWriter<'a> {
         &mut self,
         item: &'s Item<'a>,
         callees: &mut Vec<Callee<'s, 'a>>,
-    ) -> Result<(), GenFault>
+    ) -> Result<(), AllocError>
         ensures listing { IfOk result (λ _. self.new.listing ≡ self.old.listing) }
         ensures site { IfOk result (λ _. site_of self.new
             ≡ behind_item (item_of item.now) (length callees.old.items) (site_of self.old)) }
@@ -110,7 +116,7 @@ impl<'a> ProcessWriter<'a> {
             Item::Constant(constant) => self.declare_constant(constant),
             Item::Proc(proc) => {
                 let names = self.frame.homes.len();
-                let number = u32::try_from(callees.len()).map_err(|_| GenFault::Limit)?;
+                let number = u32::try_from(callees.len()).map_err(|_| AllocError)?;
                 self.declare_procedure(proc, number)?;
                 callees.push(Callee { proc, names })?;
                 Ok(())
@@ -119,7 +125,7 @@ impl<'a> ProcessWriter<'a> {
     }
 
     /// Some items are known, and no code is written.
-    fn behind_items<'s>(alloc: Global, items: &'s [Item<'a>]) -> Result<Start<'s, 'a>, GenFault>
+    fn behind_items<'s>(alloc: Global, items: &'s [Item<'a>]) -> Result<Start<'s, 'a>, AllocError>
         ensures { IfOk result (λ start. Precedes start (map item_of items.now)) }
     {
         let mut writer = ProcessWriter::new(alloc);
@@ -132,7 +138,9 @@ impl<'a> ProcessWriter<'a> {
 
     /// The code of `main`, after which the process stops.
     fn write_main(&mut self, around: Surroundings<'_, 'a>, main: &Proc<'a>) -> Result<(), GenFault>
-        ensures { IfOk result (λ _. WritesMain self.old self.new around.entry (procedure_of main.now)) }
+        ensures ok { IfOk result (λ _. WritesMain self.old self.new around.entry (procedure_of main.now)) }
+        ensures limit { result ≡ Err GenFault.Limit → Exceeds around.entry.limits self.old.listing
+            (main_code (surroundings_of around.entry) (procedure_of main.now) (site_of self.old)) }
     {
         add_links(&mut self.frame, &main.formals)?;
         add_formals(self.alloc, &mut self.scope, &main.formals)?;
@@ -142,14 +150,30 @@ impl<'a> ProcessWriter<'a> {
     }
 }
 
+/// What bounds the code of a program whose last item is this procedure.
+fn limits_of(items: &[Item], main: &Proc) -> Limits
+    ensures names { result.names ≡ capped (names_in (map item_of items.now)) }
+    ensures is_sequential { result.is_sequential ≡ is_sequential (procedure_of main.now).body }
+{
+    Limits {
+        names: names_in(items),
+        is_sequential: is_sequential(&main.body),
+    }
+}
+
 /// The code of a program. The definition has that of programs without `PAR` and `ALT`; of others no clause says it. The
 /// error is [`GenFault::Limit`] if too much is gone over, so that the time and the memory that it takes are bounded,
-/// however often procedures are called, or if a `PAR` or an `ALT` is above a limit of the format. No checked program is
-/// known for which it is [`GenFault::Invalid`].
+/// however often procedures are called, or if a `PAR` or an `ALT` is above a limit of the format. Of a sequential
+/// program it comes only if the sums over the tree are too much, or if the code by the definition is. No checked
+/// program is known for which it is [`GenFault::Invalid`].
 pub fn code_of(alloc: Global, program: &CheckedProgram) -> Result<Code, GenFault>
-    ensures { IfOk result (λ code. IfSome (code_of (map item_of program.now.program.items.items)) (λ c. code ≡ c)) }
+    ensures ok { IfOk result (λ code. IfSome (code_of (map item_of program.now.program.items.items))
+        (λ c. code ≡ c)) }
+    ensures limit { result ≡ Err GenFault.Limit → IsSequentialProgram (map item_of program.now.program.items.items)
+        → IsTooMuchToWrite (map item_of program.now.program.items.items) }
 {
-    let Some((last, before)) = program.program().items().split_last() else {
+    let items = program.program().items();
+    let Some((last, before)) = items.split_last() else {
         return Err(GenFault::Invalid);
     };
     let Item::Proc(main) = last else {
@@ -158,6 +182,10 @@ pub fn code_of(alloc: Global, program: &CheckedProgram) -> Result<Code, GenFault
     let Some((_, signatures)) = program.signatures().split_last() else {
         return Err(GenFault::Invalid);
     };
+    let limits = limits_of(items, main);
+    if is_too_much_to_write(items) && limits.is_sequential {
+        return Err(GenFault::Limit);
+    }
     let start = ProcessWriter::behind_items(alloc, before)?;
     let callees = start.callees;
     let mut writer = start.writer;
@@ -170,6 +198,7 @@ pub fn code_of(alloc: Global, program: &CheckedProgram) -> Result<Code, GenFault
         callees: &callees,
         count,
         deeper: GREATEST_DEPTH,
+        limits,
     };
     writer.write_main(around, main)?;
     Ok(Code {

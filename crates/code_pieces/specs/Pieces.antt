@@ -1,5 +1,6 @@
 -- The code of a program before it is laid out: pieces, and rows among them that say what is known where they are.
-use Rattle.std.specs.Prelude.{ℕ, ◌*◌, ℤ, pos, List, [], ◌∷◌, ◌++◌, if◌then◌else◌, Option, Some, None, option_map}
+use Rattle.std.specs.Prelude.{ℕ, ◌+◌, ◌*◌, min, ℤ, pos, List, [], ◌∷◌, ◌++◌, if◌then◌else◌, Option, Some, None}
+use Rattle.std.specs.Prelude.{option_map}
 use Rattle.std.specs.Ordering.{int_eq}
 use Rattle.word_arithmetic.specs.Word.{least_word}
 use Rattle.prefix_decoder.specs.declared.function.Fun.{Fun}
@@ -7,6 +8,7 @@ use Rattle.prefix_decoder.specs.declared.function.Fun.TheVariants as fun
 use Rattle.code_pieces.specs.declared.piece.RowEntry.{RowEntry}
 use Rattle.code_pieces.specs.declared.piece.Workspace.{Workspace}
 use Rattle.code_pieces.specs.declared.operations.TheConstants.{REVERSE, MOVE, MINIMUM_INTEGER}
+use Rattle.code_pieces.specs.declared.words.TheConstants.{GREATEST_WORD}
 use Rattle.code_pieces.specs.Pars as pars
 
 pub data Piece : Type 0 where
@@ -34,20 +36,30 @@ pub data Piece : Type 0 where
   -- somewhere in the code is this PAR
   Par : (par : pars.Par) → Piece
 
+-- ---- words
+
+-- Words are counted as far as the greatest one. No module has nearly as many.
+unfoldable pub counted : ℕ → ℕ
+counted n = min n GREATEST_WORD
+
+-- the word that is this number of words behind another one
+unfoldable pub word_after : ℕ → ℕ → ℕ
+word_after word count = counted (word + count)
+
 -- ---- single pieces
 
 abbrev pub operates : ℤ → Piece
 operates op = Direct fun.Operate op
 
 abbrev pub loads : ℕ → Piece
-loads word = Direct fun.LoadLocal (pos word)
+loads word = Direct fun.LoadLocal (pos (counted word))
 
 abbrev pub stores : ℕ → Piece
-stores word = Direct fun.StoreLocal (pos word)
+stores word = Direct fun.StoreLocal (pos (counted word))
 
 -- pushes the address of a word
 abbrev pub points : ℕ → Piece
-points word = Direct fun.LoadLocalPointer (pos word)
+points word = Direct fun.LoadLocalPointer (pos (counted word))
 
 -- pushes a constant
 abbrev pub constant : ℤ → Piece
@@ -57,7 +69,7 @@ constant v = if int_eq v least_word then operates MINIMUM_INTEGER else Direct fu
 
 -- copies this number of words from one place to another
 abbrev pub moves : ℕ → ℕ → ℕ → List Piece
-moves count from to = points from ∷ points to ∷ constant (pos (4 * count)) ∷ operates MOVE ∷ []
+moves count from to = points from ∷ points to ∷ constant (pos (4 * counted count)) ∷ operates MOVE ∷ []
 
 -- What was stored in a temporary is pushed below what is in A.
 abbrev pub below : ℕ → List Piece

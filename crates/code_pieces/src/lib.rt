@@ -27,4 +27,4 @@ pub use saying::{Said, rows_of};
 pub use separating::apart;
 pub use sizes::sizes_of;
 pub use tables::ConstantTables;
-pub use words::{WORKSPACE_WORDS, words_taken};
+pub use words::{GREATEST_WORD, WORKSPACE_WORDS, words_taken};

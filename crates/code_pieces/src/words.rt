@@ -10,6 +10,9 @@ use prefix_decoder::Fun;
 /// The words at a workspace: for the block of a PAR, or the selection of an alternation.
 pub const WORKSPACE_WORDS: u32 = 2;
 
+/// The greatest word. The bytes of as many words are still an operand.
+pub const GREATEST_WORD: u32 = 536_870_911;
+
 /// One above the word that an instruction names; 0 if it names none.
 fn word_above(fun: Fun, operand: i32) -> u32
     ensures value { result ≡ word_above fun operand }

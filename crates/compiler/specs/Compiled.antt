@@ -1,5 +1,5 @@
 -- The module that a program becomes, and why a source becomes none.
-use Rattle.std.specs.Prelude.{◌≡◌, ◌⊎◌, ℕ, List, map, Some, Err}
+use Rattle.std.specs.Prelude.{◌≡◌, ◌⊎◌, ℕ, false, true, List, map, Some, Err}
 use Rattle.occam_layout.specs.Tokens.{IsSource}
 use Rattle.occam_layout.specs.Fault as layout
 use Rattle.occam_layout.specs.Reading.{read, row_of}
@@ -9,14 +9,21 @@ use Rattle.occam_parser.specs.LineFaults as parsing
 use Rattle.occam_parser.specs.LineFaults.{IsRefusal}
 use Rattle.occam_parser.specs.declared.fault.ParseFault.{ParseFault}
 use Rattle.program_uses.specs.Telling.{IsFirst}
+use Rattle.program_meaning.specs.Sequential.{IsSequentialProgram}
+use Rattle.program_work.specs.Readings.{capped}
+use Rattle.program_work.specs.Programs.{is_too_much_to_write, names_in}
 use Rattle.usage_checks.specs.ItemRules.{BreaksProgram, BreaksNoRule}
 use Rattle.usage_checks.specs.Telling as usage
 use Rattle.module_format.specs.declared.tables.Version.TheVariants.{Two}
+use Rattle.module_builder.specs.declared.fault.GenFault.{GenFault}
+use Rattle.module_builder.specs.declared.fault.GenFault.TheVariants.{Limit}
 use Rattle.module_format.specs.Contents.{Contents}
 use Rattle.module_format.specs.Keeping.{IsFile}
 use Rattle.code_pieces.specs.Pieces.{Code}
 use Rattle.code_pieces.specs.Laying.{apart}
+use Rattle.code_pieces.specs.Laid.{AreTooLarge}
 use Rattle.code_pieces.specs.LaidModule.{Says}
+use Rattle.line_pieces.specs.Limits.{is_too_much}
 use Rattle.certified_code.specs.CertifiedModules.{Certifies}
 use Rattle.code_generator.specs.Programs.{code_of}
 use Rattle.compiler.specs.declared.source.CompileFault.{CompileFault}
@@ -39,6 +46,21 @@ IsItsCode items bytes =
 pub record IsGenerated (items : List ProgramItem) (bytes : List ℕ) : Type 0 where
   pub is_module : IsModuleFor items bytes
   pub is_code : IsItsCode items bytes
+
+-- The code of a program is more than is written, or its module would be above a limit of the format.
+abbrev pub IsMuch : List ProgramItem → Code → Type 0
+IsMuch items code =
+    (is_too_much (capped (names_in items)) code.pieces ≡ true)
+    ⊎ AreTooLarge (apart code.pieces) code.labels (link_lengths items)
+
+-- A program is too large: unless the sums over its tree are too much already, its code is.
+abbrev pub IsTooLarge : List ProgramItem → Type 0
+IsTooLarge items =
+    is_too_much_to_write items ≡ false → (code : Code) × (code_of items ≡ Some code) × IsMuch items code
+
+-- Why `generate` makes nothing of a program: for want of numbers only if it is too large, if it is sequential.
+abbrev pub IsUngenerated : List ProgramItem → GenFault → Type 0
+IsUngenerated items fault = fault ≡ Limit → IsSequentialProgram items → IsTooLarge items
 
 -- ---- sources
 
@@ -78,4 +100,4 @@ IsRefusedFor source (faults.Layout f) = (f ≡ layout.out_of_memory) ⊎ (read s
 IsRefusedFor source (faults.Syntax f) = IsUnparsed source f
 IsRefusedFor source (faults.Usage f) =
     IsProgramWith source (λ items. (f ≡ usage.out_of_memory) ⊎ IsFirst (BreaksProgram items) (Some f))
-IsRefusedFor source (faults.Generation f) = IsProgramWith source BreaksNoRule
+IsRefusedFor source (faults.Generation f) = IsProgramWith source (λ items. BreaksNoRule items × IsUngenerated items f)

@@ -1,8 +1,9 @@
 //! The module of a program.
 
-ghost use Rattle.std.specs.Prelude.{IfOk, map};
+ghost use Rattle.std.specs.Prelude.{◌≡◌, IfOk, Err, map};
 ghost use Rattle.occam_parser.specs.BlockViews.{item_of};
-ghost use Rattle.compiler.specs.Compiled.{IsGenerated};
+ghost use Rattle.program_meaning.specs.Sequential.{IsSequentialProgram};
+ghost use Rattle.compiler.specs.Compiled.{IsGenerated, IsTooLarge};
 
 use crate::links::link_lengths;
 use certified_code::certified_module_of;
@@ -16,11 +17,13 @@ use usage_checks::CheckedProgram;
 ///
 /// # Errors
 ///
-/// [`GenFault::Limit`] if the code is too large or a number is above a limit of the format; [`GenFault::Memory`] if
-/// memory runs out; [`GenFault::Invalid`] if what was written would not be certified, of which no checked program is
-/// known.
+/// [`GenFault::Limit`] if the code is too large or a number is above a limit of the format, or if writing it takes too
+/// much; of a sequential program it is proved that one of these is so. [`GenFault::Memory`] if memory runs out;
+/// [`GenFault::Invalid`] if what was written would not be certified, of which no checked program is known.
 pub fn generate(alloc: Global, program: &CheckedProgram) -> Result<Vec<u8>, GenFault>
-    ensures { IfOk result (λ v. IsGenerated (map item_of program.now.program.items.items) v.items) }
+    ensures ok { IfOk result (λ v. IsGenerated (map item_of program.now.program.items.items) v.items) }
+    ensures limit { result ≡ Err GenFault.Limit → IsSequentialProgram (map item_of program.now.program.items.items)
+        → IsTooLarge (map item_of program.now.program.items.items) }
 {
     let links = link_lengths(program.program().items());
     let code = code_of(alloc, program)?;

@@ -5,3 +5,4 @@ pub mod OperandsBelow
 pub mod RegistersCounted
 pub mod RowsSay
 pub mod SpreadOut
+pub mod TooMuch

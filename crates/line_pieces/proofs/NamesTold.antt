@@ -6,7 +6,7 @@ use Rattle.std.proofs.lemmas.List.{append_assoc, append-nil, map_push, at_drop_m
 use Rattle.occam_parser.specs.Expressions.{Expression}
 use Rattle.occam_parser.specs.LineViews.{spelling_of}
 use Rattle.program_uses.proofs.Adding.{taken_one}
-use Rattle.code_pieces.specs.Pieces.{Piece}
+use Rattle.code_pieces.specs.Pieces.{Piece, word_after}
 use Rattle.line_pieces.specs.Declarations.{Frame, with_words, with_names, zero_code, zero_names}
 
 abbrev pub Names : Type 0
@@ -38,15 +38,16 @@ words_done count names i start after h a =
 pub zeros_next : (size : Option Expression) (count : ℕ) (names : Names) (i next further : ℕ)
     (start before after : List Piece) → i < length names
     → before ++ zero_names size count (map spelling_of (drop i names)) next ≡ start
-    → after ≡ before ++ zero_code size next count → further ≡ next + count
+    → after ≡ before ++ zero_code size next count → further ≡ word_after next count
     → after ++ zero_names size count (map spelling_of (drop (i + 1) names)) further ≡ start
 zeros_next size count names i next further start before after h b a f =
     let step : zero_names size count (map spelling_of (drop i names)) next
-    ≡ zero_code size next count ++ zero_names size count (map spelling_of (drop (i + 1) names)) (next + count) =
+    ≡ zero_code size next count
+    ++ zero_names size count (map spelling_of (drop (i + 1) names)) (word_after next count) =
     at_drop_more (λ (ns : Names). zero_names size count (map spelling_of ns) next) names i nobody h in
     (λ j. a j ++ zero_names size count (map spelling_of (drop (i + 1) names)) (f j))
     ∙ append_assoc before (zero_code size next count)
-    (zero_names size count (map spelling_of (drop (i + 1) names)) (next + count))
+    (zero_names size count (map spelling_of (drop (i + 1) names)) (word_after next count))
     ∙ ap (λ x. before ++ x) (sym step) ∙ b
 
 pub zeros_done : (size : Option Expression) (count : ℕ) (names : Names) (i next : ℕ) (start after : List Piece)

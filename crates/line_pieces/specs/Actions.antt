@@ -12,7 +12,7 @@ use Rattle.scalar_ranges.specs.Narrowing.{Tested, test_of}
 use Rattle.code_pieces.specs.declared.operations.TheConstants.{LOAD_BYTE, INPUT, OUTPUT, STORE_BYTE, STOP_PROCESS}
 use Rattle.code_pieces.specs.declared.operations.TheConstants.{MINIMUM_INTEGER}
 use Rattle.code_pieces.specs.Pieces.{Piece, Direct, JumpUnless, Row, operates, stores, points, constant}
-use Rattle.code_pieces.specs.Pieces.{moves, below, Code, written}
+use Rattle.code_pieces.specs.Pieces.{moves, below, word_after, Code, written}
 use Rattle.line_pieces.specs.Homes.{Home, Word, Link, Passed, home_of}
 use Rattle.line_pieces.specs.Declarations.{Frame, facts_in}
 use Rattle.line_pieces.specs.Expressions.{expression_code, known_address, subscript_code, single, Subscript}
@@ -64,7 +64,7 @@ stores_below type n t = below t ++ stores_at type n ∷ []
 
 -- What is in a temporary is stored in an element. A word that is known is moved: so no more is known of it afterwards.
 abbrev pub store_known : ValueType → ℕ → ℕ → ℕ → List Piece
-store_known value_type.Int w n t = moves 1 t (w + n)
+store_known value_type.Int w n t = moves 1 t (word_after w n)
 store_known value_type.Byte w n t = known_address value_type.Byte w n ++ stores_below value_type.Byte (pos 0) t
 
 -- the constant that a subscript ends with, for words
@@ -91,7 +91,8 @@ store_code (KnownElement type w n) t = stores t ∷ store_known type w n t
 store_code (OtherElement type w s) t = store_other type w s t
 
 abbrev pub assign_code : List Home → List Entry → ℕ → Place → Expression → List Piece
-assign_code hs es t target value = expression_code hs es t value ++ store_code (target_of hs es (t + 1) target) t
+assign_code hs es t target value =
+    expression_code hs es t value ++ store_code (target_of hs es (word_after t 1) target) t
 
 -- ---- channels
 
@@ -108,8 +109,8 @@ channel_code h = []
 
 -- the element of an array of channels, whose subscript is a constant
 abbrev pub element_home : Option ℤ → Option Home → Option Home
-element_home (Some c) (Some (Word w)) = Some (Word (w + unsigned_abs c))
-element_home (Some c) (Some (Passed w)) = Some (Passed (w + unsigned_abs c))
+element_home (Some c) (Some (Word w)) = Some (Word (word_after w (unsigned_abs c)))
+element_home (Some c) (Some (Passed w)) = Some (Passed (word_after w (unsigned_abs c)))
 element_home c h = h
 
 abbrev pub channel_home : List Home → List Entry → Place → Option Home

@@ -1,5 +1,5 @@
 -- What a branch of a PAR knows of words outside, and which of them it has.
-use Rattle.std.specs.Prelude.{ℕ, ◌+◌, pos, ◌+ℤ◌, ◌-ℤ◌, nat_le, Bool, true, false, List, [], ◌∷◌, ◌++◌, if◌then◌else◌}
+use Rattle.std.specs.Prelude.{ℕ, pos, ◌+ℤ◌, ◌-ℤ◌, nat_le, Bool, true, false, List, [], ◌∷◌, ◌++◌, if◌then◌else◌}
 use Rattle.std.specs.Prelude.{Option, Some, None}
 use Rattle.std.specs.Ordering.{nat_cmp}
 use Rattle.std.specs.BTreeMap.{get}
@@ -7,7 +7,7 @@ use Rattle.module_format.specs.declared.rows.Interval.{Interval}
 use Rattle.code_pieces.specs.declared.piece.RowEntry.{RowEntry}
 use Rattle.code_pieces.specs.declared.piece.WordFact.{WordFact}
 use Rattle.code_pieces.specs.declared.piece.WordFact.TheVariants.{Between, Turning}
-use Rattle.code_pieces.specs.Pieces.{Piece, Row}
+use Rattle.code_pieces.specs.Pieces.{Piece, Row, word_after}
 use Rattle.line_pieces.specs.declared.noting.Access.{Access}
 use Rattle.line_pieces.specs.declared.noting.Access.TheVariants.{Reads, Writes}
 use Rattle.line_pieces.specs.declared.noting.Notes.{Notes}
@@ -51,7 +51,7 @@ abbrev pub words_between : ℕ → ℕ → Interval
 words_between lo hi = record { lo = pos lo; hi = pos hi }
 
 abbrev pub words_in : RowEntry → Interval
-words_in e = words_between e.word (e.word + e.span)
+words_in e = words_between e.word (word_after e.word e.span)
 
 -- whether a variable is used so
 abbrev pub is_used : Access → Option Access → Bool

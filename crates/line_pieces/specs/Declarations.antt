@@ -8,7 +8,7 @@ use Rattle.occam_parser.specs.Lines.{Value, Scalar, Table, Bytes, Declaration, C
 use Rattle.scalar_ranges.specs.Entries.{Entry}
 use Rattle.scalar_ranges.specs.Types.{type_of_values}
 use Rattle.program_uses.specs.Constants.{value_as, size_in}
-use Rattle.code_pieces.specs.Pieces.{Piece, constant, stores, moves}
+use Rattle.code_pieces.specs.Pieces.{Piece, constant, stores, moves, word_after}
 use Rattle.code_pieces.specs.declared.piece.RowEntry.{RowEntry}
 use Rattle.line_pieces.specs.Homes as home
 use Rattle.line_pieces.specs.Homes.{Home, Nowhere, Word, Block, words_for, facts_of}
@@ -26,14 +26,14 @@ facts_in f es = f.outer ++ facts_of f.homes es
 
 -- one name more, which takes this number of words
 abbrev pub with_words : ℕ → Frame → Frame
-with_words count f = record f { homes = f.homes ++ Word f.top ∷ []; top = f.top + count }
+with_words count f = record f { homes = f.homes ++ Word f.top ∷ []; top = word_after f.top count }
 
 abbrev pub with_home : Home → Frame → Frame
 with_home h f = record f { homes = f.homes ++ h ∷ [] }
 
 -- the index of a loop with its head at this label, in two words
 abbrev pub with_block : ℕ → Frame → Frame
-with_block head f = record f { homes = f.homes ++ Block f.top head ∷ []; top = f.top + 2 }
+with_block head f = record f { homes = f.homes ++ Block f.top head ∷ []; top = word_after f.top 2 }
 
 abbrev pub with_names : ℕ → List (List ℕ) → Frame → Frame
 with_names count [] f = f
@@ -68,13 +68,16 @@ abbrev pub spread : ℕ → ℕ → ℕ → ℕ → List Piece
 spread zero word count done = []
 spread (suc more) word count done =
     if nat_lt done count
-    then moves (min done (count - done)) word (word + done) ++ spread more word count (done + min done (count - done))
+    then
+    moves (min done (count - done)) word (word_after word done)
+    ++ spread more word count (done + min done (count - done))
     else []
 
 -- An array is set to 0 by moves, which also make its words full: the first one from a word after the array.
 abbrev pub zero_array : ℕ → ℕ → List Piece
 zero_array word count =
-    constant (pos 0) ∷ stores (word + count) ∷ moves 1 (word + count) word ++ spread (count - 1) word count 1
+    constant (pos 0) ∷ stores (word_after word count)
+    ∷ moves 1 (word_after word count) word ++ spread (count - 1) word count 1
 
 abbrev pub zero_scalar : ℕ → List Piece
 zero_scalar word = constant (pos 0) ∷ stores word ∷ []
@@ -86,7 +89,8 @@ zero_code (Some size) word count = zero_array word count
 -- each of these names, which take this number of words each, from this word on
 abbrev pub zero_names : Option Expression → ℕ → List (List ℕ) → ℕ → List Piece
 zero_names size count [] word = []
-zero_names size count (name ∷ names) word = zero_code size word count ++ zero_names size count names (word + count)
+zero_names size count (name ∷ names) word =
+    zero_code size word count ++ zero_names size count names (word_after word count)
 
 -- ---- declarations
 

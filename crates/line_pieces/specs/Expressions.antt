@@ -34,6 +34,7 @@ use Rattle.code_pieces.specs.declared.operations.TheConstants.{SHIFT_LEFT, AND, 
 use Rattle.line_pieces.specs.declared.expressions.Pushes.{Pushes}
 use Rattle.line_pieces.specs.declared.expressions.Pushes.TheVariants as pushes
 use Rattle.code_pieces.specs.Pieces.{Piece, Direct, TableAddress, operates, loads, stores, points, constant, below}
+use Rattle.code_pieces.specs.Pieces.{word_after}
 use Rattle.line_pieces.specs.Homes.{Home, Word, Block, Table, Passed, home_of}
 
 -- ---- operations
@@ -205,11 +206,11 @@ or_zero (Some c) = c
 -- the byte of an array with this number, in words from w on
 abbrev pub byte_address : ℕ → ℕ → List Piece
 byte_address w n =
-    if nat_eq (n % 4) 0 then points (w + n / 4) ∷ []
-    else constant (pos (n % 4)) ∷ points (w + n / 4) ∷ operates BYTE_SUBSCRIPT ∷ []
+    if nat_eq (n % 4) 0 then points (word_after w (n / 4)) ∷ []
+    else constant (pos (n % 4)) ∷ points (word_after w (n / 4)) ∷ operates BYTE_SUBSCRIPT ∷ []
 
 abbrev pub known_address : ValueType → ℕ → ℕ → List Piece
-known_address value_type.Int w n = points (w + n) ∷ []
+known_address value_type.Int w n = points (word_after w n) ∷ []
 known_address value_type.Byte w n = byte_address w n
 
 -- after the code of a subscript
@@ -228,7 +229,7 @@ loads_at n = Direct fun.LoadNonLocal n
 
 -- A word is read by the address of one before it, if the subscript ends with a constant.
 abbrev pub element_of_words : ValueType → ℕ → Option ℤ → Subscript → List Piece
-element_of_words value_type.Int w (Some c) s = loads (w + unsigned_abs c) ∷ []
+element_of_words value_type.Int w (Some c) s = loads (word_after w (unsigned_abs c)) ∷ []
 element_of_words value_type.Int w None s =
     before_offset s ++ subscript_code value_type.Int w ++ loads_at (or_zero s.offset) ∷ []
 element_of_words value_type.Byte w c s = address_code value_type.Byte w c s.whole ++ operates LOAD_BYTE ∷ []
@@ -402,8 +403,8 @@ abbrev mutual
   expression_code hs es t (Paired op x y) =
       constant_or (exact_value (bound_of es (Paired op x y)))
       (pushed (pushes_of op (exact_value (bound_of_term es x)) (exact_value (bound_of_term es y))) t
-      (beside es x (term_code hs es t x) (term_code hs es (t + 1) x))
-      (beside es y (term_code hs es t y) (term_code hs es (t + 1) y))
+      (beside es x (term_code hs es t x) (term_code hs es (word_after t 1) x))
+      (beside es y (term_code hs es t y) (term_code hs es (word_after t 1) y))
       ++ pair_code op (exact_value (bound_of_term es x)) (exact_value (bound_of_term es y)))
   expression_code hs es t (Chained op xs) =
       constant_or (exact_value (bound_of es (Chained op xs))) (terms_code hs es t op (front_in es op xs) xs)
@@ -422,11 +423,11 @@ abbrev mutual
   terms_code hs es t op front (Two x y) =
       constant_or (covered front 2)
       (term_code hs es t x
-      ++ joined t op (exact_value (bound_of_term es y)) (is_small_term es y) (term_code hs es (t + 1) y))
+      ++ joined t op (exact_value (bound_of_term es y)) (is_small_term es y) (term_code hs es (word_after t 1) y))
   terms_code hs es t op front (Then xs x) =
       terms_code hs es t op front xs
       ++ unless (is_known (covered front (count_of xs + 1)))
-      (joined t op (exact_value (bound_of_term es x)) (is_small_term es x) (term_code hs es (t + 1) x))
+      (joined t op (exact_value (bound_of_term es x)) (is_small_term es x) (term_code hs es (word_after t 1) x))
 
   pub term_code : List Home → List Entry → ℕ → Term → List Piece
   term_code hs es t (Number value) = constant value ∷ []

@@ -1,5 +1,5 @@
 -- Where what names denote is kept while a program runs, and what is known of it there.
-use Rattle.std.specs.Prelude.{ℕ, ◌+◌, ◌/◌, ℤ, pos, ◌-ℤ◌, ◌+ℤ◌, unsigned_abs, List, [], ◌∷◌, ◌++◌, reverse}
+use Rattle.std.specs.Prelude.{ℕ, ◌+◌, ◌/◌, min, ℤ, pos, ◌-ℤ◌, ◌+ℤ◌, unsigned_abs, List, [], ◌∷◌, ◌++◌, reverse}
 use Rattle.std.specs.Prelude.{Option, Some, None, option_and_then, slice_get}
 use Rattle.occam_parser.specs.declared.tree.ValueType.{ValueType}
 use Rattle.occam_parser.specs.declared.tree.ValueType.TheVariants as value_type
@@ -7,6 +7,7 @@ use Rattle.word_arithmetic.specs.Range.{Ends, full}
 use Rattle.scalar_ranges.specs.Entries.{Meaning, Scalar, Array, Entry, number_in}
 use Rattle.code_pieces.specs.declared.piece.WordFact.TheVariants.{Between, Turning}
 use Rattle.code_pieces.specs.declared.piece.RowEntry.{RowEntry}
+use Rattle.line_pieces.specs.declared.facts.TheConstants.{GREATEST_TURNS}
 
 -- Words have numbers in the frame, from 0 on. A name of a scope is at the place of its number, from the outermost on.
 pub data Home : Type 0 where
@@ -37,9 +38,9 @@ words_for value_type.Byte size = (size + 3) / 4
 abbrev pub is_in : ℕ → ℕ → Ends → RowEntry
 is_in word span r = record { word = word; span = span; fact = Between r.lo r.hi }
 
--- how many numbers a range has
+-- how many numbers a range has, as far as a loop has turns
 abbrev pub count_in : Ends → ℕ
-count_in r = unsigned_abs ((r.hi -ℤ r.lo) +ℤ pos 1)
+count_in r = min (unsigned_abs ((r.hi -ℤ r.lo) +ℤ pos 1)) GREATEST_TURNS
 
 -- Of a scalar its range is known, and of the words of an array nothing. What has no word has no entry.
 abbrev pub facts_at : Home → Meaning → List RowEntry

@@ -9,3 +9,4 @@ pub mod FrameViews
 pub mod Noted
 pub mod Cutting
 pub mod Opening
+pub mod Limits

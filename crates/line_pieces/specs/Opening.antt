@@ -6,6 +6,7 @@ use Rattle.code_pieces.specs.declared.operations.TheConstants.{END_PROCESS}
 use Rattle.code_pieces.specs.declared.piece.ParBranch.{ParBranch}
 use Rattle.code_pieces.specs.PieceViews.{pieces_of}
 use Rattle.code_pieces.specs.Pieces.{Piece, Distance, StartBranch, Place, operates, stores, points, constant}
+use Rattle.code_pieces.specs.Pieces.{word_after}
 use Rattle.line_pieces.specs.declared.branches.Branch.{Branch}
 
 -- channels are empty
@@ -18,7 +19,7 @@ emptied (c ∷ cs) = operates MINIMUM_INTEGER ∷ stores (unsigned_abs c.word) �
 abbrev pub block_code : (depth from successor : ℕ) → ℤ → List Piece
 block_code depth from successor ends =
     Distance from successor ∷ operates LOAD_POINTER_TO_INSTRUCTION ∷ Place from ∷ stores depth ∷ constant ends
-    ∷ stores (depth + 1) ∷ []
+    ∷ stores (word_after depth 1) ∷ []
 
 -- A branch with this entry starts, whose workspace is at this depth.
 abbrev pub start_code : (from entry depth : ℕ) → Option ℕ → List Piece

@@ -8,7 +8,7 @@ use Rattle.scalar_ranges.specs.Scopes.{entries_of}
 use Rattle.scalar_ranges.specs.Bounds.{bound_of, bound_of_term, exact_value}
 use Rattle.scalar_ranges.specs.Fronts.{Front, front_of}
 use Rattle.line_pieces.specs.declared.setting.Setting.{Setting}
-use Rattle.code_pieces.specs.Pieces.{Piece}
+use Rattle.code_pieces.specs.Pieces.{Piece, word_after}
 use Rattle.line_pieces.specs.Homes.{Home}
 use Rattle.line_pieces.specs.HomeViews.{homes_seen}
 use Rattle.line_pieces.specs.Expressions.{expression_code, term_code, terms_code, onto, joined, pushed, beside}
@@ -39,7 +39,7 @@ terms_in s op front xs = terms_code (homes_in s) (entries_in s) s.top op front x
 
 -- where the first word that is free is taken
 abbrev pub term_above : Setting → Term → List Piece
-term_above s x = term_code (homes_in s) (entries_in s) (s.top + 1) x
+term_above s x = term_code (homes_in s) (entries_in s) (word_after s.top 1) x
 
 abbrev pub onto_in : (in_order : Bool) → Setting → Term → List Piece
 onto_in in_order s x = onto in_order s.top (is_small_term (entries_in s) x) (term_above s x)

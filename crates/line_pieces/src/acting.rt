@@ -5,7 +5,7 @@ ghost use Rattle.occam_parser.specs.LineViews.{place_of};
 ghost use Rattle.occam_parser.specs.Views.{expression_of};
 ghost use Rattle.scalar_ranges.specs.Scopes.{meaning_of};
 ghost use Rattle.line_pieces.specs.HomeViews.{home_seen};
-ghost use Rattle.code_pieces.specs.Pieces.{moves};
+ghost use Rattle.code_pieces.specs.Pieces.{moves, counted};
 ghost use Rattle.line_pieces.specs.Actions.{stores_below, store_known, store_code, assign_code, target_address};
 ghost use Rattle.line_pieces.specs.Actions.{channel_code, element_home, channel_home, length_of, carried, exchange};
 ghost use Rattle.line_pieces.specs.Actions.{stores_at, store_other, stored_offset};
@@ -20,26 +20,26 @@ use crate::listing::Listing;
 use crate::noting::{ChannelEnd, ChannelPlace, Way};
 use crate::setting::{Setting, word_after};
 use crate::targets::{Target, target_of};
-use code_pieces::{Piece, operations};
-use module_builder::GenFault;
+use code_pieces::{GREATEST_WORD, Piece, operations};
 use occam_parser::{Expr, Place, ValueType};
 use prefix_decoder::Fun;
 use program_uses::place_ref;
 use scalar_ranges::{Meaning, range_of, test_of};
+use std::alloc::AllocError;
 
 impl Listing {
     /// Copies `count` words from one place of the frame to another.
-    pub(crate) fn write_moves(&mut self, count: u32, from: u32, to: u32) -> Result<(), GenFault>
+    pub(crate) fn write_moves(&mut self, count: u32, from: u32, to: u32) -> Result<(), AllocError>
         ensures { IfOk result (λ _. self.new ≡ self.old ++ moves count from to) }
     {
         self.point(from)?;
         self.point(to)?;
-        self.constant(bytes_of_words(count)?)?;
+        self.constant(bytes_of_words(count))?;
         self.operate(operations::MOVE)
     }
 
     /// What is in B goes so many words behind the address in A, or a byte to that.
-    fn write_store_at(&mut self, value_type: ValueType, offset: i32) -> Result<(), GenFault>
+    fn write_store_at(&mut self, value_type: ValueType, offset: i32) -> Result<(), AllocError>
         ensures { IfOk result (λ _. self.new ≡ self.old ++ stores_at value_type offset ∷ []) }
     {
         match value_type {
@@ -54,7 +54,7 @@ impl Listing {
         value_type: ValueType,
         offset: i32,
         temporary: u32,
-    ) -> Result<(), GenFault>
+    ) -> Result<(), AllocError>
         ensures { IfOk result (λ _. self.new ≡ self.old ++ stores_below value_type offset temporary) }
     {
         self.push_below(temporary)?;
@@ -68,11 +68,11 @@ impl Listing {
         word: u32,
         number: u32,
         temporary: u32,
-    ) -> Result<(), GenFault>
+    ) -> Result<(), AllocError>
         ensures { IfOk result (λ _. self.new ≡ self.old ++ store_known value_type word number temporary) }
     {
         match value_type {
-            ValueType::Int => self.write_moves(1, temporary, word_after(word, number)?),
+            ValueType::Int => self.write_moves(1, temporary, word_after(word, number)),
             ValueType::Byte => {
                 self.write_known_address(value_type, word, number)?;
                 self.write_store_below(value_type, 0, temporary)
@@ -89,7 +89,7 @@ impl Listing {
         word: u32,
         subscript: &Expr,
         temporary: u32,
-    ) -> Result<(), GenFault>
+    ) -> Result<(), AllocError>
         ensures { IfOk result (λ _. self.new ≡ self.old ++ store_other value_type word
             (subscript_in setting.entry (expression_of subscript.now)) temporary) }
     {
@@ -111,7 +111,7 @@ impl Listing {
         setting: Setting,
         target: Target,
         temporary: u32,
-    ) -> Result<(), GenFault>
+    ) -> Result<(), AllocError>
         ensures { IfOk result (λ _. self.new
             ≡ self.old ++ store_code (target_seen setting.entry target.entry) temporary) }
     {
@@ -135,7 +135,7 @@ impl Listing {
     }
 
     /// What a target is a part of is written.
-    fn note_target(&mut self, target: Target) -> Result<(), GenFault>
+    fn note_target(&mut self, target: Target) -> Result<(), AllocError>
         ensures { IfOk result (λ _. self.new ≡ self.old) }
     {
         match target {
@@ -152,11 +152,11 @@ impl Listing {
         setting: Setting,
         target: &Place,
         value: &Expr,
-    ) -> Result<(), GenFault>
+    ) -> Result<(), AllocError>
         ensures { IfOk result (λ _. self.new ≡ self.old ++ assign_code (homes_in setting.entry)
             (entries_in setting.entry) setting.entry.top (place_of target.now) (expression_of value.now)) }
     {
-        let above = setting.above()?;
+        let above = setting.above();
         let target = target_of(above, place_ref(target));
         self.write_expression(setting, value)?;
         self.note_target(target)?;
@@ -164,7 +164,7 @@ impl Listing {
     }
 
     /// The address of what is stored into.
-    fn write_target_address(&mut self, setting: Setting, target: Target) -> Result<(), GenFault>
+    fn write_target_address(&mut self, setting: Setting, target: Target) -> Result<(), AllocError>
         ensures { IfOk result (λ _. self.new
             ≡ self.old ++ target_address (target_seen setting.entry target.entry)) }
     {
@@ -188,7 +188,7 @@ impl Listing {
     }
 
     /// The word of a BYTE scalar has its byte alone, which came in.
-    pub fn write_cleaned(&mut self, setting: Setting, target: Target) -> Result<(), GenFault>
+    pub fn write_cleaned(&mut self, setting: Setting, target: Target) -> Result<(), AllocError>
         ensures { IfOk result (λ _. self.new ≡ self.old ++ cleaned (target_seen setting.entry target.entry)) }
     {
         match target {
@@ -206,7 +206,7 @@ impl Listing {
     }
 
     /// The address of a link.
-    pub fn write_link(&mut self, number: u8) -> Result<(), GenFault>
+    pub fn write_link(&mut self, number: u8) -> Result<(), AllocError>
         ensures { IfOk result (λ _. self.new ≡ self.old ++ link_code number) }
     {
         self.operate(operations::MINIMUM_INTEGER)?;
@@ -217,11 +217,11 @@ impl Listing {
     }
 
     /// The address of a channel.
-    fn write_channel(&mut self, setting: Setting, channel: &Place) -> Result<(), GenFault>
+    fn write_channel(&mut self, setting: Setting, channel: &Place) -> Result<(), AllocError>
         ensures { IfOk result (λ _. self.new ≡ self.old
             ++ channel_code (channel_home (homes_in setting.entry) (entries_in setting.entry) (place_of channel.now))) }
     {
-        match channel_at(setting, channel)? {
+        match channel_at(setting, channel) {
             Some(ChannelPlace::Link(number)) => self.write_link(number),
             Some(ChannelPlace::Word(word)) => self.point(word),
             None => Ok(()),
@@ -229,10 +229,15 @@ impl Listing {
     }
 
     /// An end of a channel is used.
-    fn note_channel(&mut self, setting: Setting, channel: &Place, way: Way) -> Result<(), GenFault>
+    fn note_channel(
+        &mut self,
+        setting: Setting,
+        channel: &Place,
+        way: Way,
+    ) -> Result<(), AllocError>
         ensures { IfOk result (λ _. self.new ≡ self.old) }
     {
-        let Some(place) = channel_at(setting, channel)? else {
+        let Some(place) = channel_at(setting, channel) else {
             return Ok(());
         };
         let length = message_length(setting.scope.meaning(channel.name));
@@ -245,7 +250,7 @@ impl Listing {
         setting: Setting,
         channel: &Place,
         operation: i32,
-    ) -> Result<(), GenFault>
+    ) -> Result<(), AllocError>
         ensures { IfOk result (λ _. self.new ≡ self.old
             ++ exchange (homes_in setting.entry) (entries_in setting.entry) (place_of channel.now) operation) }
     {
@@ -260,7 +265,7 @@ impl Listing {
         setting: Setting,
         channel: &Place,
         target: &Place,
-    ) -> Result<(), GenFault>
+    ) -> Result<(), AllocError>
         ensures { IfOk result (λ _. self.new ≡ self.old ++ input_code (homes_in setting.entry)
             (entries_in setting.entry) setting.entry.top (place_of channel.now) (place_of target.now)) }
     {
@@ -278,7 +283,7 @@ impl Listing {
         setting: Setting,
         channel: &Place,
         value: &Expr,
-    ) -> Result<(), GenFault>
+    ) -> Result<(), AllocError>
         ensures { IfOk result (λ _. self.new ≡ self.old ++ output_code (homes_in setting.entry)
             (entries_in setting.entry) setting.entry.top (place_of channel.now) (expression_of value.now)) }
     {
@@ -295,7 +300,7 @@ impl Listing {
         setting: Setting,
         condition: &Expr,
         label: usize,
-    ) -> Result<(), GenFault>
+    ) -> Result<(), AllocError>
         ensures { IfOk result (λ _. self.new ≡ self.old ++ test_code (homes_in setting.entry) (entries_in setting.entry)
             setting.entry.top (expression_of condition.now) label) }
     {
@@ -308,23 +313,23 @@ impl Listing {
 }
 
 /// Where a channel is, if it is somewhere.
-fn channel_at(setting: Setting, channel: &Place) -> Result<Option<ChannelPlace>, GenFault>
-    ensures { IfOk result (λ place. place_code place
-        ≡ channel_code (channel_home (homes_in setting.entry) (entries_in setting.entry) (place_of channel.now))) }
+fn channel_at(setting: Setting, channel: &Place) -> Option<ChannelPlace>
+    ensures { place_code result
+        ≡ channel_code (channel_home (homes_in setting.entry) (entries_in setting.entry) (place_of channel.now)) }
 {
     match (setting.home(channel.name), &channel.subscript) {
-        (Some(Home::Link(number)), _) => Ok(Some(ChannelPlace::Link(*number))),
-        (Some(Home::Word(word) | Home::Passed(word)), None) => Ok(Some(ChannelPlace::Word(*word))),
+        (Some(Home::Link(number)), _) => Some(ChannelPlace::Link(*number)),
+        (Some(Home::Word(word) | Home::Passed(word)), None) => Some(ChannelPlace::Word(*word)),
         (Some(Home::Word(word) | Home::Passed(word)), Some(subscript)) => {
             match single(range_of(setting.scope, subscript)) {
                 Some(number) => {
-                    let word = word_after(*word, number.unsigned_abs())?;
-                    Ok(Some(ChannelPlace::Word(word)))
+                    let word = word_after(*word, number.unsigned_abs());
+                    Some(ChannelPlace::Word(word))
                 }
-                None => Ok(Some(ChannelPlace::Word(*word))),
+                None => Some(ChannelPlace::Word(*word)),
             }
         }
-        _ => Ok(None),
+        _ => None,
     }
 }
 
@@ -338,12 +343,12 @@ fn stored_offset(value_type: ValueType, offset: Option<i32>) -> Option<i32>
     }
 }
 
-/// How many bytes some words have, as an operand. The error is [`GenFault::Limit`] if it is none.
-fn bytes_of_words(count: u32) -> Result<i32, GenFault>
-    ensures { IfOk result (λ n. n ≡ pos (4 * count)) }
+/// How many bytes some words have, as far as words are counted.
+#[tactic(auto, unfolding(code_pieces::specs::Pieces::counted))]
+fn bytes_of_words(count: u32) -> i32
+    ensures { result ≡ pos (4 * counted count) }
 {
-    let bytes = count.checked_mul(4).ok_or(GenFault::Limit)?;
-    i32::try_from(bytes).map_err(|_| GenFault::Limit)
+    (4 * count.min(GREATEST_WORD)) as i32
 }
 
 /// How many bytes a message of a channel has that means this.

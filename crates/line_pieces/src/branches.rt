@@ -149,7 +149,7 @@ impl Notes {
             return Ok(None);
         }
         let known = known_outside(entry)?;
-        let above = word_after(known.word, known.span)?;
+        let above = word_after(known.word, known.span);
         Ok(Some(words_between(known.word, above)?))
     }
 
@@ -237,7 +237,8 @@ impl Fork {
     ) -> Result<(), GenFault>
         ensures { IfOk result (λ _. self.new.next ≡ words_taken code) }
     {
-        let Listing { pieces, notes, .. } = code;
+        let Listing { code, notes, .. } = code;
+        let pieces = code.into_vec();
         let above = words_taken(&pieces);
         let row = notes.branch_row(alloc, &self.known, entry, depth, above)?;
         let pieces = notes.cut_pieces(alloc, pieces)?;

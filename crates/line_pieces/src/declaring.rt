@@ -14,31 +14,29 @@ ghost use Rattle.line_pieces.specs.Declarations.{words_in, channels_in, item_val
 ghost use Rattle.line_pieces.specs.HomeViews.{home_seen};
 
 use crate::home::Home;
-use crate::setting::word_after;
-use module_builder::GenFault;
 use occam_layout::Text;
 use occam_parser::{ConstantValue, Expr, OneOrMore, ValueType};
 use program_uses::{add_name, size_in, type_of_values, value_as};
 use scalar_ranges::{Meaning, Scope};
-use std::alloc::Global;
+use std::alloc::{AllocError, Global};
 use std::rc::Rc;
 
 /// How many words the elements of an array have.
-pub(crate) fn words_for(value_type: ValueType, size: u32) -> Result<u32, GenFault>
-    ensures { IfOk result (λ n. n ≡ words_for value_type size) }
+pub(crate) fn words_for(value_type: ValueType, size: u32) -> u32
+    ensures { result ≡ words_for value_type size }
 {
     match value_type {
-        ValueType::Int => Ok(size),
-        ValueType::Byte => Ok(word_after(size, 3)? / 4),
+        ValueType::Int => size,
+        ValueType::Byte => size.div_ceil(4),
     }
 }
 
 /// How many words a variable has.
-pub fn words_in(scope: &Scope, value_type: ValueType, size: &Option<Expr>) -> Result<u32, GenFault>
-    ensures { IfOk result (λ n. n ≡ words_in (entries_of scope.now) value_type (any_of size.now)) }
+pub fn words_in(scope: &Scope, value_type: ValueType, size: &Option<Expr>) -> u32
+    ensures { result ≡ words_in (entries_of scope.now) value_type (any_of size.now) }
 {
     match size {
-        None => Ok(1),
+        None => 1,
         Some(size) => words_for(value_type, size_in(scope, size).unwrap_or(0)),
     }
 }
@@ -67,7 +65,7 @@ fn push_item(
     scope: &Scope,
     value_type: ValueType,
     item: &Expr,
-) -> Result<(), GenFault>
+) -> Result<(), AllocError>
     ensures { IfOk result (λ _. values.new.items ≡ values.old.items ++ unwrap_or (value_as (entries_of scope.now)
         (type_of_values value_type) (expression_of item.now)) (pos 0) ∷ []) }
 {
@@ -81,7 +79,7 @@ fn item_values(
     scope: &Scope,
     value_type: ValueType,
     items: &OneOrMore<Expr>,
-) -> Result<Vec<i32>, GenFault>
+) -> Result<Vec<i32>, AllocError>
     ensures { IfOk result (λ values. values.items
         ≡ item_values (entries_of scope.now) value_type (as_list (one_or_more_of expression_of items.now))) }
 {
@@ -94,7 +92,7 @@ fn item_values(
 }
 
 /// The bytes of a text, each as a number.
-fn byte_values(alloc: Global, text: Text) -> Result<Vec<i32>, GenFault>
+fn byte_values(alloc: Global, text: Text) -> Result<Vec<i32>, AllocError>
     ensures { IfOk result (λ values. values.items ≡ map pos (bytes_of text.entry)) }
 {
     let mut values = Vec::new(alloc);
@@ -112,7 +110,7 @@ pub fn home_for(
     scope: &Scope,
     value_type: ValueType,
     value: &ConstantValue,
-) -> Result<Home, GenFault>
+) -> Result<Home, AllocError>
     ensures { IfOk result (λ h. home_seen h ≡ home_for (entries_of scope.now) value_type (value_of value.now)) }
 {
     match value {
@@ -133,7 +131,7 @@ pub fn declare_names<'a>(
     scope: &mut Scope<'a>,
     names: &OneOrMore<&'a [u8]>,
     meaning: Meaning,
-) -> Result<(), GenFault>
+) -> Result<(), AllocError>
     ensures entries { IfOk result (λ _. entries_of scope.new
         ≡ add_all (as_list (one_or_more_of spelling_of names.now)) (meaning_of meaning) (entries_of scope.old)) }
     ensures blocks { IfOk result (λ _. blocks_of scope.new ≡ blocks_of scope.old) }

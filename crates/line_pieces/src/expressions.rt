@@ -24,13 +24,13 @@ use crate::home::Home;
 use crate::listing::Listing;
 use crate::setting::word_after;
 use code_pieces::operations;
-use module_builder::GenFault;
 use occam_parser::{
     ArithmeticChain, ArithmeticPair, ChainOperator, Comparison, Expr, Logic, Operand, Operation,
     PairOperator, PrefixOperator, ValueType,
 };
 use prefix_decoder::Fun;
 use scalar_ranges::{ArrayKind, Front, Meaning, ScalarKind, Scope, read_operand, value_of};
+use std::alloc::AllocError;
 use word_arithmetic::{Range, checked_add, checked_sub};
 
 /// The operation that an operator between two numbers is.
@@ -393,7 +393,7 @@ pub(crate) fn is_small_term(scope: &Scope, operand: &Operand) -> bool
 
 impl Listing {
     /// What an operator before an operand does with its value.
-    pub(crate) fn write_prefix(&mut self, operator: PrefixOperator) -> Result<(), GenFault>
+    pub(crate) fn write_prefix(&mut self, operator: PrefixOperator) -> Result<(), AllocError>
         ensures { IfOk result (λ _. self.new ≡ self.old ++ prefix_code operator) }
     {
         match operator {
@@ -411,7 +411,7 @@ impl Listing {
         &mut self,
         is_reference: bool,
         home: Option<&Home>,
-    ) -> Result<(), GenFault>
+    ) -> Result<(), AllocError>
         ensures { IfOk result (λ _. self.new
             ≡ self.old ++ scalar_code is_reference (option_map (λ h. home_seen h.now) home.entry)) }
     {
@@ -430,10 +430,10 @@ impl Listing {
     }
 
     /// The address of a byte of an array, by the first of its words.
-    fn write_byte_address(&mut self, word: u32, byte: u32) -> Result<(), GenFault>
+    fn write_byte_address(&mut self, word: u32, byte: u32) -> Result<(), AllocError>
         ensures { IfOk result (λ _. self.new ≡ self.old ++ byte_address word byte) }
     {
-        let at = word_after(word, byte / 4)?;
+        let at = word_after(word, byte / 4);
         if byte % 4 == 0 {
             return self.point(at);
         }
@@ -448,11 +448,11 @@ impl Listing {
         value_type: ValueType,
         word: u32,
         number: u32,
-    ) -> Result<(), GenFault>
+    ) -> Result<(), AllocError>
         ensures { IfOk result (λ _. self.new ≡ self.old ++ known_address value_type word number) }
     {
         match value_type {
-            ValueType::Int => self.point(word_after(word, number)?),
+            ValueType::Int => self.point(word_after(word, number)),
             ValueType::Byte => self.write_byte_address(word, number),
         }
     }
@@ -462,7 +462,7 @@ impl Listing {
         &mut self,
         value_type: ValueType,
         word: u32,
-    ) -> Result<(), GenFault>
+    ) -> Result<(), AllocError>
         ensures { IfOk result (λ _. self.new ≡ self.old ++ subscript_code value_type word) }
     {
         self.point(word)?;
@@ -478,7 +478,7 @@ impl Listing {
         operator: PairOperator,
         left: Option<i32>,
         right: Option<i32>,
-    ) -> Result<(), GenFault>
+    ) -> Result<(), AllocError>
         ensures { IfOk result (λ _. self.new ≡ self.old ++ pair_code operator left right) }
     {
         match operator {
@@ -496,7 +496,7 @@ impl Listing {
         comparison: Comparison,
         left: Option<i32>,
         right: Option<i32>,
-    ) -> Result<(), GenFault>
+    ) -> Result<(), AllocError>
         ensures { IfOk result (λ _. self.new ≡ self.old ++ comparison_code comparison left right) }
     {
         match comparison {
@@ -518,7 +518,7 @@ impl Listing {
     }
 
     /// A becomes the truth that it is not, unless the comparison is one with the constant next to one.
-    fn write_negated_unless(&mut self, next: Option<i32>) -> Result<(), GenFault>
+    fn write_negated_unless(&mut self, next: Option<i32>) -> Result<(), AllocError>
         ensures { IfOk result (λ _. self.new ≡ self.old ++ negated_unless next) }
     {
         match next {
@@ -528,7 +528,7 @@ impl Listing {
     }
 
     /// Whether what is pushed is equal to a constant, or both operands are equal.
-    fn write_equality(&mut self, left: Option<i32>, right: Option<i32>) -> Result<(), GenFault>
+    fn write_equality(&mut self, left: Option<i32>, right: Option<i32>) -> Result<(), AllocError>
         ensures { IfOk result (λ _. self.new ≡ self.old ++ equality_code left right) }
     {
         match (left, right) {

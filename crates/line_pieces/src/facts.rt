@@ -12,17 +12,19 @@ use crate::declaring::words_for;
 use crate::frame::Frame;
 use crate::home::Home;
 use code_pieces::{RowEntry, WordFact};
-use module_builder::GenFault;
 use scalar_ranges::{Entry, Meaning, Scope};
-use std::alloc::Global;
+use std::alloc::{AllocError, Global};
 use word_arithmetic::Range;
 
-/// How many numbers a range has.
-fn count_in(range: Range) -> Result<u32, GenFault>
-    ensures { IfOk result (λ n. n ≡ count_in (ends_of range)) }
+/// How many turns a loop has at most.
+const GREATEST_TURNS: u32 = u32::MAX;
+
+/// How many numbers a range has, as far as a loop has turns.
+fn count_in(range: Range) -> u32
+    ensures { result ≡ count_in (ends_of range) }
 {
     let count = i64::from(range.hi) - i64::from(range.lo) + 1;
-    u32::try_from(count.unsigned_abs()).map_err(|_| GenFault::Limit)
+    count.unsigned_abs().min(u64::from(GREATEST_TURNS)) as u32
 }
 
 /// Some words have numbers in this range.
@@ -40,11 +42,11 @@ pub fn is_in(word: u32, span: u32, range: Range) -> RowEntry
 }
 
 /// What is known of the words of a name that is there and means this, if it has words.
-fn fact_at(home: &Home, meaning: Meaning) -> Result<Option<RowEntry>, GenFault>
-    ensures { IfOk result (λ entry. option_to_list entry ≡ facts_at (home_seen home.now) (meaning_of meaning)) }
+fn fact_at(home: &Home, meaning: Meaning) -> Option<RowEntry>
+    ensures { option_to_list result ≡ facts_at (home_seen home.now) (meaning_of meaning) }
 {
     match (home, meaning) {
-        (Home::Word(word), Meaning::Scalar { range, .. }) => Ok(Some(is_in(*word, 1, range))),
+        (Home::Word(word), Meaning::Scalar { range, .. }) => Some(is_in(*word, 1, range)),
         (
             Home::Word(word),
             Meaning::Array {
@@ -53,35 +55,34 @@ fn fact_at(home: &Home, meaning: Meaning) -> Result<Option<RowEntry>, GenFault>
                 ..
             },
         ) => {
-            let span = words_for(value_type, size)?;
-            Ok(Some(is_in(*word, span, Range::full())))
+            let span = words_for(value_type, size);
+            Some(is_in(*word, span, Range::full()))
         }
-        (Home::Block { word, head }, Meaning::Scalar { range, .. }) => Ok(Some(RowEntry {
+        (Home::Block { word, head }, Meaning::Scalar { range, .. }) => Some(RowEntry {
             word: *word,
             span: 2,
             fact: WordFact::Turning {
                 head: *head,
                 base: range.lo,
-                count: count_in(range)?,
+                count: count_in(range),
             },
-        })),
-        _ => Ok(None),
+        }),
+        _ => None,
     }
 }
 
 /// What is known of the words of a name that is there, if it is in the scope and has words.
-fn fact_here(home: &Home, declared: Option<Entry>) -> Result<Option<RowEntry>, GenFault>
-    ensures { IfOk result (λ entry. option_to_list entry
-        ≡ facts_here (home_seen home.now) (option_map entry_of declared.entry)) }
+fn fact_here(home: &Home, declared: Option<Entry>) -> Option<RowEntry>
+    ensures { option_to_list result ≡ facts_here (home_seen home.now) (option_map entry_of declared.entry) }
 {
     match declared {
         Some(declared) => fact_at(home, declared.meaning),
-        None => Ok(None),
+        None => None,
     }
 }
 
 /// One entry more, if there is one.
-pub(crate) fn push_any<T: Drop>(entries: &mut Vec<T>, entry: Option<T>) -> Result<(), GenFault>
+pub(crate) fn push_any<T: Drop>(entries: &mut Vec<T>, entry: Option<T>) -> Result<(), AllocError>
     ensures { IfOk result (λ _. entries.new.items ≡ entries.old.items ++ option_to_list entry) }
 {
     if let Some(entry) = entry {
@@ -91,7 +92,7 @@ pub(crate) fn push_any<T: Drop>(entries: &mut Vec<T>, entry: Option<T>) -> Resul
 }
 
 /// Some entries more.
-fn push_all(entries: &mut Vec<RowEntry>, others: &[RowEntry]) -> Result<(), GenFault>
+fn push_all(entries: &mut Vec<RowEntry>, others: &[RowEntry]) -> Result<(), AllocError>
     ensures { IfOk result (λ _. entries.new.items ≡ entries.old.items ++ others.now) }
 {
     for entry in others {
@@ -101,19 +102,19 @@ fn push_all(entries: &mut Vec<RowEntry>, others: &[RowEntry]) -> Result<(), GenF
 }
 
 /// What a scope knows of words, those of the outermost names first.
-fn facts_of(alloc: Global, scope: &Scope, homes: &[Home]) -> Result<Vec<RowEntry>, GenFault>
+fn facts_of(alloc: Global, scope: &Scope, homes: &[Home]) -> Result<Vec<RowEntry>, AllocError>
     ensures { IfOk result (λ entries. entries.items ≡ facts_of (homes_seen homes.now) (entries_of scope.now)) }
 {
     let mut entries = Vec::new(alloc);
     for (number, home) in homes.iter().enumerate() {
-        let entry = fact_here(home, scope.entry(number))?;
+        let entry = fact_here(home, scope.entry(number));
         push_any(&mut entries, entry)?;
     }
     Ok(entries)
 }
 
 /// What a row says: what is known of words outside, and what a scope knows.
-pub fn facts_in(alloc: Global, scope: &Scope, frame: &Frame) -> Result<Vec<RowEntry>, GenFault>
+pub fn facts_in(alloc: Global, scope: &Scope, frame: &Frame) -> Result<Vec<RowEntry>, AllocError>
     ensures { IfOk result (λ entries. entries.items ≡ facts_in (frame_seen frame.now) (entries_of scope.now)) }
 {
     let own = facts_of(alloc, scope, &frame.homes)?;

@@ -10,8 +10,8 @@ ghost use Rattle.line_pieces.specs.FrameViews.{frame_seen};
 use crate::home::Home;
 use crate::setting::word_after;
 use code_pieces::RowEntry;
-use module_builder::GenFault;
 use occam_parser::OneOrMore;
+use std::alloc::AllocError;
 
 /// Where what names denote is kept, by the numbers of their declarations, and the first word that is free.
 #[derive(Drop)]
@@ -24,7 +24,7 @@ pub struct Frame {
 
 impl Frame {
     /// One name more, which takes no words.
-    pub fn add_home(&mut self, home: Home) -> Result<(), GenFault>
+    pub fn add_home(&mut self, home: Home) -> Result<(), AllocError>
         ensures { IfOk result (λ _. frame_seen self.new ≡ with_home (home_seen home) (frame_seen self.old)) }
     {
         self.homes.push(home)?;
@@ -32,20 +32,20 @@ impl Frame {
     }
 
     /// One name more, which takes `count` words.
-    pub fn add_words(&mut self, count: u32) -> Result<(), GenFault>
+    pub fn add_words(&mut self, count: u32) -> Result<(), AllocError>
         ensures { IfOk result (λ _. frame_seen self.new ≡ with_words count (frame_seen self.old)) }
     {
-        let next = word_after(self.top, count)?;
+        let next = word_after(self.top, count);
         self.homes.push(Home::Word(self.top))?;
         self.top = next;
         Ok(())
     }
 
     /// The index of a loop more, which takes two words. The head of the loop is at this label.
-    pub fn add_block(&mut self, head: usize) -> Result<(), GenFault>
+    pub fn add_block(&mut self, head: usize) -> Result<(), AllocError>
         ensures { IfOk result (λ _. frame_seen self.new ≡ with_block head (frame_seen self.old)) }
     {
-        let next = word_after(self.top, 2)?;
+        let next = word_after(self.top, 2);
         self.homes.push(Home::Block {
             word: self.top,
             head,
@@ -55,7 +55,7 @@ impl Frame {
     }
 
     /// These names more, each of which takes `count` words.
-    pub fn add_names(&mut self, count: u32, names: &OneOrMore<&[u8]>) -> Result<(), GenFault>
+    pub fn add_names(&mut self, count: u32, names: &OneOrMore<&[u8]>) -> Result<(), AllocError>
         ensures { IfOk result (λ _. frame_seen self.new
             ≡ with_names count (as_list (one_or_more_of spelling_of names.now)) (frame_seen self.old)) }
     {

@@ -3,8 +3,7 @@
 ghost use Rattle.std.specs.Prelude.{◌≡◌, IfOk, take};
 ghost use Rattle.line_pieces.specs.HomeViews.{home_seen, homes_seen};
 
-use module_builder::GenFault;
-use std::alloc::Global;
+use std::alloc::{AllocError, Global};
 use std::rc::Rc;
 
 /// Where what a name denotes is kept. Words are those of the frame, from 0 on.
@@ -26,7 +25,7 @@ pub enum Home {
 
 impl Home {
     /// The same place.
-    pub fn copy(&self) -> Result<Home, GenFault>
+    pub fn copy(&self) -> Result<Home, AllocError>
         ensures { IfOk result (λ h. home_seen h ≡ home_seen self.now) }
     {
         match self {
@@ -44,7 +43,7 @@ impl Home {
 }
 
 /// The places of the `count` outermost names.
-pub fn outermost_homes(alloc: Global, homes: &[Home], count: usize) -> Result<Vec<Home>, GenFault>
+pub fn outermost_homes(alloc: Global, homes: &[Home], count: usize) -> Result<Vec<Home>, AllocError>
     ensures { IfOk result (λ hs. homes_seen hs.items ≡ take count (homes_seen homes.now)) }
 {
     let mut outermost = Vec::new(alloc);

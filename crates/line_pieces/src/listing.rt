@@ -3,23 +3,25 @@
 ghost use Rattle.std.specs.Prelude.{◌≡◌, ◌++◌, ◌∷◌, [], IfOk, ℤ, pos};
 ghost use Rattle.prefix_decoder.specs.declared.function.Fun.TheVariants as fun;
 ghost use Rattle.code_pieces.specs.Pieces.{Direct, TableAddress, operates, loads, stores, points, constant, below};
+ghost use Rattle.code_pieces.specs.Pieces.{counted};
 ghost use Rattle.code_pieces.specs.PieceViews.{pieces_of, piece_of};
 ghost use Rattle.line_pieces.specs.Expressions.{back};
+ghost use Rattle.line_pieces.specs.Limits.{is_too_much};
 
 use crate::noting::Notes;
+use crate::pieces::{CountedPieces, GREATEST_COUNT};
 use crate::work::Work;
-use code_pieces::Piece;
 use code_pieces::operations::{MINIMUM_INTEGER, REVERSE};
-use module_builder::GenFault;
+use code_pieces::{GREATEST_WORD, Piece};
 use prefix_decoder::Fun;
-use std::alloc::Global;
+use std::alloc::{AllocError, Global};
 use std::marker::Model;
 use std::rc::Rc;
 
 /// Pieces of code in their order. If a call fails, some pieces more may have come.
 #[derive(Drop)]
 pub struct Listing {
-    pub(crate) pieces: Vec<Piece>,
+    pub(crate) code: CountedPieces,
     pub notes: Notes,
     /// How many pieces there are in other listings.
     others: usize,
@@ -30,21 +32,18 @@ pub struct Listing {
 impl Model for Listing {
     ghost use Rattle.std.specs.Prelude.{List};
     ghost use Rattle.code_pieces.specs.Pieces.{Piece};
-    ghost use Rattle.code_pieces.specs.PieceViews.{pieces_of};
 
     ghost Value = { List Piece };
 
-    ghost view = { λ l. pieces_of l.pieces.items };
+    ghost view = { λ l. l.code };
 }
 
-/// How many pieces a module has at most: each is a byte of its code at least, but for its rows.
-const GREATEST_COUNT: usize = 262_143 + 8_192;
-
-/// A word of the frame as an operand. The error is [`GenFault::Limit`] if it is none.
-fn operand(word: u32) -> Result<i32, GenFault>
-    ensures { IfOk result (λ n. n ≡ pos word) }
+/// A word of the frame as an operand, as far as words are counted.
+#[tactic(auto, unfolding(code_pieces::specs::Pieces::counted))]
+fn operand(word: u32) -> i32
+    ensures { result ≡ pos (counted word) }
 {
-    i32::try_from(word).map_err(|_| GenFault::Limit)
+    word.min(GREATEST_WORD) as i32
 }
 
 impl Listing {
@@ -53,7 +52,7 @@ impl Listing {
         ensures { result ≡ [] }
     {
         Listing {
-            pieces: Vec::new(alloc),
+            code: CountedPieces::new(alloc),
             notes: Notes::new(alloc, 0),
             others: 0,
             work: Work::nothing(),
@@ -64,9 +63,9 @@ impl Listing {
     pub fn branch(&self, alloc: Global, first: u32, pieces: usize) -> Listing
         ensures { result ≡ [] }
     {
-        let before = self.others.saturating_add(self.pieces.len());
+        let before = self.others.saturating_add(self.code.len());
         Listing {
-            pieces: Vec::new(alloc),
+            code: CountedPieces::new(alloc),
             notes: Notes::new(alloc, first),
             others: before.saturating_add(pieces),
             work: self.work,
@@ -77,57 +76,65 @@ impl Listing {
     pub fn into_pieces(self) -> Vec<Piece>
         ensures { pieces_of result.items ≡ self }
     {
-        self.pieces
+        self.code.into_vec()
     }
 
-    /// One piece more. The error is [`GenFault::Limit`] if there are too many for a module.
-    pub fn push(&mut self, piece: Piece) -> Result<(), GenFault>
+    /// Whether the pieces are too many for a module, those of other listings too.
+    pub fn is_full(&self) -> bool {
+        self.others.saturating_add(self.code.len()) > GREATEST_COUNT
+    }
+
+    /// Whether the code is too much for a module, where no more than this number of names are known at its rows.
+    pub fn is_too_much(&self, names: u32) -> bool
+        ensures { result ≡ is_too_much names self.now }
+    {
+        self.code.is_too_much(names)
+    }
+
+    /// One piece more.
+    pub fn push(&mut self, piece: Piece) -> Result<(), AllocError>
         ensures { IfOk result (λ _. self.new ≡ self.old ++ piece_of piece ∷ []) }
     {
-        if self.others.saturating_add(self.pieces.len()) >= GREATEST_COUNT {
-            return Err(GenFault::Limit);
-        }
-        self.pieces.push(piece)?;
-        Ok(())
+        self.code.push(piece)
     }
 
     /// An instruction.
-    pub(crate) fn direct(&mut self, fun: Fun, operand: i32) -> Result<(), GenFault>
+    pub(crate) fn direct(&mut self, fun: Fun, operand: i32) -> Result<(), AllocError>
         ensures { IfOk result (λ _. self.new ≡ self.old ++ Direct fun operand ∷ []) }
     {
         self.push(Piece::Direct { fun, operand })
     }
 
     /// An operation.
-    pub fn operate(&mut self, operation: i32) -> Result<(), GenFault>
+    pub fn operate(&mut self, operation: i32) -> Result<(), AllocError>
         ensures { IfOk result (λ _. self.new ≡ self.old ++ operates operation ∷ []) }
     {
         self.direct(Fun::Operate, operation)
     }
 
     /// `ldl`
-    pub fn load(&mut self, word: u32) -> Result<(), GenFault>
+    pub fn load(&mut self, word: u32) -> Result<(), AllocError>
         ensures { IfOk result (λ _. self.new ≡ self.old ++ loads word ∷ []) }
     {
-        self.direct(Fun::LoadLocal, operand(word)?)
+        self.direct(Fun::LoadLocal, operand(word))
     }
 
     /// `stl`
-    pub fn store(&mut self, word: u32) -> Result<(), GenFault>
+    pub fn store(&mut self, word: u32) -> Result<(), AllocError>
         ensures { IfOk result (λ _. self.new ≡ self.old ++ stores word ∷ []) }
     {
-        self.direct(Fun::StoreLocal, operand(word)?)
+        self.direct(Fun::StoreLocal, operand(word))
     }
 
     /// `ldlp`
-    pub fn point(&mut self, word: u32) -> Result<(), GenFault>
+    pub fn point(&mut self, word: u32) -> Result<(), AllocError>
         ensures { IfOk result (λ _. self.new ≡ self.old ++ points word ∷ []) }
     {
-        self.direct(Fun::LoadLocalPointer, operand(word)?)
+        self.direct(Fun::LoadLocalPointer, operand(word))
     }
 
     /// Pushes a constant.
-    pub fn constant(&mut self, value: i32) -> Result<(), GenFault>
+    pub fn constant(&mut self, value: i32) -> Result<(), AllocError>
         ensures { IfOk result (λ _. self.new ≡ self.old ++ constant value ∷ []) }
     {
         if value == i32::MIN {
@@ -138,7 +145,7 @@ impl Listing {
     }
 
     /// Pushes what was stored in a temporary below what is in A.
-    pub(crate) fn push_below(&mut self, temporary: u32) -> Result<(), GenFault>
+    pub(crate) fn push_below(&mut self, temporary: u32) -> Result<(), AllocError>
         ensures { IfOk result (λ _. self.new ≡ self.old ++ below temporary) }
     {
         self.load(temporary)?;
@@ -147,7 +154,7 @@ impl Listing {
 
     /// Pushes a left operand that waited in a temporary: below the right one that is in A, or on it where their order
     /// does not matter.
-    pub(crate) fn push_back(&mut self, temporary: u32, in_order: bool) -> Result<(), GenFault>
+    pub(crate) fn push_back(&mut self, temporary: u32, in_order: bool) -> Result<(), AllocError>
         ensures { IfOk result (λ _. self.new ≡ self.old ++ back in_order temporary) }
     {
         if in_order {
@@ -158,7 +165,7 @@ impl Listing {
     }
 
     /// Pushes the address of a table.
-    pub(crate) fn table(&mut self, values: &Rc<Vec<i32>>) -> Result<(), GenFault>
+    pub(crate) fn table(&mut self, values: &Rc<Vec<i32>>) -> Result<(), AllocError>
         ensures { IfOk result (λ _. self.new ≡ self.old ++ TableAddress values.now.value.items ∷ []) }
     {
         self.push(Piece::TableAddress(Rc::clone(values)?))

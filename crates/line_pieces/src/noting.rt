@@ -125,7 +125,7 @@ impl Notes {
 
 impl Listing {
     /// The variable with this first word is read.
-    pub(crate) fn reads(&mut self, word: u32) -> Result<(), GenFault>
+    pub(crate) fn reads(&mut self, word: u32) -> Result<(), AllocError>
         ensures { self.new ≡ self.old }
     {
         self.notes.note_word(word, Access::Reads)?;
@@ -133,7 +133,7 @@ impl Listing {
     }
 
     /// The variable with this first word is written.
-    pub(crate) fn writes(&mut self, word: u32) -> Result<(), GenFault>
+    pub(crate) fn writes(&mut self, word: u32) -> Result<(), AllocError>
         ensures { self.new ≡ self.old }
     {
         self.notes.note_word(word, Access::Writes)?;
@@ -141,7 +141,7 @@ impl Listing {
     }
 
     /// An end of a channel is used whose messages have `length` bytes.
-    pub(crate) fn uses(&mut self, end: ChannelEnd, length: u32) -> Result<(), GenFault>
+    pub(crate) fn uses(&mut self, end: ChannelEnd, length: u32) -> Result<(), AllocError>
         ensures { self.new ≡ self.old }
     {
         self.notes.note_end(end, length)?;

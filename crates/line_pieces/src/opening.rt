@@ -6,6 +6,7 @@ ghost use Rattle.line_pieces.specs.Opening.{emptied, block_code, start_code, end
 
 use crate::branches::Branch;
 use crate::listing::Listing;
+use crate::setting::word_after;
 use code_pieces::{ParBranch, Piece, operations};
 use module_builder::GenFault;
 use module_format::ChannelRow;
@@ -42,7 +43,8 @@ impl Listing {
         self.push(Piece::Place { label: from })?;
         self.store(depth)?;
         self.constant(ends)?;
-        self.store(depth.checked_add(1).ok_or(GenFault::Limit)?)
+        self.store(word_after(depth, 1))?;
+        Ok(())
     }
 
     /// A branch starts, by a label that distances are counted from.
@@ -64,7 +66,8 @@ impl Listing {
             entry: branch.entry,
             successor,
         })?;
-        self.push(Piece::Place { label: from })
+        self.push(Piece::Place { label: from })?;
+        Ok(())
     }
 
     /// A process of a `PAR` ends, whose block is at this word.
@@ -72,7 +75,8 @@ impl Listing {
         ensures { IfOk result (λ _. self.new ≡ self.old ++ end_code block) }
     {
         self.point(block)?;
-        self.operate(operations::END_PROCESS)
+        self.operate(operations::END_PROCESS)?;
+        Ok(())
     }
 
     /// The code of a branch.

@@ -1,12 +1,13 @@
 //! What is around an expression.
 
-ghost use Rattle.std.specs.Prelude.{◌≡◌, ◌+◌, IfOk, option_map};
+ghost use Rattle.std.specs.Prelude.{◌≡◌, option_map};
+ghost use Rattle.code_pieces.specs.Pieces.{word_after};
 ghost use Rattle.line_pieces.specs.HomeViews.{home_seen};
 ghost use Rattle.line_pieces.specs.Homes.{home_of};
 ghost use Rattle.line_pieces.specs.SettingViews.{entries_in, homes_in};
 
 use crate::home::Home;
-use module_builder::GenFault;
+use code_pieces::GREATEST_WORD;
 use scalar_ranges::Scope;
 
 /// What is around an expression: what is known of names, where what they denote is kept, and which words are free.
@@ -31,22 +32,23 @@ impl<'s, 'a> Setting<'s, 'a> {
         }
     }
 
-    /// Where the first word that is free is taken. The error is [`GenFault::Limit`] if no word is left.
-    pub(crate) fn above(self) -> Result<Setting<'s, 'a>, GenFault>
-        ensures scope { IfOk result (λ s. s.scope ≡ self.entry.scope) }
-        ensures homes { IfOk result (λ s. s.homes ≡ self.entry.homes) }
-        ensures top { IfOk result (λ s. s.top ≡ self.entry.top + 1) }
+    /// Where the first word that is free is taken.
+    pub(crate) fn above(self) -> Setting<'s, 'a>
+        ensures scope { result.scope ≡ self.entry.scope }
+        ensures homes { result.homes ≡ self.entry.homes }
+        ensures top { result.top ≡ word_after self.entry.top 1 }
     {
-        Ok(Setting {
-            top: word_after(self.top, 1)?,
+        Setting {
+            top: word_after(self.top, 1),
             ..self
-        })
+        }
     }
 }
 
-/// The word `count` words after another one. The error is [`GenFault::Limit`] if it has no number.
-pub fn word_after(word: u32, count: u32) -> Result<u32, GenFault>
-    ensures { IfOk result (λ n. n ≡ word + count) }
+/// The word `count` words after another one, as far as words are counted.
+#[tactic(auto, unfolding(code_pieces::specs::Pieces::word_after, code_pieces::specs::Pieces::counted))]
+pub fn word_after(word: u32, count: u32) -> u32
+    ensures { result ≡ word_after word count }
 {
-    word.checked_add(count).ok_or(GenFault::Limit)
+    word.saturating_add(count).min(GREATEST_WORD)
 }

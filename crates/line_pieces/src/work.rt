@@ -6,14 +6,14 @@ use crate::counting::{plus, size_of_count};
 use crate::listing::Listing;
 use code_pieces::Piece;
 use module_builder::GenFault;
-use occam_parser::{Body, Branch, Choice, Construct, Declaration, Expr, Process};
+use occam_parser::{Body, Branch, Choice, Construct, Declaration, Process};
 use scalar_ranges::Scope;
 use usage_checks::{
     size_of_action, size_of_condition, size_of_declaration, size_of_guard, size_of_replicator,
 };
 
 /// How many steps may be made. A step takes some five nanoseconds.
-const GREATEST_WORK: u32 = 400_000_000;
+pub(crate) const GREATEST_WORK: u32 = 400_000_000;
 
 /// For each unit of the size of an expression, at each level of brackets that is around it.
 const READING_STEPS: u32 = 16;
@@ -156,11 +156,11 @@ impl Work {
 }
 
 impl Listing {
-    /// An expression is read. Those in its brackets are read again when their code is written.
-    pub(crate) fn read(&mut self, expr: &Expr) -> Result<(), GenFault>
+    /// Expressions of this size are read, those in brackets again for each level of these.
+    pub fn spend(&mut self, units: u32) -> Result<(), GenFault>
         ensures { IfOk result (λ _. self.new ≡ self.old) }
     {
-        self.work.count(size_of_condition(expr), READING_STEPS)
+        self.work.count(units, READING_STEPS)
     }
 
     /// The first `count` names are declared again.
@@ -196,6 +196,6 @@ impl Listing {
         ensures { IfOk result (λ _. self.new ≡ self.old) }
     {
         self.work = branch.work;
-        self.work.cut(&branch.pieces)
+        self.work.cut(branch.code.as_slice())
     }
 }

@@ -21,19 +21,18 @@ use crate::home::Home;
 use crate::listing::Listing;
 use crate::setting::{Setting, word_after};
 use code_pieces::operations;
-use module_builder::GenFault;
 use occam_parser::{ChainOperator, Expr, Operand, Operation, ValueType};
 use prefix_decoder::Fun;
 use scalar_ranges::{Front, Meaning, front_of, range_of, read_operand, value_of};
+use std::alloc::AllocError;
 use std::rc::Rc;
 
 impl Listing {
     /// An expression.
     #[cycle(write)]
-    pub fn write_expression(&mut self, setting: Setting, expr: &Expr) -> Result<(), GenFault>
+    pub fn write_expression(&mut self, setting: Setting, expr: &Expr) -> Result<(), AllocError>
         ensures { IfOk result (λ _. self.new ≡ self.old ++ expression_in setting.entry (expression_of expr.now)) }
     {
-        self.read(expr)?;
         match value_of(setting.scope, expr) {
             Some(value) => self.constant(value),
             None => {
@@ -50,7 +49,7 @@ impl Listing {
         setting: Setting,
         front: Option<Front>,
         operation: &Operation,
-    ) -> Result<(), GenFault>
+    ) -> Result<(), AllocError>
         requires varies { value_in setting (operation_of operation.now) ≡ None }
         requires front { option_map seen_front front ≡ front_at setting (operation_of operation.now) }
         ensures { IfOk result (λ _. self.new ≡ self.old ++ expression_in setting.entry (operation_of operation.now)) }
@@ -97,7 +96,7 @@ impl Listing {
         setting: Setting,
         pushes: Pushes,
         operation: &Operation,
-    ) -> Result<(), GenFault>
+    ) -> Result<(), AllocError>
         ensures { IfOk result (λ _. self.new
             ≡ self.old ++ operands_in setting.entry pushes (operation_of operation.now)) }
     {
@@ -134,7 +133,7 @@ impl Listing {
         setting: Setting,
         value: i32,
         operand: &Operand,
-    ) -> Result<(), GenFault>
+    ) -> Result<(), AllocError>
         ensures { IfOk result (λ _. self.new ≡ self.old ++ on_constant_in setting.entry value (term_of operand.now)) }
     {
         if is_small_term(setting.scope, operand) {
@@ -153,10 +152,10 @@ impl Listing {
         setting: Setting,
         right: &Operand,
         in_order: bool,
-    ) -> Result<(), GenFault>
+    ) -> Result<(), AllocError>
         ensures { IfOk result (λ _. self.new ≡ self.old ++ onto_in in_order setting.entry (term_of right.now)) }
     {
-        let above = setting.above()?;
+        let above = setting.above();
         if is_small_term(setting.scope, right) {
             return self.write_operand(above, right);
         }
@@ -173,7 +172,7 @@ impl Listing {
         front: Option<Front>,
         operator: ChainOperator,
         others: &[Operand],
-    ) -> Result<(), GenFault>
+    ) -> Result<(), AllocError>
         ensures { IfOk result (λ _. self.new ≡ self.old ++ others_in setting.entry operator
             (option_map seen_front front) 2 (map term_of others.now)) }
     {
@@ -191,7 +190,7 @@ impl Listing {
         known: Option<i32>,
         operator: ChainOperator,
         operand: &Operand,
-    ) -> Result<(), GenFault>
+    ) -> Result<(), AllocError>
         ensures { IfOk result (λ _. self.new ≡ self.old
             ++ joined_in setting.entry operator known (term_of operand.now)) }
     {
@@ -209,7 +208,7 @@ impl Listing {
 
     /// An operand.
     #[cycle(write)]
-    fn write_operand(&mut self, setting: Setting, operand: &Operand) -> Result<(), GenFault>
+    fn write_operand(&mut self, setting: Setting, operand: &Operand) -> Result<(), AllocError>
         ensures { IfOk result (λ _. self.new ≡ self.old ++ term_in setting.entry (term_of operand.now)) }
     {
         match operand {
@@ -238,7 +237,7 @@ impl Listing {
         setting: Setting,
         name: &[u8],
         subscript: &Expr,
-    ) -> Result<(), GenFault>
+    ) -> Result<(), AllocError>
         ensures { IfOk result (λ _. self.new ≡ self.old
             ++ element_code (home_of (homes_in setting.entry) (entries_in setting.entry) name.now)
             (meaning_in name.now (entries_in setting.entry))
@@ -265,7 +264,7 @@ impl Listing {
         is_byte: bool,
         values: &Rc<Vec<i32>>,
         subscript: &Expr,
-    ) -> Result<(), GenFault>
+    ) -> Result<(), AllocError>
         ensures { IfOk result (λ _. self.new ≡ self.old ++ table_element is_byte values.now.value.items
             (single (range_found (bound_of (entries_in setting.entry) (expression_of subscript.now))))
             (subscript_in setting.entry (expression_of subscript.now))) }
@@ -303,23 +302,20 @@ impl Listing {
         setting: Setting,
         offset: Option<i32>,
         subscript: &Expr,
-    ) -> Result<(), GenFault>
+    ) -> Result<(), AllocError>
         ensures { IfOk result (λ _. self.new ≡ self.old ++ without offset
             (expression_in setting.entry (expression_of subscript.now))
             (first_in setting.entry (expression_of subscript.now))) }
     {
         match offset {
-            Some(_) => {
-                self.read(subscript)?;
-                self.write_first(setting, &subscript.operation)
-            }
+            Some(_) => self.write_first(setting, &subscript.operation),
             None => self.write_expression(setting, subscript),
         }
     }
 
     /// The first operand of a chain. Another operation has none.
     #[cycle(write)]
-    fn write_first(&mut self, setting: Setting, operation: &Operation) -> Result<(), GenFault>
+    fn write_first(&mut self, setting: Setting, operation: &Operation) -> Result<(), AllocError>
         ensures { IfOk result (λ _. self.new ≡ self.old ++ first_in setting.entry (operation_of operation.now)) }
     {
         match operation {
@@ -336,16 +332,14 @@ impl Listing {
         value_type: ValueType,
         word: u32,
         subscript: &Expr,
-    ) -> Result<(), GenFault>
+    ) -> Result<(), AllocError>
         ensures { IfOk result (λ _. self.new ≡ self.old ++ element_of_words value_type word
             (single (range_found (bound_of (entries_in setting.entry) (expression_of subscript.now))))
             (subscript_in setting.entry (expression_of subscript.now))) }
     {
         self.reads(word)?;
         match (value_type, single(range_of(setting.scope, subscript))) {
-            (ValueType::Int, Some(number)) => {
-                self.load(word_after(word, number.unsigned_abs())?)
-            }
+            (ValueType::Int, Some(number)) => self.load(word_after(word, number.unsigned_abs())),
             (ValueType::Int, None) => {
                 let offset = offset_of(setting.scope, subscript);
                 self.write_without(setting, offset, subscript)?;
@@ -367,7 +361,7 @@ impl Listing {
         value_type: ValueType,
         word: u32,
         subscript: &Expr,
-    ) -> Result<(), GenFault>
+    ) -> Result<(), AllocError>
         ensures { IfOk result (λ _. self.new ≡ self.old ++ address_code value_type word
             (single (range_found (bound_of (entries_in setting.entry) (expression_of subscript.now))))
             (expression_in setting.entry (expression_of subscript.now))) }

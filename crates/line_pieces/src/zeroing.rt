@@ -7,28 +7,28 @@ ghost use Rattle.line_pieces.specs.Declarations.{spread, zero_array, zero_scalar
 
 use crate::listing::Listing;
 use crate::setting::word_after;
-use module_builder::GenFault;
 use occam_parser::{Expr, OneOrMore};
+use std::alloc::AllocError;
 
 impl Listing {
     /// The first of some words is 0. It is moved to those after it until all of them are.
-    fn write_spread(&mut self, word: u32, count: u32) -> Result<(), GenFault>
+    fn write_spread(&mut self, word: u32, count: u32) -> Result<(), AllocError>
         ensures { IfOk result (λ _. self.new ≡ self.old ++ spread (count - 1) word count 1) }
     {
         let mut done: u32 = 1;
         while done < count {
             let more = done.min(count - done);
-            self.write_moves(more, word, word_after(word, done)?)?;
+            self.write_moves(more, word, word_after(word, done))?;
             done += more;
         }
         Ok(())
     }
 
     /// The words of an array, from the first one on.
-    fn write_zero_array(&mut self, word: u32, count: u32) -> Result<(), GenFault>
+    fn write_zero_array(&mut self, word: u32, count: u32) -> Result<(), AllocError>
         ensures { IfOk result (λ _. self.new ≡ self.old ++ zero_array word count) }
     {
-        let temporary = word_after(word, count)?;
+        let temporary = word_after(word, count);
         self.constant(0)?;
         self.store(temporary)?;
         self.write_moves(1, temporary, word)?;
@@ -36,7 +36,7 @@ impl Listing {
     }
 
     /// What one name denotes, by its first word.
-    fn write_zero(&mut self, size: &Option<Expr>, word: u32, count: u32) -> Result<(), GenFault>
+    fn write_zero(&mut self, size: &Option<Expr>, word: u32, count: u32) -> Result<(), AllocError>
         ensures { IfOk result (λ _. self.new ≡ self.old ++ zero_code (any_of size.now) word count) }
     {
         match size {
@@ -55,15 +55,15 @@ impl Listing {
         count: u32,
         names: &OneOrMore<&[u8]>,
         word: u32,
-    ) -> Result<(), GenFault>
+    ) -> Result<(), AllocError>
         ensures { IfOk result (λ _. self.new ≡ self.old
             ++ zero_names (any_of size.now) count (as_list (one_or_more_of spelling_of names.now)) word) }
     {
         self.write_zero(size, word, count)?;
-        let mut next = word_after(word, count)?;
+        let mut next = word_after(word, count);
         for _name in &names.others {
             self.write_zero(size, next, count)?;
-            next = word_after(next, count)?;
+            next = word_after(next, count);
         }
         Ok(())
     }

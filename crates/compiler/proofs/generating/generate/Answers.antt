@@ -1,17 +1,39 @@
-use Rattle.std.proofs.Common.{◌≡◌, IfSome, map, ap, sym, subst, ◌∙◌}
+use Rattle.std.proofs.Common.{◌≡◌, IfSome, Err, map, ap, sym, subst, ◌∙◌}
+use Rattle.module_builder.specs.declared.fault.GenFault.TheVariants.{Limit}
 use Rattle.occam_parser.specs.BlockViews.{item_of}
+use Rattle.code_pieces.proofs.Faults.{handed_on}
 use Rattle.code_generator.specs.Programs.{code_of}
 use Rattle.compiler.specs.LinkLengths.{link_lengths}
-use Rattle.compiler.proofs.Generated.{generated_of}
+use Rattle.compiler.proofs.Generated.{generated_of, too_much_of, too_large_of}
 use Rattle.compiler.proofs.generating.generate.Goals as goal
 
-pub returns : goal.returns
-returns c =
+pub returns-clause-ok : goal.returns-clause-ok
+returns-clause-ok c =
     generated_of (map item_of c.args.program.now.program.items.items) _ _ _ _
     (subst (λ code. IfSome (code_of (map item_of c.args.program.now.program.items.items)) (λ w. code ≡ w))
-    (sym c.code.view_is) c.in_ok-code.ensures)
+    (sym c.code.view_is) c.in_ok-code.ensures.ok)
     c.into_pieces.ensures
     (c.link_lengths-links.ensures
     ∙ ap (λ xs. link_lengths (map item_of xs))
     (c.items.ensures.items ∙ ap (λ p. p.items.items) c.program.ensures.program))
     c.in_ok-bytes.ensures.ok
+
+pub returns-in_err-code-clause-limit : goal.returns-in_err-code-clause-limit
+returns-in_err-code-clause-limit c = λ e sequential.
+    let fault = handed_on c.from_residual-in_err-code.result c.in_err-code.field-0.0 Limit
+    c.from_residual-in_err-code.ensures.1 e in
+    too_much_of (map item_of c.args.program.now.program.items.items) sequential
+    (c.in_err-code.ensures.limit (ap Err fault) sequential)
+
+pub returns-in_err-bytes-clause-limit : goal.returns-in_err-bytes-clause-limit
+returns-in_err-bytes-clause-limit c = λ e sequential.
+    let fault = handed_on c.from_residual-in_err-bytes.result c.in_err-bytes.field-0.0 Limit
+    c.from_residual-in_err-bytes.ensures.1 e in
+    too_large_of (map item_of c.args.program.now.program.items.items) _ _ _ sequential
+    (subst (λ code. IfSome (code_of (map item_of c.args.program.now.program.items.items)) (λ w. code ≡ w))
+    (sym c.code.view_is) c.in_ok-code.ensures.ok)
+    c.into_pieces.ensures
+    (c.link_lengths-links.ensures
+    ∙ ap (λ xs. link_lengths (map item_of xs))
+    (c.items.ensures.items ∙ ap (λ p. p.items.items) c.program.ensures.program))
+    (c.in_err-bytes.ensures.limit (ap Err fault))

@@ -8,7 +8,7 @@ loop-number-preserved c =
     facts_next c.args.homes.now (entries_of c.args.scope.now) c.loop-number.number c.index-homes-number.result
     (option_map entry_of c.entry.result) c.loop-number.entries.items c.push_any.new.entries.items (omega arith)
     c.index-homes-number.is c.entry.ensures c.loop-number.invariant
-    (c.in_ok-push_any.ensures ∙ ap (λ x. c.loop-number.entries.items ++ x) c.in_ok-entry.ensures)
+    (c.in_ok-push_any.ensures ∙ ap (λ x. c.loop-number.entries.items ++ x) c.fact_here-entry.ensures)
 
 pub returns : goal.returns
 returns c =

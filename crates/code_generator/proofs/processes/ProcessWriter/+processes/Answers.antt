@@ -1,12 +1,13 @@
 use Rattle.std.proofs.Common.{◌≡◌, ◌+◌, ◌<◌, ◌≤◌, length, map, IfOk, arith, refl, ap, sym, subst, ◌∙◌, rules, nat_eq}
-use Rattle.std.proofs.Common.{true, false, ◌&&◌, Some, option_map, w32, of_z}
+use Rattle.std.proofs.Common.{Bool, true, false, ◌&&◌, Some, Err, option_map, w32, of_z}
 use Rattle.std.proofs.lemmas.Bool.{eqb-true, eqb-false}
 use Rattle.std.proofs.lemmas.Int.{to_z-of_z}
+use Rattle.module_builder.specs.declared.fault.GenFault.TheVariants.{Limit}
 use Rattle.occam_parser.specs.declared.tree.Body.{the_lemmas}
 use Rattle.occam_parser.specs.Views.{expression_of}
 use Rattle.occam_parser.specs.LineViews.{action_of, declaration_of, replicator_of, guard_of}
 use Rattle.occam_parser.specs.Lines.{Instance}
-use Rattle.occam_parser.specs.Blocks.{Does, Chosen, Guarded, Replicated}
+use Rattle.occam_parser.specs.Blocks.{Does, Choices, Component, Chosen, Guarded, Replicated}
 use Rattle.occam_parser.specs.BlockReading.{with_declarations}
 use Rattle.occam_parser.specs.BlockViews.{process_of, construct_of, choice_of, plain_component, all_processes}
 use Rattle.occam_parser.specs.BlockViews.{all_choices, all_branches, branch_of, body_of}
@@ -14,11 +15,14 @@ use Rattle.occam_parser.proofs.SeenBlocks.{view-Seq, view-Par, view-If, view-Alt
 use Rattle.occam_parser.proofs.SeenBlocks.{view-Body-Alt}
 use Rattle.scalar_ranges.specs.Moves.{begin, begin_par}
 use Rattle.scalar_ranges.specs.Scopes.{known_of, meaning_of}
+use Rattle.program_uses.specs.Changes.{changed_by_construct}
 use Rattle.program_uses.specs.Indices.{repeats_of, seen_repeats, index_in}
-use Rattle.usage_checks.specs.AfterProcesses.{inside, left_to}
+use Rattle.usage_checks.specs.AfterProcesses.{inside, left_to, after_construct}
 use Rattle.usage_checks.specs.Following.{after_action, where_holds}
 use Rattle.usage_checks.specs.NameRules.{with_entries}
 use Rattle.code_generator.specs.declared.alternatives.Replication.{Replication}
+use Rattle.code_pieces.proofs.Faults.{handed_on}
+use Rattle.code_generator.specs.declared.limits.Limits.{Limits}
 use Rattle.code_generator.specs.declared.loops.Turning.{Turning}
 use Rattle.code_generator.specs.Alternations.{exits_in, WritesBranch, WritesSome, FollowsAlt}
 use Rattle.code_generator.specs.CallViews.{surroundings_of}
@@ -27,11 +31,18 @@ use Rattle.line_pieces.specs.Homes.{Nowhere}
 use Rattle.line_pieces.specs.Declarations.{with_home}
 use Rattle.code_generator.specs.Branches.{WritesPar}
 use Rattle.code_generator.specs.Processes.{Site, Surroundings, at_place, before_turns, process_code, act_code}
-use Rattle.code_generator.specs.Processes.{ends_passing}
+use Rattle.code_generator.specs.Processes.{ends_passing, construct_code, components_code, choice_code}
 use Rattle.code_generator.specs.Written.{site_of, Writes, WritesConstruct, WritesSeq, WritesIf, WritesPart}
 use Rattle.code_generator.specs.Written.{WritesChoice}
-use Rattle.code_generator.specs.Written.{WritesChosen, WritesTurns, WritesLine, EntersLoop}
+use Rattle.code_generator.specs.Written.{WritesChosen, WritesTurns, WritesLine, EntersLoop, IsTooMuch, Exceeds}
+use Rattle.code_generator.specs.Written.{entering_code, if_code, part_code, chosen_code, turns_written}
 use Rattle.code_generator.proofs.ActsWritten.{writes_act, writes_from, writes_instance}
+use Rattle.code_generator.proofs.Exceeding.{exceeds_from}
+use Rattle.code_generator.proofs.PartsExceed.{exceeds_process, exceeds_line, exceeds_row, exceeds_seq, exceeds_choices}
+use Rattle.code_generator.proofs.PartsExceed.{exceeds_always, exceeds_stopped, exceeds_chosen, exceeds_tested}
+use Rattle.code_generator.proofs.PartsExceed.{exceeds_other, exceeds_open, exceeds_if, exceeds_if_end, exceeds_turns}
+use Rattle.code_generator.proofs.LoopsExceed.{exceeds_entering, exceeds_body, exceeds_leaving, exceeds_loop}
+use Rattle.code_generator.proofs.LoopsExceed.{exceeds_replicated, exceeds_repeated, exceeds_repeated_end}
 use Rattle.code_generator.proofs.BranchesFollowed.{goes_on, by_site, alt_follows, where_ok, writes_branch}
 use Rattle.code_generator.proofs.BranchesFollowed.{branches_next, branches_done, some_next, follows_repeated}
 use Rattle.code_generator.proofs.BranchesWritten.{par_next, par_done, par_turns_next, writes_component, writes_no_turns}
@@ -44,8 +55,8 @@ use Rattle.code_generator.proofs.LoopsWritten.{writes_turning, writes_loop, writ
 use Rattle.code_generator.proofs.TurnsWritten.{turns_start, turns_next, turns_done, writes_repeated_if}
 use Rattle.code_generator.proofs.processes.ProcessWriter.+processes.Goals as goal
 
-pub write-returns : goal.write-returns
-write-returns t c =
+pub write-returns-clause-ok : goal.write-returns-clause-ok
+write-returns-clause-ok t c =
     let p = c.args.process.now in
     let s = c.args.self.now in
     let final = record c.write_construct.new.self { frame = c.leave.new.self } in
@@ -57,31 +68,31 @@ write-returns t c =
     (writes_behind c.in_ok-inside.inside (map declaration_of c.deref.result.now) p.line
     (construct_of c.deref-2.result.now) (process_of p) c.leave.new.self c.len-count.result
     ((λ i. with_declarations (map declaration_of (c.deref.ensures.value i))
-    (Does p.line (construct_of (c.deref-2.ensures i)))) ∙ view) c.in_ok-declare_all.ensures
-    c.in_ok-write_construct.ensures long c.leave.ensures.homes c.leave.ensures.top c.leave.ensures.outer)
+    (Does p.line (construct_of (c.deref-2.ensures i)))) ∙ view) c.in_ok-declare_all.ensures.ok
+    c.in_ok-write_construct.ensures.ok long c.leave.ensures.homes c.leave.ensures.top c.leave.ensures.outer)
 
-pub write_construct-returns-in-Seq : goal.write_construct-returns-in-Seq
-write_construct-returns-in-Seq t c =
+pub write_construct-returns-in-Seq-clause-ok : goal.write_construct-returns-in-Seq-clause-ok
+write_construct-returns-in-Seq-clause-ok t c =
     let v = c.in-Seq.processes in
     let s = c.args.self.now in
     let end = c.write_seq.new.self in
     subst (λ x. IfOk c.write_seq.result (λ _. WritesConstruct s end c.args.around c.args.line x))
     (sym (view-Seq v) ∙ ap construct_of (sym c.in-Seq.is))
     (subst (λ cs. IfOk c.write_seq.result (λ _. WritesSeq s end c.args.around cs))
-    (ap all_processes c.deref.ensures.value) c.write_seq.ensures)
+    (ap all_processes c.deref.ensures.value) c.write_seq.ensures.ok)
 
-pub write_construct-returns-in-If : goal.write_construct-returns-in-If
-write_construct-returns-in-If t c =
+pub write_construct-returns-in-If-clause-ok : goal.write_construct-returns-in-If-clause-ok
+write_construct-returns-in-If-clause-ok t c =
     let v = c.in-If.choices in
     let s = c.args.self.now in
     let end = c.write_if.new.self in
     subst (λ x. IfOk c.write_if.result (λ _. WritesConstruct s end c.args.around c.args.line x))
     (sym (view-If v) ∙ ap construct_of (sym c.in-If.is))
     (subst (λ cs. IfOk c.write_if.result (λ _. WritesIf s end c.args.around cs))
-    (ap all_choices c.deref-in-If.ensures.value) c.write_if.ensures)
+    (ap all_choices c.deref-in-If.ensures.value) c.write_if.ensures.ok)
 
-pub act-returns : goal.act-returns
-act-returns t c =
+pub act-returns-clause-ok : goal.act-returns-clause-ok
+act-returns-clause-ok t c =
     let s = c.args.self.now in
     let walked = c.walk_over.new.self in
     let here = surroundings_of c.args.around in
@@ -97,23 +108,23 @@ act-returns t c =
     λ i. record { entries = c.after_action.ensures.entries i; blocks = c.after_action.ensures.blocks i } in
     writes_from (act_code here action) (with_entries (after_action here.around.signatures action)) spent.listing place
     (writes_act c.args.around c.args.line action c.is_finer-is_finer.result c.after_action.new.scope
-    c.is_finer-is_finer.ensures c.in_ok-write_line.ensures followed c.in_ok-write_finer.ensures)
+    c.is_finer-is_finer.ensures c.in_ok-write_line.ensures.ok followed c.in_ok-write_finer.ensures.ok)
 
-pub write_line-returns-in-Instance : goal.write_line-returns-in-Instance
-write_line-returns-in-Instance t c =
+pub write_line-returns-in-Instance-clause-ok : goal.write_line-returns-in-Instance-clause-ok
+write_line-returns-in-Instance-clause-ok t c =
     let s = c.args.self.now in
     let name = c.in-Instance.name.now in
     let is : Instance name (map expression_of c.deref.result.now) ≡ action_of c.args.action.now =
     ap (λ xs. Instance name (map expression_of xs)) c.deref.ensures.value ∙ ap action_of (sym c.in-Instance.is) in
     subst (λ x. IfOk c.write_instance.result (λ _. WritesLine s c.write_instance.new.self c.args.around x)) is
-    c.write_instance.ensures
+    c.write_instance.ensures.ok
 
-pub write_instance-returns : goal.write_instance-returns
-write_instance-returns t c =
+pub write_instance-returns-clause-ok : goal.write_instance-returns-clause-ok
+write_instance-returns-clause-ok t c =
     writes_instance c.args.around c.args.name.now (map expression_of c.args.actuals.now) c.in-Some.call
     (option_map meaning_of c.meaning-procedure.result) c.args.self.now c.begin_instance.new.self
     c.in_ok-body.body c.write.new.self c.end_instance.new.self c.meaning-procedure.ensures c.in-Some.ensures.call
-    c.in_ok-body.ensures c.in_ok-write.ensures c.in_ok-end_instance.ensures
+    c.in_ok-body.ensures c.in_ok-write.ensures.ok c.in_ok-end_instance.ensures
 
 pub write_seq-loop-process-init : goal.write_seq-loop-process-init
 write_seq-loop-process-init t c = writes_none c.args.self.now
@@ -121,23 +132,23 @@ write_seq-loop-process-init t c = writes_none c.args.self.now
 pub write_seq-loop-process-preserved : goal.write_seq-loop-process-preserved
 write_seq-loop-process-preserved t c =
     seq_next c.args.around plain_component c.args.processes.now c.loop-process.process-index c.process-item.result
-    (omega arith) c.process-item.is c.loop-process.invariant c.in_ok-write_one.ensures
+    (omega arith) c.process-item.is c.loop-process.invariant c.in_ok-write_one.ensures.ok
 
-pub write_seq-returns : goal.write_seq-returns
-write_seq-returns t c =
+pub write_seq-returns-clause-ok : goal.write_seq-returns-clause-ok
+write_seq-returns-clause-ok t c =
     let done : length c.args.processes.now ≤ c.loop-process.process-index = omega arith in
     seq_done c.args.around plain_component c.args.processes.now c.loop-process.process-index done
     c.loop-process.invariant
 
-pub write_one-returns : goal.write_one-returns
-write_one-returns t c =
+pub write_one-returns-clause-ok : goal.write_one-returns-clause-ok
+write_one-returns-clause-ok t c =
     let left = (λ i. record { entries = c.leave.ensures.entries i; blocks = c.leave.ensures.blocks i })
     ∙ ap (λ n. left_to n (known_of c.write.new.self.scope)) c.len-count.ensures in
     writes_moved c.leave.new.self (left_to (length (known_of c.args.self.now.scope).entries)) left
-    c.in_ok-write.ensures
+    c.in_ok-write.ensures.ok
 
-pub write_if-returns : goal.write_if-returns
-write_if-returns t c =
+pub write_if-returns-clause-ok : goal.write_if-returns-clause-ok
+write_if-returns-clause-ok t c =
     let s = c.args.self.now in
     let begun = record s { label = c.in_ok-self.field-0; scope = c.begin.new.self } in
     writes_if c.args.around (all_choices c.args.choices.now) s begun c.write_choices.new.self c.write_row.new.self
@@ -147,12 +158,12 @@ write_if-returns t c =
       known = c.in_ok-begin.ensures.ok i;
       label = c.in_ok-self.ensures i;
     })
-    c.in_ok-write_choices.ensures c.end.ensures c.in_ok-write_row.ensures.row c.in_ok-write_row.ensures.site
+    c.in_ok-write_choices.ensures.ok c.end.ensures c.in_ok-write_row.ensures.row c.in_ok-write_row.ensures.site
 
-pub write_choices-returns-then-is_empty : goal.write_choices-returns-then-is_empty
-write_choices-returns-then-is_empty t c =
-    no_choices c.args.around c.args.end choice_of c.args.choices.now c.args.self.now c.operate.new.self c.operate.result
-    (eqb-true _ _ (sym c.is_empty.ensures ∙ c.if-is_empty.true)) c.operate.ensures
+pub write_choices-returns-then-is_empty-clause-ok : goal.write_choices-returns-then-is_empty-clause-ok
+write_choices-returns-then-is_empty-clause-ok t c =
+    no_choices c.args.around c.args.end choice_of c.args.choices.now c.args.self.now c.operate.new.self
+    (eqb-true _ _ (sym c.is_empty.ensures ∙ c.if-is_empty.true)) c.in_ok-operate.ensures
 
 pub write_choices-loop-place-init : goal.write_choices-loop-place-init
 write_choices-loop-place-init t c =
@@ -165,17 +176,17 @@ pub write_choices-loop-place-preserved : goal.write_choices-loop-place-preserved
 write_choices-loop-place-preserved t c =
     choices_next c.args.around c.args.end choice_of c.args.choices.now c.loop-place.place c.index-choices-place.result
     (nat_eq (c.loop-place.place + 1) (length c.args.choices.now)) c.is_open.result (omega arith)
-    c.index-choices-place.is refl c.is_open.ensures c.loop-place.invariant c.in_ok-write_part.ensures
+    c.index-choices-place.is refl c.is_open.ensures c.loop-place.invariant c.in_ok-write_part.ensures.ok
 
-pub write_choices-returns : goal.write_choices-returns
-write_choices-returns t c =
+pub write_choices-returns-clause-ok : goal.write_choices-returns-clause-ok
+write_choices-returns-clause-ok t c =
     let done : c.loop-place.place ≡ length c.args.choices.now = omega arith in
     choices_done c.args.around c.args.end choice_of c.args.choices.now c.loop-place.place
     (nat_eq (c.loop-place.place + 1) (length c.args.choices.now) && ends_passing (all_choices c.args.choices.now)) done
     c.loop-place.invariant
 
-pub write_part-returns-then-is_true : goal.write_part-returns-then-is_true
-write_part-returns-then-is_true t c =
+pub write_part-returns-then-is_true-clause-ok : goal.write_part-returns-then-is_true-clause-ok
+write_part-returns-then-is_true-clause-ok t c =
     let x = c.args.choice.now in
     let s = c.args.self.now in
     let after = c.write_chosen.new.self in
@@ -185,10 +196,11 @@ write_part-returns-then-is_true t c =
     subst (λ b. IfOk c.write_chosen.result
     (λ _. WritesPart s after c.args.around c.args.end b c.args.is_open (choice_of x))) (sym last)
     (always_written c.args.around c.args.end c.args.is_open x.line (expression_of x.condition) (process_of x.process)
-    (choice_of x) s after c.write_chosen.result view (sym c.is_true.ensures ∙ c.if-is_true.true) c.write_chosen.ensures)
+    (choice_of x) s after c.write_chosen.result view (sym c.is_true.ensures ∙ c.if-is_true.true)
+    c.write_chosen.ensures.ok)
 
-pub write_part-returns : goal.write_part-returns
-write_part-returns t c =
+pub write_part-returns-clause-ok : goal.write_part-returns-clause-ok
+write_part-returns-clause-ok t c =
     let x = c.args.choice.now in
     let s = c.args.self.now in
     let within = c.write_choice-2.new.self in
@@ -196,7 +208,7 @@ write_part-returns t c =
     search (rules, the_lemmas) in
     let last : c.args.is_last ≡ true = search rules in
     let tested = subst (λ y. WritesChoice s within c.args.around c.args.end false y) (sym view)
-    c.in_ok-write_choice.ensures in
+    c.in_ok-write_choice.ensures.ok in
     let stopped = writes_stopped c.args.around c.args.end c.args.is_open x.line (expression_of x.condition)
     (process_of x.process) c.operate.new.self (sym c.is_true.ensures ∙ c.if-is_true.false) tested
     c.in_ok-operate.ensures in
@@ -204,8 +216,8 @@ write_part-returns t c =
     subst (λ b. WritesPart s final c.args.around c.args.end b c.args.is_open (choice_of x)) (sym last)
     (subst (λ y. WritesPart s final c.args.around c.args.end true c.args.is_open y) view stopped)
 
-pub write_chosen-returns : goal.write_chosen-returns
-write_chosen-returns t c =
+pub write_chosen-returns-clause-ok : goal.write_chosen-returns-clause-ok
+write_chosen-returns-clause-ok t c =
     let x = c.args.choice.now in
     let s = c.args.self.now in
     let view : Chosen x.line (expression_of x.condition) (process_of x.process) ≡ choice_of x =
@@ -214,10 +226,10 @@ write_chosen-returns t c =
     ∙ ap (with_entries (where_holds (Some (expression_of x.condition)))) c.exclude.ensures in
     subst (λ y. WritesChosen s (record c.write.new.self { scope = c.next.new.self }) c.args.around y) view
     (writes_chosen c.args.around x.line (expression_of x.condition) (process_of x.process) s c.write.new.self
-    c.narrow_by.new.scope c.next.new.self narrowed c.in_ok-write.ensures c.next.ensures)
+    c.narrow_by.new.scope c.next.new.self narrowed c.in_ok-write.ensures.ok c.next.ensures)
 
-pub write_choice-returns : goal.write_choice-returns
-write_choice-returns t c =
+pub write_choice-returns-clause-ok : goal.write_choice-returns-clause-ok
+write_choice-returns-clause-ok t c =
     let x = c.args.choice.now in
     let s = c.args.self.now in
     let line = x.line in
@@ -232,14 +244,14 @@ write_choice-returns t c =
       label = c.in_ok-self.ensures i;
     }) in
     let chosen = subst (λ y. WritesChosen c.write_test.new.self c.write_chosen.new.self c.args.around y) (sym view)
-    c.in_ok-write_chosen.ensures in
+    c.in_ok-write_chosen.ensures.ok in
     subst (λ y. WritesChoice s after c.args.around c.args.end false y) view
     (writes_tested c.args.around c.args.end line e p s c.write_test.new.self c.write_chosen.new.self after
     c.push.new.self c.in_ok-write_test.ensures.code place chosen c.in_ok-push.ensures c.in_ok-write_row.ensures.row
     c.in_ok-write_row.ensures.site)
 
-pub write_open_choice-returns : goal.write_open_choice-returns
-write_open_choice-returns t c =
+pub write_open_choice-returns-clause-ok : goal.write_open_choice-returns-clause-ok
+write_open_choice-returns-clause-ok t c =
     let x = c.args.choice.now in
     let s = c.args.self.now in
     let line = x.line in
@@ -247,15 +259,15 @@ write_open_choice-returns t c =
     let p = process_of x.process in
     let view : Chosen line e p ≡ choice_of x = search (rules, the_lemmas) in
     let chosen = subst (λ y. WritesChosen c.write_test.new.self c.write_chosen.new.self c.args.around y) (sym view)
-    c.in_ok-write_chosen.ensures in
+    c.in_ok-write_chosen.ensures.ok in
     subst (λ y. WritesChoice s c.write_chosen.new.self c.args.around c.args.end true y) view
     (writes_open c.args.around c.args.end line e p s c.write_test.new.self c.write_chosen.new.self
     c.in_ok-write_test.ensures.code c.in_ok-write_test.ensures.site chosen)
 
 -- ---- alternations
 
-pub write_construct-returns-in-Alt : goal.write_construct-returns-in-Alt
-write_construct-returns-in-Alt t c =
+pub write_construct-returns-in-Alt-clause-ok : goal.write_construct-returns-in-Alt-clause-ok
+write_construct-returns-in-Alt-clause-ok t c =
     let v = c.in-Alt.branches in
     let s = c.args.self.now in
     let end = c.write_alt.new.self in
@@ -297,7 +309,7 @@ write_branch-returns t c =
     subst (λ y. WritesBranch s c.write_stop_at.new.self c.args.around c.args.exits y) view
     (writes_branch c.args.around x.line (guard_of x.guard) (process_of x.process) c.args.exits s c.write_row.new.self
     c.write_guard.new.self within moved c.write_stop_at.new.self c.in_ok-stops.stops c.in_ok-write_row.ensures.row
-    c.in_ok-write_row.ensures.site c.in_ok-stops.ensures c.in_ok-write.ensures c.in_ok-push.ensures c.next.ensures
+    c.in_ok-write_row.ensures.site c.in_ok-stops.ensures c.in_ok-write.ensures.ok c.in_ok-push.ensures c.next.ensures
     refl refl c.in_ok-write_stop_at.ensures)
 
 pub write_branch_turns-loop-turn-init : goal.write_branch_turns-loop-turn-init
@@ -339,8 +351,8 @@ write_repeated_alt-returns t c =
     c.leave.ensures.outer c.end.ensures (ap (λ (y : Site). y.known) c.in_ok-write_row.ensures.site)
     (ap (λ (y : Site). y.frame) c.in_ok-write_row.ensures.site)
 
-pub write_replicated-returns-in-Alt : goal.write_replicated-returns-in-Alt
-write_replicated-returns-in-Alt t c =
+pub write_replicated-returns-in-Alt-clause-ok : goal.write_replicated-returns-in-Alt-clause-ok
+write_replicated-returns-in-Alt-clause-ok t c =
     let r = replicator_of c.args.replicator.now in
     let s = c.args.self.now in
     let end = c.write_repeated_alt.new.self in
@@ -365,16 +377,16 @@ write_turns-loop-turn-preserved t c =
     turns_next c.args.around c.args.end c.args.name.now (seen_repeats c.args.repeats) (choice_of c.args.choice.now)
     c.args.count c.loop-turn.turn (meaning_of c.index_in.result) c.add_name.new.scope (omega arith)
     c.index_in.ensures (λ i. record { entries = named.ok i; blocks = named.extends.blocks i })
-    c.loop-turn.invariant c.in_ok-write_part.ensures
+    c.loop-turn.invariant c.in_ok-write_part.ensures.ok
 
-pub write_turns-returns : goal.write_turns-returns
-write_turns-returns t c =
+pub write_turns-returns-clause-ok : goal.write_turns-returns-clause-ok
+write_turns-returns-clause-ok t c =
     let done : c.loop-turn.turn ≡ c.args.count = omega arith in
     turns_done c.args.around c.args.end c.args.name.now (seen_repeats c.args.repeats) (choice_of c.args.choice.now)
     c.args.count c.loop-turn.turn done c.loop-turn.invariant
 
-pub write_repeated_if-returns : goal.write_repeated_if-returns
-write_repeated_if-returns t c =
+pub write_repeated_if-returns-clause-ok : goal.write_repeated_if-returns-clause-ok
+write_repeated_if-returns-clause-ok t c =
     let s = c.args.self.now in
     let r = replicator_of c.args.replicator.now in
     let repeats = seen_repeats c.repeats_of-repeats.result in
@@ -391,15 +403,15 @@ write_repeated_if-returns t c =
     let counted = c.repeats_of-repeats.ensures
     ∙ (λ i. repeats_of (c.is_before-counted.ensures i) (known_of s.scope).entries false r) in
     let written = subst (λ n. WritesTurns begun c.write_turns.new.self c.args.around s.label r.name repeats n
-    (choice_of c.args.choice.now)) c.times.ensures c.in_ok-write_turns.ensures in
+    (choice_of c.args.choice.now)) c.times.ensures c.in_ok-write_turns.ensures.ok in
     let long : c.len-names.result ≡ length s.frame.homes.items = omega arith in
     writes_repeated_if c.args.around c.args.line c.len-names.result r (choice_of c.args.choice.now) repeats s begun
     c.write_turns.new.self c.write_row.new.self c.leave.new.self c.end.new.self counted refl place written long
     c.leave.ensures.homes c.leave.ensures.top c.leave.ensures.outer c.end.ensures c.in_ok-write_row.ensures.row
     c.in_ok-write_row.ensures.site
 
-pub write_loop-returns : goal.write_loop-returns
-write_loop-returns t c =
+pub write_loop-returns-clause-ok : goal.write_loop-returns-clause-ok
+write_loop-returns-clause-ok t c =
     let s = c.args.self.now in
     let r = replicator_of c.args.replicator.now in
     let es = (known_of s.scope).entries in
@@ -412,7 +424,7 @@ write_loop-returns t c =
     let base = to_z-of_z w32 c.value_or_zero.result (search rules) in
     let count = to_z-of_z w32 c.value_or_zero-count.result (search rules) in
     let enters = subst (λ (l : Turning). EntersLoop s c.enter_loop.new.self l c.args.changed.now)
-    (λ i. record { name = l.name; index = l.index; base = base i; count = count i }) c.in_ok-enter_loop.ensures in
+    (λ i. record { name = l.name; index = l.index; base = base i; count = count i }) c.in_ok-enter_loop.ensures.ok in
     let long : c.len-names.result ≡ length s.frame.homes.items = omega arith in
     let repeats = c.repeats_of-repeats.ensures
     ∙ (λ i. repeats_of (c.is_before-counted.ensures i) es true r) in
@@ -421,21 +433,32 @@ write_loop-returns t c =
     c.leave_loop.new.self refl index c.value_or_zero.ensures c.value_or_zero-count.ensures
     (λ none. c.if-count-eq0.false (ap (of_z w32) none))
     (writes_turning c.args.around (process_of c.args.process.now) l c.args.changed.now c.len-names.result
-    s.frame.top s.label enters c.in_ok-write_one.ensures c.in_ok-leave_loop.ensures long refl refl)
+    s.frame.top s.label enters c.in_ok-write_one.ensures.ok c.in_ok-leave_loop.ensures.ok long refl refl)
 
-pub write_replicated-returns-in_ok-write_loop-in-Seq : goal.write_replicated-returns-in_ok-write_loop-in-Seq
-write_replicated-returns-in_ok-write_loop-in-Seq t c =
+pub write_replicated-returns-in_ok-write_loop-in-Seq-clause-ok :
+    goal.write_replicated-returns-in_ok-write_loop-in-Seq-clause-ok
+write_replicated-returns-in_ok-write_loop-in-Seq-clause-ok t c =
     let r = replicator_of c.args.replicator.now in
     let p = c.in-Seq.process in
+    let here = surroundings_of c.args.around in
+    let whole = Replicated r (body_of c.args.body.now) in
+    let found = c.find.new.self in
+    let spent = c.in_ok-find-in-Seq.ensures in
+    let place : site_of found ≡ site_of c.args.self.now = λ i. record {
+      frame = frame_seen (spent.frame i);
+      known = known_of (spent.scope i);
+      label = spent.label i;
+    } in
     let is = ap (Replicated r) (sym (view-Body-Seq p) ∙ ap body_of (sym c.in-Seq.is)) in
-    writes_replicated c.args.around c.args.line r (process_of p) (Replicated r (body_of c.args.body.now))
-    c.deref.result.now c.variables_changed_in.new.scope is c.variables_changed_in.ensures.scope
-    (c.deref.ensures.value ∙ c.in_ok-changed-in-Seq.ensures.numbers) c.in_ok-write_loop-in-Seq.ensures
+    writes_from (construct_code here c.args.line whole) (after_construct here.around c.args.line whole) spent.listing
+    place (writes_replicated c.args.around c.args.line r (process_of p) whole c.deref.result.now
+    c.variables_changed_in.new.scope {s = found} is c.variables_changed_in.ensures.scope
+    (c.deref.ensures.value ∙ c.in_ok-changed-in-Seq.ensures.numbers) c.in_ok-write_loop-in-Seq.ensures.ok)
 
 -- ---- PARs
 
-pub write_construct-returns-in-Par : goal.write_construct-returns-in-Par
-write_construct-returns-in-Par t c =
+pub write_construct-returns-in-Par-clause-ok : goal.write_construct-returns-in-Par-clause-ok
+write_construct-returns-in-Par-clause-ok t c =
     let v = c.in-Par.processes in
     let s = c.args.self.now in
     let end = c.write_par.new.self in
@@ -463,7 +486,7 @@ pub write_component-returns : goal.write_component-returns
 write_component-returns t c =
     writes_component c.args.around (process_of c.args.process.now) c.deref.result.now c.in_ok-outside.outside
     c.variables_changed.new.scope c.next_component.new.self c.variables_changed.ensures.scope
-    (c.deref.ensures.value ∙ c.in_ok-changed.ensures.numbers) c.in_ok-outside.ensures c.in_ok-write.ensures
+    (c.deref.ensures.value ∙ c.in_ok-changed.ensures.numbers) c.in_ok-outside.ensures c.in_ok-write.ensures.ok
     c.in_ok-end_branch.ensures c.next_component.ensures
 
 pub write_components-loop-turn-init : goal.write_components-loop-turn-init
@@ -499,11 +522,407 @@ write_repeated_par-returns t c =
     c.in_ok-write_components.ensures long c.leave.ensures.homes c.leave.ensures.top c.leave.ensures.outer c.end.ensures
     c.in_ok-write_fork.ensures
 
-pub write_replicated-returns-in-Par : goal.write_replicated-returns-in-Par
-write_replicated-returns-in-Par t c =
+pub write_replicated-returns-in-Par-clause-ok : goal.write_replicated-returns-in-Par-clause-ok
+write_replicated-returns-in-Par-clause-ok t c =
     let r = replicator_of c.args.replicator.now in
     let s = c.args.self.now in
     let p = c.in-Par.process in
     let is = ap (Replicated r) (sym (view-Body-Par p) ∙ ap body_of (sym c.in-Par.is)) in
     subst (λ x. IfOk c.write_repeated_par.result (λ _. WritesConstruct s c.write_repeated_par.new.self c.args.around
     c.args.line x)) is c.write_repeated_par.ensures
+
+-- ---- what is too much
+
+pub write-returns-in_err-write_construct-clause-limit : goal.write-returns-in_err-write_construct-clause-limit
+write-returns-in_err-write_construct-clause-limit t c = λ e.
+    let p = c.args.process.now in
+    let s = c.args.self.now in
+    let inside = c.in_ok-inside.inside in
+    let view : with_declarations (map declaration_of p.declarations.items)
+    (Does p.line (construct_of p.construct.value)) ≡ process_of p = search (rules, the_lemmas) in
+    let fault = handed_on c.from_residual-in_err-write_construct.result c.in_err-write_construct.field-0.0 Limit
+    c.from_residual-in_err-write_construct.ensures.1 e in
+    subst (λ (x : Limits × Surroundings). Exceeds x.0 s.listing (process_code x.1 (process_of p) (site_of s)))
+    (λ i. (c.in_ok-inside.ensures.limits i, c.in_ok-inside.ensures.same i))
+    (exceeds_process inside.limits inside (map declaration_of c.deref.result.now) p.line
+    (construct_of c.deref-2.result.now) (process_of p)
+    ((λ i. with_declarations (map declaration_of (c.deref.ensures.value i))
+    (Does p.line (construct_of (c.deref-2.ensures i)))) ∙ view) c.in_ok-declare_all.ensures.ok
+    (c.in_err-write_construct.ensures.limit (ap Err fault)))
+
+pub write_construct-returns-in-Seq-clause-limit : goal.write_construct-returns-in-Seq-clause-limit
+write_construct-returns-in-Seq-clause-limit t c = λ e.
+    let v = c.in-Seq.processes in
+    let s = c.args.self.now in
+    let here = surroundings_of c.args.around in
+    subst (λ x. Exceeds c.args.around.limits s.listing (construct_code here c.args.line x (site_of s)))
+    (sym (view-Seq v) ∙ ap construct_of (sym c.in-Seq.is))
+    (subst (λ cs. Exceeds c.args.around.limits s.listing (components_code here cs (site_of s)))
+    (ap all_processes c.deref.ensures.value) (c.write_seq.ensures.limit e))
+
+pub write_construct-returns-in-If-clause-limit : goal.write_construct-returns-in-If-clause-limit
+write_construct-returns-in-If-clause-limit t c = λ e.
+    let v = c.in-If.choices in
+    let s = c.args.self.now in
+    let here = surroundings_of c.args.around in
+    subst (λ x. Exceeds c.args.around.limits s.listing (construct_code here c.args.line x (site_of s)))
+    (sym (view-If v) ∙ ap construct_of (sym c.in-If.is))
+    (subst (λ cs. Exceeds c.args.around.limits s.listing (if_code here cs (site_of s)))
+    (ap all_choices c.deref-in-If.ensures.value) (c.write_if.ensures.limit e))
+
+pub act-returns-in_err-write_line-clause-limit : goal.act-returns-in_err-write_line-clause-limit
+act-returns-in_err-write_line-clause-limit t c = λ e.
+    let s = c.args.self.now in
+    let walked = c.walk_over.new.self in
+    let action = action_of c.args.action.now in
+    let spent = c.in_ok-walk_over.ensures in
+    let place : site_of walked ≡ site_of s = λ i. record {
+      frame = frame_seen (spent.frame i);
+      known = known_of (spent.scope i);
+      label = spent.label i;
+    } in
+    let fault = handed_on c.from_residual-in_err-write_line.result c.in_err-write_line.field-0.0 Limit
+    c.from_residual-in_err-write_line.ensures.1 e in
+    exceeds_from c.args.around.limits s walked (act_code (surroundings_of c.args.around) action) spent.listing place
+    (exceeds_line c.args.around.limits walked c.args.around action (c.in_err-write_line.ensures.limit (ap Err fault)))
+
+pub act-returns-in_err-write_finer-clause-limit : goal.act-returns-in_err-write_finer-clause-limit
+act-returns-in_err-write_finer-clause-limit t c = λ e.
+    let s = c.args.self.now in
+    let walked = c.walk_over.new.self in
+    let here = surroundings_of c.args.around in
+    let action = action_of c.args.action.now in
+    let spent = c.in_ok-walk_over.ensures in
+    let place : site_of walked ≡ site_of s = λ i. record {
+      frame = frame_seen (spent.frame i);
+      known = known_of (spent.scope i);
+      label = spent.label i;
+    } in
+    let followed : known_of c.after_action.new.scope
+    ≡ with_entries (after_action here.around.signatures action) (known_of c.write_line.new.self.scope) =
+    λ i. record { entries = c.after_action.ensures.entries i; blocks = c.after_action.ensures.blocks i } in
+    let fault = handed_on c.from_residual-in_err-write_finer.result c.in_err-write_finer.field-0.0 Limit
+    c.from_residual-in_err-write_finer.ensures.1 e in
+    exceeds_from c.args.around.limits s walked (act_code here action) spent.listing place
+    (exceeds_row c.args.around.limits c.args.around action c.is_finer-is_finer.result c.after_action.new.scope
+    c.is_finer-is_finer.ensures c.in_ok-write_line.ensures.ok followed
+    (c.in_err-write_finer.ensures.limit (ap Err fault)))
+
+pub write_seq-returns-in_err-write_one-clause-limit : goal.write_seq-returns-in_err-write_one-clause-limit
+write_seq-returns-in_err-write_one-clause-limit t c = λ e.
+    let fault = handed_on c.from_residual.result c.in_err-write_one.field-0.0 Limit c.from_residual.ensures.1 e in
+    exceeds_seq c.args.around.limits c.args.around plain_component c.args.processes.now c.loop-process.process-index
+    c.process-item.result (omega arith) c.process-item.is c.loop-process.invariant
+    (c.in_err-write_one.ensures.limit (ap Err fault))
+
+pub write_if-returns-in_err-write_choices-clause-limit : goal.write_if-returns-in_err-write_choices-clause-limit
+write_if-returns-in_err-write_choices-clause-limit t c = λ e.
+    let s = c.args.self.now in
+    let begun = record s { label = c.in_ok-self.field-0; scope = c.begin.new.self } in
+    let fault = handed_on c.from_residual-in_err-write_choices.result c.in_err-write_choices.field-0.0 Limit
+    c.from_residual-in_err-write_choices.ensures.1 e in
+    exceeds_if c.args.around.limits (surroundings_of c.args.around) (all_choices c.args.choices.now) s begun refl
+    (λ i. record {
+      frame = frame_seen s.frame;
+      known = c.in_ok-begin.ensures.ok i;
+      label = c.in_ok-self.ensures i;
+    })
+    (c.in_err-write_choices.ensures.limit (ap Err fault))
+
+pub write_if-returns-in_err-write_row-clause-limit : goal.write_if-returns-in_err-write_row-clause-limit
+write_if-returns-in_err-write_row-clause-limit t c = λ e.
+    let s = c.args.self.now in
+    let begun = record s { label = c.in_ok-self.field-0; scope = c.begin.new.self } in
+    let fault = handed_on c.from_residual-in_err-write_row.result c.in_err-write_row.field-0.0 Limit
+    c.from_residual-in_err-write_row.ensures.1 e in
+    exceeds_if_end c.args.around.limits c.args.around (all_choices c.args.choices.now) s begun
+    c.write_choices.new.self c.end.new.self refl
+    (λ i. record {
+      frame = frame_seen s.frame;
+      known = c.in_ok-begin.ensures.ok i;
+      label = c.in_ok-self.ensures i;
+    })
+    c.in_ok-write_choices.ensures.ok c.end.ensures (c.in_err-write_row.ensures.limit (ap Err fault))
+
+pub write_choices-returns-in_err-write_part-clause-limit : goal.write_choices-returns-in_err-write_part-clause-limit
+write_choices-returns-in_err-write_part-clause-limit t c = λ e.
+    let fault = handed_on c.from_residual-in_err-write_part.result c.in_err-write_part.field-0.0 Limit
+    c.from_residual-in_err-write_part.ensures.1 e in
+    exceeds_choices c.args.around.limits c.args.around c.args.end choice_of c.args.choices.now c.loop-place.place
+    c.index-choices-place.result (nat_eq (c.loop-place.place + 1) (length c.args.choices.now)) c.is_open.result
+    (omega arith) c.index-choices-place.is refl c.is_open.ensures c.loop-place.invariant
+    (c.in_err-write_part.ensures.limit (ap Err fault))
+
+pub write_part-returns-then-is_true-clause-limit : goal.write_part-returns-then-is_true-clause-limit
+write_part-returns-then-is_true-clause-limit t c = λ e.
+    let x = c.args.choice.now in
+    let s = c.args.self.now in
+    let here = surroundings_of c.args.around in
+    let view : Chosen x.line (expression_of x.condition) (process_of x.process) ≡ choice_of x =
+    search (rules, the_lemmas) in
+    let last : c.args.is_last ≡ true = search rules in
+    subst (λ (y : Bool × Component Choices). Exceeds c.args.around.limits s.listing
+    (part_code here c.args.end y.0 c.args.is_open y.1 (site_of s))) (λ i. (sym last i, view i))
+    (exceeds_always c.args.around.limits s here c.args.end c.args.is_open x.line (expression_of x.condition)
+    (process_of x.process) (sym c.is_true.ensures ∙ c.if-is_true.true)
+    (subst (λ y. Exceeds c.args.around.limits s.listing (chosen_code here y (site_of s))) (sym view)
+    (c.write_chosen.ensures.limit e)))
+
+pub write_part-returns-in_err-write_choice-clause-limit : goal.write_part-returns-in_err-write_choice-clause-limit
+write_part-returns-in_err-write_choice-clause-limit t c = λ e.
+    let x = c.args.choice.now in
+    let s = c.args.self.now in
+    let here = surroundings_of c.args.around in
+    let view : Chosen x.line (expression_of x.condition) (process_of x.process) ≡ choice_of x =
+    search (rules, the_lemmas) in
+    let last : c.args.is_last ≡ true = search rules in
+    let fault = handed_on c.from_residual.result c.in_err-write_choice.field-0.0 Limit
+    c.from_residual.ensures.1 e in
+    subst (λ (y : Bool × Component Choices). Exceeds c.args.around.limits s.listing
+    (part_code here c.args.end y.0 c.args.is_open y.1 (site_of s))) (λ i. (sym last i, view i))
+    (exceeds_stopped c.args.around.limits s here c.args.end c.args.is_open x.line (expression_of x.condition)
+    (process_of x.process) (sym c.is_true.ensures ∙ c.if-is_true.false)
+    (subst (λ y. Exceeds c.args.around.limits s.listing (choice_code here c.args.end false y (site_of s))) (sym view)
+    (c.in_err-write_choice.ensures.limit (ap Err fault))))
+
+pub write_chosen-returns-in_err-write-clause-limit : goal.write_chosen-returns-in_err-write-clause-limit
+write_chosen-returns-in_err-write-clause-limit t c = λ e.
+    let x = c.args.choice.now in
+    let s = c.args.self.now in
+    let here = surroundings_of c.args.around in
+    let view : Chosen x.line (expression_of x.condition) (process_of x.process) ≡ choice_of x =
+    search (rules, the_lemmas) in
+    let narrowed = (λ i. record { entries = c.narrow_by.ensures.entries i; blocks = c.narrow_by.ensures.blocks i })
+    ∙ ap (with_entries (where_holds (Some (expression_of x.condition)))) c.exclude.ensures in
+    let fault = handed_on c.from_residual.result c.in_err-write.field-0.0 Limit c.from_residual.ensures.1 e in
+    subst (λ y. Exceeds c.args.around.limits s.listing (chosen_code here y (site_of s))) view
+    (exceeds_chosen c.args.around.limits s here x.line (expression_of x.condition) (process_of x.process)
+    c.narrow_by.new.scope narrowed (c.in_err-write.ensures.limit (ap Err fault)))
+
+pub write_choice-returns-in_err-write_chosen-clause-limit : goal.write_choice-returns-in_err-write_chosen-clause-limit
+write_choice-returns-in_err-write_chosen-clause-limit t c = λ e.
+    let x = c.args.choice.now in
+    let s = c.args.self.now in
+    let here = surroundings_of c.args.around in
+    let view : Chosen x.line (expression_of x.condition) (process_of x.process) ≡ choice_of x =
+    search (rules, the_lemmas) in
+    let tested = c.write_test.new.self in
+    let place : site_of tested ≡ at_place (known_of s.scope) (s.label + 1) (site_of s) =
+    c.in_ok-write_test.ensures.site ∙ (λ i. record {
+      frame = frame_seen s.frame;
+      known = known_of s.scope;
+      label = c.in_ok-self.ensures i;
+    }) in
+    let fault = handed_on c.from_residual-in_err-write_chosen.result c.in_err-write_chosen.field-0.0 Limit
+    c.from_residual-in_err-write_chosen.ensures.1 e in
+    subst (λ y. Exceeds c.args.around.limits s.listing (choice_code here c.args.end false y (site_of s))) view
+    (exceeds_tested c.args.around.limits here c.args.end x.line (expression_of x.condition) (process_of x.process) s
+    tested c.in_ok-write_test.ensures.code place
+    (subst (λ y. Exceeds c.args.around.limits tested.listing (chosen_code here y (site_of tested))) (sym view)
+    (c.in_err-write_chosen.ensures.limit (ap Err fault))))
+
+pub write_choice-returns-in_err-write_row-clause-limit : goal.write_choice-returns-in_err-write_row-clause-limit
+write_choice-returns-in_err-write_row-clause-limit t c = λ e.
+    let x = c.args.choice.now in
+    let s = c.args.self.now in
+    let here = surroundings_of c.args.around in
+    let view : Chosen x.line (expression_of x.condition) (process_of x.process) ≡ choice_of x =
+    search (rules, the_lemmas) in
+    let place : site_of c.write_test.new.self ≡ at_place (known_of s.scope) (s.label + 1) (site_of s) =
+    c.in_ok-write_test.ensures.site ∙ (λ i. record {
+      frame = frame_seen s.frame;
+      known = known_of s.scope;
+      label = c.in_ok-self.ensures i;
+    }) in
+    let chosen = subst (λ y. WritesChosen c.write_test.new.self c.write_chosen.new.self c.args.around y) (sym view)
+    c.in_ok-write_chosen.ensures.ok in
+    let fault = handed_on c.from_residual-in_err-write_row.result c.in_err-write_row.field-0.0 Limit
+    c.from_residual-in_err-write_row.ensures.1 e in
+    subst (λ y. Exceeds c.args.around.limits s.listing (choice_code here c.args.end false y (site_of s))) view
+    (exceeds_other c.args.around.limits c.args.around c.args.end x.line (expression_of x.condition)
+    (process_of x.process) s c.write_test.new.self c.write_chosen.new.self c.push.new.self
+    c.in_ok-write_test.ensures.code place chosen c.in_ok-push.ensures
+    (c.in_err-write_row.ensures.limit (ap Err fault)))
+
+pub write_open_choice-returns-in_err-write_chosen-clause-limit :
+    goal.write_open_choice-returns-in_err-write_chosen-clause-limit
+write_open_choice-returns-in_err-write_chosen-clause-limit t c = λ e.
+    let x = c.args.choice.now in
+    let s = c.args.self.now in
+    let here = surroundings_of c.args.around in
+    let view : Chosen x.line (expression_of x.condition) (process_of x.process) ≡ choice_of x =
+    search (rules, the_lemmas) in
+    let tested = c.write_test.new.self in
+    let fault = handed_on c.from_residual-in_err-write_chosen.result c.in_err-write_chosen.field-0.0 Limit
+    c.from_residual-in_err-write_chosen.ensures.1 e in
+    subst (λ y. Exceeds c.args.around.limits s.listing (choice_code here c.args.end true y (site_of s))) view
+    (exceeds_open c.args.around.limits here c.args.end x.line (expression_of x.condition) (process_of x.process) s
+    tested c.in_ok-write_test.ensures.code c.in_ok-write_test.ensures.site
+    (subst (λ y. Exceeds c.args.around.limits tested.listing (chosen_code here y (site_of tested))) (sym view)
+    (c.in_err-write_chosen.ensures.limit (ap Err fault))))
+
+pub write_turns-returns-in_err-write_part-clause-limit : goal.write_turns-returns-in_err-write_part-clause-limit
+write_turns-returns-in_err-write_part-clause-limit t c = λ e.
+    let named = c.in_ok-add_name.ensures in
+    let fault = handed_on c.from_residual-in_err-write_part.result c.in_err-write_part.field-0.0 Limit
+    c.from_residual-in_err-write_part.ensures.1 e in
+    exceeds_turns c.args.around.limits c.args.around c.args.end c.args.name.now (seen_repeats c.args.repeats)
+    (choice_of c.args.choice.now) c.args.count c.loop-turn.turn (meaning_of c.index_in.result) c.add_name.new.scope
+    (omega arith) c.index_in.ensures (λ i. record { entries = named.ok i; blocks = named.extends.blocks i })
+    c.loop-turn.invariant (c.in_err-write_part.ensures.limit (ap Err fault))
+
+pub write_repeated_if-returns-in_err-write_turns-clause-limit :
+    goal.write_repeated_if-returns-in_err-write_turns-clause-limit
+write_repeated_if-returns-in_err-write_turns-clause-limit t c = λ e.
+    let s = c.args.self.now in
+    let r = replicator_of c.args.replicator.now in
+    let here = surroundings_of c.args.around in
+    let repeats = seen_repeats c.repeats_of-repeats.result in
+    let begun = record s {
+      label = c.in_ok-self.field-0;
+      scope = c.begin.new.self;
+      frame = c.add_home.new.self;
+    } in
+    let place : site_of begun ≡ before_turns (site_of s) (begin (known_of s.scope)) = λ i. record {
+      frame = c.in_ok-add_home.ensures i;
+      known = c.in_ok-begin.ensures.ok i;
+      label = c.in_ok-self.ensures i;
+    } in
+    let counted = c.repeats_of-repeats.ensures
+    ∙ (λ i. repeats_of (c.is_before-counted.ensures i) (known_of s.scope).entries false r) in
+    let fault = handed_on c.from_residual-in_err-write_turns.result c.in_err-write_turns.field-0.0 Limit
+    c.from_residual-in_err-write_turns.ensures.1 e in
+    exceeds_repeated c.args.around.limits c.args.around c.args.line r (choice_of c.args.choice.now) repeats s begun
+    counted refl place
+    (subst (λ n. Exceeds c.args.around.limits s.listing (turns_written here s.label r.name (choice_of c.args.choice.now)
+    repeats n (site_of begun))) c.times.ensures (c.in_err-write_turns.ensures.limit (ap Err fault)))
+
+pub write_repeated_if-returns-in_err-write_row-clause-limit :
+    goal.write_repeated_if-returns-in_err-write_row-clause-limit
+write_repeated_if-returns-in_err-write_row-clause-limit t c = λ e.
+    let s = c.args.self.now in
+    let r = replicator_of c.args.replicator.now in
+    let repeats = seen_repeats c.repeats_of-repeats.result in
+    let begun = record s {
+      label = c.in_ok-self.field-0;
+      scope = c.begin.new.self;
+      frame = c.add_home.new.self;
+    } in
+    let place : site_of begun ≡ before_turns (site_of s) (begin (known_of s.scope)) = λ i. record {
+      frame = c.in_ok-add_home.ensures i;
+      known = c.in_ok-begin.ensures.ok i;
+      label = c.in_ok-self.ensures i;
+    } in
+    let counted = c.repeats_of-repeats.ensures
+    ∙ (λ i. repeats_of (c.is_before-counted.ensures i) (known_of s.scope).entries false r) in
+    let written = subst (λ n. WritesTurns begun c.write_turns.new.self c.args.around s.label r.name repeats n
+    (choice_of c.args.choice.now)) c.times.ensures c.in_ok-write_turns.ensures.ok in
+    let long : c.len-names.result ≡ length s.frame.homes.items = omega arith in
+    let fault = handed_on c.from_residual-in_err-write_row.result c.in_err-write_row.field-0.0 Limit
+    c.from_residual-in_err-write_row.ensures.1 e in
+    exceeds_repeated_end c.args.around.limits c.args.around c.args.line c.len-names.result r
+    (choice_of c.args.choice.now) repeats s begun c.write_turns.new.self c.leave.new.self c.end.new.self counted refl
+    place written long c.leave.ensures.homes c.leave.ensures.top c.leave.ensures.outer c.end.ensures
+    (c.in_err-write_row.ensures.limit (ap Err fault))
+
+pub write_loop-returns-in_err-enter_loop-clause-limit : goal.write_loop-returns-in_err-enter_loop-clause-limit
+write_loop-returns-in_err-enter_loop-clause-limit t c = λ e.
+    let s = c.args.self.now in
+    let r = replicator_of c.args.replicator.now in
+    let p = process_of c.args.process.now in
+    let l : Turning = record {
+      name = c.args.replicator.now.name;
+      index = c.index_in.result;
+      base = c.value_or_zero.result;
+      count = c.value_or_zero-count.result;
+    } in
+    let base = to_z-of_z w32 c.value_or_zero.result (search rules) in
+    let count = to_z-of_z w32 c.value_or_zero-count.result (search rules) in
+    let fault = handed_on c.from_residual.result c.in_err-enter_loop.field-0.0 Limit
+    c.from_residual.ensures.1 e in
+    let much = subst
+    (λ (l : Turning). IsTooMuch c.args.around.limits s.listing (entering_code l c.args.changed.now (site_of s)))
+    (λ i. record { name = l.name; index = l.index; base = base i; count = count i })
+    (c.in_err-enter_loop.ensures.limit (ap Err fault)) in
+    let repeats = c.repeats_of-repeats.ensures
+    ∙ (λ i. repeats_of (c.is_before-counted.ensures i) (known_of s.scope).entries true r) in
+    let index = c.index_in.ensures ∙ ap (λ x. index_in x 0) repeats in
+    exceeds_loop c.args.around.limits c.args.around c.args.line r p l c.args.changed.now s refl index
+    c.value_or_zero.ensures c.value_or_zero-count.ensures (λ none. c.if-count-eq0.false (ap (of_z w32) none))
+    (exceeds_entering c.args.around.limits s (surroundings_of c.args.around) p l c.args.changed.now much)
+
+pub write_loop-returns-in_err-write_one-clause-limit : goal.write_loop-returns-in_err-write_one-clause-limit
+write_loop-returns-in_err-write_one-clause-limit t c = λ e.
+    let s = c.args.self.now in
+    let r = replicator_of c.args.replicator.now in
+    let p = process_of c.args.process.now in
+    let l : Turning = record {
+      name = c.args.replicator.now.name;
+      index = c.index_in.result;
+      base = c.value_or_zero.result;
+      count = c.value_or_zero-count.result;
+    } in
+    let base = to_z-of_z w32 c.value_or_zero.result (search rules) in
+    let count = to_z-of_z w32 c.value_or_zero-count.result (search rules) in
+    let enters = subst (λ (l : Turning). EntersLoop s c.enter_loop.new.self l c.args.changed.now)
+    (λ i. record { name = l.name; index = l.index; base = base i; count = count i }) c.in_ok-enter_loop.ensures.ok in
+    let repeats = c.repeats_of-repeats.ensures
+    ∙ (λ i. repeats_of (c.is_before-counted.ensures i) (known_of s.scope).entries true r) in
+    let index = c.index_in.ensures ∙ ap (λ x. index_in x 0) repeats in
+    let fault = handed_on c.from_residual-in_err-write_one.result c.in_err-write_one.field-0.0 Limit
+    c.from_residual-in_err-write_one.ensures.1 e in
+    exceeds_loop c.args.around.limits c.args.around c.args.line r p l c.args.changed.now s refl index
+    c.value_or_zero.ensures c.value_or_zero-count.ensures (λ none. c.if-count-eq0.false (ap (of_z w32) none))
+    (exceeds_body c.args.around.limits c.args.around p l c.args.changed.now enters
+    (c.in_err-write_one.ensures.limit (ap Err fault)))
+
+pub write_loop-returns-in_err-leave_loop-clause-limit : goal.write_loop-returns-in_err-leave_loop-clause-limit
+write_loop-returns-in_err-leave_loop-clause-limit t c = λ e.
+    let s = c.args.self.now in
+    let r = replicator_of c.args.replicator.now in
+    let p = process_of c.args.process.now in
+    let l : Turning = record {
+      name = c.args.replicator.now.name;
+      index = c.index_in.result;
+      base = c.value_or_zero.result;
+      count = c.value_or_zero-count.result;
+    } in
+    let base = to_z-of_z w32 c.value_or_zero.result (search rules) in
+    let count = to_z-of_z w32 c.value_or_zero-count.result (search rules) in
+    let enters = subst (λ (l : Turning). EntersLoop s c.enter_loop.new.self l c.args.changed.now)
+    (λ i. record { name = l.name; index = l.index; base = base i; count = count i }) c.in_ok-enter_loop.ensures.ok in
+    let long : c.len-names.result ≡ length s.frame.homes.items = omega arith in
+    let repeats = c.repeats_of-repeats.ensures
+    ∙ (λ i. repeats_of (c.is_before-counted.ensures i) (known_of s.scope).entries true r) in
+    let index = c.index_in.ensures ∙ ap (λ x. index_in x 0) repeats in
+    let fault = handed_on c.from_residual-in_err-leave_loop.result c.in_err-leave_loop.field-0.0 Limit
+    c.from_residual-in_err-leave_loop.ensures.1 e in
+    exceeds_loop c.args.around.limits c.args.around c.args.line r p l c.args.changed.now s refl index
+    c.value_or_zero.ensures c.value_or_zero-count.ensures (λ none. c.if-count-eq0.false (ap (of_z w32) none))
+    (exceeds_leaving c.args.around.limits c.args.around p l c.args.changed.now c.len-names.result s.frame.top s.label
+    enters c.in_ok-write_one.ensures.ok (c.in_err-leave_loop.ensures.limit (ap Err fault)) long refl refl)
+
+pub write_replicated-returns-in_err-write_loop-in-Seq-clause-limit :
+    goal.write_replicated-returns-in_err-write_loop-in-Seq-clause-limit
+write_replicated-returns-in_err-write_loop-in-Seq-clause-limit t c = λ e.
+    let s = c.args.self.now in
+    let r = replicator_of c.args.replicator.now in
+    let p = c.in-Seq.process in
+    let here = surroundings_of c.args.around in
+    let whole = Replicated r (body_of c.args.body.now) in
+    let spent = c.in_ok-find-in-Seq.ensures in
+    let known = c.variables_changed_in.ensures.scope ∙ ap known_of spent.scope in
+    let v = record c.find.new.self { scope = c.variables_changed_in.new.scope } in
+    let place : site_of v ≡ site_of s = λ i. record {
+      frame = frame_seen (spent.frame i);
+      known = known i;
+      label = spent.label i;
+    } in
+    let is = ap (Replicated r) (sym (view-Body-Seq p) ∙ ap body_of (sym c.in-Seq.is)) in
+    let fault = handed_on c.from_residual-in_err-write_loop-in-Seq.result c.in_err-write_loop-in-Seq.field-0.0 Limit
+    c.from_residual-in_err-write_loop-in-Seq.ensures.1 e in
+    exceeds_replicated c.args.around.limits c.args.around c.args.line r (process_of p) whole c.deref.result.now s v is
+    spent.listing place
+    (c.deref.ensures.value ∙ c.in_ok-changed-in-Seq.ensures.numbers
+    ∙ (λ i. changed_by_construct here.around.signatures (known_of (spent.scope i)).entries whole))
+    (c.in_err-write_loop-in-Seq.ensures.limit (ap Err fault))

@@ -9,14 +9,14 @@ pub loop-declaration-preserved : goal.loop-declaration-preserved
 loop-declaration-preserved c = record {
   code = declared_next c.args.declarations.now c.loop-declaration.declaration-index c.declaration-item.result
       c.loop-declaration.self c.declare.new.self _ (omega arith) c.declaration-item.is
-      c.loop-declaration.invariant.code c.in_ok-declare.ensures;
+      c.loop-declaration.invariant.code c.in_ok-declare.ensures.ok;
   site = placed_next c.args.declarations.now c.loop-declaration.declaration-index c.declaration-item.result
       c.loop-declaration.self c.declare.new.self _ (omega arith) c.declaration-item.is
-      c.loop-declaration.invariant.site c.in_ok-declare.ensures;
+      c.loop-declaration.invariant.site c.in_ok-declare.ensures.ok;
 }
 
-pub returns : goal.returns
-returns c =
+pub returns-clause-ok : goal.returns-clause-ok
+returns-clause-ok c =
     let done : length c.args.declarations.now ≤ c.loop-declaration.declaration-index = omega arith in
     declared_done c.args.declarations.now c.loop-declaration.declaration-index c.args.self.now c.loop-declaration.self
     done c.loop-declaration.invariant.code c.loop-declaration.invariant.site

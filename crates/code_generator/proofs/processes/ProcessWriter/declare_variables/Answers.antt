@@ -14,9 +14,10 @@ returns c =
     let names = as_list (one_or_more_of spelling_of c.args.names.now.names) in
     record {
       code = c.in_ok-write_zeros.ensures
-          ∙ ap (λ n. s.listing ++ zero_names size n names s.frame.top) c.in_ok-count.ensures;
+          ∙ ap (λ n. s.listing ++ zero_names size n names s.frame.top) c.words_in-count.ensures;
       site = λ i. record {
-        frame = (c.in_ok-add_names.ensures ∙ ap (λ n. with_names n names (frame_seen s.frame)) c.in_ok-count.ensures) i;
+        frame = (c.in_ok-add_names.ensures
+            ∙ ap (λ n. with_names n names (frame_seen s.frame)) c.words_in-count.ensures) i;
         known = record {
           entries = (c.in_ok-declare_names.ensures.entries
               ∙ ap (λ m. add_all names m (entries_of s.scope)) c.variable_meaning-meaning.ensures) i;

@@ -53,11 +53,10 @@ write_operation-returns-in_ok-write_joined-in-None t c =
 
 pub write_onto-returns : goal.write_onto-returns
 write_onto-returns t c =
-    let above = c.in_ok-above in
-    onto_written_if c.push_back.result c.args.in_order c.args.setting above.above (term_of c.args.right.now)
-    c.is_small_term.result c.args.self.now c.store.new.self c.write_operand-2.new.self c.push_back.new.self c.if-is_small_term.false
-    c.is_small_term.ensures above.ensures.scope above.ensures.homes above.ensures.top c.in_ok-store.ensures
-    c.in_ok-write_operand.ensures c.push_back.ensures
+    onto_written_if c.push_back.result c.args.in_order c.args.setting c.above-above.result (term_of c.args.right.now)
+    c.is_small_term.result c.args.self.now c.store.new.self c.write_operand-2.new.self c.push_back.new.self
+    c.if-is_small_term.false c.is_small_term.ensures c.above-above.ensures.scope c.above-above.ensures.homes
+    c.above-above.ensures.top c.in_ok-store.ensures c.in_ok-write_operand.ensures c.push_back.ensures
 
 pub write_first-returns-in-Chain : goal.write_first-returns-in-Chain
 write_first-returns-in-Chain t c =

@@ -11,5 +11,5 @@ loop-done-preserved c =
       written = spread_more c.args.word c.args.count c.loop-done.done c.min-more.result _ c.loop-done.self
           c.write_moves.new.self c.loop-done-test.true c.loop-done.invariant.some least c.loop-done.invariant.written
           (c.in_ok-write_moves.ensures
-          ∙ ap (λ w. c.loop-done.self ++ moves c.min-more.result c.args.word w) c.in_ok-word_after.ensures);
+          ∙ ap (λ w. c.loop-done.self ++ moves c.min-more.result c.args.word w) c.word_after.ensures);
     }

@@ -1,0 +1,322 @@
+-- Each sequential program has code: so has each process in it, wherever it is.
+use Rattle.std.proofs.Common.{◌≡◌, ℕ, zero, suc, ◌+◌, ℤ, pos, negsuc, Bool, true, false, List, [], ◌∷◌, ◌++◌, length}
+use Rattle.std.proofs.Common.{Option, Some, None, refl, subst}
+use Rattle.occam_layout.specs.declared.mark.Mark.TheVariants as mark
+use Rattle.occam_parser.specs.Terminals.{Terminal, Mark}
+use Rattle.occam_parser.specs.Expressions.{Expression}
+use Rattle.occam_parser.specs.Lines.{Replicator, Action, Skip, Stop, Assign, Input, Output, Instance, block_word}
+use Rattle.occam_parser.specs.Blocks.{Process, Declared, Does, Construct, Act, Block, Replicated, Body, One, Part}
+use Rattle.occam_parser.specs.Blocks.{Components, NoComponent, Further, Component, Plain, Chosen, Guarded}
+use Rattle.occam_parser.specs.Blocks.{ProgramItem, GlobalConstant, GlobalProcedure}
+use Rattle.scalar_ranges.specs.Moves.{Known}
+use Rattle.program_uses.specs.Actions.{is_before}
+use Rattle.program_uses.specs.Changes.{changed_by_body}
+use Rattle.program_uses.specs.Indices.{Repeats, repeats_of, index_in, is_seq}
+use Rattle.program_meaning.specs.Sequential.{IsSequential, IsSequentialAction, IsSequentialConstruct}
+use Rattle.program_meaning.specs.Sequential.{IsSequentialBody, AreSequential, IsSequentialComponent}
+use Rattle.program_meaning.specs.Sequential.{IsSequentialWord, IsSequentialProgram}
+use Rattle.usage_checks.specs.AfterProcesses.{begun, ended, begun_body, chosen, after_components, after_component}
+use Rattle.usage_checks.specs.AfterProcesses.{after_body}
+use Rattle.usage_checks.specs.Following.{after_action}
+use Rattle.usage_checks.specs.ItemRules.{Outside, outermost, around_in, weighed, after_item}
+use Rattle.usage_checks.specs.NameRules.{with_entries}
+use Rattle.code_pieces.specs.declared.operations.TheConstants.{STOP_PROCESS}
+use Rattle.code_pieces.specs.Pieces.{Piece, Jump, operates, Code, written, before, then_code, closed_by}
+use Rattle.line_pieces.specs.Actions.{test_code}
+use Rattle.line_pieces.specs.Declarations.{Frame, declaration_code}
+use Rattle.code_generator.specs.Calls.{Callee, where_called}
+use Rattle.code_generator.specs.Instances.{is_finer}
+use Rattle.code_generator.specs.Processes.{Site, Surroundings, row_of, with_declaration, at_place, line_code, with_row}
+use Rattle.code_generator.specs.Processes.{act_code, is_true, passes, in_choice, tested_choice, open_choice}
+use Rattle.code_generator.specs.Processes.{other_choice, last_choice, in_loop, value_or_zero, loop_start, loop_end}
+use Rattle.code_generator.specs.Processes.{loop_code, has_scalar, no_loop, repeated_seq, by_block, times, before_turns}
+use Rattle.code_generator.specs.Processes.{turn_site, tested_turns, turns_code, process_code, construct_code, body_code}
+use Rattle.code_generator.specs.Processes.{components_code, component_code, choices_code, tested_code, choice_code}
+use Rattle.code_generator.specs.Processes.{last_code}
+use Rattle.code_generator.specs.Programs.{in_main, callable, framed, last_item_code, items_code, no_frame}
+use Rattle.code_generator.specs.SequentialCode.{SequentialProgramsHaveCode}
+
+abbrev HasCode : Option Code → Type 0
+HasCode None = ⊥
+HasCode (Some c) = Unit {0}
+
+found : (code : Option Code) → HasCode code → (c : Code) × (code ≡ Some c)
+found None h = absurd h
+found (Some c) h = (c, refl)
+
+-- ---- code put together
+
+before_has : (pieces : List Piece) (code : Option Code) → HasCode code → HasCode (before pieces code)
+before_has pieces None h = h
+before_has pieces (Some c) h = tt
+
+closed_has : (pieces : List Piece) (code : Option Code) → HasCode code → HasCode (closed_by pieces code)
+closed_has pieces None h = h
+closed_has pieces (Some c) h = tt
+
+then_has : (code : Option Code) (next : ℕ → Option Code) → HasCode code → ((label : ℕ) → HasCode (next label))
+    → HasCode (then_code code next)
+then_has None next h all = h
+then_has (Some c) next h all = before_has c.pieces (next c.labels) (all c.labels)
+
+-- ---- actions
+
+row_has : (finer : Bool) (f : Frame) (k : Known) (code : Option Code) → HasCode code
+    → HasCode (with_row finer f k code)
+row_has false f k code h = h
+row_has true f k code h =
+    then_has code (λ label. written (row_of label f k ∷ []) (label + 1)) h (λ label. tt)
+
+line_has : (w : Surroundings) (action : Action) (s : Site) → IsSequentialAction action
+    → HasCode (line_code w action s)
+line_has w (Instance name actuals) s h = absurd h
+line_has w Skip s h = tt
+line_has w Stop s h = tt
+line_has w (Assign target value) s h = tt
+line_has w (Input channel target) s h = tt
+line_has w (Output channel value) s h = tt
+
+act_has : (w : Surroundings) (action : Action) (s : Site) → IsSequentialAction action → HasCode (act_code w action s)
+act_has w action s h =
+    row_has (is_finer s.frame.homes s.known.entries s.frame.top action) s.frame
+    (with_entries (after_action w.around.signatures action) s.known) (line_code w action s) (line_has w action s h)
+
+-- ---- components, whose processes have code at all sites
+
+abbrev IsWritten : {part : Part} → Surroundings → Component part → Type 0
+IsWritten w (Plain p) = (s : Site) → HasCode (process_code w p s)
+IsWritten w (Chosen line e p) = (s : Site) → HasCode (process_code w p s)
+IsWritten w (Guarded line g p) = (s : Site) → HasCode (process_code w p s)
+
+abbrev AreWritten : {part : Part} → Surroundings → Components part → Type 0
+AreWritten w NoComponent = Unit {0}
+AreWritten w (Further cs c) = AreWritten w cs × IsWritten w c
+
+-- ---- components of a SEQ
+
+component_has : {part : Part} (w : Surroundings) (c : Component part) (s : Site)
+    → IsSequentialComponent (Mark mark.Seq) c → IsWritten w c → HasCode (component_code w c s)
+component_has w (Plain p) s h all = all s
+component_has w (Chosen line e p) s h all = absurd h
+component_has w (Guarded line g p) s h all = absurd h
+
+components_have : {part : Part} (w : Surroundings) (cs : Components part) (s : Site)
+    → AreSequential (Mark mark.Seq) cs → AreWritten w cs → HasCode (components_code w cs s)
+components_have w NoComponent s h all = tt
+components_have w (Further cs c) s h all =
+    then_has (components_code w cs s)
+    (λ label. component_code w c (at_place (after_components w.around (Mark mark.Seq) cs s.known) label s))
+    (components_have w cs s h.0 all.0)
+    (λ label. component_has w c (at_place (after_components w.around (Mark mark.Seq) cs s.known) label s) h.1 all.1)
+
+-- ---- choices of an IF
+
+tested_choice_has : (s : Site) (e : Expression) (end : ℕ) (after : Known) (process : Option Code) → HasCode process
+    → HasCode (tested_choice s e end after process)
+tested_choice_has s e end after process h =
+    let behind = Jump end ∷ row_of s.label s.frame after ∷ [] in
+    before_has (test_code s.frame.homes s.known.entries s.frame.top e s.label) (closed_by behind process)
+    (closed_has behind process h)
+
+other_has : (is_open : Bool) (falls tested : Option Code) → HasCode falls → HasCode tested
+    → HasCode (other_choice is_open falls tested)
+other_has true falls tested first second = first
+other_has false falls tested first second = second
+
+last_choice_has : (holds : Bool) (always tested : Option Code) → HasCode always → HasCode tested
+    → HasCode (last_choice holds always tested)
+last_choice_has true always tested first second = first
+last_choice_has false always tested first second = closed_has (operates STOP_PROCESS ∷ []) tested second
+
+choice_has : {part : Part} (w : Surroundings) (end : ℕ) (is_open : Bool) (c : Component part) (s : Site)
+    → IsSequentialComponent (Mark mark.If) c → IsWritten w c → HasCode (choice_code w end is_open c s)
+choice_has w end is_open (Plain p) s h all = absurd h
+choice_has w end is_open (Chosen line e p) s h all =
+    let falls = process_code w p (at_place (chosen e s.known) s.label s) in
+    let tested = process_code w p (in_choice e s) in
+    let after = after_component w.around (Mark mark.If) (Chosen line e p) s.known in
+    other_has is_open (open_choice s e end falls) (tested_choice s e end after tested)
+    (before_has (test_code s.frame.homes s.known.entries s.frame.top e end) falls
+    (all (at_place (chosen e s.known) s.label s)))
+    (tested_choice_has s e end after tested (all (in_choice e s)))
+choice_has w end is_open (Guarded line g p) s h all = absurd h
+
+last_has : {part : Part} (w : Surroundings) (end : ℕ) (c : Component part) (s : Site)
+    → IsSequentialComponent (Mark mark.If) c → IsWritten w c → HasCode (last_code w end c s)
+last_has w end (Plain p) s h all = absurd h
+last_has w end (Chosen line e p) s h all =
+    let always = process_code w p (at_place (chosen e s.known) s.label s) in
+    let tested = process_code w p (in_choice e s) in
+    let after = after_component w.around (Mark mark.If) (Chosen line e p) s.known in
+    last_choice_has (is_true e) always (tested_choice s e end after tested)
+    (all (at_place (chosen e s.known) s.label s))
+    (tested_choice_has s e end after tested (all (in_choice e s)))
+last_has w end (Guarded line g p) s h all = absurd h
+
+tested_have : {part : Part} (w : Surroundings) (end : ℕ) (is_open : Bool) (cs : Components part) (s : Site)
+    → AreSequential (Mark mark.If) cs → AreWritten w cs → HasCode (tested_code w end is_open cs s)
+tested_have w end is_open NoComponent s h all = tt
+tested_have w end is_open (Further cs c) s h all =
+    then_has (tested_code w end false cs s)
+    (λ label. choice_code w end is_open c (at_place (after_components w.around (Mark mark.If) cs s.known) label s))
+    (tested_have w end false cs s h.0 all.0)
+    (λ label. choice_has w end is_open c (at_place (after_components w.around (Mark mark.If) cs s.known) label s) h.1
+    all.1)
+
+choices_have : {part : Part} (w : Surroundings) (end : ℕ) (cs : Components part) (s : Site)
+    → AreSequential (Mark mark.If) cs → AreWritten w cs → HasCode (choices_code w end cs s)
+choices_have w end NoComponent s h all = tt
+choices_have w end (Further cs c) s h all =
+    then_has (tested_code w end (passes c) cs s)
+    (λ label. last_code w end c (at_place (after_components w.around (Mark mark.If) cs s.known) label s))
+    (tested_have w end (passes c) cs s h.0 all.0)
+    (λ label. last_has w end c (at_place (after_components w.around (Mark mark.If) cs s.known) label s) h.1 all.1)
+
+-- ---- turns
+
+tested_turns_have : (count label : ℕ) (choice : ℕ → ℕ → Option Code)
+    → ((n label : ℕ) → HasCode (choice n label)) → HasCode (tested_turns count label choice)
+tested_turns_have zero label choice all = tt
+tested_turns_have (suc n) label choice all =
+    then_has (tested_turns n label choice) (choice n) (tested_turns_have n label choice all) (all n)
+
+turns_have : (count label : ℕ) (choice last : ℕ → ℕ → Option Code) → ((n label : ℕ) → HasCode (choice n label))
+    → ((n label : ℕ) → HasCode (last n label)) → HasCode (turns_code count label choice last)
+turns_have zero label choice last all all_last = tt
+turns_have (suc n) label choice last all all_last =
+    then_has (tested_turns n label choice) (last n) (tested_turns_have n label choice all) (all_last n)
+
+no_loop_has : (changes : Bool) (s : Site) (after : Known) → HasCode (no_loop changes s after)
+no_loop_has false s after = tt
+no_loop_has true s after = tt
+
+repeated_has : (s : Site) (changed : List ℕ) (after : Known) (base : ℤ) (loop : Option Code) (count : ℤ)
+    → HasCode loop → HasCode (repeated_seq s changed after base loop count)
+repeated_has s changed after base loop (pos zero) h = no_loop_has (has_scalar changed s.known.entries) s after
+repeated_has s changed after base loop (pos (suc n)) h = h
+repeated_has s changed after base loop (negsuc n) h = h
+
+loop_has : (s inner : Site) (after : Known) (base count : ℤ) (body : Option Code) → HasCode body
+    → HasCode (loop_code s inner after base count body)
+loop_has s inner after base count body h =
+    let behind = loop_end s.frame.top s.label (row_of (s.label + 1) s.frame after) in
+    before_has (loop_start s.frame.top base count ++ row_of s.label inner.frame inner.known ∷ [])
+    (closed_by behind body) (closed_has behind body h)
+
+-- ---- blocks, whose word is SEQ or IF
+
+in_block : (word : Terminal) (all choices : Option Code) → IsSequentialWord word
+    → (word ≡ Mark mark.Seq → HasCode all) → (word ≡ Mark mark.If → HasCode choices)
+    → HasCode (by_block word all choices)
+in_block (Mark mark.Seq) all choices h first second = first refl
+in_block (Mark mark.If) all choices h first second = second refl
+in_block word all choices h first second = absurd h
+
+component_word : {part : Part} (word : Terminal) (c : Component part) → IsSequentialComponent word c
+    → IsSequentialWord word
+component_word (Mark mark.Seq) (Plain p) h = tt
+component_word (Mark mark.If) (Chosen line e p) h = tt
+component_word word c h = absurd h
+
+block_has : {part : Part} (w : Surroundings) (word : Terminal) (cs : Components part) (s inner : Site)
+    (behind : List Piece) → IsSequentialWord word → AreSequential word cs → AreWritten w cs
+    → HasCode (by_block word (components_code w cs s) (closed_by behind (choices_code w s.label cs inner)))
+block_has w word cs s inner behind h each all =
+    let choices = choices_code w s.label cs inner in
+    in_block word (components_code w cs s) (closed_by behind choices) h
+    (λ is. components_have w cs s (subst (λ t. AreSequential t cs) is each) all)
+    (λ is. closed_has behind choices (choices_have w s.label cs inner (subst (λ t. AreSequential t cs) is each) all))
+
+repeated_block_has : {part : Part} (w : Surroundings) (word : Terminal) (c : Component part) (s inner turns : Site)
+    (r : Replicator) (changed : List ℕ) (repeats : Repeats) (after : Known) (base count : ℤ)
+    → IsSequentialComponent word c → IsWritten w c
+    → HasCode (by_block word
+    (repeated_seq s changed after base (loop_code s inner after base count (component_code w c inner)) count)
+    (closed_by (row_of s.label s.frame after ∷ []) (turns_code (times repeats) turns.label
+    (λ n label. choice_code w s.label false c (turn_site w.around word r.name c repeats turns n label))
+    (λ n label. last_code w s.label c (turn_site w.around word r.name c repeats turns n label)))))
+repeated_block_has w word c s inner turns r changed repeats after base count h all =
+    let body = component_code w c inner in
+    let loop = loop_code s inner after base count body in
+    let choice : ℕ → ℕ → Option Code =
+    λ n label. choice_code w s.label false c (turn_site w.around word r.name c repeats turns n label) in
+    let last : ℕ → ℕ → Option Code =
+    λ n label. last_code w s.label c (turn_site w.around word r.name c repeats turns n label) in
+    let code = turns_code (times repeats) turns.label choice last in
+    in_block word (repeated_seq s changed after base loop count)
+    (closed_by (row_of s.label s.frame after ∷ []) code) (component_word word c h)
+    (λ is. repeated_has s changed after base loop count (loop_has s inner after base count body
+    (component_has w c inner (subst (λ t. IsSequentialComponent t c) is h) all)))
+    (λ is. closed_has (row_of s.label s.frame after ∷ []) code (turns_have (times repeats) turns.label choice last
+    (λ n label. choice_has w s.label false c (turn_site w.around word r.name c repeats turns n label)
+    (subst (λ t. IsSequentialComponent t c) is h) all)
+    (λ n label. last_has w s.label c (turn_site w.around word r.name c repeats turns n label)
+    (subst (λ t. IsSequentialComponent t c) is h) all)))
+
+-- ---- processes
+
+mutual
+  process_has : (w : Surroundings) (p : Process) → IsSequential p → (s : Site) → HasCode (process_code w p s)
+  process_has w (Declared d p) h s =
+      before_has (declaration_code s.known.entries d s.frame.top) (process_code w p (with_declaration d s))
+      (process_has w p h (with_declaration d s))
+  process_has w (Does line c) h s = construct_has w line c h s
+
+  construct_has : (w : Surroundings) (line : ℕ) (c : Construct) → IsSequentialConstruct c → (s : Site)
+      → HasCode (construct_code w line c s)
+  construct_has w line (Act action) h s = act_has w action s h
+  construct_has w line (Block kind cs) h s =
+      let word = block_word kind in
+      block_has w word cs s (at_place (begun word s.known) (s.label + 1) s)
+      (row_of s.label s.frame (ended word (after_components w.around word cs (begun word s.known))) ∷ []) h.0 h.1
+      (components_written w word cs h.1)
+  construct_has w line (Replicated r b) h s = body_has w line r b h s
+
+  body_has : (w : Surroundings) (line : ℕ) (r : Replicator) (b : Body) → IsSequentialBody b → (s : Site)
+      → HasCode (body_code w line r b s)
+  body_has w line r (One kind c) h s =
+      let word = block_word kind in
+      let changed = changed_by_body w.around.signatures s.known.entries r (One kind c) in
+      let repeats = repeats_of (is_before line w.around.uncounted) s.known.entries (is_seq word) r in
+      let start = begun_body word changed repeats.happens s.known in
+      repeated_block_has w word c s (in_loop s start r.name (index_in repeats 0)) (before_turns s start) r changed
+      repeats (after_body w.around line r (One kind c) s.known) (value_or_zero s.known.entries r.base)
+      (value_or_zero s.known.entries r.count) h (component_written w word c h)
+
+  components_written : {part : Part} (w : Surroundings) (word : Terminal) (cs : Components part)
+      → AreSequential word cs → AreWritten w cs
+  components_written w word NoComponent h = tt
+  components_written w word (Further cs c) h = (components_written w word cs h.0, component_written w word c h.1)
+
+  component_written : {part : Part} (w : Surroundings) (word : Terminal) (c : Component part)
+      → IsSequentialComponent word c → IsWritten w c
+  component_written w (Mark mark.Seq) (Plain p) h = λ s. process_has w p h s
+  component_written w (Mark mark.If) (Chosen line e p) h = λ s. process_has w p h s
+  component_written w word c h = absurd h
+
+-- ---- programs
+
+last_item_has : (item : ProgramItem) (cs : List Callee) (o : Outside) (f : Frame) → IsSequentialProgram (item ∷ [])
+    → HasCode (last_item_code item cs o f)
+last_item_has (GlobalConstant c) cs o f h = absurd h
+last_item_has (GlobalProcedure p) cs o f h =
+    let w = where_called cs (around_in o) (length cs) in
+    let s = in_main p (record { frame = f; known = o.known; label = 0 }) in
+    closed_has (operates STOP_PROCESS ∷ []) (process_code w p.body s) (process_has w p.body h s)
+
+others_are : (item next : ProgramItem) (items : List ProgramItem) → IsSequentialProgram (item ∷ next ∷ items)
+    → IsSequentialProgram (next ∷ items)
+others_are (GlobalConstant c) next items h = h
+others_are (GlobalProcedure p) next items h = h
+
+items_have : (item : ProgramItem) (items : List ProgramItem) (cs : List Callee) (o : Outside) (f : Frame)
+    → IsSequentialProgram (item ∷ items) → HasCode (items_code item items cs o f)
+items_have item [] cs o f h = last_item_has item cs (weighed item o) f h
+items_have item (next ∷ items) cs o f h =
+    items_have next items (callable item (length f.homes) cs) (after_item item o) (framed item o f)
+    (others_are item next items h)
+
+pub sequential_programs_have_code : SequentialProgramsHaveCode
+sequential_programs_have_code [] h = absurd h
+sequential_programs_have_code (item ∷ items) h =
+    found (items_code item items [] outermost no_frame) (items_have item items [] outermost no_frame h)
