@@ -197,29 +197,41 @@ writes_chosen around line e p s t inner after narrowed x ends =
       frame = x.frame;
     }
 
+-- What is behind the process of a choice that was tested.
+pub record ChosenLeft (around : calling.Surroundings) (line : ℕ) (e : Expression) (p : Process)
+    (s tested within : ProcessWriter) : Type 0 where
+  pub code : Appends tested.listing within.listing within.label
+      (process_code (surroundings_of around) p (in_choice e (site_of s)))
+  pub known : known_of within.scope
+      ≡ after_component (surroundings_of around).around (Mark mark.If) (Chosen line e p) (known_of s.scope)
+  pub frame : frame_seen within.frame ≡ frame_seen s.frame
+
+pub chosen_left : (around : calling.Surroundings) (line : ℕ) (e : Expression) (p : Process)
+    (s tested within : ProcessWriter) → site_of tested ≡ at_place (known_of s.scope) (s.label + 1) (site_of s)
+    → WritesChosen tested within around (Chosen line e p) → ChosenLeft around line e p s tested within
+chosen_left around line e p s tested within place x = record {
+  code = subst (λ (y : Site).
+      Appends tested.listing within.listing within.label (chosen_code (surroundings_of around) (Chosen line e p) y))
+      place x.code;
+  known = x.known ∙ ap (λ (y : Site).
+      after_component (surroundings_of around).around (Mark mark.If) (Chosen line e p) y.known) place;
+  frame = x.frame ∙ ap (λ (y : Site). y.frame) place;
+}
+
 -- with its test, which jumps to the label that was free
 pub writes_tested : (around : calling.Surroundings) (end line : ℕ) (e : Expression) (p : Process)
     (s tested within after : ProcessWriter) (jumped : List Piece)
     → tested.listing ≡ s.listing ++ test_code (site_of s).frame.homes (site_of s).known.entries s.frame.top e s.label
-    → site_of tested ≡ at_place (known_of s.scope) (s.label + 1) (site_of s)
-    → WritesChosen tested within around (Chosen line e p) → jumped ≡ within.listing ++ Jump end ∷ []
+    → ChosenLeft around line e p s tested within → jumped ≡ within.listing ++ Jump end ∷ []
     → after.listing ≡ jumped ++ row_of s.label (frame_seen within.frame) (known_of within.scope) ∷ []
     → site_of after ≡ site_of within → WritesChoice s after around end false (Chosen line e p)
-writes_tested around end line e p s tested within after jumped test place x jumps row still =
+writes_tested around end line e p s tested within after jumped test x jumps row still =
     let here = surroundings_of around in
-    let a = here.around in
     let z = site_of s in
-    let done = after_component a (Mark mark.If) (Chosen line e p) z.known in
-    let known : known_of within.scope ≡ done =
-    x.known ∙ ap (λ (y : Site). after_component a (Mark mark.If) (Chosen line e p) y.known) place in
-    let frame : frame_seen within.frame ≡ z.frame = x.frame ∙ ap (λ (y : Site). y.frame) place in
+    let done = after_component here.around (Mark mark.If) (Chosen line e p) z.known in
     let process = process_code here p (in_choice e z) in
-    let inner : Appends tested.listing within.listing within.label process =
-    subst
-    (λ (y : Site). Appends tested.listing within.listing within.label (chosen_code here (Chosen line e p) y)) place
-    x.code in
     let rest : after.listing ≡ within.listing ++ Jump end ∷ row_of s.label z.frame done ∷ [] =
-    row ∙ (λ j. jumps j ++ row_of s.label (frame j) (known j) ∷ [])
+    row ∙ (λ j. jumps j ++ row_of s.label (x.frame j) (x.known j) ∷ [])
     ∙ append_assoc within.listing (Jump end ∷ []) (row_of s.label z.frame done ∷ []) in
     let labels : after.label ≡ within.label = ap (λ (y : Site). y.label) still in
     record {
@@ -227,9 +239,9 @@ writes_tested around end line e p s tested within after jumped test place x jump
           (appends_before (closed_by (Jump end ∷ row_of s.label z.frame done ∷ []) process) s.listing tested.listing
           after.listing (test_code z.frame.homes z.known.entries z.frame.top e z.label) within.label test
           (appends_closed process tested.listing within.listing after.listing
-          (Jump end ∷ row_of s.label z.frame done ∷ []) within.label inner rest));
-      known = ap (λ (y : Site). y.known) still ∙ known;
-      frame = ap (λ (y : Site). y.frame) still ∙ frame;
+          (Jump end ∷ row_of s.label z.frame done ∷ []) within.label x.code rest));
+      known = ap (λ (y : Site). y.known) still ∙ x.known;
+      frame = ap (λ (y : Site). y.frame) still ∙ x.frame;
     }
 
 -- with its test, which jumps to the end of the IF
@@ -256,31 +268,45 @@ writes_open around end line e p s tested within test place x =
 
 -- ---- an IF
 
-pub writes_if : {part : Part} (around : calling.Surroundings) (cs : Components part)
-    (s begun within after : ProcessWriter) (ended : code_scope.Scope) → begun.listing ≡ s.listing
+-- What is behind the choices of an IF, where their block has ended.
+pub record ChoicesLeft {part : Part} (around : calling.Surroundings) (cs : Components part) (s within : ProcessWriter)
+    (ended : code_scope.Scope) : Type 0 where
+  pub code : Appends s.listing within.listing within.label (choices_code (surroundings_of around) s.label cs
+      (at_place (begin (known_of s.scope)) (s.label + 1) (site_of s)))
+  pub known : known_of ended
+      ≡ end (after_components (surroundings_of around).around (Mark mark.If) cs (begin (known_of s.scope)))
+  pub frame : frame_seen within.frame ≡ frame_seen s.frame
+
+pub choices_left : {part : Part} (around : calling.Surroundings) (cs : Components part)
+    (s begun within : ProcessWriter) (ended : code_scope.Scope) → begun.listing ≡ s.listing
     → site_of begun ≡ at_place (begin (known_of s.scope)) (s.label + 1) (site_of s)
     → WritesChoices begun within around s.label cs → known_of ended ≡ end (known_of within.scope)
+    → ChoicesLeft around cs s within ended
+choices_left around cs s begun within ended same place x ends = record {
+  code = subst (λ (v : List Piece × Site).
+      Appends v.0 within.listing within.label (choices_code (surroundings_of around) s.label cs v.1))
+      (λ i. (same i, place i)) x.code;
+  known = ends ∙ ap end (x.known
+      ∙ ap (λ (y : Site). after_components (surroundings_of around).around (Mark mark.If) cs y.known) place);
+  frame = x.frame ∙ ap (λ (y : Site). y.frame) place;
+}
+
+pub writes_if : {part : Part} (around : calling.Surroundings) (cs : Components part) (s within after : ProcessWriter)
+    (ended : code_scope.Scope) → ChoicesLeft around cs s within ended
     → after.listing ≡ within.listing ++ row_of s.label (frame_seen within.frame) (known_of ended) ∷ []
     → site_of after ≡ site_of (record within { scope = ended }) → WritesIf s after around cs
-writes_if around cs s begun within after ended same place x ends row still =
+writes_if around cs s within after ended x row still =
     let here = surroundings_of around in
-    let a = here.around in
     let z = site_of s in
     let inner = at_place (begin z.known) (s.label + 1) z in
-    let done = end (after_components a (Mark mark.If) cs (begin z.known)) in
-    let known : known_of ended ≡ done =
-    ends ∙ ap end (x.known ∙ ap (λ (y : Site). after_components a (Mark mark.If) cs y.known) place) in
-    let frame : frame_seen within.frame ≡ z.frame = x.frame ∙ ap (λ (y : Site). y.frame) place in
-    let code : Appends s.listing within.listing within.label (choices_code here s.label cs inner) =
-    subst (λ (v : List Piece × Site). Appends v.0 within.listing within.label (choices_code here s.label cs v.1))
-    (λ i. (same i, place i)) x.code in
+    let done = end (after_components here.around (Mark mark.If) cs (begin z.known)) in
     let rest : after.listing ≡ within.listing ++ row_of s.label z.frame done ∷ [] =
-    row ∙ (λ j. within.listing ++ row_of s.label (frame j) (known j) ∷ []) in
+    row ∙ (λ j. within.listing ++ row_of s.label (x.frame j) (x.known j) ∷ []) in
     let labels : after.label ≡ within.label = ap (λ (y : Site). y.label) still in
     record {
       code = subst (λ n. Appends s.listing after.listing n (if_code here cs z)) (sym labels)
           (appends_closed (choices_code here s.label cs inner) s.listing within.listing after.listing
-          (row_of s.label z.frame done ∷ []) within.label code rest);
-      known = ap (λ (y : Site). y.known) still ∙ known;
-      frame = ap (λ (y : Site). y.frame) still ∙ frame;
+          (row_of s.label z.frame done ∷ []) within.label x.code rest);
+      known = ap (λ (y : Site). y.known) still ∙ x.known;
+      frame = ap (λ (y : Site). y.frame) still ∙ x.frame;
     }

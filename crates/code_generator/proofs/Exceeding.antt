@@ -2,13 +2,15 @@
 use Rattle.std.proofs.Common.{◌≡◌, ℕ, zero, suc, ◌+◌, ◌-◌, ◌<◌, ◌≤◌, true, false, List, ◌++◌, Option, Some, None}
 use Rattle.std.proofs.Common.{ap, sym, subst, ◌∙◌, arith}
 use Rattle.std.proofs.lemmas.List.{append_assoc}
+use Rattle.scalar_ranges.specs.Scopes.{known_of}
 use Rattle.code_pieces.specs.Pieces.{Piece, Code, before, then_code, closed_by}
+use Rattle.line_pieces.specs.FrameViews.{frame_seen}
 use Rattle.line_pieces.specs.Limits.{is_too_much}
 use Rattle.line_pieces.proofs.TooMuch.{too_much_stays}
 use Rattle.code_generator.specs.declared.limits.Limits.{Limits}
 use Rattle.code_generator.specs.declared.processes.ProcessWriter.{ProcessWriter}
 use Rattle.code_generator.specs.Processes.{Site}
-use Rattle.code_generator.specs.Written.{site_of, Appends, IsTooMuch, Exceeds}
+use Rattle.code_generator.specs.Written.{site_of, Appends, Spends, IsTooMuch, Exceeds}
 
 -- ---- pieces
 
@@ -89,6 +91,14 @@ exceeds_all l upto n k old steps within h = exceeds_rest l upto n old steps (n -
 pub not_sequential : (l : Limits) (old : List Piece) (code : Option Code) → l.is_sequential ≡ false → Exceeds l old code
 not_sequential l old None h = tt
 not_sequential l old (Some c) h = λ q. absurd (cc (q, h))
+
+-- where something was spent
+pub spent_place : {s t : ProcessWriter} → Spends s t → site_of t ≡ site_of s
+spent_place x = λ i. record {
+  frame = frame_seen (x.frame i);
+  known = known_of (x.scope i);
+  label = x.label i;
+}
 
 -- Code goes on as well where all but what was spent is the same.
 pub exceeds_from : (l : Limits) (s v : ProcessWriter) (code : Site → Option Code) → v.listing ≡ s.listing

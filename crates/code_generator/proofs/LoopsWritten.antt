@@ -27,11 +27,12 @@ use Rattle.code_generator.specs.declared.processes.ProcessWriter.{ProcessWriter}
 use Rattle.line_pieces.specs.Homes as homes
 use Rattle.line_pieces.specs.HomeViews.{home_seen}
 use Rattle.line_pieces.specs.FrameViews.{frame_seen}
-use Rattle.code_generator.specs.Processes.{Site, Surroundings, row_of, in_loop, value_or_zero, loop_start, loop_end}
+use Rattle.code_generator.specs.Processes.{Site, Surroundings, row_of, in_loop, value_or_zero, loop_end}
 use Rattle.code_generator.specs.Processes.{loop_code}
 use Rattle.code_generator.specs.Processes.{repeated_seq, process_code, construct_code}
 use Rattle.code_generator.specs.Processes.{component_code}
 use Rattle.code_generator.specs.Written.{site_of, Appends, Writes, after_loop, in_turning, EntersLoop, behind_loop}
+use Rattle.code_generator.specs.Written.{entering_code, leaving_code}
 use Rattle.code_generator.specs.Written.{LeavesLoop, looped_code, WritesLoop, WritesConstruct, WritesOne}
 use Rattle.code_generator.proofs.PartsWritten.{appends_before, appends_closed}
 
@@ -82,48 +83,68 @@ with_turns s changed after base loop (negsuc n) some = refl
 
 -- ---- writing it
 
--- with turns
-pub writes_turning : (around : calling.Surroundings) (p : Process) (l : Turning) (changed : List ℕ)
-    {s t u w : ProcessWriter} (names word head : ℕ) → EntersLoop s t l changed → WritesOne t u around (Plain p)
-    → LeavesLoop u w names word head → names ≡ length s.frame.homes.items → word ≡ s.frame.top → head ≡ s.label
-    → (let inner = in_turning (site_of s) l changed in
-    let after = after_loop changed (known_of s.scope) in
-    Writes s w (loop_code (site_of s) inner after l.base l.count (process_code (surroundings_of around) p inner)) after)
-writes_turning around p l changed {s} {t} {u} {w} names word head enters one leaves names_are word_is head_is =
+-- What is behind the body of a loop: its code is written, and what comes after it is what the loop's code has there.
+pub record BodyLeft (around : calling.Surroundings) (p : Process) (l : Turning) (changed : List ℕ)
+    (s t u : ProcessWriter) (names word head : ℕ) : Type 0 where
+  pub code : Appends t.listing u.listing u.label
+      (process_code (surroundings_of around) p (in_turning (site_of s) l changed))
+  pub left : behind_loop names word (site_of u)
+      ≡ record { frame = frame_seen s.frame; known = after_loop changed (known_of s.scope); label = u.label }
+  pub rest : leaving_code names word head (site_of u) ≡ loop_end s.frame.top s.label
+      (row_of (s.label + 1) (frame_seen s.frame) (after_loop changed (known_of s.scope)))
+
+pub body_left : (around : calling.Surroundings) (p : Process) (l : Turning) (changed : List ℕ)
+    {s t u : ProcessWriter} (names word head : ℕ) → EntersLoop s t l changed → WritesOne t u around (Plain p)
+    → names ≡ length s.frame.homes.items → word ≡ s.frame.top → head ≡ s.label
+    → BodyLeft around p l changed s t u names word head
+body_left around p l changed {s} {t} {u} names word head enters one names_are word_is head_is =
     let here = surroundings_of around in
     let a = here.around in
     let z = site_of s in
     let inner = in_turning z l changed in
-    let after = after_loop changed z.known in
-    let body = process_code here p inner in
-    let start = loop_start z.frame.top l.base l.count ++ row_of z.label inner.frame inner.known ∷ [] in
-    let behind = loop_end z.frame.top z.label (row_of (z.label + 1) z.frame after) in
     let known : known_of u.scope ≡ after_component a (Mark mark.Seq) (Plain p) inner.known =
     one.known ∙ ap (λ (y : Site). after_component a (Mark mark.Seq) (Plain p) y.known) enters.site in
     let frame : frame_seen u.frame ≡ inner.frame = one.frame ∙ ap (λ (y : Site). y.frame) enters.site in
     let long : names ≡ length z.frame.homes = names_are ∙ sym (length-map s.frame.homes.items home_seen) in
     let left_homes : take names (frame_seen u.frame).homes ≡ z.frame.homes =
     (λ i. take (long i) (frame i).homes) ∙ take-append_seam z.frame.homes (homes.Block z.frame.top z.label ∷ []) in
-    let ended : end (known_of u.scope) ≡ after =
+    let ended : end (known_of u.scope) ≡ after_loop changed z.known =
     ap end known ∙ loop_ends a p l.name.now (meaning_of l.index) changed z.known in
-    let left : behind_loop names word (site_of u) ≡ record { frame = z.frame; known = after; label = u.label } =
+    let left : behind_loop names word (site_of u)
+    ≡ record { frame = z.frame; known = after_loop changed z.known; label = u.label } =
     λ i. record {
       frame = record { homes = left_homes i; top = word_is i; outer = (frame i).outer };
       known = ended i;
       label = u.label;
     } in
-    let written : Appends t.listing u.listing u.label body =
-    subst (λ (y : Site). Appends t.listing u.listing u.label (component_code here (Plain p) y)) enters.site one.code in
-    let rest : w.listing ≡ u.listing ++ behind =
-    leaves.code
-    ∙ (λ i. u.listing ++ loop_end (word_is i) (head_is i) (row_of (head_is i + 1) (left i).frame (left i).known)) in
+    record {
+      code = subst (λ (y : Site). Appends t.listing u.listing u.label (component_code here (Plain p) y)) enters.site
+          one.code;
+      left = left;
+      rest = λ i. loop_end (word_is i) (head_is i) (row_of (head_is i + 1) (left i).frame (left i).known);
+    }
+
+-- with turns
+pub writes_turning : (around : calling.Surroundings) (p : Process) (l : Turning) (changed : List ℕ)
+    {s t u w : ProcessWriter} (names word head : ℕ) → EntersLoop s t l changed
+    → BodyLeft around p l changed s t u names word head → LeavesLoop u w names word head
+    → (let inner = in_turning (site_of s) l changed in
+    let after = after_loop changed (known_of s.scope) in
+    Writes s w (loop_code (site_of s) inner after l.base l.count (process_code (surroundings_of around) p inner)) after)
+writes_turning around p l changed {s} {t} {u} {w} names word head enters x leaves =
+    let z = site_of s in
+    let inner = in_turning z l changed in
+    let after = after_loop changed z.known in
+    let body = process_code (surroundings_of around) p inner in
+    let behind = loop_end z.frame.top z.label (row_of (z.label + 1) z.frame after) in
+    let rest : w.listing ≡ u.listing ++ behind = leaves.code ∙ ap (λ ps. u.listing ++ ps) x.rest in
     let labels : w.label ≡ u.label = ap (λ (y : Site). y.label) leaves.site in
     record {
       code = subst (λ n. Appends s.listing w.listing n (loop_code z inner after l.base l.count body)) (sym labels)
-          (appends_before (closed_by behind body) s.listing t.listing w.listing start u.label enters.code
-          (appends_closed body t.listing u.listing w.listing behind u.label written rest));
-      known = ap (λ (y : Site). y.known) (leaves.site ∙ left);
-      frame = ap (λ (y : Site). y.frame) (leaves.site ∙ left);
+          (appends_before (closed_by behind body) s.listing t.listing w.listing (entering_code l changed z) u.label
+          enters.code (appends_closed body t.listing u.listing w.listing behind u.label x.code rest));
+      known = ap (λ (y : Site). y.known) (leaves.site ∙ x.left);
+      frame = ap (λ (y : Site). y.frame) (leaves.site ∙ x.left);
     }
 
 pub writes_loop : (around : calling.Surroundings) (line : ℕ) (r : Replicator) (p : Process) (l : Turning)

@@ -37,12 +37,13 @@ use Rattle.code_generator.specs.Processes.{Site, Surroundings, with_declaration,
 use Rattle.code_generator.specs.Processes.{ends_passing, in_choice, tested_choice, last_choice}
 use Rattle.code_generator.specs.Processes.{turn_site, process_code, construct_code, components_code}
 use Rattle.code_generator.specs.Processes.{component_code, choices_code, choice_code, line_code, act_code, with_row}
-use Rattle.code_generator.specs.Written.{site_of, Appends, DeclaresAll, declarations_code, IsTooMuch, Exceeds}
+use Rattle.code_generator.specs.Written.{site_of, DeclaresAll, declarations_code, IsTooMuch, Exceeds}
 use Rattle.code_generator.specs.Written.{row_code, part_code, chosen_code, if_code, turns_written}
-use Rattle.code_generator.specs.Written.{WritesLine, WritesSeq, WritesChosen, WritesChoices}
+use Rattle.code_generator.specs.Written.{WritesLine, WritesSeq}
 use Rattle.code_generator.proofs.ActsWritten.{with_row_is}
 use Rattle.code_generator.proofs.ChoicesPassed.{passes_last}
 use Rattle.code_generator.proofs.ChoicesWritten.{upto_code, WritesUpTo, other_number, same_number, both_where}
+use Rattle.code_generator.proofs.ChoicesWritten.{ChosenLeft, ChoicesLeft}
 use Rattle.code_generator.proofs.Exceeding.{OneMore, exceeds_before, exceeds_closed, exceeds_behind}
 use Rattle.code_generator.proofs.Exceeding.{exceeds_first, exceeds_second, exceeds_all, much_behind}
 use Rattle.code_generator.proofs.PartsWritten.{code_behind, site_after}
@@ -255,30 +256,21 @@ exceeds_tested l here end line e p s tested test place h =
 pub exceeds_other : (l : Limits) (around : calling.Surroundings) (end line : ℕ) (e : Expression) (p : Process)
     (s tested within : ProcessWriter) (jumped : List Piece)
     → tested.listing ≡ s.listing ++ test_code (site_of s).frame.homes (site_of s).known.entries s.frame.top e s.label
-    → site_of tested ≡ at_place (known_of s.scope) (s.label + 1) (site_of s)
-    → WritesChosen tested within around (Chosen line e p) → jumped ≡ within.listing ++ Jump end ∷ []
+    → ChosenLeft around line e p s tested within → jumped ≡ within.listing ++ Jump end ∷ []
     → IsTooMuch l jumped (row_of s.label (frame_seen within.frame) (known_of within.scope) ∷ [])
     → Exceeds l s.listing (choice_code (surroundings_of around) end false (Chosen line e p) (site_of s))
-exceeds_other l around end line e p s tested within jumped test place x jumps h =
+exceeds_other l around end line e p s tested within jumped test x jumps h =
     let here = surroundings_of around in
-    let a = here.around in
     let z = site_of s in
-    let done = after_component a (Mark mark.If) (Chosen line e p) z.known in
-    let known : known_of within.scope ≡ done =
-    x.known ∙ ap (λ (y : Site). after_component a (Mark mark.If) (Chosen line e p) y.known) place in
-    let frame : frame_seen within.frame ≡ z.frame = x.frame ∙ ap (λ (y : Site). y.frame) place in
+    let done = after_component here.around (Mark mark.If) (Chosen line e p) z.known in
     let process = process_code here p (in_choice e z) in
-    let inner : Appends tested.listing within.listing within.label process =
-    subst
-    (λ (y : Site). Appends tested.listing within.listing within.label (chosen_code here (Chosen line e p) y)) place
-    x.code in
     let rest = Jump end ∷ row_of s.label z.frame done ∷ [] in
-    let row : IsTooMuch l jumped (row_of s.label z.frame done ∷ []) =
-    subst (λ (y : Frame × Known). IsTooMuch l jumped (row_of s.label y.0 y.1 ∷ [])) (λ i. (frame i, known i)) h in
     exceeds_before l (closed_by rest process) s.listing tested.listing
     (test_code z.frame.homes z.known.entries z.frame.top e z.label) test
-    (exceeds_behind l process tested.listing within.listing rest within.label inner
-    (much_behind l within.listing jumped (Jump end ∷ []) (row_of s.label z.frame done ∷ []) jumps row))
+    (exceeds_behind l process tested.listing within.listing rest within.label x.code
+    (much_behind l within.listing jumped (Jump end ∷ []) (row_of s.label z.frame done ∷ []) jumps
+    (subst (λ (y : Frame × Known). IsTooMuch l jumped (row_of s.label y.0 y.1 ∷ []))
+    (λ i. (x.frame i, x.known i)) h)))
 
 -- a choice whose test jumps to the end of the IF
 pub exceeds_open : (l : Limits) (here : Surroundings) (end line : ℕ) (e : Expression) (p : Process)
@@ -306,27 +298,17 @@ exceeds_if l here cs s begun same place h =
     (subst (λ (v : List Piece × Site). Exceeds l v.0 (choices_code here s.label cs v.1)) (λ i. (same i, place i)) h)
 
 pub exceeds_if_end : {part : Part} (l : Limits) (around : calling.Surroundings) (cs : Components part)
-    (s begun within : ProcessWriter) (ended : code_scope.Scope) → begun.listing ≡ s.listing
-    → site_of begun ≡ at_place (begin (known_of s.scope)) (s.label + 1) (site_of s)
-    → WritesChoices begun within around s.label cs → known_of ended ≡ end (known_of within.scope)
+    (s within : ProcessWriter) (ended : code_scope.Scope) → ChoicesLeft around cs s within ended
     → IsTooMuch l within.listing (row_of s.label (frame_seen within.frame) (known_of ended) ∷ [])
     → Exceeds l s.listing (if_code (surroundings_of around) cs (site_of s))
-exceeds_if_end l around cs s begun within ended same place x ends h =
+exceeds_if_end l around cs s within ended x h =
     let here = surroundings_of around in
-    let a = here.around in
     let z = site_of s in
-    let inner = at_place (begin z.known) (s.label + 1) z in
-    let done = end (after_components a (Mark mark.If) cs (begin z.known)) in
-    let known : known_of ended ≡ done =
-    ends ∙ ap end (x.known ∙ ap (λ (y : Site). after_components a (Mark mark.If) cs y.known) place) in
-    let frame : frame_seen within.frame ≡ z.frame = x.frame ∙ ap (λ (y : Site). y.frame) place in
-    let code : Appends s.listing within.listing within.label (choices_code here s.label cs inner) =
-    subst (λ (v : List Piece × Site). Appends v.0 within.listing within.label (choices_code here s.label cs v.1))
-    (λ i. (same i, place i)) x.code in
-    exceeds_behind l (choices_code here s.label cs inner) s.listing within.listing (row_of s.label z.frame done ∷ [])
-    within.label code
+    exceeds_behind l (choices_code here s.label cs (at_place (begin z.known) (s.label + 1) z)) s.listing within.listing
+    (row_of s.label z.frame (end (after_components here.around (Mark mark.If) cs (begin z.known))) ∷ []) within.label
+    x.code
     (subst (λ (y : Frame × Known). IsTooMuch l within.listing (row_of s.label y.0 y.1 ∷ []))
-    (λ i. (frame i, known i)) h)
+    (λ i. (x.frame i, x.known i)) h)
 
 -- ---- choices under a replicator
 

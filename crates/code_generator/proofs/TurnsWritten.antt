@@ -169,8 +169,18 @@ repeated_if_is here line r c s =
     by_happens true = refl
     by_happens false = refl
 
-pub writes_repeated_if : (around : calling.Surroundings) (line names : ℕ) (r : Replicator) (c : Component Choices)
-    (repeats : Repeats) (s begun within after : ProcessWriter) (left : code_frame.Frame) (ended : code_scope.Scope)
+-- What is behind the turns of a choice, where its index is left and their block has ended.
+pub record TurnsLeft (around : calling.Surroundings) (line : ℕ) (r : Replicator) (c : Component Choices)
+    (s within : ProcessWriter) (left : code_frame.Frame) (ended : code_scope.Scope) : Type 0 where
+  pub code : (let z = site_of s in
+      let repeats = repeats_of (is_before line (surroundings_of around).around.uncounted) z.known.entries false r in
+      Appends s.listing within.listing within.label (turns_written (surroundings_of around) z.label r.name c repeats
+      (times repeats) (before_turns z (begin z.known))))
+  pub known : known_of ended ≡ after_construct (surroundings_of around).around line (under_if r c) (known_of s.scope)
+  pub frame : frame_seen left ≡ frame_seen s.frame
+
+pub turns_left : (around : calling.Surroundings) (line names : ℕ) (r : Replicator) (c : Component Choices)
+    (repeats : Repeats) (s begun within : ProcessWriter) (left : code_frame.Frame) (ended : code_scope.Scope)
     → repeats ≡ repeats_of (is_before line (surroundings_of around).around.uncounted) (known_of s.scope).entries false r
     → begun.listing ≡ s.listing
     → site_of begun ≡ before_turns (site_of s) (begin (known_of s.scope))
@@ -178,44 +188,51 @@ pub writes_repeated_if : (around : calling.Surroundings) (line names : ℕ) (r :
     → names ≡ length s.frame.homes.items
     → homes_seen left.homes.items ≡ take names (homes_seen within.frame.homes.items) → left.top ≡ s.frame.top
     → left.outer ≡ within.frame.outer
-    → known_of ended ≡ end (known_of within.scope)
-    → after.listing ≡ within.listing ++ row_of s.label (frame_seen left) (known_of ended) ∷ []
-    → site_of after ≡ site_of (record within { scope = ended; frame = left })
-    → WritesConstruct s after around line (under_if r c)
-writes_repeated_if around line names r c repeats s begun within after left ended is same place x long homes top hidden
-    ends row still =
+    → known_of ended ≡ end (known_of within.scope) → TurnsLeft around line r c s within left ended
+turns_left around line names r c repeats s begun within left ended is same place x long homes top hidden ends =
     let here = surroundings_of around in
     let a = here.around in
     let z = site_of s in
     let first = before_turns z (begin z.known) in
-    let done = after_construct a line (under_if r c) z.known in
-    let counted = repeats_of (is_before line a.uncounted) z.known.entries false r in
-    let known : known_of ended ≡ done =
-    ends
-    ∙ ap end (x.known
-    ∙ (λ i. turn_by_turn (turned a (Mark mark.If) r.name c (is i)) (times (is i)) (place i).known))
-    ∙ turns_end a line r c z.known in
     let long_seen : names ≡ length z.frame.homes = long ∙ sym (length-map s.frame.homes.items home_seen) in
     let grown : frame_seen within.frame ≡ first.frame = x.frame ∙ ap (λ (y : Site). y.frame) place in
     let kept : homes_seen left.homes.items ≡ z.frame.homes =
     homes ∙ (λ i. take (long_seen i) (grown i).homes) ∙ take-append_seam z.frame.homes (Nowhere ∷ []) in
     let outer : left.outer.items ≡ z.frame.outer =
     ap (λ (v : Vec RowEntry). v.items) hidden ∙ ap (λ (f : Frame). f.outer) grown in
-    let frame : frame_seen left ≡ z.frame = λ i. record { homes = kept i; top = top i; outer = outer i } in
+    record {
+      code = subst (λ (v : List Piece × Repeats × Site).
+          Appends v.0 within.listing within.label (turns_written here z.label r.name c v.1 (times v.1) v.2))
+          (λ i. (same i, is i, place i)) x.code;
+      known = ends
+          ∙ ap end (x.known
+          ∙ (λ i. turn_by_turn (turned a (Mark mark.If) r.name c (is i)) (times (is i)) (place i).known))
+          ∙ turns_end a line r c z.known;
+      frame = λ i. record { homes = kept i; top = top i; outer = outer i };
+    }
+
+pub writes_repeated_if : (around : calling.Surroundings) (line : ℕ) (r : Replicator) (c : Component Choices)
+    (s within after : ProcessWriter) (left : code_frame.Frame) (ended : code_scope.Scope)
+    → TurnsLeft around line r c s within left ended
+    → after.listing ≡ within.listing ++ row_of s.label (frame_seen left) (known_of ended) ∷ []
+    → site_of after ≡ site_of (record within { scope = ended; frame = left })
+    → WritesConstruct s after around line (under_if r c)
+writes_repeated_if around line r c s within after left ended x row still =
+    let here = surroundings_of around in
+    let z = site_of s in
+    let first = before_turns z (begin z.known) in
+    let done = after_construct here.around line (under_if r c) z.known in
+    let counted = repeats_of (is_before line here.around.uncounted) z.known.entries false r in
     let turns = turns_written here z.label r.name c counted (times counted) first in
-    let code : Appends s.listing within.listing within.label turns =
-    subst (λ (v : List Piece × Repeats × Site).
-    Appends v.0 within.listing within.label (turns_written here z.label r.name c v.1 (times v.1) v.2))
-    (λ i. (same i, is i, place i)) x.code in
     let rest : after.listing ≡ within.listing ++ row_of z.label z.frame done ∷ [] =
-    row ∙ (λ i. within.listing ++ row_of z.label (frame i) (known i) ∷ []) in
+    row ∙ (λ i. within.listing ++ row_of z.label (x.frame i) (x.known i) ∷ []) in
     let labels : after.label ≡ within.label = ap (λ (y : Site). y.label) still in
     record {
       code = subst (λ o. Appends s.listing after.listing after.label o) (sym (repeated_if_is here line r c z))
           (subst (λ n. Appends s.listing after.listing n (closed_by (row_of z.label z.frame done ∷ []) turns))
           (sym labels)
           (appends_closed turns s.listing within.listing after.listing (row_of z.label z.frame done ∷ [])
-          within.label code rest));
-      known = ap (λ (y : Site). y.known) still ∙ known;
-      frame = ap (λ (y : Site). y.frame) still ∙ frame;
+          within.label x.code rest));
+      known = ap (λ (y : Site). y.known) still ∙ x.known;
+      frame = ap (λ (y : Site). y.frame) still ∙ x.frame;
     }

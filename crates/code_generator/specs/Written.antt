@@ -53,6 +53,13 @@ pub record Writes (s t : ProcessWriter) (wanted : Option Code) (after : Known) :
   pub known : known_of t.scope ≡ after
   pub frame : frame_seen t.frame ≡ frame_seen s.frame
 
+-- All is as before, but what was spent.
+pub record Spends (s t : ProcessWriter) : Type 0 where
+  pub listing : t.listing ≡ s.listing
+  pub scope : t.scope ≡ s.scope
+  pub frame : t.frame ≡ s.frame
+  pub label : t.label ≡ s.label
+
 -- ---- too much code
 
 -- What was there and these pieces are together more than is written of a sequential program.

@@ -2,6 +2,7 @@
 
 ghost use Rattle.std.specs.Prelude.{◌≡◌, IfOk, Err, false, true};
 ghost use Rattle.line_pieces.specs.Limits.{is_too_much};
+ghost use Rattle.code_generator.specs.Written.{Spends};
 
 use crate::processes::ProcessWriter;
 use line_pieces::{GREATEST_ROWS, GREATEST_SAID, plus, size_of_count};
@@ -104,10 +105,7 @@ impl ProcessWriter<'_> {
         size: u32,
         reading: u32,
     ) -> Result<(), GenFault>
-        ensures listing { IfOk result (λ _. self.new.listing ≡ self.old.listing) }
-        ensures scope { IfOk result (λ _. self.new.scope ≡ self.old.scope) }
-        ensures frame { IfOk result (λ _. self.new.frame ≡ self.old.frame) }
-        ensures label { IfOk result (λ _. self.new.label ≡ self.old.label) }
+        ensures ok { IfOk result (λ _. Spends self.old self.new) }
         ensures limit { result ≡ Err GenFault.Limit → limits.is_sequential ≡ false }
     {
         if limits.is_sequential {
@@ -119,10 +117,7 @@ impl ProcessWriter<'_> {
 
     /// The names that are known are looked at for a row. Of a sequential program nothing is counted.
     pub(crate) fn look_around(&mut self, limits: Limits) -> Result<(), GenFault>
-        ensures listing { IfOk result (λ _. self.new.listing ≡ self.old.listing) }
-        ensures scope { IfOk result (λ _. self.new.scope ≡ self.old.scope) }
-        ensures frame { IfOk result (λ _. self.new.frame ≡ self.old.frame) }
-        ensures label { IfOk result (λ _. self.new.label ≡ self.old.label) }
+        ensures ok { IfOk result (λ _. Spends self.old self.new) }
         ensures limit { result ≡ Err GenFault.Limit → limits.is_sequential ≡ false }
     {
         if limits.is_sequential {
@@ -133,10 +128,7 @@ impl ProcessWriter<'_> {
 
     /// A row has `entries` entries. Of a sequential program nothing is counted.
     pub(crate) fn say(&mut self, limits: Limits, entries: usize) -> Result<(), GenFault>
-        ensures listing { IfOk result (λ _. self.new.listing ≡ self.old.listing) }
-        ensures scope { IfOk result (λ _. self.new.scope ≡ self.old.scope) }
-        ensures frame { IfOk result (λ _. self.new.frame ≡ self.old.frame) }
-        ensures label { IfOk result (λ _. self.new.label ≡ self.old.label) }
+        ensures ok { IfOk result (λ _. Spends self.old self.new) }
         ensures limit { result ≡ Err GenFault.Limit → limits.is_sequential ≡ false }
     {
         if limits.is_sequential {

@@ -6,7 +6,7 @@ ghost use Rattle.scalar_ranges.specs.Scopes.{entries_of, meaning_of};
 ghost use Rattle.code_pieces.specs.Pieces.{LoopBack, points};
 ghost use Rattle.code_generator.specs.Processes.{is_scalar, has_scalar, value_or_zero, loop_start};
 ghost use Rattle.code_generator.specs.Written.{site_of, EntersLoop, LeavesLoop, WritesNoLoop, IsTooMuch, Exceeds};
-ghost use Rattle.code_generator.specs.Written.{entering_code, leaving_code, idle_code};
+ghost use Rattle.code_generator.specs.Written.{Spends, entering_code, leaving_code, idle_code};
 
 use crate::limits::Limits;
 use crate::processes::ProcessWriter;
@@ -86,10 +86,7 @@ fn write_loop_end(
 impl<'a> ProcessWriter<'a> {
     /// What a process changes was found. Of a sequential program nothing is counted.
     pub(crate) fn find(&mut self, limits: Limits, process: &Process) -> Result<(), GenFault>
-        ensures listing { IfOk result (λ _. self.new.listing ≡ self.old.listing) }
-        ensures scope { IfOk result (λ _. self.new.scope ≡ self.old.scope) }
-        ensures frame { IfOk result (λ _. self.new.frame ≡ self.old.frame) }
-        ensures label { IfOk result (λ _. self.new.label ≡ self.old.label) }
+        ensures ok { IfOk result (λ _. Spends self.old self.new) }
         ensures limit { result ≡ Err GenFault.Limit → limits.is_sequential ≡ false }
     {
         if limits.is_sequential {

@@ -37,7 +37,7 @@ use Rattle.code_generator.specs.Written.{WritesChoice}
 use Rattle.code_generator.specs.Written.{WritesChosen, WritesTurns, WritesLine, EntersLoop, IsTooMuch, Exceeds}
 use Rattle.code_generator.specs.Written.{entering_code, if_code, part_code, chosen_code, turns_written}
 use Rattle.code_generator.proofs.ActsWritten.{writes_act, writes_from, writes_instance}
-use Rattle.code_generator.proofs.Exceeding.{exceeds_from}
+use Rattle.code_generator.proofs.Exceeding.{exceeds_from, spent_place}
 use Rattle.code_generator.proofs.PartsExceed.{exceeds_process, exceeds_line, exceeds_row, exceeds_seq, exceeds_choices}
 use Rattle.code_generator.proofs.PartsExceed.{exceeds_always, exceeds_stopped, exceeds_chosen, exceeds_tested}
 use Rattle.code_generator.proofs.PartsExceed.{exceeds_other, exceeds_open, exceeds_if, exceeds_if_end, exceeds_turns}
@@ -50,9 +50,9 @@ use Rattle.code_generator.proofs.BranchesWritten.{writes_repeated_par}
 use Rattle.code_generator.proofs.PartsWritten.{writes_none, writes_moved, writes_behind, seq_next, seq_done}
 use Rattle.code_generator.proofs.ChoicesWritten.{choices_start, choices_next, choices_done, no_choices}
 use Rattle.code_generator.proofs.ChoicesWritten.{writes_if, writes_chosen, writes_tested, always_written}
-use Rattle.code_generator.proofs.ChoicesWritten.{writes_stopped, writes_open}
-use Rattle.code_generator.proofs.LoopsWritten.{writes_turning, writes_loop, writes_replicated}
-use Rattle.code_generator.proofs.TurnsWritten.{turns_start, turns_next, turns_done, writes_repeated_if}
+use Rattle.code_generator.proofs.ChoicesWritten.{writes_stopped, writes_open, chosen_left, choices_left}
+use Rattle.code_generator.proofs.LoopsWritten.{body_left, writes_turning, writes_loop, writes_replicated}
+use Rattle.code_generator.proofs.TurnsWritten.{turns_start, turns_next, turns_done, turns_left, writes_repeated_if}
 use Rattle.code_generator.proofs.processes.ProcessWriter.+processes.Goals as goal
 
 pub write-returns-clause-ok : goal.write-returns-clause-ok
@@ -97,12 +97,8 @@ act-returns-clause-ok t c =
     let walked = c.walk_over.new.self in
     let here = surroundings_of c.args.around in
     let action = action_of c.args.action.now in
-    let spent = c.in_ok-walk_over.ensures in
-    let place : site_of walked ≡ site_of s = λ i. record {
-      frame = frame_seen (spent.frame i);
-      known = known_of (spent.scope i);
-      label = spent.label i;
-    } in
+    let spent = c.in_ok-walk_over.ensures.ok in
+    let place = spent_place spent in
     let followed : known_of c.after_action.new.scope
     ≡ with_entries (after_action here.around.signatures action) (known_of c.write_line.new.self.scope) =
     λ i. record { entries = c.after_action.ensures.entries i; blocks = c.after_action.ensures.blocks i } in
@@ -151,14 +147,15 @@ pub write_if-returns-clause-ok : goal.write_if-returns-clause-ok
 write_if-returns-clause-ok t c =
     let s = c.args.self.now in
     let begun = record s { label = c.in_ok-self.field-0; scope = c.begin.new.self } in
-    writes_if c.args.around (all_choices c.args.choices.now) s begun c.write_choices.new.self c.write_row.new.self
+    writes_if c.args.around (all_choices c.args.choices.now) s c.write_choices.new.self c.write_row.new.self
+    c.end.new.self (choices_left c.args.around (all_choices c.args.choices.now) s begun c.write_choices.new.self
     c.end.new.self refl
     (λ i. record {
       frame = frame_seen s.frame;
       known = c.in_ok-begin.ensures.ok i;
       label = c.in_ok-self.ensures i;
     })
-    c.in_ok-write_choices.ensures.ok c.end.ensures c.in_ok-write_row.ensures.row c.in_ok-write_row.ensures.site
+    c.in_ok-write_choices.ensures.ok c.end.ensures) c.in_ok-write_row.ensures.row c.in_ok-write_row.ensures.site
 
 pub write_choices-returns-then-is_empty-clause-ok : goal.write_choices-returns-then-is_empty-clause-ok
 write_choices-returns-then-is_empty-clause-ok t c =
@@ -247,8 +244,9 @@ write_choice-returns-clause-ok t c =
     c.in_ok-write_chosen.ensures.ok in
     subst (λ y. WritesChoice s after c.args.around c.args.end false y) view
     (writes_tested c.args.around c.args.end line e p s c.write_test.new.self c.write_chosen.new.self after
-    c.push.new.self c.in_ok-write_test.ensures.code place chosen c.in_ok-push.ensures c.in_ok-write_row.ensures.row
-    c.in_ok-write_row.ensures.site)
+    c.push.new.self c.in_ok-write_test.ensures.code
+    (chosen_left c.args.around line e p s c.write_test.new.self c.write_chosen.new.self place chosen)
+    c.in_ok-push.ensures c.in_ok-write_row.ensures.row c.in_ok-write_row.ensures.site)
 
 pub write_open_choice-returns-clause-ok : goal.write_open_choice-returns-clause-ok
 write_open_choice-returns-clause-ok t c =
@@ -405,9 +403,11 @@ write_repeated_if-returns-clause-ok t c =
     let written = subst (λ n. WritesTurns begun c.write_turns.new.self c.args.around s.label r.name repeats n
     (choice_of c.args.choice.now)) c.times.ensures c.in_ok-write_turns.ensures.ok in
     let long : c.len-names.result ≡ length s.frame.homes.items = omega arith in
-    writes_repeated_if c.args.around c.args.line c.len-names.result r (choice_of c.args.choice.now) repeats s begun
-    c.write_turns.new.self c.write_row.new.self c.leave.new.self c.end.new.self counted refl place written long
-    c.leave.ensures.homes c.leave.ensures.top c.leave.ensures.outer c.end.ensures c.in_ok-write_row.ensures.row
+    writes_repeated_if c.args.around c.args.line r (choice_of c.args.choice.now) s c.write_turns.new.self
+    c.write_row.new.self c.leave.new.self c.end.new.self
+    (turns_left c.args.around c.args.line c.len-names.result r (choice_of c.args.choice.now) repeats s begun
+    c.write_turns.new.self c.leave.new.self c.end.new.self counted refl place written long
+    c.leave.ensures.homes c.leave.ensures.top c.leave.ensures.outer c.end.ensures) c.in_ok-write_row.ensures.row
     c.in_ok-write_row.ensures.site
 
 pub write_loop-returns-clause-ok : goal.write_loop-returns-clause-ok
@@ -433,7 +433,9 @@ write_loop-returns-clause-ok t c =
     c.leave_loop.new.self refl index c.value_or_zero.ensures c.value_or_zero-count.ensures
     (λ none. c.if-count-eq0.false (ap (of_z w32) none))
     (writes_turning c.args.around (process_of c.args.process.now) l c.args.changed.now c.len-names.result
-    s.frame.top s.label enters c.in_ok-write_one.ensures.ok c.in_ok-leave_loop.ensures.ok long refl refl)
+    s.frame.top s.label enters
+    (body_left c.args.around (process_of c.args.process.now) l c.args.changed.now c.len-names.result s.frame.top s.label
+    enters c.in_ok-write_one.ensures.ok long refl refl) c.in_ok-leave_loop.ensures.ok)
 
 pub write_replicated-returns-in_ok-write_loop-in-Seq-clause-ok :
     goal.write_replicated-returns-in_ok-write_loop-in-Seq-clause-ok
@@ -443,12 +445,8 @@ write_replicated-returns-in_ok-write_loop-in-Seq-clause-ok t c =
     let here = surroundings_of c.args.around in
     let whole = Replicated r (body_of c.args.body.now) in
     let found = c.find.new.self in
-    let spent = c.in_ok-find-in-Seq.ensures in
-    let place : site_of found ≡ site_of c.args.self.now = λ i. record {
-      frame = frame_seen (spent.frame i);
-      known = known_of (spent.scope i);
-      label = spent.label i;
-    } in
+    let spent = c.in_ok-find-in-Seq.ensures.ok in
+    let place = spent_place spent in
     let is = ap (Replicated r) (sym (view-Body-Seq p) ∙ ap body_of (sym c.in-Seq.is)) in
     writes_from (construct_code here c.args.line whole) (after_construct here.around c.args.line whole) spent.listing
     place (writes_replicated c.args.around c.args.line r (process_of p) whole c.deref.result.now
@@ -575,12 +573,8 @@ act-returns-in_err-write_line-clause-limit t c = λ e.
     let s = c.args.self.now in
     let walked = c.walk_over.new.self in
     let action = action_of c.args.action.now in
-    let spent = c.in_ok-walk_over.ensures in
-    let place : site_of walked ≡ site_of s = λ i. record {
-      frame = frame_seen (spent.frame i);
-      known = known_of (spent.scope i);
-      label = spent.label i;
-    } in
+    let spent = c.in_ok-walk_over.ensures.ok in
+    let place = spent_place spent in
     let fault = handed_on c.from_residual-in_err-write_line.result c.in_err-write_line.field-0.0 Limit
     c.from_residual-in_err-write_line.ensures.1 e in
     exceeds_from c.args.around.limits s walked (act_code (surroundings_of c.args.around) action) spent.listing place
@@ -592,12 +586,8 @@ act-returns-in_err-write_finer-clause-limit t c = λ e.
     let walked = c.walk_over.new.self in
     let here = surroundings_of c.args.around in
     let action = action_of c.args.action.now in
-    let spent = c.in_ok-walk_over.ensures in
-    let place : site_of walked ≡ site_of s = λ i. record {
-      frame = frame_seen (spent.frame i);
-      known = known_of (spent.scope i);
-      label = spent.label i;
-    } in
+    let spent = c.in_ok-walk_over.ensures.ok in
+    let place = spent_place spent in
     let followed : known_of c.after_action.new.scope
     ≡ with_entries (after_action here.around.signatures action) (known_of c.write_line.new.self.scope) =
     λ i. record { entries = c.after_action.ensures.entries i; blocks = c.after_action.ensures.blocks i } in
@@ -635,14 +625,15 @@ write_if-returns-in_err-write_row-clause-limit t c = λ e.
     let begun = record s { label = c.in_ok-self.field-0; scope = c.begin.new.self } in
     let fault = handed_on c.from_residual-in_err-write_row.result c.in_err-write_row.field-0.0 Limit
     c.from_residual-in_err-write_row.ensures.1 e in
-    exceeds_if_end c.args.around.limits c.args.around (all_choices c.args.choices.now) s begun
-    c.write_choices.new.self c.end.new.self refl
+    exceeds_if_end c.args.around.limits c.args.around (all_choices c.args.choices.now) s c.write_choices.new.self
+    c.end.new.self (choices_left c.args.around (all_choices c.args.choices.now) s begun c.write_choices.new.self
+    c.end.new.self refl
     (λ i. record {
       frame = frame_seen s.frame;
       known = c.in_ok-begin.ensures.ok i;
       label = c.in_ok-self.ensures i;
     })
-    c.in_ok-write_choices.ensures.ok c.end.ensures (c.in_err-write_row.ensures.limit (ap Err fault))
+    c.in_ok-write_choices.ensures.ok c.end.ensures) (c.in_err-write_row.ensures.limit (ap Err fault))
 
 pub write_choices-returns-in_err-write_part-clause-limit : goal.write_choices-returns-in_err-write_part-clause-limit
 write_choices-returns-in_err-write_part-clause-limit t c = λ e.
@@ -741,8 +732,9 @@ write_choice-returns-in_err-write_row-clause-limit t c = λ e.
     subst (λ y. Exceeds c.args.around.limits s.listing (choice_code here c.args.end false y (site_of s))) view
     (exceeds_other c.args.around.limits c.args.around c.args.end x.line (expression_of x.condition)
     (process_of x.process) s c.write_test.new.self c.write_chosen.new.self c.push.new.self
-    c.in_ok-write_test.ensures.code place chosen c.in_ok-push.ensures
-    (c.in_err-write_row.ensures.limit (ap Err fault)))
+    c.in_ok-write_test.ensures.code
+    (chosen_left c.args.around x.line (expression_of x.condition) (process_of x.process) s c.write_test.new.self
+    c.write_chosen.new.self place chosen) c.in_ok-push.ensures (c.in_err-write_row.ensures.limit (ap Err fault)))
 
 pub write_open_choice-returns-in_err-write_chosen-clause-limit :
     goal.write_open_choice-returns-in_err-write_chosen-clause-limit
@@ -820,9 +812,11 @@ write_repeated_if-returns-in_err-write_row-clause-limit t c = λ e.
     let long : c.len-names.result ≡ length s.frame.homes.items = omega arith in
     let fault = handed_on c.from_residual-in_err-write_row.result c.in_err-write_row.field-0.0 Limit
     c.from_residual-in_err-write_row.ensures.1 e in
-    exceeds_repeated_end c.args.around.limits c.args.around c.args.line c.len-names.result r
-    (choice_of c.args.choice.now) repeats s begun c.write_turns.new.self c.leave.new.self c.end.new.self counted refl
-    place written long c.leave.ensures.homes c.leave.ensures.top c.leave.ensures.outer c.end.ensures
+    exceeds_repeated_end c.args.around.limits c.args.around c.args.line r (choice_of c.args.choice.now) s
+    c.write_turns.new.self c.leave.new.self c.end.new.self
+    (turns_left c.args.around c.args.line c.len-names.result r (choice_of c.args.choice.now) repeats s begun
+    c.write_turns.new.self c.leave.new.self c.end.new.self counted refl place written long
+    c.leave.ensures.homes c.leave.ensures.top c.leave.ensures.outer c.end.ensures)
     (c.in_err-write_row.ensures.limit (ap Err fault))
 
 pub write_loop-returns-in_err-enter_loop-clause-limit : goal.write_loop-returns-in_err-enter_loop-clause-limit
@@ -900,7 +894,9 @@ write_loop-returns-in_err-leave_loop-clause-limit t c = λ e.
     exceeds_loop c.args.around.limits c.args.around c.args.line r p l c.args.changed.now s refl index
     c.value_or_zero.ensures c.value_or_zero-count.ensures (λ none. c.if-count-eq0.false (ap (of_z w32) none))
     (exceeds_leaving c.args.around.limits c.args.around p l c.args.changed.now c.len-names.result s.frame.top s.label
-    enters c.in_ok-write_one.ensures.ok (c.in_err-leave_loop.ensures.limit (ap Err fault)) long refl refl)
+    enters
+    (body_left c.args.around p l c.args.changed.now c.len-names.result s.frame.top s.label enters
+    c.in_ok-write_one.ensures.ok long refl refl) (c.in_err-leave_loop.ensures.limit (ap Err fault)))
 
 pub write_replicated-returns-in_err-write_loop-in-Seq-clause-limit :
     goal.write_replicated-returns-in_err-write_loop-in-Seq-clause-limit
@@ -910,7 +906,7 @@ write_replicated-returns-in_err-write_loop-in-Seq-clause-limit t c = λ e.
     let p = c.in-Seq.process in
     let here = surroundings_of c.args.around in
     let whole = Replicated r (body_of c.args.body.now) in
-    let spent = c.in_ok-find-in-Seq.ensures in
+    let spent = c.in_ok-find-in-Seq.ensures.ok in
     let known = c.variables_changed_in.ensures.scope ∙ ap known_of spent.scope in
     let v = record c.find.new.self { scope = c.variables_changed_in.new.scope } in
     let place : site_of v ≡ site_of s = λ i. record {
