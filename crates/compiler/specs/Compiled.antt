@@ -9,14 +9,11 @@ use Rattle.occam_parser.specs.LineFaults as parsing
 use Rattle.occam_parser.specs.LineFaults.{IsRefusal}
 use Rattle.occam_parser.specs.declared.fault.ParseFault.{ParseFault}
 use Rattle.program_uses.specs.Telling.{IsFirst}
-use Rattle.program_meaning.specs.Sequential.{IsSequentialProgram}
 use Rattle.program_work.specs.Readings.{capped}
 use Rattle.program_work.specs.Programs.{is_too_much_to_write, names_in}
 use Rattle.usage_checks.specs.ItemRules.{BreaksProgram, BreaksNoRule}
 use Rattle.usage_checks.specs.Telling as usage
 use Rattle.module_format.specs.declared.tables.Version.TheVariants.{Two}
-use Rattle.module_builder.specs.declared.fault.GenFault.{GenFault}
-use Rattle.module_builder.specs.declared.fault.GenFault.TheVariants.{Limit}
 use Rattle.module_format.specs.Contents.{Contents}
 use Rattle.module_format.specs.Keeping.{IsFile}
 use Rattle.code_pieces.specs.Pieces.{Code}
@@ -58,10 +55,6 @@ abbrev pub IsTooLarge : List ProgramItem → Type 0
 IsTooLarge items =
     is_too_much_to_write items ≡ false → (code : Code) × (code_of items ≡ Some code) × IsMuch items code
 
--- Why `generate` makes nothing of a program: for want of numbers only if it is too large, if it is sequential.
-abbrev pub IsUngenerated : List ProgramItem → GenFault → Type 0
-IsUngenerated items fault = fault ≡ Limit → IsSequentialProgram items → IsTooLarge items
-
 -- ---- sources
 
 -- the source has these lines of tokens
@@ -100,4 +93,4 @@ IsRefusedFor source (faults.Layout f) = (f ≡ layout.out_of_memory) ⊎ (read s
 IsRefusedFor source (faults.Syntax f) = IsUnparsed source f
 IsRefusedFor source (faults.Usage f) =
     IsProgramWith source (λ items. (f ≡ usage.out_of_memory) ⊎ IsFirst (BreaksProgram items) (Some f))
-IsRefusedFor source (faults.Generation f) = IsProgramWith source (λ items. BreaksNoRule items × IsUngenerated items f)
+IsRefusedFor source (faults.Generation f) = IsProgramWith source BreaksNoRule

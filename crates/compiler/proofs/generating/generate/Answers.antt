@@ -20,8 +20,8 @@ returns-clause-ok c =
 
 pub returns-in_err-code-clause-limit : goal.returns-in_err-code-clause-limit
 returns-in_err-code-clause-limit c = λ e sequential.
-    let fault = handed_on c.from_residual-in_err-code.result c.in_err-code.field-0.0 Limit
-    c.from_residual-in_err-code.ensures.1 e in
+    let fault = handed_on c.from_residual.result c.in_err-code.field-0.0 Limit
+    c.from_residual.ensures.1 e in
     too_much_of (map item_of c.args.program.now.program.items.items) sequential
     (c.in_err-code.ensures.limit (ap Err fault) sequential)
 
