@@ -41,14 +41,24 @@ def long_sum(terms):
     return program(main(["INT a:", "SEQ", "  in0 ? a", f"  a := {' PLUS '.join(['a'] * terms)}"]))
 
 
+def in_brackets(terms, depth):
+    """A constant sum of so many terms, in so many brackets with a variable in each."""
+    value = f"({'+'.join(['1'] * terms)})"
+    for _ in range(depth):
+        value = f"(a PLUS {value})"
+    return value
+
+
 def nested_brackets(terms):
     """A procedure that is called over and over, with a constant sum of so many terms in 60 brackets of one variable."""
-    value = f"({'+'.join(['1'] * terms)})"
-    for _ in range(60):
-        value = f"(a PLUS {value})"
-    inner = procedure("p(INT a)", [f"a := {value}"])
+    inner = procedure("p(INT a)", [f"a := {in_brackets(terms, 60)}"])
     times = 8_388_608 // (2 * terms + 200)
     return program(inner, main(["INT x:", "SEQ", *deeper(["p(x)"] * min(times, 8_000))]))
+
+
+def lines_of_brackets(lines, terms):
+    """So many lines, each with a constant sum of so many terms in 60 brackets, without an instance."""
+    return program(main(["INT a:", "SEQ", "  in0 ? a", *deeper([f"a := {in_brackets(terms, 60)}"] * lines)]))
 
 
 # ---- instances
@@ -113,6 +123,21 @@ def choices_behind_names(constants, count):
     known = [[f"VAL INT {name} IS 1:"] for name in names(constants)]
     body = ["INT x:", "SEQ", "  in0 ? x", f"  IF i = 0 FOR {count}", "    x = i", "      SKIP"]
     return program(*known, main(body))
+
+
+def choices_of_brackets(count, terms, depth):
+    """So many choices of one IF, each with a constant sum of so many terms in so many brackets."""
+    choice = ["x = i", f"  a := {in_brackets(terms, depth)}"]
+    return program(main(["INT x, a:", "SEQ", "  in0 ? x", f"  IF i = 0 FOR {count}", *deeper(choice, 2)]))
+
+
+def choices_behind_channels(channels, lines, count):
+    """So many choices of one IF, where so many lines have declared so many channels each, which are not used."""
+    declared = names(channels * lines)
+    parts = [declared[n * channels : (n + 1) * channels] for n in range(lines)]
+    known = [f"CHAN OF INT {','.join(part)}:" for part in parts]
+    body = ["INT X:", *known, "SEQ", "  in0 ? X", f"  IF I = 0 FOR {count}", "    X = I", "      SKIP"]
+    return program(main(body))
 
 
 def rows_of_many_words(rows, variables):
@@ -244,6 +269,9 @@ SOURCES = {
     "ordinary": (ordinary_lines, COMPILED, "32,768 ordinary lines"),
     "sum": (lambda: long_sum(65_000), COMPILED, "a sum of 65,000 variables"),
     "brackets": (lambda: nested_brackets(250_000), TOO_LARGE, "a sum of 250,000 constants in 60 brackets, 16 times"),
+    "brackets-alone": (
+        lambda: lines_of_brackets(180, 1_000), COMPILED, "180 lines with a sum of 1,000 constants in 60 brackets",
+    ),
     "doubling": (lambda: doubling(60), TOO_LARGE, "60 procedures that call the one before twice each"),
     "calls": (lambda: calls(2_700, 100), COMPILED, "2,700 instances that pass 100 variables"),
     "calls-words": (
@@ -265,6 +293,13 @@ SOURCES = {
     "choices-within": (lambda: with_choices(8_190), COMPILED, "IF i = 0 FOR 8190"),
     "choices-names": (
         lambda: choices_behind_names(32_000, 8_190), COMPILED, "the same where 32,000 constants are known",
+    ),
+    "choices-brackets": (
+        lambda: choices_of_brackets(8_190, 450, 3), COMPILED, "the same, each with a sum of 450 constants in 4 brackets",
+    ),
+    "choices-channels": (
+        lambda: choices_behind_channels(2_500, 80, 1_990), COMPILED,
+        "IF i = 0 FOR 1990, where 200,000 channels are declared",
     ),
     "said": (lambda: rows_of_many_words(8_190, 510), COMPILED, "8,191 rows about 511 variables"),
     "loops": (lambda: nested_loops(60), COMPILED, "60 loops in one another"),
