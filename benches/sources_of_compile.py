@@ -133,7 +133,7 @@ def choices_of_brackets(count, terms, depth):
 
 def choices_behind_channels(channels, lines, count):
     """So many choices of one IF, where so many lines have declared so many channels each, which are not used."""
-    declared = names(channels * lines)
+    declared = [name for name in names(channels * lines + 1) if name != "in0"]
     parts = [declared[n * channels : (n + 1) * channels] for n in range(lines)]
     known = [f"CHAN OF INT {','.join(part)}:" for part in parts]
     body = ["INT X:", *known, "SEQ", "  in0 ? X", f"  IF I = 0 FOR {count}", "    X = I", "      SKIP"]
@@ -298,8 +298,8 @@ SOURCES = {
         lambda: choices_of_brackets(8_190, 450, 3), COMPILED, "the same, each with a sum of 450 constants in 4 brackets",
     ),
     "choices-channels": (
-        lambda: choices_behind_channels(2_500, 80, 1_990), COMPILED,
-        "IF i = 0 FOR 1990, where 200,000 channels are declared",
+        lambda: choices_behind_channels(2_500, 80, 1_345), COMPILED,
+        "IF i = 0 FOR 1345, where 200,000 channels are declared",
     ),
     "said": (lambda: rows_of_many_words(8_190, 510), COMPILED, "8,191 rows about 511 variables"),
     "loops": (lambda: nested_loops(60), COMPILED, "60 loops in one another"),

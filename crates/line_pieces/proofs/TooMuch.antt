@@ -7,7 +7,7 @@ use Rattle.std.proofs.lemmas.List.{length-append}
 use Rattle.std.proofs.lemmas.List.Sums.{sum_by-append}
 use Rattle.code_pieces.specs.Pieces.{Piece}
 use Rattle.line_pieces.specs.declared.pieces.TheConstants.{GREATEST_COUNT, GREATEST_ROWS, GREATEST_SAID}
-use Rattle.line_pieces.specs.declared.work.TheConstants.{GREATEST_WORK}
+use Rattle.line_pieces.specs.declared.pieces.TheConstants.{GREATEST_LOOKS}
 use Rattle.line_pieces.specs.Limits.{rows_at, said_at, rows_in, said_in, is_too_much}
 
 above_more : (most n m : ℕ) → n ≤ m → nat_lt most n ≡ true → nat_lt most m ≡ true
@@ -35,4 +35,4 @@ too_much_stays names ps qs h =
     (either _ _ _ _ (above_more GREATEST_COUNT (length ps) (length all) count)
     (above_more GREATEST_ROWS (rows_in ps) (rows_in all) rows))
     (above_more GREATEST_SAID (said_in ps) (said_in all) said))
-    (above_more GREATEST_WORK (rows_in ps * names) (rows_in all * names) (mul-le-mul_right names rows)) h
+    (above_more GREATEST_LOOKS (rows_in ps * names) (rows_in all * names) (mul-le-mul_right names rows)) h

@@ -2,7 +2,7 @@
 use Rattle.std.specs.Prelude.{ℕ, ◌*◌, nat_lt, Bool, ◌||◌, List, length, sum_by}
 use Rattle.code_pieces.specs.Pieces.{Piece, Row}
 use Rattle.line_pieces.specs.declared.pieces.TheConstants.{GREATEST_COUNT, GREATEST_ROWS, GREATEST_SAID}
-use Rattle.line_pieces.specs.declared.work.TheConstants.{GREATEST_WORK}
+use Rattle.line_pieces.specs.declared.pieces.TheConstants.{GREATEST_LOOKS}
 
 -- a row is one
 abbrev pub rows_at : Piece → ℕ
@@ -25,4 +25,4 @@ said_in ps = sum_by said_at ps
 unfoldable pub is_too_much : ℕ → List Piece → Bool
 is_too_much names ps =
     nat_lt GREATEST_COUNT (length ps) || nat_lt GREATEST_ROWS (rows_in ps) || nat_lt GREATEST_SAID (said_in ps)
-    || nat_lt GREATEST_WORK (rows_in ps * names)
+    || nat_lt GREATEST_LOOKS (rows_in ps * names)

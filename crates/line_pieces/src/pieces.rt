@@ -4,7 +4,6 @@ ghost use Rattle.std.specs.Prelude.{◌≡◌, ◌++◌, ◌∷◌, [], length, 
 ghost use Rattle.code_pieces.specs.PieceViews.{pieces_of, piece_of};
 ghost use Rattle.line_pieces.specs.Limits.{rows_at, said_at, is_too_much};
 
-use crate::work::GREATEST_WORK;
 use code_pieces::Piece;
 use std::alloc::{AllocError, Global};
 use std::marker::Model;
@@ -17,6 +16,9 @@ pub const GREATEST_COUNT: usize = 262_143 + 8_192;
 
 /// How many entries all rows have at most.
 pub const GREATEST_SAID: usize = 4_194_304;
+
+/// How many names are looked at for all rows at most. One takes 17 nanoseconds at most.
+pub(crate) const GREATEST_LOOKS: usize = 270_000_000;
 
 /// Pieces of code in their order. If a call fails, they are as they were.
 #[derive(Drop)]
@@ -115,6 +117,6 @@ impl CountedPieces {
         self.pieces.len() > GREATEST_COUNT
             || self.rows > GREATEST_ROWS
             || self.said > GREATEST_SAID
-            || self.rows.saturating_mul(names as usize) > GREATEST_WORK as usize
+            || self.rows.saturating_mul(names as usize) > GREATEST_LOOKS
     }
 }

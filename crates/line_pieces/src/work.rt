@@ -13,7 +13,7 @@ use usage_checks::{
 };
 
 /// How many steps may be made. A step takes some five nanoseconds.
-pub(crate) const GREATEST_WORK: u32 = 400_000_000;
+const GREATEST_WORK: u32 = 400_000_000;
 
 /// For each unit of the size of an expression, at each level of brackets that is around it.
 const READING_STEPS: u32 = 16;
