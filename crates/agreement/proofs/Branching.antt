@@ -3,6 +3,7 @@ use Rattle.std.proofs.Common.{◌≡◌, ℕ, ◌+◌, ◌*◌, ◌<◌, ◌⊎�
 use Rattle.std.proofs.Common.{Option, Some, None, ap, ◌∙◌, sym, subst, slice_get}
 use Rattle.std.proofs.lemmas.List.{map-append}
 use Rattle.std.specs.Option.{unwrap_or}
+use Rattle.small_laws.proofs.Lookups.{slice_get-append_left}
 use Rattle.module_format.specs.Contents.{Contents, Par}
 use Rattle.machine_state.specs.declared.process.Channel.{Channel}
 use Rattle.machine_state.specs.declared.process.Condition.TheVariants.{Ready}
@@ -12,7 +13,7 @@ use Rattle.machine_state.specs.LocalStep.{address}
 use Rattle.machine_state.specs.Memory.{Memory, word_at}
 use Rattle.machine_state.specs.Roles.{opened_in}
 use Rattle.machine_state.specs.World.{World, Role, Join}
-use Rattle.machine_state.proofs.Lines.{got_before, got_either, got_last, got_within}
+use Rattle.machine_state.proofs.Lines.{got_either, got_last, got_within}
 use Rattle.world_laws.specs.Parked.{IsParked, IsAlternating, IsInside}
 use Rattle.agreement.specs.Agrees as agree
 use Rattle.agreement.specs.Agrees.{PlainMachine, Agrees, workspace_in, channel_word}
@@ -55,7 +56,7 @@ module _ (m : Contents) (w : World) (machine : PlainMachine) (agrees : Agrees m 
 
   -- those that were there
   known : (q : ℕ) → q < length w.tasks → slice_get tasks q ≡ slice_get w.tasks q
-  known q low = let x = got_within w.tasks q low in got_before w.tasks (task ∷ []) q x.0 x.1 ∙ sym x.1
+  known q low = let x = got_within w.tasks q low in slice_get-append_left w.tasks (task ∷ []) q x.0 x.1 ∙ sym x.1
 
   abbrev Was : ℕ → Type 0
   Was q = q < length w.tasks

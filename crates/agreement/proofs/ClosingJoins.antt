@@ -3,6 +3,7 @@ use Rattle.std.proofs.Common.{◌≡◌, ◌≢◌, ℕ, ◌+◌, ◌*◌, ◌^�
 use Rattle.std.proofs.Common.{Some, None, refl, ap, ◌∙◌, sym, subst, slice_get}
 use Rattle.std.proofs.lemmas.Bool.{cases_eq}
 use Rattle.std.specs.Prelude.{slice_set}
+use Rattle.small_laws.proofs.Options.{same_some}
 use Rattle.module_format.specs.Contents.{Contents, Par}
 use Rattle.machine_state.specs.declared.process.Exchange.{Exchange}
 use Rattle.machine_state.specs.declared.process.Mode.TheVariants.{Plain}
@@ -14,7 +15,6 @@ use Rattle.machine_state.specs.Memory.{data_start}
 use Rattle.machine_state.specs.Roles.{opened_in}
 use Rattle.machine_state.specs.World.{World, Role, Join}
 use Rattle.machine_state.proofs.ChannelWaiters.{left_channel}
-use Rattle.machine_state.proofs.Claims.{only_one}
 use Rattle.machine_state.proofs.Lines.{got_set, got_other}
 use Rattle.world_laws.specs.Parked.{IsParked, IsAlternating, IsInside}
 use Rattle.world_laws.proofs.StepLeaves.{plain_is_outside}
@@ -61,7 +61,7 @@ module _ (m : Contents) (w : World) (machine : PlainMachine) (agrees : Agrees m 
 
   is_mine : (q : ℕ) (t : Task) → o ≡ q → slice_get tasks q ≡ Some t → later ≡ t
   is_mine q t same there =
-      only_one (slice_get tasks q) later t (subst (λ n. slice_get tasks n ≡ Some later) same mine) there
+      same_some (slice_get tasks q) later t (subst (λ n. slice_get tasks n ≡ Some later) same mine) there
 
   abbrev Other : ℕ → Type 0
   Other q = o ≢ q
@@ -113,7 +113,7 @@ module _ (m : Contents) (w : World) (machine : PlainMachine) (agrees : Agrees m 
     running = refl;
     registers = λ q t runs there.
         subst (λ (t : Task). agree.HasRegisters after t.registers)
-        (is_mine q t (only_one (Some o) o q refl runs) there) has;
+        (is_mine q t (same_some (Some o) o q refl runs) there) has;
     ready = agrees.ready ∙ ready_same w.tasks tasks Other known w.queue w.channels w.links names;
     parked = parked;
     channels = λ k c there.

@@ -26,12 +26,11 @@ use Rattle.machine_state.specs.Spans.{all_places}
 use Rattle.machine_state.specs.Memory.{Memory, place_of, word_at, with_word, byte_at, with_byte}
 use Rattle.machine_state.specs.Site.{jumps, Site, Local, Outcome, fails}
 use Rattle.machine_state.specs.Site.{ends_alternation}
-use Rattle.machine_state.proofs.Combining.{and_true}
 use Rattle.machine_state.proofs.Combining as each
 use Rattle.machine_state.proofs.Scheduling.{schedules-is}
 use Rattle.world_laws.specs.Parked.{HasWords}
 use Rattle.world_laws.proofs.BlankWords.{words_taken}
-use Rattle.std.proofs.lemmas.Bool.{ltb-true, eqb-true}
+use Rattle.std.proofs.lemmas.Bool.{ltb-true, eqb-true, and_parts}
 use Rattle.machine_state.specs.declared.fault.FaultKind.TheVariants.{OutsideCode}
 use Rattle.world_laws.proofs.StepLeaves.{alone_tells, plain_is_outside}
 use Rattle.plain_machine.specs.declared.flow.PlainFlow.{PlainFlow}
@@ -369,7 +368,7 @@ module _ (site : Site) (original : Local) (state : PlainState) (start : agree.Fi
       && not (step.meet (place_of (step.address found.c)) (step.address found.a)
       (place_of (step.address found.b)) (step.address found.a))) ≡ true) → plain.HasMove state.memory found
   moves own =
-      let both = and_true _ _ (and_true _ _ own).0 in
+      let both = and_parts _ _ (and_parts _ _ own).0 in
       let size = start.matches.memory.size in
       record {
         source = λ some. rw size (match.bytes_lie s.holding _ _ _ start.holding both.0 some);
@@ -386,7 +385,7 @@ module _ (site : Site) (original : Local) (state : PlainState) (start : agree.Fi
   loop_end p = two _ (aligned found.b _ (test _ NotOwn _ (λ own. schedules before _ (λ taken.
       used _ _ _ (match.word_read before.memory state.memory _ memory)
       (used _ _ _ (match.word_read before.memory state.memory _ memory) (schedules _ _ (λ again.
-      let both = and_true _ _ own in
+      let both = and_parts _ _ own in
       lead p _ _ (record { index = own_word_inside _ both.0; count = own_word_inside _ both.1 }) refl
       (words_taken s.holding _ state.registers.workspace again)
       (left_at flow.Jump _ _ _ _ (of_empty None) found
@@ -481,7 +480,7 @@ module _ (site : Site) (original : Local) (state : PlainState) (start : agree.Fi
   operation ops.LoadPointerToInstruction = alone _ (λ p. one _ (go p _ tt (keep _ _ (tops _ _ refl))))
   operation ops.Move = alone _ (λ p. three _ (counts 0 65536 found.a _ (omega arith) (λ most. test _ NotOwn _ (λ own.
       go p _ (moves own) (left flow.Next _ _ (of_empty None) found
-      (copy_comes _ _ _ (and_true _ _ (and_true _ _ own).0).1) (none found))))))
+      (copy_comes _ _ _ (and_parts _ _ (and_parts _ _ own).0).1) (none found))))))
   operation ops.Return = alone _ (λ p. reads _ before _ (λ own.
       used _ _ _ (match.word_read before.memory state.memory _ memory) (land p _ _ (word_inside _ own)
       (left_at flow.Next _ _ _ _ (of_empty None) found found_memory (none found)))))

@@ -4,13 +4,13 @@ use Rattle.std.proofs.Common.{Option, Some, None, ap, ◌∙◌, sym, subst, sli
 use Rattle.std.proofs.lemmas.Bool.{cases_eq}
 use Rattle.std.proofs.lemmas.List.{map-append}
 use Rattle.std.specs.Prelude.{slice_set}
+use Rattle.small_laws.proofs.Options.{same_some}
 use Rattle.module_format.specs.Contents.{Contents}
 use Rattle.machine_state.specs.declared.link.InputLink.{InputLink}
 use Rattle.machine_state.specs.declared.process.Condition.TheVariants.{Ready}
 use Rattle.machine_state.specs.declared.process.Exchange.{Exchange}
 use Rattle.machine_state.specs.declared.process.Task.{Task}
 use Rattle.machine_state.specs.World.{World}
-use Rattle.machine_state.proofs.Claims.{only_one}
 use Rattle.machine_state.proofs.Lines.{got_set, got_other}
 use Rattle.world_laws.specs.Parked.{IsParked, IsAlternating, IsInside}
 use Rattle.agreement.specs.Agrees as agree
@@ -39,7 +39,7 @@ module _ (m : Contents) (w : World) (machine : PlainMachine) (agrees : Agrees m 
 
     is_mine : (r : ℕ) (t : Task) → q ≡ r → slice_get tasks r ≡ Some t → later ≡ t
     is_mine r t same there =
-        only_one (slice_get tasks r) later t (subst (λ n. slice_get tasks n ≡ Some later) same mine) there
+        same_some (slice_get tasks r) later t (subst (λ n. slice_get tasks n ≡ Some later) same mine) there
 
     is_other : (r : ℕ) (t : Task) → q ≢ r → slice_get tasks r ≡ Some t → slice_get w.tasks r ≡ Some t
     is_other r t differ there = sym (got_other w.tasks q r later differ) ∙ there

@@ -13,6 +13,7 @@ use Rattle.std.specs.Cmp.{int_cmp_is}
 use Rattle.std.proofs.Common.{Less, Equal, Greater}
 use Rattle.std.proofs.lemmas.Option.{slice_get_within}
 use Rattle.std.proofs.lemmas.List.{take_all, drop_more, map_more}
+use Rattle.small_laws.proofs.Mapped.{map_same}
 use Rattle.module_format.specs.declared.rows.ChannelRow.{ChannelRow}
 use Rattle.module_format.specs.Contents.{Branch, Par, Contents}
 use Rattle.module_format.specs.Contexts.{first_branch, branch_count}
@@ -247,11 +248,6 @@ around_left c keeps around new x t is h left restored context = record {
       ∙ ap (λ (n : ℕ). channel_length c n k) (sym context);
   saved = subst (λ (n : ℕ). AreSaved c n (reverse new.saved.items)) (sym context) left.1;
 }
-
-map_same : {X Y : Type 0} {f g : X → Y} (xs : List X) → ((x : X) → f x ≡ g x) → map f xs ≡ map g xs
-map_same [] same = refl
-map_same {f = f} {g = g} (x ∷ xs) same =
-    ap (λ y. y ∷ map f xs) (same x) ∙ ap (λ ys. g x ∷ ys) (map_same xs same)
 
 -- the row of a branch entered
 pub around_entered : (c : Contents) (keeps : Keeps c) (around new : Around) (x : Par × Branch) (t : Saved)

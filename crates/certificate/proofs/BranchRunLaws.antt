@@ -1,5 +1,5 @@
 -- Visits of all branches.
-use Rattle.std.proofs.Common.{◌≡◌, ℕ, zero, suc, ◌<◌, Bool, true, false, List, [], ◌∷◌, length, get_or, sym, ap, ◌∙◌}
+use Rattle.std.proofs.Common.{◌≡◌, ℕ, suc, ◌<◌, Bool, true, false, List, [], ◌∷◌, length, get_or, sym, ap, ◌∙◌}
 use Rattle.std.proofs.Common.{arith}
 use Rattle.std.proofs.Common.{refl, subst, inl, inr, ◌+◌, ◌-◌, ◌≤◌, ◌^◌, ℤ, Option, Some, None, cond, ◌&&◌}
 use Rattle.std.specs.Prelude.{◌==◌, Vec, MatchOption, slice_get, is_some, if◌then◌else◌}
@@ -27,9 +27,8 @@ use Rattle.certificate.specs.Runs.{word_end, lists_word, held_length, held_from,
 use Rattle.certificate.proofs.NumberLaws.{contexts_fit, many_branches}
 use Rattle.certificate.proofs.RunLaws.{run_same}
 use Rattle.std.proofs.lemmas.Option.{slice_get_within, slice_get_past}
-
-same_itself : (n : ℕ) → (n == n) ≡ true
-same_itself n = elim (eqb_tells n n) [ inl e ↦ e.0 | inr e ↦ absurd (e.1 refl) ]
+use Rattle.small_laws.proofs.Comparisons.{eqb-self}
+use Rattle.small_laws.proofs.Lookups.{slice_get_there}
 
 -- a branch that is visited is there
 pub visit_below : (count : ℕ) (visits : List Visit) (i : ℕ) (d : Visit) → AreVisits count visits → i < length visits
@@ -37,7 +36,7 @@ pub visit_below : (count : ℕ) (visits : List Visit) (i : ℕ) (d : Visit) → 
 visit_below count visits i d h lt =
     ltb-true _ _ (sym (h (get_or visits i d).branch)
     ∙ list_any_at (λ (v : Visit). v.branch == (get_or visits i d).branch) visits i d lt
-    (same_itself (get_or visits i d).branch))
+    (eqb-self (get_or visits i d).branch))
 
 -- where a branch is visited
 pub record IsVisited (visits : List Visit) (n : ℕ) : Type 0 where
@@ -93,11 +92,6 @@ visit_fits c keeps places are visits i v h lt is =
 
 -- ---- looked up
 
-pub some_item : {X : Type 0} (xs : List X) (i : ℕ) → i < length xs → slice_get xs i ≡ None → ⊥
-some_item [] i lt none = absurd (omega arith)
-some_item (x ∷ xs) zero lt none = absurd cc
-some_item (x ∷ xs) (suc i) lt none = some_item xs i (omega arith) none
-
 -- the runs of the branch that is context n are there
 pub runs_there : (c : Contents) (all : List (Vec ChannelRun Global)) (n : ℕ) (runs : Vec ChannelRun Global)
     → AreBranchRuns c all → first_branch c ≤ n → n - first_branch c < length all
@@ -118,7 +112,7 @@ runs_there c all n runs h ge lt is = on (numbered_branch c n) refl
         let many = h.many in
         let all = many_branches c.pars in
         let found = rw (le-ltb n (first_branch c) ge) at none in
-        absurd (some_item (branches_of c.pars) (n - first_branch c) (omega (arith, many, all, lt)) found)
+        absurd (slice_get_there (branches_of c.pars) (n - first_branch c) (omega (arith, many, all, lt)) found)
     on (Some x) found = rw same at (right x (rw same found))
 
 -- a context that is no branch has no end of a frame word

@@ -7,6 +7,7 @@ use Rattle.std.specs.List.{AllByRecursion, list_any}
 use Rattle.std.specs.List.Sorted.{IsPartitionPoint}
 use Rattle.std.proofs.Math.Bool.{and-false}
 use Rattle.std.proofs.lemmas.Int.{ints}
+use Rattle.small_laws.proofs.Comparisons.{int_le-false, int_le-true, le-int_le, lt-int_lt}
 use Rattle.module_format.specs.Rows.{Entry}
 use Rattle.module_format.specs.declared.rows.ChannelRow.{ChannelRow}
 use Rattle.module_format.specs.Contents.{Contents, Par, Label, label_at}
@@ -14,7 +15,6 @@ use Rattle.module_format.specs.Facts.{EntryKeeps, behind_entry, end_of, LabelKee
 use Rattle.module_format.specs.Order.{InOrder, least_word}
 use Rattle.module_format.specs.Keeping.{Keeps}
 use Rattle.module_format.proofs.OrderLaws.{each}
-use Rattle.module_format.proofs.FieldLaws.{int_le-false, int_le-true, int_le-le, int_lt-holds}
 use Rattle.certificate.specs.Starting.{is_unknown, is_about, says_of_word, says_of_hidden, EntryBegins, EntriesRise}
 
 -- ---- the entries of a label rise
@@ -66,7 +66,7 @@ pub entries_parted : (k low : ℤ) (es : List Entry) (d : Entry) → InOrder Ent
 entries_parted k low es d h i j le lt e =
     let rise = ends_rise low es d h i j le lt in
     let last = int_le-true (end_of (get_or es j d)) k e in
-    int_le-le (end_of (get_or es i d)) k (omega (arith, ints))
+    le-int_le (end_of (get_or es i d)) k (omega (arith, ints))
 
 says_nothing : (k : ℤ) (e : Entry) → is_about e k ≡ false → says_of_word k e ≡ false
 says_nothing k e none = rw (none, and-false (not (is_unknown e.fact))) refl
@@ -98,7 +98,7 @@ module _ (k : ℤ) where
   one_says low [] n d h lt before here = absurd (omega arith)
   one_says low (e ∷ es) zero d h lt before here =
       let past = int_le-false (end_of e) k here in
-      let within : int_lt k (e.word +ℤ pos e.span) ≡ true = int_lt-holds k (e.word +ℤ pos e.span) past in
+      let within : int_lt k (e.word +ℤ pos e.span) ≡ true = lt-int_lt k (e.word +ℤ pos e.span) past in
       rw (within, after_word k (end_of e) es h.1 past) (only_one (not (is_unknown e.fact)) (int_le e.word k))
   one_says low (e ∷ es) (suc n) d h lt before here =
       rw (before_word k e (before 0 (omega arith)))

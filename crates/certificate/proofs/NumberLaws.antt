@@ -8,7 +8,7 @@ use Rattle.std.proofs.lemmas.Bool.Decides.{nat_tests}
 use Rattle.std.proofs.lemmas.List.{length-append, length-map, map_more, length-take-le, take_all}
 use Rattle.std.proofs.lemmas.List.Elements.{All-from_recursion}
 use Rattle.std.proofs.lemmas.List.Sums.{sum_by-le}
-use Rattle.std.proofs.lemmas.Option.{get_or_from_slice_get}
+use Rattle.std.proofs.lemmas.Option.{get_or_from_slice_get, slice_get_past, slice_get_within}
 use Rattle.module_format.specs.declared.limits.TheConstants.{MAX_BRANCHES}
 use Rattle.module_format.specs.declared.places.Place.{Place}
 use Rattle.module_format.specs.Rows.{ParRow}
@@ -36,11 +36,6 @@ module _ {A B : Type 0} (f : A → B) (P : B → Type 0) where
   holds_of [] i x h is = absurd h
   holds_of (y ∷ xs) zero x h is = subst (λ z. P (f z)) (sym is) h
   holds_of (y ∷ xs) (suc i) x h is = holds_of xs i x h is
-
-slice_get_past : {X : Type 0} (xs : List X) (i : ℕ) → length xs ≤ i → slice_get xs i ≡ None
-slice_get_past [] i le = refl
-slice_get_past (x ∷ xs) zero le = absurd (omega arith)
-slice_get_past (x ∷ xs) (suc i) le = slice_get_past xs i (omega arith)
 
 pub many_branches : (rows : List Par) → length (branches_of rows) ≡ branch_count rows
 many_branches [] = refl
@@ -115,11 +110,6 @@ number_more n (e ∷ entries) entry at some =
           (number_from (n + 1) entries at)) count
     ]
 
-found_inside : {X : Type 0} (xs : List X) (i : ℕ) (x : X) → slice_get xs i ≡ Some x → i < length xs
-found_inside [] i x is = absurd cc
-found_inside (y ∷ xs) zero x is = omega arith
-found_inside (y ∷ xs) (suc i) x is = let next = found_inside xs i x is in omega arith
-
 -- one branch more
 pub numbers_more : (n : ℕ) (xs : List (Par × Branch)) (i : ℕ) (x : Par × Branch) (at old new : ℕ) → 1 ≤ n
     → slice_get xs i ≡ Some x → old ≡ number_from n (map (λ y. y.1.entry) (take i xs)) at
@@ -128,7 +118,7 @@ pub numbers_more : (n : ℕ) (xs : List (Par × Branch)) (i : ℕ) (x : Par × B
 numbers_more n xs i x at old new some is before now =
     let entry = λ (y : Par × Branch). y.1.entry in
     let entries = map entry (take i xs) in
-    let lt = found_inside xs i x is in
+    let lt = slice_get_within xs i x is in
     let long : length entries ≡ i = length-map (take i xs) entry ∙ length-take-le i xs (omega arith) in
     let longer : map entry (take (i + 1) xs) ≡ entries ++ x.1.entry ∷ [] =
     map_more entry xs i x lt ∙ ap (λ (y : Par × Branch). entries ++ entry y ∷ [])

@@ -1,12 +1,15 @@
 -- What is given to branches keeps the rules, and searches in it.
-use Rattle.std.proofs.Common.{◌≡◌, ℕ, zero, suc, ◌-◌, ◌<◌, ◌≤◌, ℤ, ◌≤ℤ◌, pos, Bool, true, false, ltb, List, [], ◌∷◌}
-use Rattle.std.proofs.Common.{◌++◌, length, map, get_or, Option, Some, None, refl, sym, ap, subst, ◌∙◌, inl, inr, arith}
-use Rattle.std.specs.Prelude.{◌+ℤ◌, ◌<ℤ◌, ◌&&◌, int_lt, int_le, slice_get}
+use Rattle.std.proofs.Common.{◌≡◌, ℕ, zero, suc, ◌-◌, ◌<◌, ◌≤◌, ℤ, ◌≤ℤ◌, pos, true, false, ltb, List, [], ◌∷◌}
+use Rattle.std.proofs.Common.{◌++◌, length, map, get_or, Option, Some, None, refl, sym, ap, ◌∙◌, inl, inr, arith}
+use Rattle.std.specs.Prelude.{◌+ℤ◌, ◌<ℤ◌, ◌&&◌, int_lt, int_le}
 use Rattle.std.specs.List.{AllByRecursion, list_any}
 use Rattle.std.proofs.lemmas.Bool.{cases_lt}
 use Rattle.std.proofs.lemmas.Int.{ints}
 use Rattle.std.specs.List.Sorted.{IsPartitionPoint}
 use Rattle.std.proofs.lemmas.List.{get_or_default}
+use Rattle.std.proofs.Math.Bool.{and_comm}
+use Rattle.small_laws.proofs.Comparisons.{int_lt-false, le-int_lt, int_le-false, int_le-true, lt-int_lt}
+use Rattle.small_laws.proofs.Lookups.{AllByRecursion_at}
 use Rattle.module_format.specs.declared.rows.Interval.{Interval}
 use Rattle.module_format.specs.declared.rows.ChannelRow.{ChannelRow}
 use Rattle.module_format.specs.Contents.{Branch, Par, Contents}
@@ -19,7 +22,6 @@ use Rattle.module_format.specs.Places.{branches_of}
 use Rattle.certificate.specs.Branches.{numbered_branch}
 use Rattle.certificate.specs.Rights.{is_among, listed_length, length_around}
 use Rattle.module_format.proofs.OrderLaws.{each}
-use Rattle.module_format.proofs.FieldLaws.{int_le-false, int_le-true, int_lt-false, int_le-lt, int_lt-holds}
 
 -- ---- what a row says of its branches keeps the rules
 
@@ -44,12 +46,6 @@ all_kept [] h = tt
 all_kept (row ∷ rows) h = all_both Kept (map (λ b. (row, b)) row.branches) (branches_of rows)
     (all_paired row row.branches h.0.0 h.0.1) (all_kept rows h.1)
 
-all_at : {X : Type 0} (P : X → Type 0) (xs : List X) (i : ℕ) (x : X) → AllByRecursion P xs → slice_get xs i ≡ Some x
-    → P x
-all_at P [] i x h is = absurd cc
-all_at P (y ∷ xs) zero x h is = let same : y ≡ x = cc in subst P same h.0
-all_at P (y ∷ xs) (suc i) x h is = all_at P xs i x h.1 is
-
 pub found_kept : (c : Contents) (n : ℕ) (x : Par × Branch) → Keeps c → numbered_branch c n ≡ Some x
     → GiftsKeep x.1 × InOrder ChannelKeeps behind_channel least_word x.0.channels
 found_kept c n x keeps is =
@@ -61,7 +57,8 @@ found_kept c n x keeps is =
     )) no_branches c.pars keeps.rows.pars in
     elim (ltb n (first_branch c)) as (λ b. ltb n (first_branch c) ≡ b → Kept x) [
       | true ↦ λ e. absurd (let none : None ≡ Some x = rw e at is in cc)
-      | false ↦ λ e. all_at Kept (branches_of c.pars) (n - first_branch c) x (all_kept c.pars rows) (rw e at is)
+      | false ↦ λ e.
+          AllByRecursion_at Kept (branches_of c.pars) (n - first_branch c) x (all_kept c.pars rows) (rw e at is)
     ] refl
 
 -- ---- words of intervals
@@ -79,18 +76,12 @@ single k = record { lo = k; hi = k +ℤ pos 1 }
 -- below the next word
 pub word_lt : (a k : ℤ) → int_lt a (k +ℤ pos 1) ≡ int_le a k
 word_lt a k = elim (int_le a k) as (λ b. int_le a k ≡ b → int_lt a (k +ℤ pos 1) ≡ b) [
-  | true ↦ λ e. let le = int_le-true a k e in int_lt-holds a (k +ℤ pos 1) (grind (arith, ints))
-  | false ↦ λ e. let gt = int_le-false a k e in int_le-lt a (k +ℤ pos 1) (grind (arith, ints))
+  | true ↦ λ e. let le = int_le-true a k e in lt-int_lt a (k +ℤ pos 1) (grind (arith, ints))
+  | false ↦ λ e. let gt = int_le-false a k e in le-int_lt a (k +ℤ pos 1) (grind (arith, ints))
 ] refl
 
-both : (a b : Bool) → (a && b) ≡ (b && a)
-both true true = refl
-both true false = refl
-both false true = refl
-both false false = refl
-
 meets_word : (k : ℤ) (i : Interval) → meet (single k) i ≡ (int_le i.lo k && int_lt k i.hi)
-meets_word k i = rw (word_lt i.lo k) (both (int_lt k i.hi) (int_le i.lo k))
+meets_word k i = rw (word_lt i.lo k) (and_comm (int_lt k i.hi) (int_le i.lo k))
 
 pub meets_words : (k : ℤ) (is : List Interval) → list_any (meet (single k)) is ≡ is_among is k
 meets_words k [] = refl
@@ -121,7 +112,7 @@ channels_rise low (c ∷ cs) d h (suc i) (suc j) le lt =
 pub channels_parted : (k low : ℤ) (cs : List ChannelRow) (d : ChannelRow) → InOrder ChannelKeeps behind_channel low cs
     → (i j : ℕ) → i ≤ j → j < length cs → int_lt (get_or cs j d).word k ≡ true → int_lt (get_or cs i d).word k ≡ true
 channels_parted k low cs d h i j le lt e = let b =
-    channels_rise low cs d h i j le lt in int_lt-holds (get_or cs i d).word k (grind (arith, ints))
+    channels_rise low cs d h i j le lt in lt-int_lt (get_or cs i d).word k (grind (arith, ints))
 
 not_before : (k : ℤ) (c : ChannelRow) → int_lt c.word k ≡ true → (int_le c.word k && int_le k c.word) ≡ false
 not_before k c e = grind (arith, ints)

@@ -22,7 +22,8 @@ use Rattle.module_format.specs.Keeping.{Keeps}
 use Rattle.module_format.proofs.OrderLaws.{each}
 use Rattle.module_format.proofs.PlaceLaws.{item_there}
 use Rattle.std.proofs.lemmas.List.{take-map}
-use Rattle.module_format.proofs.FieldLaws.{int_le-false, int_le-true, int_le-lt, int_lt-holds}
+use Rattle.small_laws.proofs.Comparisons.{le-int_lt, int_le-false, int_le-true, lt-int_lt}
+use Rattle.small_laws.proofs.Lookups.{AllByRecursion_at}
 use Rattle.certificate.specs.Rights.{is_same_end}
 use Rattle.certificate.specs.Siblings.{have_common_word, have_common_end, first_branches}
 use Rattle.certificate.specs.Judged.{IsJudged, AreJudged}
@@ -49,7 +50,7 @@ none_meets i low (x ∷ is) h le =
     let b = h.0.some in
     let before : i.hi ≤ℤ x.lo = grind (arith, ints) in
     let further : i.hi ≤ℤ x.hi = grind (arith, ints) in
-    rw (int_le-lt x.lo i.hi before, and-false (int_lt i.lo x.hi)) (none_meets i x.hi is h.1 further)
+    rw (le-int_lt x.lo i.hi before, and-false (int_lt i.lo x.hi)) (none_meets i x.hi is h.1 further)
 
 -- it may be left out
 left_out : (i : Interval) (is : List Interval) (low : ℤ) (others : List Interval)
@@ -61,7 +62,7 @@ left_out i is low (x ∷ others) h le =
     let b = h.0.some in
     let before : i.hi ≤ℤ x.lo = grind (arith, ints) in
     let further : i.hi ≤ℤ x.hi = grind (arith, ints) in
-    rw (int_le-lt x.lo i.hi before, left_out i is x.hi others h.1 further) refl
+    rw (le-int_lt x.lo i.hi before, left_out i is x.hi others h.1 further) refl
 
 module _ (one other : Interval) (ones others : List Interval) where
   -- the first one ends where the first of the others begins, or before it
@@ -89,8 +90,8 @@ module _ (one other : Interval) (ones others : List Interval) where
       → true ≡ have_common_word (one ∷ ones) (other ∷ others)
   both_meet e f =
       rw (
-        int_lt-holds other.lo one.hi (int_le-false one.hi other.lo e),
-        int_lt-holds one.lo other.hi (int_le-false other.hi one.lo f),
+        lt-int_lt other.lo one.hi (int_le-false one.hi other.lo e),
+        lt-int_lt one.lo other.hi (int_le-false other.hi one.lo f),
       ) refl
 
 -- none has a word of no intervals
@@ -213,12 +214,6 @@ no_end_left (x ∷ left) right is = absurd (omega (arith, is))
 
 -- ---- the branches of a row keep the rules
 
-all_at : {X : Type 0} (P : X → Type 0) (xs : List X) (i : ℕ) (x : X) → AllByRecursion P xs → slice_get xs i ≡ Some x
-    → P x
-all_at P [] i x h is = absurd cc
-all_at P (y ∷ xs) zero x h is = let same : y ≡ x = cc in subst P same h.0
-all_at P (y ∷ xs) (suc i) x h is = all_at P xs i x h.1 is
-
 abbrev RowKept : Par → Type 0
 RowKept row = AllByRecursion GiftsKeep row.branches
 
@@ -228,7 +223,7 @@ row_kept c row par keeps is =
     let rows = each (ParKeeps (first_branch c) (length c.code)) behind_par RowKept
     (λ before par h. each (BranchKeeps (length c.code)) behind_branch GiftsKeep
     (λ low b k. k.gifts) before par.branches h.branches) no_branches c.pars keeps.rows.pars in
-    all_at RowKept c.pars row par rows is
+    AllByRecursion_at RowKept c.pars row par rows is
 
 -- the same of their rows, and of the first ones
 pub rows_kept : (rows : List BranchRow) → AllByRecursion GiftsKeep (map branch_of rows)

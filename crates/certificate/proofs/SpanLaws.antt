@@ -8,10 +8,11 @@ use Rattle.std.proofs.Math.Bool.{and-false, or-true}
 use Rattle.std.proofs.lemmas.Bool.{le-ltb}
 use Rattle.std.proofs.lemmas.Int.{ints, by_lt_z}
 use Rattle.std.proofs.lemmas.Option.{slice_get_past}
+use Rattle.small_laws.proofs.Comparisons.{le-int_le}
+use Rattle.small_laws.proofs.Lookups.{slice_get_there}
 use Rattle.module_format.specs.Contents.{Contents, Par, Branch}
 use Rattle.module_format.specs.Contexts.{first_branch, branch_count, context_at}
 use Rattle.module_format.specs.Places.{branches_of}
-use Rattle.module_format.proofs.FieldLaws.{int_le-le}
 use Rattle.certificate.specs.declared.owned.OwnWords.{OwnWords}
 use Rattle.certificate.specs.Branches.{numbered_branch}
 use Rattle.certificate.specs.Owned.{AreOwn, AreOwnOf, AreAllOwn}
@@ -19,7 +20,6 @@ use Rattle.certificate.specs.Rights.{is_among, has_word, may_write_word, may_rea
 use Rattle.certificate.specs.Starting.{is_scheduling_word}
 use Rattle.certificate.specs.Words.{all_words}
 use Rattle.certificate.proofs.NumberLaws.{many_branches}
-use Rattle.certificate.proofs.BranchRunLaws.{some_item}
 use Rattle.certificate.proofs.WordLaws.{all_pass, one_fails, same_words}
 
 -- ---- two tests
@@ -67,8 +67,8 @@ frame_tells lo hi first (suc count) some = by_lt_z first lo
           (omega (arith, ints)) fails,
     ) refl)
     (λ long. rw (
-      int_le-le lo first from,
-      int_le-le (first +ℤ pos (suc count)) hi long,
+      le-int_le lo first from,
+      le-int_le (first +ℤ pos (suc count)) hi long,
       all_pass (λ k. int_le lo k && int_lt k hi) first (suc count) (λ k low high. grind (arith, ints)),
     ) refl))
 
@@ -101,12 +101,12 @@ scheduling_tells workspace first count some =
     let each : all_words test first count ≡ true = all_pass test first count (λ k low high.
     let free : is_scheduling_word workspace k ≡ false = grind (arith, ints) in
     rw free refl) in
-    rw (int_le-le ((first +ℤ pos count) +ℤ pos 3) workspace long, or-true (int_le workspace first), each) refl))
+    rw (le-int_le ((first +ℤ pos count) +ℤ pos 3) workspace long, or-true (int_le workspace first), each) refl))
     (λ from.
     let each : all_words test first count ≡ true = all_pass test first count (λ k low high.
     let free : is_scheduling_word workspace k ≡ false = grind (arith, ints) in
     rw free refl) in
-    rw (int_le-le workspace first from, each) refl)
+    rw (le-int_le workspace first from, each) refl)
 
 -- ---- the words of a branch
 
@@ -181,7 +181,7 @@ own_there c all n own h ge lt is = on (numbered_branch c n) refl
         let many = h.many in
         let count = many_branches c.pars in
         let missing = rw (le-ltb n (first_branch c) ge) at none in
-        some_item (branches_of c.pars) (n - first_branch c) (omega (arith, many, count, lt)) missing
+        slice_get_there (branches_of c.pars) (n - first_branch c) (omega (arith, many, count, lt)) missing
     on (Some x) is_x = subst (λ (m : ℕ). AreOwnOf c m own)
         (let e : n - first_branch c + first_branch c ≡ n = omega arith in e) right x is_x
 

@@ -5,13 +5,13 @@ use Rattle.std.proofs.Common.{FitsSigned, int_le, int_lt, IsSortedByKey, add-one
 use Rattle.std.specs.List.{AllByRecursion}
 use Rattle.std.specs.List.Sorted.{IsPartitionPoint}
 use Rattle.std.specs.Ordering.{int_cmp, is_lt}
-use Rattle.std.proofs.Math.Bool.{and-false}
+use Rattle.std.proofs.Math.Bool.{and-false, or-false, or_assoc}
 use Rattle.std.proofs.lemmas.Int.{ints, by_lt_z}
 use Rattle.std.proofs.lemmas.List.Folds.{list_any-append}
+use Rattle.small_laws.proofs.Comparisons.{int_lt-false, int_le-false, int_le-true, le-int_le}
 use Rattle.module_format.specs.declared.rows.Interval.{Interval}
 use Rattle.module_format.specs.Order.{InOrder, least_word}
 use Rattle.module_format.specs.Pars.{IntervalKeeps, behind_interval}
-use Rattle.module_format.proofs.FieldLaws.{int_le-false, int_le-true, int_le-le, int_lt-false}
 use Rattle.certificate.specs.Rights.{is_among}
 use Rattle.certificate.specs.Words.{all_words, is_within, beyond_interval, BeginBy, BeginsFrom, from_begin}
 use Rattle.certificate.specs.Words.{BeginInOrder}
@@ -121,10 +121,6 @@ or_moved true l o w e = refl
 or_moved false true o w e = rw e refl
 or_moved false false true w e = rw e refl
 or_moved false false false w e = rw e refl
-
-or_none : (a : Bool) → (a || false) ≡ a
-or_none true = refl
-or_none false = refl
 
 or_last : (a w : Bool) → (a || (w || false)) ≡ (a || w)
 or_last true w = refl
@@ -240,8 +236,8 @@ module _ (first : ℤ) (count : ℕ) (some : 1 ≤ count) where
         one_fails (is_among (i ∷ is)) first count i.hi low_enough short missing,
       ) refl)
       (λ long. rw (
-        int_le-le i.lo first from,
-        int_le-le (first +ℤ pos count) i.hi long,
+        le-int_le i.lo first from,
+        le-int_le (first +ℤ pos count) i.hi long,
         all_pass (is_among (i ∷ is)) first count (λ k low_k high_k.
             let inside : is_within i k ≡ true = grind (arith, ints) in
             rw inside refl),
@@ -294,7 +290,7 @@ pub added_none : (is : List Interval) (i : Interval) → InOrder IntervalKeeps b
 added_none is i h begun none = record {
   apart = h;
   begun = begun;
-  words = λ k. rw (no_word i k none) (sym (or_none (is_among is k)));
+  words = λ k. rw (no_word i k none) (sym (or-false (is_among is k)));
 }
 
 module _ (is : List Interval) (last i : Interval)
@@ -320,19 +316,15 @@ module _ (is : List Interval) (last i : Interval)
 
 -- ---- the rest of the intervals
 
-or_passed : (a i r : Bool) → ((a || i) || r) ≡ (a || (i || r))
-or_passed true i r = refl
-or_passed false i r = refl
-
 -- a word of the one that is joined
 pub word_goes_on : (k : ℤ) (joined rest after now : List Interval) (i : Interval) → rest ≡ i ∷ after
     → is_among now k ≡ (is_among joined k || is_within i k)
     → (is_among now k || is_among after k) ≡ (is_among joined k || is_among rest k)
 word_goes_on k joined rest after now i is e =
-    rw (is, e) (or_passed (is_among joined k) (is_within i k) (is_among after k))
+    rw (is, e) (or_assoc (is_among joined k) (is_within i k) (is_among after k))
 
 -- at the end nothing is left
 pub no_rest : (k : ℤ) (joined rest : List Interval) → length rest ≡ 0
     → is_among joined k ≡ (is_among joined k || is_among rest k)
-no_rest k joined [] none = sym (or_none (is_among joined k))
+no_rest k joined [] none = sym (or-false (is_among joined k))
 no_rest k joined (i ∷ rest) none = absurd (omega (arith, none))

@@ -3,6 +3,7 @@ use Rattle.std.proofs.Common.{◌≡◌, ℕ, suc, ◌+◌, ◌*◌, ◌%◌, �
 use Rattle.std.proofs.Common.{negsuc, List, [], ◌∷◌, map, Option, Some, None, refl, sym, ap, ◌∙◌, subst}
 use Rattle.std.specs.Prelude.{slice_get, find, int_le, option_map}
 use Rattle.std.specs.List.{list_any}
+use Rattle.std.proofs.lemmas.Bool.{or_cases}
 use Rattle.module_format.specs.declared.rows.ChannelRow.{ChannelRow}
 use Rattle.module_format.specs.declared.rows.Direction.{Direction}
 use Rattle.module_format.specs.declared.rows.EndKind.{EndKind}
@@ -18,7 +19,6 @@ use Rattle.machine_state.specs.Memory.{Memory}
 use Rattle.machine_state.specs.Moves.{cell_of}
 use Rattle.machine_state.specs.Ownership.{IsAmong}
 use Rattle.machine_state.proofs.Shares.{end_among}
-use Rattle.machine_state.proofs.SpanLaws.{or_true}
 use Rattle.states.specs.State.{is_word}
 use Rattle.states.proofs.RowFacts.{and-parts}
 use Rattle.rulings.specs.Channels.{message_length}
@@ -146,16 +146,16 @@ module _ {m : Contents} {found : Found} {layout : Layout} {base : ℕ} {addresse
         sym (ap (length_by word) listed) ∙ len in
         of_channel word direction n row at is (let same : row.length
         ≡ layout.lengths (channel_address layout (ends.FrameWord word)) = cc in same)
-    | of_none none beside ↦ elim (or_true _ (is_own_end par (ends.FrameWord word)) has) [
+    | of_none none beside ↦ elim (or_cases _ (is_own_end par (ends.FrameWord word)) has) [
       | inl mine ↦ of_context (ends.FrameWord word) direction mine (sym (ap (length_by word) none) ∙ len)
       | inr own ↦ let no' : false ≡ true = sym beside ∙ own in absurd (cc)
     ]
   ]
-  of_kind (ends.Parameter number element) direction has len = elim (or_true _ false has) [
+  of_kind (ends.Parameter number element) direction has len = elim (or_cases _ false has) [
     | inl mine ↦ of_context (ends.Parameter number element) direction mine len
     | inr own ↦ absurd (cc)
   ]
-  of_kind (ends.Link link) direction has len = elim (or_true _ false has) [
+  of_kind (ends.Link link) direction has len = elim (or_cases _ false has) [
     | inl mine ↦ of_context (ends.Link link) direction mine len
     | inr own ↦ absurd (cc)
   ]

@@ -2,6 +2,7 @@
 use Rattle.std.proofs.Common.{◌≡◌, ◌≢◌, ◌⊎◌, ℕ, ◌≤◌, ◌<◌, ℤ, true, inl, inr, List, Option, Some, None}
 use Rattle.std.proofs.Common.{sym, ap, ◌∙◌, subst}
 use Rattle.std.specs.Prelude.{slice_get, slice_set}
+use Rattle.small_laws.proofs.Options.{same_some}
 use Rattle.module_format.specs.Contents.{Contents}
 use Rattle.machine_state.specs.declared.process.Condition.TheVariants.{Ready, Sending}
 use Rattle.machine_state.specs.declared.process.Exchange.{Exchange}
@@ -13,7 +14,6 @@ use Rattle.machine_state.specs.declared.process.Channel.{Channel}
 use Rattle.machine_state.specs.declared.link.InputLink.{InputLink}
 use Rattle.machine_state.specs.Moves.{cell_of}
 use Rattle.machine_state.specs.World.{World}
-use Rattle.machine_state.proofs.Claims.{only_one}
 use Rattle.machine_state.proofs.Lines.{got_other}
 use Rattle.states.specs.declared.known.Guard.{Guard}
 use Rattle.states.specs.State.{State}
@@ -140,4 +140,5 @@ ready_on tasks cells inputs p q t u here silent (a_sender k c r sender e at is w
     other : q ≢ r
     other same =
         silent e (ap (λ (x : Task). x.condition)
-        (only_one (slice_get tasks r) t sender (subst (λ (n : ℕ). slice_get tasks n ≡ Some t) same here) there) ∙ sends)
+        (same_some (slice_get tasks r) t sender
+        (subst (λ (n : ℕ). slice_get tasks n ≡ Some t) same here) there) ∙ sends)

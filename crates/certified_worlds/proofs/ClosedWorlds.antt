@@ -3,6 +3,7 @@ use Rattle.std.proofs.Common.{Option, ◌≡◌, ◌≢◌, ℕ, true, List, [],
 use Rattle.std.proofs.Common.{sym, ap, ◌∙◌, subst, inl, inr, arith}
 use Rattle.std.proofs.lemmas.List.{length-set}
 use Rattle.std.specs.Prelude.{slice_get, slice_set}
+use Rattle.small_laws.proofs.Options.{same_some}
 use Rattle.module_format.specs.Contents.{Contents, Par}
 use Rattle.machine_state.specs.declared.holding.End.{End}
 use Rattle.machine_state.specs.declared.process.Channel.{Channel}
@@ -14,7 +15,6 @@ use Rattle.machine_state.specs.Ownership.{HoldersIn, owner_of}
 use Rattle.machine_state.specs.Roles.{own_in, without_join}
 use Rattle.machine_state.specs.Waiting.{IsGone, IsOver}
 use Rattle.machine_state.specs.World.{World, Role, Join}
-use Rattle.machine_state.proofs.Claims.{only_one}
 use Rattle.machine_state.proofs.Holders.{outside_is_free}
 use Rattle.machine_state.proofs.Lines.{got_set, got_other, set_either}
 use Rattle.machine_state.proofs.MovesLeaveAlone.{on_role_is, on_task_is}
@@ -81,7 +81,7 @@ module _ (m : Contents) (d : Decodes m) (wf : IsWellFormed m) (c : IsCertified m
   row = h.table.each o t here
 
   par_is : opener.after.par ≡ par
-  par_is = only_one (slice_get m.pars j.row) opener.after.par par opener.after.row at_row
+  par_is = same_some (slice_get m.pars j.row) opener.after.par par opener.after.row at_row
 
   abbrev after : World
   after = closed_world w o role j par t
@@ -106,10 +106,10 @@ module _ (m : Contents) (d : Decodes m) (wf : IsWellFormed m) (c : IsCertified m
           → StartsHere process.meets par k act
 
     role_is : row.role ≡ role
-    role_is = only_one (slice_get w.roles o) row.role role row.has_role has_role
+    role_is = same_some (slice_get w.roles o) row.role role row.has_role has_role
 
     start_is : row.start ≡ opener.start
-    start_is = only_one (slice_get h.began o) row.start opener.start row.has_start opener.has_start
+    start_is = same_some (slice_get h.began o) row.start opener.start row.has_start opener.has_start
 
     -- the opener lives on at the label, and owes what waited for that
     placed_opener : PlacedThen o (closed_task j par t)

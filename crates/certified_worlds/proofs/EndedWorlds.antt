@@ -4,6 +4,7 @@ use Rattle.std.proofs.Common.{sym, ap, ◌∙◌, subst, inl, inr, arith}
 use Rattle.std.proofs.lemmas.Bool.{cases_eq}
 use Rattle.std.proofs.lemmas.List.{length-set}
 use Rattle.std.specs.Prelude.{slice_get, slice_set}
+use Rattle.small_laws.proofs.Options.{same_some}
 use Rattle.module_format.specs.Contents.{Contents, Par}
 use Rattle.machine_state.specs.declared.process.Condition.TheVariants.{Ready, Ended}
 use Rattle.machine_state.specs.declared.process.Mode.TheVariants.{Plain}
@@ -14,7 +15,6 @@ use Rattle.machine_state.specs.Memory.{Memory}
 use Rattle.machine_state.specs.Roles.{with_join, without_own}
 use Rattle.machine_state.specs.Waiting.{IsGone}
 use Rattle.machine_state.specs.World.{World, Role, Join, Queue, held}
-use Rattle.machine_state.proofs.Claims.{only_one}
 use Rattle.machine_state.proofs.Lines.{got_set, got_other, set_either}
 use Rattle.rulings.specs.Meaning.{Layout, Activation}
 use Rattle.certified_worlds.specs.Invariant.{AlternatesIn, Process, Table, LengthsAgree, Opener, Holds}
@@ -128,7 +128,7 @@ module _ (m : Contents) (w : World) (h : Holds m w) (p : ℕ) (t : Task) (here :
     role_of_ended : RoleOfEnded
     role_of_ended = elim (cases_eq o p) [
       | inl same ↦
-          let own = only_one (slice_get w.roles p) opener_role row.role
+          let own = same_some (slice_get w.roles p) opener_role row.role
           (subst (λ (n : ℕ). slice_get w.roles n ≡ Some opener_role) same shown.has_role) row.has_role in
           record {
             role = with_join (join_without p j) opener_role;
@@ -172,7 +172,7 @@ module _ (m : Contents) (w : World) (h : Holds m w) (p : ℕ) (t : Task) (here :
     role_of_other : (q : ℕ) (was : Role) → p ≢ q → slice_get w.roles q ≡ Some was → RoleOfOther q was
     role_of_other q was differ has = elim (cases_eq o q) [
       | inl same ↦
-          let own : opener_role ≡ was = only_one (slice_get w.roles q) opener_role was
+          let own : opener_role ≡ was = same_some (slice_get w.roles q) opener_role was
           (subst (λ (n : ℕ). slice_get w.roles n ≡ Some opener_role) same shown.has_role) has in
           record {
             role = with_join (join_without p j) opener_role;
@@ -241,7 +241,7 @@ module _ (m : Contents) (w : World) (h : Holds m w) (p : ℕ) (t : Task) (here :
           (subst (λ (n : ℕ). slice_get w.roles n ≡ Some row.role) same row.has_role)
           (sym (ap (λ (r : Role). r.opener) is) ∙ by)
           (λ gone.
-          let mine = only_one (slice_get w.tasks d) gone.1.task t gone.1.here
+          let mine = same_some (slice_get w.tasks d) gone.1.task t gone.1.here
           (subst (λ (n : ℕ). slice_get w.tasks n ≡ Some t) same here) in
           let no' : Ended ≡ Ready = sym gone.1.over ∙ (ap (λ (x : Task). x.condition) mine ∙ ready) in
           cc) begun

@@ -2,9 +2,10 @@
 -- block.
 use Rattle.std.proofs.Common.{◌≡◌, ℕ, ◌-◌, ◌<◌, ◌==◌, true, false, Bool, Option, cond, inl, inr, ℤ, pos, ◌+ℤ◌, List}
 use Rattle.std.proofs.Common.{length, Some, None, refl, sym, ap, ◌∙◌, subst, arith}
-use Rattle.std.proofs.lemmas.Bool.{cases_lt, eq-eqb, lt-ltb}
+use Rattle.std.proofs.lemmas.Bool.{cases_lt, eq-eqb, lt-ltb, and_from}
 use Rattle.std.specs.Prelude.{slice_get}
 use Rattle.std.specs.Int.{w32, cast_unsigned}
+use Rattle.small_laws.proofs.Options.{same_some}
 use Rattle.module_format.specs.declared.rows.EndKind.TheVariants.{FrameWord}
 use Rattle.module_format.specs.Contents.{Contents, Par, Branch}
 use Rattle.module_format.specs.Contexts.{first_branch}
@@ -25,8 +26,6 @@ use Rattle.machine_state.specs.Site.{Local, joins}
 use Rattle.machine_state.specs.Turn.{at_here}
 use Rattle.machine_state.specs.Waiting.{Branches, Starters, HasOpened, IsGone, IsCounted, IsOver}
 use Rattle.machine_state.specs.World.{World, Role, Join}
-use Rattle.machine_state.proofs.Claims.{only_one}
-use Rattle.machine_state.proofs.SpanLaws.{both_true}
 use Rattle.states.specs.declared.known.Mode as states
 use Rattle.states.specs.declared.known.Mode.TheVariants as states_modes
 use Rattle.rulings.specs.Fitting.{Caller}
@@ -117,7 +116,7 @@ module _ {m : Contents} {g : Holding} {start : Began} {memory : Memory} {t : Tas
       let row_is : row ≡ j.row = cc in
       let all : length par.branches ≡ j.started = cc in
       let par_is : par ≡ other =
-      only_one (slice_get m.pars j.row) par other (subst (λ (n : ℕ). slice_get m.pars n ≡ Some par) row_is at)
+      same_some (slice_get m.pars j.row) par other (subst (λ (n : ℕ). slice_get m.pars n ≡ Some par) row_is at)
       at_row in (
         par_is,
         subst (λ (par : Par). length par.branches ≡ j.started) par_is all,
@@ -148,7 +147,7 @@ module _ (m : Contents) (w : World) (h : Holds m w) (branches : Branches w.tasks
     opener = h.pending q role j has is
 
     same_join : j ≡ other
-    same_join = only_one (opened_by w q) j other (opened_is w.roles q role has ∙ is) found
+    same_join = same_some (opened_by w q) j other (opened_is w.roles q role has ∙ is) found
 
     has_row : slice_get m.pars other.row ≡ Some opener.after.par
     has_row = subst (λ (j : Join). slice_get m.pars j.row ≡ Some opener.after.par) same_join opener.after.row
@@ -165,7 +164,7 @@ module _ (m : Contents) (w : World) (h : Holds m w) (branches : Branches w.tasks
 
   not_over : IsOver w.tasks p → ⊥
   not_over over =
-      let same = only_one (slice_get w.tasks p) over.task t over.here here in
+      let same = same_some (slice_get w.tasks p) over.task t over.here here in
       let no' : Ended ≡ Ready = sym over.over ∙ (ap (λ (t : Task). t.condition) same ∙ ready) in
       cc
 
@@ -178,7 +177,7 @@ module _ (m : Contents) (w : World) (h : Holds m w) (branches : Branches w.tasks
     is_open = sym (opened_is w.roles p row.role row.has_role) ∙ opens;
   })) [
     | inl starting ↦
-        let same = only_one (slice_get w.tasks p) starting.task t starting.here here in
+        let same = same_some (slice_get w.tasks p) starting.task t starting.here here in
         let no' : machine_modes.Starting ≡ machine_modes.Plain =
         sym starting.starting ∙ (ap (λ (t : Task). t.mode) same ∙ plain) in
         cc
@@ -204,13 +203,13 @@ module _ (m : Contents) (w : World) (h : Holds m w) (branches : Branches w.tasks
     starter_ends (joins_own_without_row b k j opens none) =
         no_row p opened.role opened.join j opened.here opened.is_open opens none
     starter_ends (joins_own_too_early b k j other opens at refused) =
-        let par_is = only_one (slice_get m.pars j.row) mine.after.par other
+        let par_is = same_some (slice_get m.pars j.row) mine.after.par other
         (has_row p opened.role opened.join j opened.here opened.is_open opens) at in
         let same = same_join p opened.role opened.join j opened.here opened.is_open opens in
         let all : j.started ≡ length other.branches =
         ap (λ (j : Join). j.started) (sym same)
         ∙ (sym told.1 ∙ ap (λ (par : Par). length par.branches) par_is) in
-        let passes = both_true (j.block == block) (j.started == length other.branches)
+        let passes = and_from (j.block == block) (j.started == length other.branches)
         (its_block p opened.role opened.join j opened.here opened.is_open opens told.2)
         (eq-eqb j.started (length other.branches) all) in
         let no' : true ≡ false = sym passes ∙ refused in
@@ -249,7 +248,7 @@ module _ (m : Contents) (w : World) (h : Holds m w) (branches : Branches w.tasks
         let theirs = h.pending o c.role c.join c.here c.is_open in
         let member = theirs.members p row.role row.start row.has_role (by o up) live row.has_start in
         let both : ◌≡◌ {A = Par × Branch} (par, b) (theirs.after.par, member.branch) =
-        only_one (numbered_branch m row.start.context) (par, b) (theirs.after.par, member.branch) numbered member.is in
+        same_some (numbered_branch m row.start.context) (par, b) (theirs.after.par, member.branch) numbered member.is in
         let par_is : par ≡ theirs.after.par = ap (λ (x : Par × Branch). x.0) both in
         its_block o c.role c.join j c.here c.is_open opens
         (at_block ∙ ap (λ (par : Par). channel_address row.start.layout (FrameWord par.block)) par_is

@@ -4,6 +4,7 @@ use Rattle.std.proofs.Common.{refl, sym, ap, ◌∙◌, subst, inl, inr, arith, 
 use Rattle.std.proofs.lemmas.List.{length-set}
 use Rattle.std.proofs.lemmas.Option.{slice_get_within}
 use Rattle.std.specs.Prelude.{slice_get, slice_set}
+use Rattle.small_laws.proofs.Options.{same_some}
 use Rattle.module_format.specs.declared.rows.EndKind.TheVariants.{FrameWord}
 use Rattle.module_format.specs.Contents.{Contents, Par, Branch, label_at}
 use Rattle.certificate.specs.Branches.{numbered_branch}
@@ -29,7 +30,6 @@ use Rattle.machine_state.specs.Site.{Local, Outcome, joins}
 use Rattle.machine_state.specs.Turn.{at_here}
 use Rattle.machine_state.specs.Waiting.{is_member, IsOver, IsGone}
 use Rattle.machine_state.specs.World.{World, Role, Join, Queue, held, holding_at}
-use Rattle.machine_state.proofs.Claims.{only_one}
 use Rattle.machine_state.proofs.Lines.{got_set, got_other, got_within, set_either, told_in}
 use Rattle.machine_state.proofs.Waiting.{has_role}
 use Rattle.machine_state.proofs.MovesLeaveAlone.{is_last, member_gone, joined_either, on_role_is, with_opened, without}
@@ -113,7 +113,7 @@ module _ (m : Contents) (d : Decodes m) (wf : IsWellFormed m) (c : IsCertified m
 
   not_gone : IsGone w.tasks row.role p → ⊥
   not_gone gone =
-      let same = only_one (slice_get w.tasks p) gone.1.task t gone.1.here r.here in
+      let same = same_some (slice_get w.tasks p) gone.1.task t gone.1.here r.here in
       let no' : Ended ≡ Ready = sym gone.1.over ∙ (ap (λ (u : Task). u.condition) same ∙ r.ready) in
       cc
 
@@ -125,9 +125,9 @@ module _ (m : Contents) (d : Decodes m) (wf : IsWellFormed m) (c : IsCertified m
       never : (k : Join) → role.opened ≡ Some k → ⊥
       never k is = elim (order.starters.openers q (record { role = role; here = has; join = k; is_open = is })) [
         | inl starts ↦ starts_beside (ap (λ (x : Task). x.mode)
-            (only_one (slice_get w.tasks q) u starts.task at starts.here) ∙ starts.starting) alternates
+            (same_some (slice_get w.tasks q) u starts.task at starts.here) ∙ starts.starting) alternates
         | inr gone ↦ over_beside (ap (λ (x : Task). x.condition)
-            (only_one (slice_get w.tasks q) u gone.task at gone.here) ∙ gone.over) alternates
+            (same_some (slice_get w.tasks q) u gone.task at gone.here) ∙ gone.over) alternates
       ]
 
       on : (x : Option Join) → role.opened ≡ x → role.opened ≡ None
@@ -245,7 +245,7 @@ module _ (m : Contents) (d : Decodes m) (wf : IsWellFormed m) (c : IsCertified m
     -- all branches of the row are started
     all_started : (other : Par) → slice_get m.pars j.row ≡ Some other → j.started ≡ length other.branches
     all_started other at =
-        let same = only_one (slice_get m.pars j.row) par other
+        let same = same_some (slice_get m.pars j.row) par other
         (subst (λ (n : ℕ). slice_get m.pars n ≡ Some par) row_is all.is) at in
         sym number_is ∙ ap (λ (row : Par). length row.branches) same
 
@@ -289,7 +289,7 @@ module _ (m : Contents) (d : Decodes m) (wf : IsWellFormed m) (c : IsCertified m
     own_end_holds = ends_hold p row.role j row_par at_row row.has_role own_roles own_shows
         (λ last. all_started row_par at_row)
         (λ last u at. ap (λ (x : Task). x.condition)
-        (only_one (slice_get tasks_after p) u over at (got_set w.tasks p t over r.here))) ended_world
+        (same_some (slice_get tasks_after p) u over at (got_set w.tasks p t over r.here))) ended_world
         (on_role_is p (with_opened (Some (without p j))) ended_world row.role row.has_role)
 
   -- ---- the end of a branch
@@ -325,7 +325,7 @@ module _ (m : Contents) (d : Decodes m) (wf : IsWellFormed m) (c : IsCertified m
     par_is : par ≡ theirs.after.par
     par_is =
         let both : ◌≡◌ {A = Par × Branch} (par, leaves.branch) (theirs.after.par, member.branch) =
-        only_one (numbered_branch m row.start.context) (par, leaves.branch) (theirs.after.par, member.branch)
+        same_some (numbered_branch m row.start.context) (par, leaves.branch) (theirs.after.par, member.branch)
         (subst (λ (n : ℕ). numbered_branch m n ≡ Some (par, leaves.branch)) began_here.0 leaves.is) member.is in
         ap (λ (found : Par × Branch). found.0) both
 
@@ -397,14 +397,14 @@ module _ (m : Contents) (d : Decodes m) (wf : IsWellFormed m) (c : IsCertified m
     all_joined : is_last p j ≡ true → j.started ≡ length row_par.branches
     all_joined last =
         let gone = opener_is_over last in
-        let same = only_one (slice_get m.pars j.row) theirs.after.par row_par theirs.after.row at_row in
+        let same = same_some (slice_get m.pars j.row) theirs.after.par row_par theirs.after.row at_row in
         ends_started (h.table.each o gone.task gone.here).meets gone.over theirs.after.par j theirs.after.act
         (theirs.starter gone.task gone.here) ∙ ap (λ (row : Par). length row.branches) same
 
     opener_rests : is_last p j ≡ true → (u : Task) → slice_get tasks_after o ≡ Some u → u.condition ≡ Ended
     opener_rests last u at =
         let gone = opener_is_over last in
-        ap (λ (x : Task). x.condition) (only_one (slice_get tasks_after o) u gone.task at
+        ap (λ (x : Task). x.condition) (same_some (slice_get tasks_after o) u gone.task at
         (got_other w.tasks p o over (λ same. differ (sym same)) ∙ gone.here)) ∙ gone.over
 
     abbrev joined_world : World

@@ -4,7 +4,7 @@ use Rattle.std.proofs.Common.{◌≡◌, ◌≢◌, ◌⊎◌, ℕ, zero, suc, �
 use Rattle.std.proofs.Common.{inl, inr, ℤ, pos, ◌+ℤ◌, if◌then◌else◌, List, [], ◌∷◌, length, Option, Some, None, refl}
 use Rattle.std.proofs.Common.{sym}
 use Rattle.std.proofs.Common.{ap, ◌∙◌, subst, arith}
-use Rattle.std.proofs.lemmas.Bool.{eqb-true}
+use Rattle.std.proofs.lemmas.Bool.{eqb-true, and_from, or_cases, or_left, or_right}
 use Rattle.std.specs.Prelude.{slice_get, filter, take}
 use Rattle.std.specs.List.{list_any}
 use Rattle.module_format.specs.declared.contexts.Context.{Context}
@@ -26,9 +26,8 @@ use Rattle.machine_state.specs.Memory.{Memory, data_start}
 use Rattle.machine_state.specs.Roles.{members_without}
 use Rattle.machine_state.specs.Waiting.{is_member}
 use Rattle.machine_state.specs.World.{Join}
-use Rattle.machine_state.proofs.Claims.{only_one}
 use Rattle.std.proofs.lemmas.Option.{slice_get_within}
-use Rattle.machine_state.proofs.SpanLaws.{both_true, or_true, or_left, or_right}
+use Rattle.small_laws.proofs.Options.{same_some}
 use Rattle.states.specs.declared.known.WordFact.{WordFact}
 use Rattle.states.specs.declared.known.WordFact.TheVariants.{Alone, Index, Count}
 use Rattle.states.specs.State.{entry_fact, is_alone, known, label_state}
@@ -81,7 +80,7 @@ pub member_stays : (members : List ℕ) (gone p : ℕ) → gone ≢ p → is_mem
     → is_member (members_without gone members) p ≡ true
 member_stays [] gone p differ h = h
 member_stays (q ∷ qs) gone p differ h =
-    on (member_stays qs gone p differ) (q == gone) refl (or_true (q == p) (is_member qs p) h)
+    on (member_stays qs gone p differ) (q == gone) refl (or_cases (q == p) (is_member qs p) h)
   where
     on : (is_member qs p ≡ true → is_member (filter (λ q. not (q == gone)) qs) p ≡ true) → (b : Bool)
         → (q == gone) ≡ b → ((q == p) ≡ true) ⊎ (is_member qs p ≡ true)
@@ -135,7 +134,7 @@ module _ {m : Contents} {own : Holding} {o : ℕ} {began : Began} {all : List Be
     -- a word that the opener's context has and that the branch's row names it may write
     may_write : (k : ℤ) → (words_in m after.par.context).reads k ≡ true → is_among member.branch.writes k ≡ true
         → may_write_word m start.context k ≡ true
-    may_write k reads among = both_true (has_word (context_at m start.context) k) _
+    may_write k reads among = and_from (has_word (context_at m start.context) k) _
         (ap (λ (o : Option Context). has_word o k) member.frame
         ∙ (and-parts (has_word (context_at m after.par.context) k) _ reads).0)
         (ap (λ (o : Option (Par × Branch)). elim o as (λ o. Bool) [
@@ -176,10 +175,10 @@ module _ {m : Contents} {own : Holding} {o : ℕ} {began : Began} {all : List Be
         itself : (b : Branch) → is_among b.writes k ≡ true → (x : HasMember m o all after.par j b) → p ≡ x.process → ⊥
         itself b writes x same =
             let start_is : start ≡ x.start =
-            only_one (slice_get all x.process) start x.start
+            same_some (slice_get all x.process) start x.start
             (subst (λ (n : ℕ). slice_get all n ≡ Some start) same has_start) x.has_start in
             let both : ◌≡◌ {A = Par × Branch} (after.par, member.branch) (after.par, b) =
-            only_one (numbered_branch m x.start.context) (after.par, member.branch) (after.par, b)
+            same_some (numbered_branch m x.start.context) (after.par, member.branch) (after.par, b)
             (subst (λ (s : Began). numbered_branch m s.context ≡ Some (after.par, member.branch)) start_is member.is)
             x.is in
             let branch_is : member.branch ≡ b = ap (λ (x : Par × Branch). x.1) both in

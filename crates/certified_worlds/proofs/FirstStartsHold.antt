@@ -4,6 +4,7 @@ use Rattle.std.proofs.Common.{Option, Some, None}
 use Rattle.std.proofs.Common.{ℤ, refl, sym, ap, ◌∙◌, subst, pos, ◌+ℤ◌, arith}
 use Rattle.std.proofs.lemmas.Option.{slice_get_within}
 use Rattle.std.specs.Prelude.{slice_get}
+use Rattle.small_laws.proofs.Options.{same_some}
 use Rattle.module_format.specs.Contents.{Contents}
 use Rattle.module_format.specs.Keeping as formats
 use Rattle.machine_state.specs.declared.holding.End.{End}
@@ -27,7 +28,6 @@ use Rattle.machine_state.specs.Turn.{at_here}
 use Rattle.machine_state.specs.Waiting.{IsGone}
 use Rattle.machine_state.specs.World.{World, Role, Join, held, holding_at}
 use Rattle.machine_state.proofs.ChannelWaiters.{made_is_quiet}
-use Rattle.machine_state.proofs.Claims.{only_one}
 use Rattle.machine_state.proofs.FoundContexts.{branches_are_contexts}
 use Rattle.machine_state.proofs.Frame.{changes_more}
 use Rattle.machine_state.proofs.Lines.{got_within}
@@ -297,7 +297,7 @@ module _ (m : Contents) (d : Decodes m) (wf : IsWellFormed m) (keeps : formats.K
     no_member q branch has by alive = elim (order.branches.counted q branch p has by) [
       | inl gone ↦ alive gone
       | inr counts ↦
-          let same = only_one (slice_get w.roles p) counts.role row.role counts.here row.has_role in
+          let same = same_some (slice_get w.roles p) counts.role row.role counts.here row.has_role in
           let no' : None ≡ Some counts.join =
           sym none_open ∙ (ap (λ (role : Role). role.opened) (sym same) ∙ counts.is_open) in
           cc

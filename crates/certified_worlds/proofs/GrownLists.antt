@@ -4,7 +4,8 @@ use Rattle.std.proofs.Common.{◌∙◌, subst, arith, length-append}
 use Rattle.std.proofs.lemmas.List.{length-set}
 use Rattle.std.proofs.lemmas.Option.{slice_get_within}
 use Rattle.std.specs.Prelude.{slice_get, slice_set}
-use Rattle.machine_state.proofs.Lines.{got_set, got_other, got_before, got_last, got_either, set_either}
+use Rattle.small_laws.proofs.Lookups.{slice_get-append_left}
+use Rattle.machine_state.proofs.Lines.{got_set, got_other, got_last, got_either, set_either}
 
 -- the number of the last
 pub got_end : {A : Type 0} (xs : List A) (z : A) (n : ℕ) → length xs ≡ n → slice_get (xs ++ z ∷ []) n ≡ Some z
@@ -28,14 +29,14 @@ module _ {A : Type 0} (xs : List A) (p : ℕ) (y z : A) where
 
   -- the one that is set, the last one, and another one
   pub got_changed : (x : A) → slice_get xs p ≡ Some x → slice_get set_and_grown p ≡ Some y
-  got_changed x here = got_before (slice_set xs p y) (z ∷ []) p y (got_set xs p x y here)
+  got_changed x here = slice_get-append_left (slice_set xs p y) (z ∷ []) p y (got_set xs p x y here)
 
   pub got_added : (n : ℕ) → length xs ≡ n → slice_get set_and_grown n ≡ Some z
   got_added n many = got_end (slice_set xs p y) z n (length-set xs p y ∙ many)
 
   pub got_unchanged : (q : ℕ) (x : A) → p ≢ q → slice_get xs q ≡ Some x → slice_get set_and_grown q ≡ Some x
   got_unchanged q x differ here =
-      got_before (slice_set xs p y) (z ∷ []) q x (got_other xs p q y differ ∙ here)
+      slice_get-append_left (slice_set xs p y) (z ∷ []) q x (got_other xs p q y differ ∙ here)
 
   -- whatever is in the list is one of these
   pub data StandsAs (q : ℕ) (x : A) : Type 0 where

@@ -4,6 +4,7 @@ use Rattle.std.proofs.Common.{inl, sym, ap, ◌∙◌, subst, arith}
 use Rattle.std.proofs.lemmas.Bool.{eq-eqb}
 use Rattle.std.proofs.lemmas.Option.{slice_get_within}
 use Rattle.std.specs.Prelude.{slice_get, ◌==◌}
+use Rattle.small_laws.proofs.Lookups.{slice_get-append_left}
 use Rattle.module_format.specs.Contents.{Contents, Par}
 use Rattle.module_format.specs.Keeping as formats
 use Rattle.machine_state.specs.declared.holding.End.{End}
@@ -25,7 +26,6 @@ use Rattle.machine_state.specs.StartPlans.{Plan, later_plan, first_fault, later_
 use Rattle.machine_state.specs.Turn.{at_here}
 use Rattle.machine_state.specs.World.{World, Join, held}
 use Rattle.machine_state.proofs.FoundContexts.{branches_are_contexts}
-use Rattle.machine_state.proofs.Lines.{got_before}
 use Rattle.machine_state.proofs.Starting.{later_tests}
 use Rattle.states.specs.declared.known.Mode.TheVariants as states_modes
 use Rattle.states.specs.State.{State, label_state}
@@ -233,7 +233,7 @@ module _ (m : Contents) (d : Decodes m) (wf : IsWellFormed m) (keeps : formats.K
       has_start = opener.has_start;
       after_par = after_next more opener.after;
       pending = start_leaves opener.pending found keeps b.is b.left row_is number_is more every
-          (began_by m found point.act.layout) (λ q first at. got_before h.began
+          (began_by m found point.act.layout) (λ q first at. slice_get-append_left h.began
           (began_by m found point.act.layout ∷ []) q first at)
           (got_end h.began (began_by m found point.act.layout) new h.counted.begun) not_new refl;
       starts = starts_still;

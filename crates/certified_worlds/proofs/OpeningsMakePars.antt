@@ -1,10 +1,11 @@
 -- The first start of a PAR makes what its opener goes on with once all branches are joined.
 use Rattle.std.proofs.Common.{◌≡◌, ◌≢◌, ℕ, zero, suc, ◌+◌, ◌&&◌, not, true, false, inl, inr, ℤ, pos}
 use Rattle.std.proofs.Common.{◌+ℤ◌, List, [], ◌∷◌, length, take, Some, refl, sym, ap, ◌∙◌, subst, arith}
-use Rattle.std.proofs.lemmas.Bool.{cases_lt}
+use Rattle.std.proofs.lemmas.Bool.{cases_lt, and_from, or_cases}
 use Rattle.std.proofs.lemmas.Int.{ints}
 use Rattle.std.specs.Prelude.{slice_get}
 use Rattle.std.specs.List.{list_any}
+use Rattle.small_laws.proofs.Options.{same_some}
 use Rattle.module_format.specs.Contents.{Contents, Par, Branch}
 use Rattle.certificate.specs.Branches.{numbered_branch}
 use Rattle.certificate.specs.Rights.{may_read_word, is_among}
@@ -17,9 +18,7 @@ use Rattle.machine_state.specs.Memory.{Memory, data_start}
 use Rattle.machine_state.specs.StartPlans.{first_plan}
 use Rattle.machine_state.specs.Waiting.{is_member}
 use Rattle.machine_state.specs.World.{Join}
-use Rattle.machine_state.proofs.Claims.{only_one}
 use Rattle.machine_state.proofs.FoundContexts.{branches_are_contexts}
-use Rattle.machine_state.proofs.SpanLaws.{both_true, or_true}
 use Rattle.states.specs.State.{entry_fact}
 use Rattle.rulings.specs.Fitting.{Caller}
 use Rattle.rulings.specs.Meaning.{Activation, HasFrame, words_in, frame_word, place_in, dues}
@@ -82,7 +81,7 @@ pub writer : (branches : List Branch) (n : ℕ) (k : ℤ)
 writer [] zero k given = absurd (cc)
 writer [] (suc n) k given = absurd (cc)
 writer (b ∷ bs) zero k given = absurd (cc)
-writer (b ∷ bs) (suc n) k given = elim (or_true (is_among b.writes k) _ given) [
+writer (b ∷ bs) (suc n) k given = elim (or_cases (is_among b.writes k) _ given) [
   | inl here ↦ record { number = 0; branch = b; here = refl; writes = here }
   | inr there ↦
       let w = writer bs n k there in
@@ -182,7 +181,7 @@ module _ {m : Contents} {own : Holding} {found : Found} {act : Activation} {base
             | inr low ↦
                 let same : found.number ≡ w.number = omega (arith, low, zero_is) in
                 inr (subst (λ (b : Branch). HasMember m o every par j b)
-                (only_one (slice_get par.branches w.number) found.branch w.branch
+                (same_some (slice_get par.branches w.number) found.branch w.branch
                 (subst (λ (n : ℕ). slice_get par.branches n ≡ Some found.branch) same is.branch) w.here) first_member)
           ];
         }
@@ -203,8 +202,8 @@ module _ {m : Contents} {own : Holding} {found : Found} {act : Activation} {base
         → frame_word new_memory act.layout.origin k ≡ frame_word memory act.layout.origin k
     word_stays k reads hides free =
         opener_keeps.others k (λ scheduled. free (scheduled_out k scheduled))
-        ∙ taken.words k (both_true (may_read_word m par.context k && not (is_hidden par k)) _
-        (both_true (may_read_word m par.context k) _ reads (not_true (is_hidden par k) hides))
+        ∙ taken.words k (and_from (may_read_word m par.context k && not (is_hidden par k)) _
+        (and_from (may_read_word m par.context k) _ reads (not_true (is_hidden par k) hides))
         (not_true (word_given_to_write par 0 k) (none_started par (λ b. is_among b.writes k))))
 
     pub opening_makes : (callers : List Caller) → Behind m own began par.context act.layout memory callers

@@ -1,6 +1,7 @@
 -- An end leaves what the others meet, and so does the end of a join.
 use Rattle.std.proofs.Common.{◌≡◌, ◌≢◌, ℕ, List, Some, refl, sym, ap, ◌∙◌, subst}
 use Rattle.std.specs.Prelude.{slice_get, slice_set}
+use Rattle.small_laws.proofs.Options.{same_some}
 use Rattle.module_format.specs.Contents.{Contents, Par}
 use Rattle.machine_state.specs.declared.process.Channel.{Channel}
 use Rattle.machine_state.specs.declared.process.Condition.TheVariants.{Ready, Sending, Ended}
@@ -11,7 +12,6 @@ use Rattle.machine_state.specs.Joins.{closed_task}
 use Rattle.machine_state.specs.Moves.{cell_of}
 use Rattle.machine_state.specs.World.{World, Role, Join, Queue}
 use Rattle.machine_state.proofs.ChannelWaiters.{left_channel}
-use Rattle.machine_state.proofs.Claims.{only_one}
 use Rattle.machine_state.proofs.Frame.{changes_nothing}
 use Rattle.machine_state.proofs.Lines.{got_other}
 use Rattle.machine_state.proofs.WhoWaits.{left_still}
@@ -70,7 +70,7 @@ module _ (m : Contents) (w : World) (h : Holds m w) (o : ℕ) (role : Role) (j :
       where
         other : o ≢ r
         other same =
-            let one = only_one (slice_get w.tasks r) t sender
+            let one = same_some (slice_get w.tasks r) t sender
             (subst (λ (n : ℕ). slice_get w.tasks n ≡ Some t) same here) there in
             let no' : Ended ≡ Sending e = sym ended ∙ (ap (λ (v : Task). v.condition) one ∙ sends) in
             cc

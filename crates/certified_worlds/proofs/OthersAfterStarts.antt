@@ -1,6 +1,7 @@
 -- A start leaves what the others meet.
 use Rattle.std.proofs.Common.{◌≡◌, ◌≢◌, ◌⊎◌, ℕ, inl, inr, Some, None, sym, ap, ◌∙◌, subst}
 use Rattle.std.specs.Prelude.{slice_get}
+use Rattle.small_laws.proofs.Options.{same_some}
 use Rattle.module_format.specs.Contents.{Contents}
 use Rattle.machine_state.specs.declared.process.Channel.{Channel}
 use Rattle.machine_state.specs.declared.process.Condition.TheVariants.{Ready, Sending}
@@ -9,7 +10,6 @@ use Rattle.machine_state.specs.EnabledLaws.{HasReady, a_sender, a_byte}
 use Rattle.machine_state.specs.Frame.{ChangesOwn}
 use Rattle.machine_state.specs.Moves.{cell_of}
 use Rattle.machine_state.specs.World.{World, held}
-use Rattle.machine_state.proofs.Claims.{only_one}
 use Rattle.certified_worlds.specs.Alternating.{EnablesAt, a_channel, a_link}
 use Rattle.certified_worlds.specs.Invariant.{Process, Holds}
 use Rattle.certified_worlds.proofs.Carrying.{SameEnabled}
@@ -54,7 +54,7 @@ module _ (m : Contents) (w : World) (h : Holds m w) (order : IsOrderly m w) (p :
     where
       differ : p ≢ r
       differ same =
-          let one = only_one (slice_get w.tasks r) t sender
+          let one = same_some (slice_get w.tasks r) t sender
           (subst (λ (n : ℕ). slice_get w.tasks n ≡ Some t) same here) there in
           let no' : Ready ≡ Sending e = sym ready ∙ (ap (λ (u : Task). u.condition) one ∙ sends) in
           cc

@@ -4,6 +4,7 @@ use Rattle.std.proofs.Common.{refl}
 use Rattle.std.proofs.Common.{sym, ap, ◌∙◌, subst, arith}
 use Rattle.std.proofs.lemmas.Bool.{cases_eq}
 use Rattle.std.specs.Prelude.{slice_get}
+use Rattle.small_laws.proofs.Options.{same_some}
 use Rattle.module_format.specs.Contents.{Contents}
 use Rattle.machine_state.specs.declared.process.Condition.TheVariants.{Ended}
 use Rattle.machine_state.specs.declared.process.Task.{Task}
@@ -14,7 +15,6 @@ use Rattle.machine_state.specs.Ownership.{Under, child, deeper, to_write, to_rea
 use Rattle.machine_state.specs.Roles.{own_in, opener_in, opened_in}
 use Rattle.machine_state.specs.Waiting.{Branches, IsGone, IsCounted, is_member}
 use Rattle.machine_state.specs.World.{World, Role, Join, held}
-use Rattle.machine_state.proofs.Claims.{only_one}
 use Rattle.machine_state.proofs.Holders.{is_idle, held_write}
 use Rattle.rulings.specs.Buffers.{IsByte}
 use Rattle.rulings.specs.Regions.{scope_of, Keeps, HoldsNamed}
@@ -38,9 +38,9 @@ no_opener (deeper p o is above) none = let no' = sym is ∙ none in cc
 
 above_opener : {opener : ℕ → Option ℕ} {q p : ℕ} (o : ℕ) → Under opener q p → opener p ≡ Some o
     → (o ≡ q) ⊎ Under opener q o
-above_opener {opener} {q} o (child p is) by = inl (only_one (opener p) o q by is)
+above_opener {opener} {q} o (child p is) by = inl (same_some (opener p) o q by is)
 above_opener {opener} {q} o (deeper p r is above) by =
-    inr (subst (λ (n : ℕ). Under opener q n) (only_one (opener p) r o is by) above)
+    inr (subst (λ (n : ℕ). Under opener q n) (same_some (opener p) r o is by) above)
 
 -- where openers have smaller numbers, a process is under another one or is not
 pub under_or_not : (opener : ℕ → Option ℕ) → ((p o : ℕ) → opener p ≡ Some o → o < p) → (q n p : ℕ) → p < n
@@ -100,7 +100,7 @@ module _ (m : Contents) (w : World) (all : List Began) (p : ℕ) (t : Task) (her
     start = start;
     has_start = has_start;
     live = λ gone.
-        let same = only_one (slice_get w.tasks p) gone.1.task t gone.1.here here in
+        let same = same_some (slice_get w.tasks p) gone.1.task t gone.1.here here in
         unended (ap (λ (t : Task). t.condition) (sym same) ∙ gone.1.over);
     named = subst (λ (g : Holding). HoldsNamed m g (scope_began m start) w.memory) holds_own (has_began l still);
     within = subst (λ (g : Holding). ChangesWithin m g (scope_began m start) w.memory new) holds_own within;
@@ -186,8 +186,8 @@ module _ (m : Contents) (w : World) (h : Holds m w) (branches : Branches w.tasks
         is_in : is_member j.members d ≡ true
         is_in =
             let b = opened_by q d changer by in
-            let role_is = only_one (slice_get w.roles q) b.counted.role role b.counted.here here in
-            let join_is : b.counted.join ≡ j = only_one role.opened b.counted.join j
+            let role_is = same_some (slice_get w.roles q) b.counted.role role b.counted.here here in
+            let join_is : b.counted.join ≡ j = same_some role.opened b.counted.join j
             (subst (λ (r : Role). r.opened ≡ Some b.counted.join) role_is b.counted.is_open) is in
             subst (λ (j : Join). is_member j.members d ≡ true) join_is b.counted.member
 

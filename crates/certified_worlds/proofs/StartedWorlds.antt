@@ -4,6 +4,8 @@ use Rattle.std.proofs.Common.{Some, None}
 use Rattle.std.proofs.Common.{ℤ, refl, sym, ap, ◌∙◌, subst, arith, length-append}
 use Rattle.std.proofs.lemmas.Option.{slice_get_within}
 use Rattle.std.specs.Prelude.{slice_get, slice_set}
+use Rattle.small_laws.proofs.Options.{same_some}
+use Rattle.small_laws.proofs.Lookups.{slice_get-append_left}
 use Rattle.module_format.specs.declared.rows.ChannelRow.{ChannelRow}
 use Rattle.module_format.specs.declared.rows.EndKind.TheVariants.{FrameWord}
 use Rattle.module_format.specs.Contents.{Contents, Par}
@@ -28,8 +30,6 @@ use Rattle.machine_state.specs.StartPlans.{Plan, scheduling_addresses, share_by}
 use Rattle.machine_state.specs.Turn.{Here}
 use Rattle.machine_state.specs.Waiting.{IsGone}
 use Rattle.machine_state.specs.World.{World, Role, Join, Queue}
-use Rattle.machine_state.proofs.Claims.{only_one}
-use Rattle.machine_state.proofs.Lines.{got_before}
 use Rattle.machine_state.proofs.MovesLeaveAlone.{on_role_is}
 use Rattle.rulings.specs.Meaning.{Layout, Activation}
 use Rattle.rulings.specs.Regions.{channel_address}
@@ -209,7 +209,7 @@ module _ (m : Contents) (w : World) (h : Holds m w) (p : ℕ) (t : Task) (here :
     low = slice_get_within w.tasks p t here
 
     grows : (q : ℕ) (b : Began) → slice_get h.began q ≡ Some b → slice_get every q ≡ Some b
-    grows q b at = got_before h.began (s.began ∷ []) q b at
+    grows q b at = slice_get-append_left h.began (s.began ∷ []) q b at
 
     -- what one that was there began with
     began_before : (q : ℕ) (b : Began) → q < length w.tasks → slice_get every q ≡ Some b → slice_get h.began q ≡ Some b
@@ -309,7 +309,7 @@ module _ (m : Contents) (w : World) (h : Holds m w) (p : ℕ) (t : Task) (here :
               let opener : Some p ≡ Some q = sym (ap (λ (r : Role). r.opener) is) ∙ by in
               let many = h.counted.begun in
               subst (λ (b : Began). IsMember m par layout b)
-              (only_one (slice_get every d) s.began first
+              (same_some (slice_get every d) s.began first
               (got_end h.began s.began d (omega (arith, many, as_many, last))) begun)
               (newest (let mine : p ≡ q = cc in mine))
           | as_before differ below at ↦ old d branch first at by (λ gone. live (
@@ -325,7 +325,7 @@ module _ (m : Contents) (w : World) (h : Holds m w) (p : ℕ) (t : Task) (here :
         -- a process that starts is not over
         unended : IsGone w.tasks row.role p → ⊥
         unended gone =
-            let same = only_one (slice_get w.tasks p) gone.1.task t gone.1.here here in
+            let same = same_some (slice_get w.tasks p) gone.1.task t gone.1.here here in
             let no' : Ended ≡ Ready = sym gone.1.over ∙ (ap (λ (u : Task). u.condition) same ∙ ready) in
             cc
 
@@ -392,7 +392,7 @@ module _ (m : Contents) (w : World) (h : Holds m w) (p : ℕ) (t : Task) (here :
       | as_added last is ↦
           let many = h.counted.begun in
           subst (λ (b : Began). LengthAgrees m s.channels b e)
-          (only_one (slice_get every q) s.began start
+          (same_some (slice_get every q) s.began start
           (got_end h.began s.began q (omega (arith, many, as_many, last))) begun)
           (shown.lengths e (sym (ap (λ (r : Role). has_end r.own e) is) ∙ ends))
       | as_before differ below at ↦ agrees_still shown.channels

@@ -3,6 +3,7 @@ use Rattle.std.proofs.Common.{◌≡◌, ℕ, ◌+◌, true, false, nat_lt, leng
 use Rattle.std.proofs.Common.{arith}
 use Rattle.std.proofs.lemmas.Bool.{lt-ltb}
 use Rattle.std.specs.Prelude.{◌==◌}
+use Rattle.small_laws.proofs.Options.{same_some}
 use Rattle.module_format.specs.Contents.{Contents}
 use Rattle.module_format.specs.Keeping as formats
 use Rattle.machine_state.specs.declared.fault.FaultKind.{FaultKind}
@@ -19,7 +20,6 @@ use Rattle.machine_state.specs.Site.{Local, Outcome, starts}
 use Rattle.machine_state.specs.StartPlans.{first_plan, later_plan, first_fault, first_faults, later_faults}
 use Rattle.machine_state.specs.Turn.{at_here}
 use Rattle.machine_state.specs.World.{World, Join, held, holding_at}
-use Rattle.machine_state.proofs.Claims.{only_one}
 use Rattle.states.specs.declared.rule.Rule.{Rule}
 use Rattle.states.specs.State.{State}
 use Rattle.rulings.specs.Fitting.{Here}
@@ -69,7 +69,7 @@ module _ (m : Contents) (d : Decodes m) (wf : IsWellFormed m) (keeps : formats.K
       (b : StartsBranch x point.state after local found target workspace)
       (reached : Reaches m (t.registers.began + point.instr.len) (Some after)) where
     same_found : (other : Found) → found_at m target ≡ Some other → found ≡ other
-    same_found other at = only_one (found_at m target) found other b.found_is at
+    same_found other at = same_some (found_at m target) found other b.found_is at
 
     -- another byte of code follows
     follows_on : nat_lt (t.registers.at + 1) (length m.code) ≡ false → ⊥

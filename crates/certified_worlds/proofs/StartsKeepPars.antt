@@ -1,8 +1,10 @@
 -- A later start of a PAR leaves what its opener goes on with, and the branch that is started is one of its members.
 use Rattle.std.proofs.Common.{◌≡◌, ◌≢◌, ℕ, ◌+◌, true, inl, inr, ℤ, pos, List, []}
 use Rattle.std.proofs.Common.{◌∷◌, ◌++◌, ◌+ℤ◌, length, Option, Some, refl, sym, ap, ◌∙◌, subst, arith}
-use Rattle.std.proofs.lemmas.Bool.{cases_lt}
+use Rattle.std.proofs.lemmas.Bool.{cases_lt, or_cases, or_left, or_right}
 use Rattle.std.specs.Prelude.{slice_get, ◌==◌, ◌%◌, ◌^◌}
+use Rattle.small_laws.proofs.Options.{same_some}
+use Rattle.small_laws.proofs.Comparisons.{eqb-self}
 use Rattle.module_format.specs.Contents.{Contents, Par, Branch}
 use Rattle.module_format.specs.Keeping as formats
 use Rattle.certificate.specs.Branches.{numbered_branch}
@@ -19,10 +21,7 @@ use Rattle.machine_state.specs.Ownership.{AtPlace}
 use Rattle.machine_state.specs.StartPlans.{later_plan}
 use Rattle.machine_state.specs.Waiting.{is_member}
 use Rattle.machine_state.specs.World.{Join}
-use Rattle.machine_state.proofs.Claims.{only_one}
 use Rattle.machine_state.proofs.FoundContexts.{branches_are_contexts}
-use Rattle.machine_state.proofs.Shares.{number_itself}
-use Rattle.machine_state.proofs.SpanLaws.{or_true, or_left, or_right}
 use Rattle.states.specs.declared.known.Mode.TheVariants.{Starting}
 use Rattle.rulings.specs.Meaning.{Layout, Activation, HasFrame, words_in}
 use Rattle.rulings.specs.Regions.{scope_of, Keeps}
@@ -44,14 +43,14 @@ use Rattle.certified_worlds.proofs.BehindKeeps.{behind_keeps}
 -- a member stays one when others are added
 pub member_before : (members more : List ℕ) (p : ℕ) → is_member members p ≡ true → is_member (members ++ more) p ≡ true
 member_before [] more p h = absurd (cc)
-member_before (q ∷ qs) more p h = elim (or_true (q == p) (is_member qs p) h) [
+member_before (q ∷ qs) more p h = elim (or_cases (q == p) (is_member qs p) h) [
   | inl here ↦ or_left _ _ here
   | inr there ↦ or_right (q == p) _ (member_before qs more p there)
 ]
 
 -- the last one is a member
 pub member_last : (members : List ℕ) (p : ℕ) → is_member (members ++ p ∷ []) p ≡ true
-member_last [] p = or_left _ _ (number_itself p)
+member_last [] p = or_left _ _ (eqb-self p)
 member_last (q ∷ qs) p = or_right (q == p) _ (member_last qs p)
 
 -- ---- the join after the start
@@ -72,7 +71,7 @@ pub is_one_more : (m : Contents) (j : Join) (n : ℕ) (found : Found) (new : ℕ
 is_one_more m j n found new at row = record {
   row = refl;
   base = refl;
-  block = ap (λ (par : Par). frame_address j.base par.block) (only_one (slice_get m.pars j.row) found.par at.par row
+  block = ap (λ (par : Par). frame_address j.base par.block) (same_some (slice_get m.pars j.row) found.par at.par row
       at.row) ∙ sym at.block;
   parameters = refl;
   started = refl;
@@ -165,7 +164,7 @@ module _ {m : Contents} {own : Holding} {o : ℕ} {began : Began} {all : List Be
     (number : found.number ≡ j.started) where
   -- the branch is one of this PAR
   pub same_par : found.par ≡ after.par
-  same_par = only_one (slice_get m.pars j.row) found.par after.par
+  same_par = same_some (slice_get m.pars j.row) found.par after.par
       (subst (λ (n : ℕ). slice_get m.pars n ≡ Some found.par) row is.row) after.row
 
   abbrev new_memory : Memory
@@ -220,7 +219,7 @@ module _ {m : Contents} {own : Holding} {o : ℕ} {began : Began} {all : List Be
           | inr low ↦
               let same : found.number ≡ out.number = omega (arith, unstarted, low, number) in
               inr (subst (λ (b : Branch). HasMember m o every after.par next b)
-              (only_one (slice_get after.par.branches out.number) found.branch out.branch
+              (same_some (slice_get after.par.branches out.number) found.branch out.branch
               (subst (λ (n : ℕ). slice_get after.par.branches n ≡ Some found.branch) same here_now) out.here)
               is_member_now)
         ]

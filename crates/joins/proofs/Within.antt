@@ -5,11 +5,12 @@ use Rattle.std.proofs.lemmas.Bool.{leb-true, le-leb, lt-ltb, and_parts, and_from
 use Rattle.std.proofs.lemmas.Bool.{true_from_ne_false, false_from_ne_true, cases_eq, eqb-true}
 use Rattle.std.specs.Prelude.{nat_abs, nat_lt, ◌==◌}
 use Rattle.std.specs.List.{list_any, list_all}
+use Rattle.small_laws.proofs.Connectives.{same_tests}
 use Rattle.machine_state.specs.declared.holding.Span.{Span}
 use Rattle.machine_state.specs.Covering.{covered}
 use Rattle.machine_state.specs.Spans.{Stretch, runs, lies_in, stretches_over, all_places, is_within}
 use Rattle.machine_state.proofs.NormalSpans.{is_runs}
-use Rattle.machine_state.proofs.SpanLaws.{same_test, runs_cover_the_test}
+use Rattle.machine_state.proofs.SpanLaws.{runs_cover_the_test}
 
 -- ---- places one by one
 
@@ -133,7 +134,7 @@ module _ (n : ℕ) (test : ℕ → Bool) where
 
   pub all_within : (stretches : List Stretch) (b : Bool) → list_all (lies_in n) stretches ≡ true
       → b ≡ (length (missing stretches) == 0) → b ≡ list_all (is_within n test) stretches
-  all_within stretches b lie e = e ∙ same_test _ _
+  all_within stretches b lie e = e ∙ same_tests _ _
       (λ h. each_within stretches lie (nothing_left stretches (empty (missing stretches) h)))
       (λ h. ap (λ (l : List Span). length l == 0) (nothing_missing stretches h))
     where

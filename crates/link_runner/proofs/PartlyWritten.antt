@@ -6,8 +6,7 @@ use Rattle.std.specs.Io.KnownBytes.{Appends}
 use Rattle.std.proofs.KnownBytes.{Appends-trans}
 use Rattle.std.proofs.Math.Seq.{take-add}
 use Rattle.std.proofs.lemmas.List.{length-drop, take_rest}
-use Rattle.std.proofs.lemmas.Bool.{lt-ltb}
-use Rattle.module_format.proofs.FieldLaws.{eqb-differ}
+use Rattle.std.proofs.lemmas.Bool.{lt-ltb, ne_eqb}
 use Rattle.link_runner.specs.Devices.{took_none}
 use Rattle.link_runner.specs.Writers.{IsPart}
 
@@ -60,7 +59,7 @@ some_works : (count : ℕ) (bytes : List ℕ) (was is : Bool) → count ≢ 0 �
     → is ≡ (was || took_none count bytes) → is ≡ false
 some_works count bytes was is some calm flag =
     flag ∙ (ap (λ (b : Bool). b || took_none count bytes) calm
-    ∙ ap (λ (b : Bool). b && nat_lt 0 (length bytes)) (eqb-differ count 0 some))
+    ∙ ap (λ (b : Bool). b && nat_lt 0 (length bytes)) (ne_eqb count 0 some))
 
 module _ (a b c : Option (List ℕ)) (was is : Bool) (message : List ℕ) (n count : ℕ) (begun : IsBegun a b was message n)
     (below : n < length message)

@@ -2,9 +2,9 @@
 use Rattle.std.proofs.Common.{◌≡◌, ℤ, pos, ◌≤ℤ◌, ◌&&◌, Bool, true, false, cond, if◌then◌else◌, Option, Some, None}
 use Rattle.std.proofs.Common.{refl, sym, ap, ◌∙◌}
 use Rattle.std.specs.Prelude.{int_le}
+use Rattle.small_laws.proofs.Comparisons.{le-int_le}
 use std.Path.{fun_ext}
 use Rattle.word_arithmetic.specs.Range.{Ends, range_between, shift_right_range, left_by}
-use Rattle.word_arithmetic.proofs.EndsLaws.{le_test}
 use Rattle.module_format.specs.Rows.{Fact}
 use Rattle.module_format.specs.declared.fact.Fact.TheVariants.{Unknown, Number, Pointer, CodeAddress, Loop}
 use Rattle.module_format.specs.declared.fact.Fact.TheVariants.{ReturnAddress}
@@ -97,5 +97,5 @@ unfolding shift_range
 shift-right-is op r s t is low high e =
     ap Some e
     ∙ sym (ap (λ (b : Bool). if b then Some (shift_right_range r) else None)
-    (ap (λ (b : Bool). b && int_le s.hi (pos 31)) (le_test (pos 0) s.lo low) ∙ le_test s.hi (pos 31) high))
+    (ap (λ (b : Bool). b && int_le s.hi (pos 31)) (le-int_le (pos 0) s.lo low) ∙ le-int_le s.hi (pos 31) high))
     ∙ ap (λ (o : Shift). shift_range o r s) (sym is)

@@ -8,6 +8,8 @@ use Rattle.std.proofs.lemmas.Bool.Decides.{leb_tells}
 use Rattle.std.specs.Prelude.{int_le, nat_abs, unsigned_abs}
 use Rattle.std.specs.Option.{option_map}
 use Rattle.std.specs.Int.{w32, cast_unsigned, cast_signed}
+use Rattle.std.proofs.lemmas.Option.{cond_some}
+use Rattle.small_laws.proofs.Comparisons.{le-int_le}
 use Rattle.word_arithmetic.specs.declared.binary.Binary.{Binary as BinaryOperation}
 use Rattle.word_arithmetic.specs.declared.unary.Unary.{Unary as UnaryOperation}
 use Rattle.word_arithmetic.specs.declared.long.LongResult.{LongResult}
@@ -17,8 +19,7 @@ use Rattle.word_arithmetic.specs.Range.{Ends, InRange, IsRange, IsWordIn, HoldsW
 use Rattle.word_arithmetic.specs.Range.{shift_right_range}
 use Rattle.word_arithmetic.specs.Binary.{computed, result_range}
 use Rattle.word_arithmetic.specs.Unary.{unary_computed, unary_result_range}
-use Rattle.word_arithmetic.proofs.EndsLaws.{words_in_order_are_ranges, members_lie_between, member_fits, le_test}
-use Rattle.word_arithmetic.proofs.WordLaws.{some_out}
+use Rattle.word_arithmetic.proofs.EndsLaws.{words_in_order_are_ranges, members_lie_between, member_fits}
 use Rattle.word_arithmetic.proofs.ModularLaws.{in_full}
 use Rattle.word_arithmetic.proofs.BitLaws.{bits_below, wrapped_fits, cast_fits, shift_left_holds, shift_right_holds}
 use Rattle.word_arithmetic.proofs.BinaryLaws.{binary_holds}
@@ -171,8 +172,8 @@ counts_pass s y e n =
     let from = n.from_lo in
     let to = n.to_hi in (
       low,
-      ap (λ (b : Bool). b && int_le y (pos 31)) (le_test (pos 0) y (omega (arith, ints)))
-          ∙ le_test y (pos 31) (omega (arith, ints)),
+      ap (λ (b : Bool). b && int_le y (pos 31)) (le-int_le (pos 0) y (omega (arith, ints)))
+          ∙ le-int_le y (pos 31) (omega (arith, ints)),
     )
 
 in_words : (op : Shift) (r t : Ends) (x y : ℤ) → IsRange r → InRange r x
@@ -189,12 +190,12 @@ pub shift_holds : (op : Shift) (r s t : Ends) → IsRange r → IsRange s → sh
     → HoldsWords (shift_computed op) r s t
 unfolding shift_range
 shift_holds shifts.Left r s t p q h x y m n =
-    let so = some_out (are_shift_counts s) (shift_left_range r s) t h in
+    let so = cond_some (are_shift_counts s) (shift_left_range r s) t h in
     let pass = counts_pass s y so.0 n in
     in_words shifts.Left r t x y p m pass.1
     (subst (λ (e : Ends). InRange e (shifted_left x (unsigned_abs y))) so.1 (shift_left_holds r s p pass.0 x y m n))
 shift_holds shifts.Right r s t p q h x y m n =
-    let so = some_out (are_shift_counts s) (shift_right_range r) t h in
+    let so = cond_some (are_shift_counts s) (shift_right_range r) t h in
     let pass = counts_pass s y so.0 n in
     in_words shifts.Right r t x y p m pass.1
     (subst (λ (e : Ends). InRange e (shifted_right x (unsigned_abs y))) so.1 (shift_right_holds r s p x y m n))

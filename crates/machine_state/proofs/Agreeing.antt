@@ -1,7 +1,7 @@
 -- Memories that agree on what may be read still do after any step.
 use Rattle.std.proofs.Common.{◌≡◌, ℕ, zero, suc, ◌+◌, ◌<◌, Bool, true, inl, inr, ℤ, List, []}
 use Rattle.std.proofs.Common.{◌∷◌, length, Option, None, refl, sym, ◌∙◌, arith}
-use Rattle.std.proofs.lemmas.Bool.{cases_lt, cases_eq}
+use Rattle.std.proofs.lemmas.Bool.{cases_lt, cases_eq, and_parts}
 use Rattle.std.proofs.lemmas.List.{get_or_past}
 use Rattle.std.specs.Option.{option_map}
 use Rattle.machine_state.specs.declared.fault.FaultKind.{FaultKind}
@@ -17,7 +17,6 @@ use Rattle.machine_state.specs.Exchanges.{bytes_at}
 use Rattle.machine_state.specs.Joins.{without_words}
 use Rattle.machine_state.specs.Seeing.{Agree}
 use Rattle.machine_state.proofs.Reading.{length-with_byte, byte_at-with_byte, byte_at-with_byte_other, word_at_same}
-use Rattle.machine_state.proofs.Combining.{and_true}
 use Rattle.machine_state.proofs.EveryInstruction.{Wants, here}
 use Rattle.machine_state.proofs.Writing.{all_at}
 
@@ -110,9 +109,9 @@ module _ (seen : ℕ → Bool) where
       → Agree seen m n → may_read_word h place ≡ true → word_at m place ≡ word_at n place
   unfolding may_read_word
   word_same h m n place readable a own =
-      let p = and_true _ _ own in
-      let q = and_true _ _ p.0 in
-      let t = and_true _ _ q.0 in
+      let p = and_parts _ _ own in
+      let q = and_parts _ _ p.0 in
+      let t = and_parts _ _ q.0 in
       let at : (x : ℕ) → may_read h x ≡ true → byte_at m x ≡ byte_at n x = λ x e. sym (a.same x (readable x e)) in
       word_at_same m n place (at _ t.0) (at _ t.1) (at _ q.1) (at _ p.1)
 

@@ -3,9 +3,8 @@ use Rattle.std.proofs.Common.{◌≡◌, Bool, true, false, ◌⊎◌, inl, inr,
 use Rattle.std.proofs.Common.{sym, ap, ◌∙◌, subst, arith, eqb-true, if◌then◌else◌}
 use Rattle.std.specs.Prelude.{◌==◌}
 use Rattle.std.specs.List.{list_any, list_all}
+use Rattle.std.proofs.lemmas.Bool.{and_parts, or_cases, or_left, or_right}
 use Rattle.machine_state.specs.Ownership.{IsAmong}
-use Rattle.machine_state.proofs.Combining.{and_true}
-use Rattle.machine_state.proofs.SpanLaws.{or_true, or_left, or_right}
 
 pub among_more : {A : Type 0} (a : A) (xs ys : List A) → IsAmong a (xs ++ ys) → IsAmong a xs ⊎ IsAmong a ys
 among_more a [] ys h = inr h
@@ -27,8 +26,8 @@ among_left a (x ∷ xs) ys (inr there) = inr (among_left a xs ys there)
 pub all_among : {A : Type 0} (test : A → Bool) (xs : List A) (a : A) → list_all test xs ≡ true → IsAmong a xs
     → test a ≡ true
 all_among test [] a all h = absurd h
-all_among test (x ∷ xs) a all (inl here) = subst (λ y. test y ≡ true) here (and_true _ _ all).0
-all_among test (x ∷ xs) a all (inr there) = all_among test xs a (and_true _ _ all).1 there
+all_among test (x ∷ xs) a all (inl here) = subst (λ y. test y ≡ true) here (and_parts _ _ all).0
+all_among test (x ∷ xs) a all (inr there) = all_among test xs a (and_parts _ _ all).1 there
 
 pub any_among : {A : Type 0} (test : A → Bool) (xs : List A) (a : A) → IsAmong a xs → test a ≡ true
     → list_any test xs ≡ true
@@ -45,9 +44,9 @@ mapped_among f (x ∷ xs) a (inr there) = inr (mapped_among f xs a there)
 pub any_all : {A : Type 0} (f g : A → Bool) (xs : List A) → list_any f xs ≡ true → list_all g xs ≡ true
     → (x : A) × (f x ≡ true) × (g x ≡ true)
 any_all f g [] some all = absurd (cc)
-any_all f g (x ∷ xs) some all = elim (or_true (f x) (list_any f xs) some) [
-  | inl here ↦ (x, here, (and_true _ _ all).0)
-  | inr there ↦ any_all f g xs there (and_true _ _ all).1
+any_all f g (x ∷ xs) some all = elim (or_cases (f x) (list_any f xs) some) [
+  | inl here ↦ (x, here, (and_parts _ _ all).0)
+  | inr there ↦ any_all f g xs there (and_parts _ _ all).1
 ]
 
 pub filtered : {A : Type 0} (test : A → Bool) (xs : List A) (a : A) → IsAmong a (filter test xs)

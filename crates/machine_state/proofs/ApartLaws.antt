@@ -2,10 +2,11 @@
 use Rattle.std.proofs.Common.{◌≡◌, ◌≢◌, ℕ, zero, suc, ◌+◌, ◌*◌, ◌/◌, ◌%◌, ◌^◌, ◌<◌, ◌≤◌, Bool, true, false, inl, inr}
 use Rattle.std.proofs.Common.{if◌then◌else◌, ℤ, List, [], ◌∷◌, ◌++◌, length, Option, Some, None, is_some, refl, sym}
 use Rattle.std.proofs.Common.{ap, ◌∙◌, subst, slice_get, arith, eqb-true, replicate}
-use Rattle.std.proofs.lemmas.Bool.{cases_eq, leb-true, ltb-true}
+use Rattle.std.proofs.lemmas.Bool.{cases_eq, leb-true, ltb-true, and_parts, or_cases, false_from_ne_true}
 use Rattle.std.proofs.lemmas.List.{length-set, length-replicate}
 use Rattle.std.proofs.lemmas.Option.{slice_get_within}
 use Rattle.std.specs.Prelude.{◌==◌, nat_lt, filter, not, slice_set}
+use Rattle.small_laws.proofs.Options.{same_some, none_or_some}
 use std.Path.{fun_ext}
 use Rattle.module_format.specs.declared.rows.Direction.TheVariants.{In, Out}
 use Rattle.module_format.specs.Order.{InOrder}
@@ -55,8 +56,6 @@ use Rattle.machine_state.proofs.MovesLeaveAlone.{wake_only, rouse_only, on_task_
 use Rattle.machine_state.proofs.MovesLeaveAlone.{roles_of_equal}
 use Rattle.machine_state.proofs.Changes as change
 use Rattle.machine_state.proofs.Changes.{Roused, rouses}
-use Rattle.machine_state.proofs.Combining.{and_true}
-use Rattle.machine_state.proofs.SpanLaws.{or_true}
 use Rattle.machine_state.proofs.EveryInstruction.{Wants, each_step}
 use Rattle.machine_state.proofs.Starting.{first_tests, later_tests}
 use Rattle.machine_state.specs.Endings as turns
@@ -68,7 +67,7 @@ use Rattle.machine_state.specs.Ownership.{HoldersAreInOrder, IsAmong, Claim, to_
 use Rattle.machine_state.specs.Ownership.{owner_of, Under, child, deeper, Holders, KeepsPlace, in_block, in_channel}
 use Rattle.machine_state.specs.Ownership.{HoldersIn}
 use Rattle.machine_state.specs.Roles.{own_in, opener_in, opened_in}
-use Rattle.machine_state.proofs.Claims.{is_apart, nothing_claimed, only_one, not_true}
+use Rattle.machine_state.proofs.Claims.{is_apart, nothing_claimed}
 use Rattle.machine_state.proofs.Shares.{end_among}
 use Rattle.machine_state.proofs.EvenWords.{even_local}
 use Rattle.machine_state.proofs.Owners.{owner_same, with_channels_size, without_channels_size}
@@ -418,7 +417,7 @@ module _ (h : Here) (w : World) (there : slice_get w.tasks h.process ≡ Some h.
       let row = found_row h.contents target found is in
       let at = st.holders.places h.process j is_open in
       let number : found.row ≡ j.row = eqb-true found.row j.row same in
-      let par = only_one (slice_get h.contents.pars j.row) found.par at.par
+      let par = same_some (slice_get h.contents.pars j.row) found.par at.par
       (subst (λ n. slice_get h.contents.pars n ≡ Some found.par) number row) at.row in
       starts_stand plan found workspace l w r.0 r.1 refl refl st.size even.0 even.1
       (branch_starts h.contents w.roles w.channels st.holders h.process r.0 r.1 j r.2 plan found (length w.memory)
@@ -629,20 +628,17 @@ module _ (m : Contents) (small : IsSmall m) where
   no_owner (suc n) zero = refl
   no_owner (suc n) (suc k) = no_owner n k
 
-  never : {A : Type 0} (o : Option A) (x : A) → o ≡ None → o ≡ Some x → ⊥
-  never {A} o x a b = let e : None ≡ Some x = sym a ∙ b in cc
-
   under_nobody : (q p : ℕ) → Under (opener_in roots) q p → ⊥
-  under_nobody q p (child a is) = never (opener_in roots a) q (no_opener a) is
-  under_nobody q p (deeper a o is above) = never (opener_in roots a) o (no_opener a) is
+  under_nobody q p (child a is) = none_or_some (opener_in roots a) q (no_opener a) is
+  under_nobody q p (deeper a o is above) = none_or_some (opener_in roots a) o (no_opener a) is
 
   keeps_nothing : (p x : ℕ) → KeepsPlace (opened_in roots) (owner_in none) p x → ⊥
-  keeps_nothing p x (in_block j is inside) = never (opened_in roots p) j (not_open p) is
-  keeps_nothing p x (in_channel owned) = never (owner_in none (x / 4)) p (no_owner m.data_words (x / 4)) owned
+  keeps_nothing p x (in_block j is inside) = none_or_some (opened_in roots p) j (not_open p) is
+  keeps_nothing p x (in_channel owned) = none_or_some (owner_in none (x / 4)) p (no_owner m.data_words (x / 4)) owned
 
   root_inside : (p x : ℕ) → claims (own_in roots p) (to_write x) ≡ true → x < 4 * m.data_words
-  root_inside zero x own = elim (or_true _ false own) [
-    | inl covered ↦ ltb-true x (4 * m.data_words) (and_true _ _ covered).1
+  root_inside zero x own = elim (or_cases _ false own) [
+    | inl covered ↦ ltb-true x (4 * m.data_words) (and_parts _ _ covered).1
     | inr other ↦ absurd (cc)
   ]
   root_inside (suc p) x own = absurd (nothing_claimed (to_write x) own)
@@ -665,19 +661,19 @@ module _ (m : Contents) (small : IsSmall m) where
   loaded_stands : Stands m (loaded m)
   loaded_stands = record {
     holders = record {
-      rises = λ p o is. absurd (never (opener_in roots p) o (no_opener p) is);
-      counted = λ p o c is claimed. absurd (never (opener_in roots p) o (no_opener p) is);
+      rises = λ p o is. absurd (none_or_some (opener_in roots p) o (no_opener p) is);
+      counted = λ p o c is claimed. absurd (none_or_some (opener_in roots p) o (no_opener p) is);
       inside = root_inside;
       ends = λ p e held. inl (root_ends p e held);
-      within = λ p j c is rest. absurd (never (opened_in roots p) j (not_open p) is);
+      within = λ p j c is rest. absurd (none_or_some (opened_in roots p) j (not_open p) is);
       kept = λ p x keeps. absurd (keeps_nothing p x keeps);
       hidden = λ p j x is read keeps. keeps_nothing p x keeps;
-      both = λ p j x is inside owned. never (opened_in roots p) j (not_open p) is;
-      opens = λ k p owned. absurd (never (owner_in none k) p (no_owner m.data_words k) owned);
+      both = λ p j x is inside owned. none_or_some (opened_in roots p) j (not_open p) is;
+      opens = λ k p owned. absurd (none_or_some (owner_in none k) p (no_owner m.data_words k) owned);
       apart = λ p q differ up down c x y. root_alone p q c _ differ x y;
       below = λ q p j c above is x y. under_nobody q p above;
       below_kept = λ q p x above read keeps. under_nobody q p above;
-      places = λ p j is. absurd (never (opened_in roots p) j (not_open p) is);
+      places = λ p j is. absurd (none_or_some (opened_in roots p) j (not_open p) is);
     };
     size = length-replicate m.data_words None;
     even = root_even;
@@ -713,7 +709,7 @@ module _ (m : Contents) (roles : List Role) (channels : List (Option Channel)) (
 
   in_words : (j : Join) (x : ℕ) → covers (block_words j) x ≡ true → (place_of j.block ≤ x) × (x < place_of j.block + 8)
   in_words j x covered =
-      let both = and_true _ _ covered in (
+      let both = and_parts _ _ covered in (
         leb-true (place_of j.block) x both.0,
         ltb-true x
             (place_of j.block + 8) both.1,
@@ -726,7 +722,7 @@ module _ (m : Contents) (roles : List Role) (channels : List (Option Channel)) (
   owned : (k : ℕ) (c : Channel) (x : ℕ) → slice_get channels k ≡ Some (Some c) → covers (data_word k) x ≡ true
       → owner_in channels (x / 4) ≡ Some c.opener
   owned k c x here covered =
-      let both = and_true _ _ covered in
+      let both = and_parts _ _ covered in
       let low = leb-true (4 * k) x both.0 in
       let high = ltb-true x (4 * k + 4) both.1 in
       let cell : k ≡ x / 4 = omega (arith, low, high) in
@@ -737,18 +733,20 @@ module _ (m : Contents) (roles : List Role) (channels : List (Option Channel)) (
     processes = λ p q r s differ a b. is_apart (held r) (held s) (λ c x y. now_apart t p q differ c
         (subst (λ (h : Holding). claims h c ≡ true) (sym (held_is p r a)) x)
         (subst (λ (h : Holding). claims h (clash c) ≡ true) (sym (held_is q s b)) y));
-    blocks = λ p q r s j a is b x covered. not_true (may_read (held s) x) (λ read. kept_is_free t p q x
+    blocks = λ p q r s j a is b x covered. false_from_ne_true (may_read (held s) x) (λ read. kept_is_free t p q x
         (keeps_block p r j x a is covered) (subst (λ (h : Holding). may_read h x ≡ true) (sym (held_is q s b)) read));
-    channel_words = λ k q c s a b x covered. not_true (may_read (held s) x) (λ read. kept_is_free t c.opener q x
-        (in_channel (owned k c x a covered)) (subst (λ (h : Holding). may_read h x ≡ true) (sym (held_is q s b)) read));
-    blocks_once = λ p q r s i j differ a b is_i is_j x covered. not_true (covers (block_words j) x)
+    channel_words = λ k q c s a b x covered. false_from_ne_true (may_read (held s) x)
+        (λ read. kept_is_free t c.opener q x (in_channel (owned k c x a covered))
+        (subst (λ (h : Holding). may_read h x ≡ true) (sym (held_is q s b)) read));
+    blocks_once = λ p q r s i j differ a b is_i is_j x covered. false_from_ne_true (covers (block_words j) x)
         (λ also. kept_once t p q x differ (keeps_block p r i x a is_i covered) (keeps_block q s j x b is_j also));
-    both_once = λ p k r j c a is b x covered. not_true (covers (data_word k) x) (λ also. elim (cases_eq p c.opener) [
-      | inl e ↦ t.both p j x (opened_is m roles channels t p r a ∙ is) (in_words j x covered)
-          (subst (λ n. owner_in channels (x / 4) ≡ Some n) (sym e) (owned k c x b also))
-      | inr differ ↦
-          kept_once t p c.opener x differ (keeps_block p r j x a is covered) (in_channel (owned k c x b also))
-    ]);
+    both_once = λ p k r j c a is b x covered. false_from_ne_true (covers (data_word k) x)
+        (λ also. elim (cases_eq p c.opener) [
+          | inl e ↦ t.both p j x (opened_is m roles channels t p r a ∙ is) (in_words j x covered)
+              (subst (λ n. owner_in channels (x / 4) ≡ Some n) (sym e) (owned k c x b also))
+          | inr differ ↦
+              kept_once t p c.opener x differ (keeps_block p r j x a is covered) (in_channel (owned k c x b also))
+        ]);
   }
 
 pub holdings_stay_apart : HoldingsStayApart

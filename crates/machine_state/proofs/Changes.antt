@@ -4,6 +4,8 @@ use Rattle.std.proofs.Common.{◌≡◌, ◌≢◌, ℕ, ◌+◌, ◌<◌, Bool,
 use Rattle.std.proofs.Common.{◌++◌, length, Option, Some, None, is_some, refl, sym, ap, ◌∙◌, subst, slice_get, arith}
 use Rattle.std.proofs.Common.{eqb-true}
 use Rattle.std.specs.Prelude.{◌%◌, ◌^◌, ◌==◌, filter, not, slice_set}
+use Rattle.std.proofs.lemmas.Bool.{or_cases}
+use Rattle.small_laws.proofs.Options.{same_some}
 use Rattle.module_format.specs.Contents.{Contents, Par}
 use Rattle.module_format.specs.declared.rows.Direction.{Direction}
 use Rattle.module_format.specs.declared.rows.Direction.TheVariants.{In, Out}
@@ -40,7 +42,6 @@ use Rattle.machine_state.specs.Waiting.{IsOver, is_member, AllReady, line_of, Wa
 use Rattle.machine_state.specs.EnabledLaws.{Enables, Disables}
 use Rattle.prefix_decoder.specs.Functions.{nibble}
 use Rattle.prefix_decoder.specs.Operand.{with_nibble}
-use Rattle.machine_state.proofs.SpanLaws.{or_true}
 use Rattle.machine_state.proofs.Lines.{got_set, got_other}
 use Rattle.machine_state.proofs.MovesLeaveAlone.{OnlyRoles, wake_only, rouse_only, on_task_only, on_task_is, chooses}
 use Rattle.machine_state.proofs.MovesLeaveAlone.{on_role_only, on_role_is, tasks_of_equal, roles_of_equal, without}
@@ -48,7 +49,7 @@ use Rattle.machine_state.proofs.MovesLeaveAlone.{is_last}
 use Rattle.machine_state.proofs.MovesLeaveAlone.{with_opened, member_gone, joined_either}
 use Rattle.machine_state.proofs.Among.{filter_keeps, none_among}
 use Rattle.machine_state.specs.Ownership.{IsAmong}
-use Rattle.machine_state.proofs.Claims.{only_one, not_some}
+use Rattle.machine_state.proofs.Claims.{not_some}
 use Rattle.machine_state.proofs.EveryInstruction.{Wants, OfAsked, wants_asked, each_step}
 use Rattle.machine_state.proofs.Modes.{IsOutside, Fits, steps_fit}
 use Rattle.machine_state.specs.Endings as turns
@@ -86,7 +87,7 @@ channel_there w address c is = on (slice_get w.channels (cell_of address)) is
 
 member_among : (members : List ℕ) (p : ℕ) → is_member members p ≡ true → IsAmong p members
 member_among [] p member = absurd (cc)
-member_among (q ∷ qs) p member = elim (or_true (q == p) _ member) [
+member_among (q ∷ qs) p member = elim (or_cases (q == p) _ member) [
   | inl here ↦ inl (eqb-true q p here)
   | inr there ↦ inr (member_among qs p there)
 ]
@@ -100,7 +101,7 @@ running_is_ready h w runs there keeps = on w.queue.running runs keeps.line.ready
     on None is all = absurd (cc)
     on (Some p) is all =
         let e : p ≡ h.process = cc in
-        let same = only_one (slice_get w.tasks h.process) all.0.task h.from
+        let same = same_some (slice_get w.tasks h.process) all.0.task h.from
         (subst (λ n. slice_get w.tasks n ≡ Some all.0.task) e all.0.here) there in
         ap (λ (t : Task). t.condition) (sym same) ∙ all.0.ready
 
@@ -312,8 +313,8 @@ rouses (Some q) v = on (slice_get v.tasks q) refl
     deaf : (t : Task) → slice_get v.tasks q ≡ Some t → (Enables t.mode → ⊥) → (t.condition ≡ Alternating → ⊥)
         → Roused v.tasks (Some q) v.tasks
     deaf t here quiet calm = nobody (λ p x is at may.
-        let e = only_one (Some q) q p refl is in
-        let same = only_one (slice_get v.tasks p) t x (subst (λ n. slice_get v.tasks n ≡ Some t) e here) at in
+        let e = same_some (Some q) q p refl is in
+        let same = same_some (slice_get v.tasks p) t x (subst (λ n. slice_get v.tasks n ≡ Some t) e here) at in
         elim (subst (λ (y : Task). Enables y.mode ⊎ (y.condition ≡ Alternating)) (sym same) may) [
           | inl mode ↦ quiet mode
           | inr waits ↦ calm waits
@@ -347,7 +348,7 @@ rouses (Some q) v = on (slice_get v.tasks q) refl
       | Some task ↦ rouse_task q task.mode task.condition v
     ]).tasks
     on None none = nobody (λ p x is at may.
-        not_some x (sym none ∙ (ap (λ n. slice_get v.tasks n) (only_one (Some q) q p refl is) ∙ at)))
+        not_some x (sym none ∙ (ap (λ n. slice_get v.tasks n) (same_some (Some q) q p refl is) ∙ at)))
     on (Some t) here = on_condition t here t.condition refl
 
 -- ---- an instruction of the running process
@@ -374,7 +375,7 @@ module _ (h : Here) (w : World) (runs : w.queue.running ≡ Some h.process)
         task = t;
         here = here;
         waits = is;
-        differ = λ e. waits (sym is ∙ (ap (λ (x : Task). x.condition) (only_one (slice_get w.tasks other) t h.from here
+        differ = λ e. waits (sym is ∙ (ap (λ (x : Task). x.condition) (same_some (slice_get w.tasks other) t h.from here
             (subst (λ n. slice_get w.tasks n ≡ Some h.from) e there)) ∙ running_is_ready h w runs there keeps));
       }
 

@@ -3,6 +3,8 @@ use Rattle.std.proofs.Common.{◌≡◌, ◌≢◌, ℕ, zero, suc, ◌+◌, Boo
 use Rattle.std.proofs.Common.{◌∷◌, ◌++◌, Option, Some, None, is_some, refl, sym, ap, ◌∙◌, subst, slice_get}
 use Rattle.std.proofs.lemmas.Bool.{cases_eq}
 use Rattle.std.specs.Prelude.{◌==◌, replicate, slice_set}
+use Rattle.small_laws.proofs.Options.{same_some}
+use Rattle.small_laws.proofs.Lookups.{slice_get-append_left}
 use Rattle.module_format.specs.Contents.{Contents}
 use Rattle.module_format.specs.declared.rows.ChannelRow.{ChannelRow}
 use Rattle.machine_state.specs.declared.process.Channel.{Channel}
@@ -23,8 +25,8 @@ use Rattle.machine_state.specs.Joins.{closed_task, with_channels, without_channe
 use Rattle.machine_state.specs.BranchShares.{frame_address}
 use Rattle.machine_state.specs.Happens.{world_after}
 use Rattle.machine_state.specs.ChannelLaws.{WaitsAt, HaveTheirWaiters, ChannelsHaveTheirWaiters}
-use Rattle.machine_state.proofs.Lines.{got_set, got_other, got_before, set_either}
-use Rattle.machine_state.proofs.Claims.{only_one, not_some}
+use Rattle.machine_state.proofs.Lines.{got_set, got_other, set_either}
+use Rattle.machine_state.proofs.Claims.{not_some}
 use Rattle.machine_state.specs.Endings.{plan_of}
 use Rattle.machine_state.proofs.Waiting.{WaitsIn, reached}
 use Rattle.machine_state.proofs.Changes as change
@@ -114,7 +116,7 @@ pub waits_still : (tasks : List Task) (q : ℕ) (t u : Task) → slice_get tasks
     → WaitsAt (slice_set tasks q u) p k
 waits_still tasks q t u here steady p k w = elim (cases_eq q p) [
   | inl e ↦
-      let same = only_one (slice_get tasks p) t w.task (subst (λ n. slice_get tasks n ≡ Some t) e here) w.here in
+      let same = same_some (slice_get tasks p) t w.task (subst (λ n. slice_get tasks n ≡ Some t) e here) w.here in
       let was = subst (λ (x : Task). (x.condition ≡ Sending w.exchange) ⊎ (x.condition ≡ Receiving w.exchange))
       (sym same) w.waits in
       elim steady [
@@ -142,7 +144,7 @@ roused_waits tasks later o (change.who_waits q t here waits) p k w =
 -- a process waits on one channel at most
 pub waits_once : (tasks : List Task) (p k n : ℕ) → WaitsAt tasks p k → WaitsAt tasks p n → k ≡ n
 waits_once tasks p k n a b =
-    let same = only_one (slice_get tasks p) a.task b.task a.here b.here in
+    let same = same_some (slice_get tasks p) a.task b.task a.here b.here in
     sym a.at ∙ (ap (λ (e : Exchange). cell_of e.channel) (on a.waits
     (subst (λ (t : Task). (t.condition ≡ Sending b.exchange) ⊎ (t.condition ≡ Receiving b.exchange)) (sym same)
     b.waits)) ∙ b.at)
@@ -264,7 +266,7 @@ module _ (h : Here) (w : World) (runs : w.queue.running ≡ Some h.process)
           → WaitsAt (going h w r Starting h.from.condition ++ child ∷ []) p k
       before {p} {k} x = record {
         task = x.task;
-        here = got_before (going h w r Starting h.from.condition) (child ∷ []) p x.task x.here;
+        here = slice_get-append_left (going h w r Starting h.from.condition) (child ∷ []) p x.task x.here;
         exchange = x.exchange;
         waits = x.waits;
         at = x.at;

@@ -1,8 +1,8 @@
 -- Laws of what holdings claim.
-use Rattle.std.proofs.Common.{◌≡◌, ℕ, ◌≤◌, Bool, true, false, Option, Some, None, refl, sym, ◌∙◌}
+use Rattle.std.proofs.Common.{◌≡◌, ℕ, ◌≤◌, true, Some, None}
+use Rattle.std.proofs.lemmas.Bool.{or_left}
 use Rattle.machine_state.specs.Holding.{Holding, nothing, may_write, may_read, IsApart}
 use Rattle.machine_state.specs.Ownership.{Claim, to_write, to_read, to_use, claims, clash, NoClash}
-use Rattle.machine_state.proofs.SpanLaws.{or_left}
 
 pub is_apart : (g h : Holding) → NoClash g h → IsApart g h
 is_apart g h a = record { written = λ x. a (to_write x); read = λ x. a (to_read x); ends = λ e. a (to_use e) }
@@ -27,12 +27,5 @@ IsBehind size (to_write x) = ⊥
 IsBehind size (to_read x) = size ≤ x
 IsBehind size (to_use e) = ⊥
 
-pub only_one : {A : Type 0} (o : Option A) (x y : A) → o ≡ Some x → o ≡ Some y → x ≡ y
-only_one {A} o x y p q = let e : Some x ≡ Some y = sym p ∙ q in cc
-
 pub not_some : {A B : Type 0} (x : B) → None ≡ Some x → A
 not_some x e = absurd (cc)
-
-pub not_true : (b : Bool) → (b ≡ true → ⊥) → b ≡ false
-not_true true never = absurd (never refl)
-not_true false never = refl

@@ -2,7 +2,7 @@
 -- one instruction in two memories. A law of one outcome is a relation that ignores the other.
 use Rattle.std.proofs.Common.{◌≡◌, ◌≤◌, ◌%◌, ℕ, ℤ, pos, negsuc, Bool, true, false, ◌&&◌, cond, Option, Some, None, refl}
 use Rattle.std.proofs.Common.{subst, ltb, int_le}
-use Rattle.std.proofs.lemmas.Bool.{leb-true}
+use Rattle.std.proofs.lemmas.Bool.{leb-true, and_parts}
 use Rattle.std.specs.Prelude.{nat_abs, ◌==◌}
 use Rattle.module_format.specs.declared.rows.Direction.{Direction}
 use Rattle.machine_state.specs.declared.fault.FaultKind.{FaultKind}
@@ -16,16 +16,11 @@ use Rattle.machine_state.specs.Holding.{Holding, may_write, may_read, may_write_
 use Rattle.machine_state.specs.LocalStep as step
 use Rattle.machine_state.specs.Site.{Site, Local, Outcome, goes, jumps, lands, fails}
 
-pub and_true : (a b : Bool) → (a && b) ≡ true → (a ≡ true) × (b ≡ true)
-and_true true true h = (refl, refl)
-and_true true false h = absurd (cc)
-and_true false b h = absurd (cc)
-
 -- a count between two bounds
 pub counted_between : (least most : ℕ) (v : ℤ) → (int_le (pos least) v && int_le v (pos most)) ≡ true
     → (least ≤ nat_abs v) × (nat_abs v ≤ most)
 counted_between least most (pos n) h =
-    let both = and_true _ _ h in (leb-true least n both.0, leb-true n most both.1)
+    let both = and_parts _ _ h in (leb-true least n both.0, leb-true n most both.1)
 counted_between least most (negsuc n) h = absurd (cc)
 
 module _ (R : Outcome → Outcome → Type 0) (at_fault : (kind : FaultKind) → R (fails kind) (fails kind)) where

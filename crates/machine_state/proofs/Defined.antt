@@ -1,15 +1,14 @@
 -- Which bytes are defined once the words that scheduling takes are not.
 use Rattle.std.proofs.Common.{◌≡◌, ℕ, zero, suc, ◌+◌, ◌-◌, ◌<◌, ◌≤◌, ◌⊎◌, inl, inr, Bool, true, false, ◌&&◌, not}
 use Rattle.std.proofs.Common.{negsuc, None, is_some, length, refl, sym, ap, subst, ◌∙◌, arith}
-use Rattle.std.proofs.lemmas.Bool.{cases_eq, cases_lt, lt-ltb, ltb-true}
+use Rattle.std.proofs.lemmas.Bool.{cases_eq, cases_lt, lt-ltb, ltb-true, and_parts, and_from}
 use Rattle.std.proofs.lemmas.List.{get_or_past}
+use Rattle.small_laws.proofs.Connectives.{same_tests}
 use Rattle.machine_state.specs.Memory.{Memory, place_of, local_address, byte_at, with_byte, with_word}
 use Rattle.machine_state.specs.Spans.{all_places}
 use Rattle.machine_state.specs.LocalStep.{meet, is_beside_scheduling, without_scheduling_words}
-use Rattle.machine_state.proofs.Combining.{and_true}
 use Rattle.machine_state.proofs.Reading.{length-with_byte, byte_at-with_byte, byte_at-with_byte_other}
 use Rattle.machine_state.proofs.Reading.{byte_at-with_word_other}
-use Rattle.machine_state.proofs.SpanLaws.{both_true, same_test}
 use Rattle.machine_state.proofs.Writing.{kept_word, all_at}
 
 byte_gone : (m : Memory) (place : ℕ) → byte_at (with_byte m place None) place ≡ None
@@ -45,7 +44,7 @@ unfolding all_places
 all_from test place zero each = refl
 all_from test place (suc n) each =
     let here : place + 0 ≡ place = omega arith in
-    both_true _ _ (subst (λ (q : ℕ). test q ≡ true) here (each 0 (omega arith)))
+    and_from _ _ (subst (λ (q : ℕ). test q ≡ true) here (each 0 (omega arith)))
     (all_from test (place + 1) n (λ i inside. let next : place + suc i ≡ place + 1 + i = omega arith in
     subst (λ (q : ℕ). test q ≡ true) next (each (suc i) (omega arith))))
 
@@ -56,7 +55,7 @@ is_defined m q = is_some (byte_at m q)
 defined_beside : (m : Memory) (word place n : ℕ) → 1 ≤ n
     → all_places (is_defined (with_word m word None)) place n
     ≡ (all_places (is_defined m) place n && not (meet place n word 4))
-defined_beside m word place n some = same_test _ _ stays was
+defined_beside m word place n some = same_tests _ _ stays was
   where
     after : Memory
     after = with_word m word None
@@ -70,7 +69,7 @@ defined_beside m word place n some = same_test _ _ stays was
     apart : all_places (is_defined after) place n ≡ true → (b : Bool) → meet place n word 4 ≡ b → not b ≡ true
     apart all false is = refl
     apart all true is =
-        let both = and_true _ _ is in
+        let both = and_parts _ _ is in
         let a = ltb-true place (word + 4) both.0 in
         let b = ltb-true word (place + n) both.1 in
         elim (cases_lt word place) [
@@ -80,7 +79,7 @@ defined_beside m word place n some = same_test _ _ stays was
 
     stays : all_places (is_defined after) place n ≡ true
         → (all_places (is_defined m) place n && not (meet place n word 4)) ≡ true
-    stays all = both_true _ _ (all_from (is_defined m) place n (λ i inside.
+    stays all = and_from _ _ (all_from (is_defined m) place n (λ i inside.
         let there : is_some (byte_at after (place + i)) ≡ true = all_at (is_defined after) place n i all inside in
         sym (ap is_some (kept_word m word (place + i) there)) ∙ there)) (apart all (meet place n word 4) refl)
 
@@ -91,7 +90,7 @@ defined_beside m word place n some = same_test _ _ stays was
         | inr past ↦ inr past
         | inl within ↦ absurd (
             let met : meet place n word 4 ≡ true =
-            both_true _ _ (lt-ltb place (word + 4) (omega arith)) (lt-ltb word (place + n) (omega arith)) in
+            and_from _ _ (lt-ltb place (word + 4) (omega arith)) (lt-ltb word (place + n) (omega arith)) in
             let x : false ≡ true = sym (ap not met) ∙ none in cc)
       ]
     ]
@@ -99,7 +98,7 @@ defined_beside m word place n some = same_test _ _ stays was
     was : (all_places (is_defined m) place n && not (meet place n word 4)) ≡ true
         → all_places (is_defined after) place n ≡ true
     was h =
-        let both = and_true _ _ h in
+        let both = and_parts _ _ h in
         all_from (is_defined after) place n (λ i inside.
         ap is_some (byte_at-with_word_other m word (place + i) None (outside i inside both.1))
         ∙ all_at (is_defined m) place n i both.0 inside)

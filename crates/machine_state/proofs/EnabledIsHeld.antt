@@ -3,6 +3,7 @@ use Rattle.std.proofs.Common.{◌≡◌, ◌≢◌, ℕ, zero, suc, ◌<◌, ◌
 use Rattle.std.proofs.Common.{sym, ap, ◌∙◌, subst, slice_get, arith, replicate}
 use Rattle.std.proofs.lemmas.Bool.{cases_eq}
 use Rattle.std.specs.Prelude.{slice_set}
+use Rattle.small_laws.proofs.Options.{same_some}
 use Rattle.module_format.specs.Contents.{Contents}
 use Rattle.module_format.specs.declared.rows.Direction.TheVariants.{In}
 use Rattle.machine_state.specs.declared.event.Event.{Event}
@@ -27,7 +28,7 @@ use Rattle.machine_state.specs.EnabledLaws.{IsSending, WhoEnabledHolds}
 use Rattle.machine_state.specs.Happens.{world_after}
 use Rattle.machine_state.proofs.Lines.{set_either}
 use Rattle.machine_state.proofs.Waiting.{WaitsIn, reached, low_output}
-use Rattle.machine_state.proofs.Claims.{only_one, not_some}
+use Rattle.machine_state.proofs.Claims.{not_some}
 use Rattle.machine_state.specs.Ownership.{to_use, owner_of, IsWord}
 use Rattle.machine_state.proofs.EvenWords.{even_place}
 use Rattle.machine_state.proofs.Holders.{now_claims, outside_is_free}
@@ -92,7 +93,7 @@ module _ (h : Here) (w : World) (there : slice_get w.tasks h.process ≡ Some h.
       let x = alternates p has in
       elim (cases_eq h.process p) [
         | inl e ↦
-            let same = only_one (slice_get w.tasks p) x.task h.from x.here
+            let same = same_some (slice_get w.tasks p) x.task h.from x.here
             (subst (λ n. slice_get w.tasks n ≡ Some h.from) e there) in
             ap (λ (rs : List Role). holding_at rs p) (holds.itself (λ outside.
             not_outside h.from.mode h.from.condition outside
@@ -184,11 +185,11 @@ module _ (h : Here) (w : World) (there : slice_get w.tasks h.process ≡ Some h.
         address,
         refl,
         subst (λ n. has_end (holding_at w.roles n) (record { address = address; direction = In }) ≡ true)
-            (only_one (Some h.process) h.process p refl by) asks,
+            (same_some (Some h.process) h.process p refl by) asks,
       ))
   changed ts rs cs ls (change.enables_a_link r k link is asks here once) holds =
       input_goes holds k (record link { enabled = Some h.process })
-      (λ p by. inr (subst (λ n. HoldsInput w.roles n k) (only_one (Some h.process) h.process p refl by) asks))
+      (λ p by. inr (subst (λ n. HoldsInput w.roles n k) (same_some (Some h.process) h.process p refl by) asks))
   changed ts rs cs ls (change.disables_a_channel r mode address c is further at mine) holds =
       cell_goes holds (cell_of address) (record c { enabled = None }) (λ p by. not_some p by)
   changed ts rs cs ls (change.disables_a_link r mode k link is further here mine) holds =
@@ -301,7 +302,7 @@ pub not_receiving : (w : World) → AllAlternate w.tasks w.channels w.links.inpu
     → t.condition ≡ Receiving e → p ≢ q
 not_receiving w alternates p q has t e here receives same =
     let x = alternates p has in
-    let one = only_one (slice_get w.tasks p) x.task t x.here
+    let one = same_some (slice_get w.tasks p) x.task t x.here
     (subst (λ n. slice_get w.tasks n ≡ Some t) (sym same) here) in
     on x.alternates (ap (λ (y : Task). y.condition) one ∙ receives)
   where
@@ -344,7 +345,7 @@ module _ (m : Contents) (w : World) (keeps : WaitsIn w) (st : Stands m w) (apart
           clash q t e done there is word (at_input n link at waiting words end) =
               one_holds w apart p q (record { address = input_word k; direction = In }) (λ same.
               let y = alternates p (a_link k l here by) in
-              let one = only_one (slice_get w.tasks p) y.task t y.here
+              let one = same_some (slice_get w.tasks p) y.task t y.here
               (subst (λ n. slice_get w.tasks n ≡ Some t) (sym same) there) in
               not_on_link y.task.mode e done (subst (λ (c : Condition). Alternates y.task.mode c)
               (ap (λ (z : Task). z.condition) one ∙ is) y.alternates)) (held.at_links k l p here by)

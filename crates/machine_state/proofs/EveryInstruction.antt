@@ -3,6 +3,7 @@
 use Rattle.std.proofs.Common.{◌≡◌, ◌≤◌, ◌^◌, ◌-◌, ◌+◌, ◌%◌, ℕ, zero, suc, ℤ, pos, negsuc, Bool, true, false}
 use Rattle.std.proofs.Common.{cond, Option, Some, None, refl, ap, subst, int_lt, is_some}
 use Rattle.std.specs.Prelude.{⊤, ◌==◌, not}
+use Rattle.std.proofs.lemmas.Bool.{and_parts}
 use Rattle.prefix_decoder.specs.declared.function.Fun.{Fun}
 use Rattle.module_format.specs.declared.rows.Direction.{Direction}
 use Rattle.module_format.specs.declared.rows.Direction.TheVariants.{In, Out}
@@ -27,7 +28,6 @@ use Rattle.machine_state.specs.Site.{Site, Local, Outcome, goes, jumps, lands, s
 use Rattle.machine_state.specs.Site.{joins, begins, enables_channel, enables_skip, waits, disables_channel}
 use Rattle.machine_state.specs.Site.{disables_skip, ends_alternation}
 use Rattle.machine_state.proofs.Combining as each
-use Rattle.machine_state.proofs.Combining.{and_true}
 
 abbrev pub here : Registers → Memory → Local
 here r m = record { registers = r; memory = m }
@@ -144,9 +144,9 @@ readable_byte h place own = rw own
 pub readable_word : (h : Holding) (place : ℕ) → may_write_word h place ≡ true → may_read_word h place ≡ true
 unfolding may_write_word may_read_word
 readable_word h place own =
-    let p = and_true _ _ own in
-    let q = and_true _ _ p.0 in
-    let t = and_true _ _ q.0 in
+    let p = and_parts _ _ own in
+    let q = and_parts _ _ p.0 in
+    let t = and_parts _ _ q.0 in
     let a : may_read h place ≡ true = readable_byte h place t.0 in
     let b : may_read h (place + 1) ≡ true = readable_byte h (place + 1) t.1 in
     let c : may_read h (place + 2) ≡ true = readable_byte h (place + 2) q.1 in
@@ -161,7 +161,7 @@ defined_alike : (test : ℕ → Bool) (m n : Memory)
 unfolding all_places
 defined_alike test m n same place zero own = refl
 defined_alike test m n same place (suc count) own =
-    let both = and_true _ _ own in
+    let both = and_parts _ _ own in
     let a : byte_at m place ≡ byte_at n place = same place both.0 in
     let b = defined_alike test m n same (place + 1) count both.1 in
     rw (a, b)
@@ -294,12 +294,12 @@ module _ (s : Site) (rs : Registers) (m0 n0 : Memory) (K : Registers → Memory 
 
   receives_into : Asked In (step.receives_into s) (step.receives_into s)
   receives_into e held some most kept = test _ NotOwn _ _ (λ own.
-      let both = and_true _ _ own in
+      let both = and_parts _ _ own in
       w.at_receives e (record { end = held; some = some; most = most; apart = both.1 }) both.0 kept)
 
   sends_from : Asked Out (step.sends_from s) (step.sends_from s)
   sends_from e held some most kept = test _ NotOwn _ _ (λ own.
-      let both = and_true _ _ own in
+      let both = and_parts _ _ own in
       subst (λ b. R (step.holds (step.are_defined (scheduled rs m0) e.address e.length) Undefined
       (sends e (here (with_stack (of_empty None)) (scheduled rs m0))))
       (step.holds b Undefined (sends e (here (with_stack (of_empty None)) (scheduled rs n0)))))
@@ -333,7 +333,7 @@ module _ (s : Site) (rs : Registers) (m0 n0 : Memory) (K : Registers → Memory 
   loop_end =
       two_used _ _ (λ a b. aligned b _ _ (λ block even.
       test _ NotOwn _ _ (λ own.
-      let both = and_true _ _ own in
+      let both = and_parts _ _ own in
       schedules rs m0 n0 _ _ start (λ later.
       uses_word (place_of block) rs m0 n0 _ _ start both.0 (λ index.
       uses_word (place_of (local_address block (pos 1))) rs m0 n0 _ _ start both.1 (λ count.
@@ -344,7 +344,7 @@ module _ (s : Site) (rs : Registers) (m0 n0 : Memory) (K : Registers → Memory 
   move =
       three_used _ _ (λ a b c. each.counts R w.at_fault 0 65536 a _ _ (λ count least most.
       test _ NotOwn _ _ (λ own.
-      let both = and_true _ _ (and_true _ _ own).0 in
+      let both = and_parts _ _ (and_parts _ _ own).0 in
       pushes_on _ _ (of_empty None)
       (w.copy rs m0 n0 (place_of (step.address c)) (place_of (step.address b)) count start both.0 both.1))))
 

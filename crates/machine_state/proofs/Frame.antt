@@ -2,7 +2,7 @@
 use Rattle.std.proofs.Common.{◌≡◌, ◌≢◌, ℕ, zero, suc, ◌+◌, ◌≤◌, ◌<◌, ℤ, true}
 use Rattle.std.proofs.Common.{false}
 use Rattle.std.proofs.Common.{◌⊎◌, inl, inr, Option, refl, sym, ap, ◌∙◌, arith}
-use Rattle.std.proofs.lemmas.Bool.{cases_lt}
+use Rattle.std.proofs.lemmas.Bool.{cases_lt, and_parts}
 use Rattle.machine_state.specs.Memory.{Memory, word_at, with_word, byte_at, with_byte}
 use Rattle.machine_state.specs.Holding.{Holding, may_write, may_write_word}
 use Rattle.machine_state.specs.Spans.{all_places}
@@ -10,7 +10,6 @@ use Rattle.machine_state.specs.LocalStep as step
 use Rattle.machine_state.specs.Site.{Site}
 use Rattle.machine_state.specs.Frame.{ChangesOwn, LeavesOthers, StepsChangeOwn}
 use Rattle.machine_state.specs.declared.process.Registers.{Registers}
-use Rattle.machine_state.proofs.Combining.{and_true}
 use Rattle.machine_state.proofs.EveryInstruction.{Wants, each_step}
 use Rattle.machine_state.proofs.Reading.{length-with_word, byte_at-with_word_other, length-with_byte}
 use Rattle.machine_state.proofs.Reading.{byte_at-with_byte_other}
@@ -24,9 +23,9 @@ FourMine h place =
 four_mine : (h : Holding) (place : ℕ) → may_write_word h place ≡ true → FourMine h place
 unfolding may_write_word
 four_mine h place e =
-    let p = and_true _ _ e in
-    let q = and_true _ _ p.0 in
-    let r = and_true _ _ q.0 in
+    let p = and_parts _ _ e in
+    let q = and_parts _ _ p.0 in
+    let r = and_parts _ _ q.0 in
     (r.0, r.1, q.1, p.1)
 
 -- a write to an own word changes own bytes only
@@ -74,7 +73,7 @@ pub copy_is_own : (h : Holding) (from : Memory) (source to n : ℕ) (memory : Me
 unfolding step.copied all_places
 copy_is_own h from source to zero memory own = changes_nothing h memory
 copy_is_own h from source to (suc n) memory own =
-    let both = and_true _ _ own in
+    let both = and_parts _ _ own in
     changes_more h memory (with_byte memory to (byte_at from source)) _
     (byte_is_own h memory to (byte_at from source) both.0)
     (copy_is_own h from (source + 1) (to + 1) n (with_byte memory to (byte_at from source)) both.1)

@@ -7,12 +7,13 @@ use Rattle.std.proofs.lemmas.List.Folds.{list_any-append}
 use Rattle.std.proofs.lemmas.List.Sorted.{all_adjacent_from_non_decreasing, list_any-IsPermutation}
 use Rattle.std.specs.List.Sorted.{IsNonDecreasingBy, IsPermutation}
 use Rattle.std.specs.Prelude.{nat_lt, if◌then◌else◌}
+use Rattle.small_laws.proofs.Connectives.{same_tests}
 use Rattle.machine_state.specs.declared.holding.Span.{Span}
 use Rattle.machine_state.specs.Holding.{covers}
 use Rattle.machine_state.specs.Covering.{covered, piece}
 use Rattle.machine_state.specs.Spans.{runs}
 use Rattle.machine_state.proofs.NormalSpans.{Rise, is_runs, same_runs}
-use Rattle.machine_state.proofs.SpanLaws.{covers_tells, covers_there, same_test, runs_cover_the_test}
+use Rattle.machine_state.proofs.SpanLaws.{covers_tells, covers_there, runs_cover_the_test}
 
 -- what is left of the places from one on, up to the last
 abbrev pub gaps_from : ℕ → ℕ → List Span → List Span
@@ -188,7 +189,7 @@ steps_from spans sorted =
 
 open_place : (last : ℕ) (spans : List Span) (q : ℕ) → Follow 0 spans
     → covered (gaps_from last 0 spans) q ≡ (nat_lt q last && not (covered spans q))
-open_place last spans q follow = same_test _ _
+open_place last spans q follow = same_tests _ _
     (λ h. let g = gaps_tell 0 last 0 spans q follow h in
     let b = g.below in both _ _ (lt-ltb q last b) (not_from_false (covered spans q) g.open_there))
     (λ h. let parts = and_parts (nat_lt q last) (not (covered spans q)) h in

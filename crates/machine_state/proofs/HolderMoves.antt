@@ -2,6 +2,7 @@
 use Rattle.std.proofs.Common.{◌≡◌, ◌≢◌, ℕ, ◌+◌, ◌/◌, ◌%◌, ◌<◌, ◌≤◌, true, ◌⊎◌, inl, inr, List, Option, Some, None}
 use Rattle.std.proofs.Common.{refl, sym, ap, ◌∙◌, subst, slice_get, arith}
 use Rattle.std.proofs.lemmas.Bool.{cases_eq}
+use Rattle.small_laws.proofs.Options.{same_some}
 use Rattle.module_format.specs.Contents.{Par}
 use Rattle.machine_state.specs.declared.holding.End.{End}
 use Rattle.machine_state.specs.Memory.{place_of}
@@ -12,7 +13,7 @@ use Rattle.machine_state.specs.BranchShares.{frame_address}
 use Rattle.machine_state.specs.Ownership.{IsAmong, Claim, to_write, to_read, to_use, claims, clash, Under, child}
 use Rattle.machine_state.specs.Ownership.{deeper, Counted, InBlock, KeepsPlace, in_block, in_channel, Lent, IsWord}
 use Rattle.machine_state.specs.Ownership.{OwnEnd, AtPlace, Holders}
-use Rattle.machine_state.proofs.Claims.{twice, nothing_claimed, IsBehind, only_one}
+use Rattle.machine_state.proofs.Claims.{twice, nothing_claimed, IsBehind}
 use Rattle.machine_state.proofs.Holders.{above_is_less, reaches, is_idle, held_write, keeper, lent_by}
 
 -- ---- what a move changes
@@ -175,7 +176,7 @@ module _ {size : ℕ} {pars : List Par} {own : ℕ → Holding} {opener : ℕ �
     it_was : (q : ℕ) (x : Join) → later q ≡ Some x → Was q x
     it_was q x now = elim (cases_eq p q) [
       | inl e ↦ subst (λ (x : Join). Was q x)
-          (only_one (later q) k x (subst (λ n. later n ≡ Some k) e g.here) now) (record {
+          (same_some (later q) k x (subst (λ n. later n ≡ Some k) e g.here) now) (record {
             join = j;
             was = subst (λ n. opened n ≡ Some j) e g.is;
             block = g.block;
@@ -217,7 +218,7 @@ module _ {size : ℕ} {pars : List Par} {own : ℕ → Holding} {opener : ℕ �
             let mine = subst (λ n. opener s ≡ Some n) (sym e) by in
             let counts = t.counted s p c mine claimed in
             g.counts s c mine claimed (subst (λ (x : Join). IsAmong s x.members)
-            (only_one (opened p) counts.join j counts.is_open g.is) counts.member));
+            (same_some (opened p) counts.join j counts.is_open g.is) counts.member));
       }
       | inr differ ↦
           let counts = t.counted s o c by claimed in
@@ -271,7 +272,7 @@ module _ {size : ℕ} {pars : List Par} {own : ℕ → Holding} {opener : ℕ �
     alone s c above claimed =
         let r = reaches t p s c above claimed in
         g.nobody r.0 (subst (λ (x : Join). IsAmong r.0 x.members)
-        (only_one (opened p) r.2.join j r.2.is_open g.is) r.2.member)
+        (same_some (opened p) r.2.join j r.2.is_open g.is) r.2.member)
 
     was_open : (q : ℕ) (x : Join) → later q ≡ Some x → (opened q ≡ Some x) × (p ≢ q)
     was_open q x now = elim (cases_eq p q) [
@@ -336,7 +337,7 @@ module _ {size : ℕ} {pars : List Par} {own : ℕ → Holding} {opener : ℕ �
     -- what is said of its join is said of the new one
     it_is : (P : ℕ → Join → Type 0) → P p j → (q : ℕ) (x : Join) → p ≡ q → later q ≡ Some x → P q x
     it_is P told q x e now =
-        let same = only_one (later q) j x (subst (λ n. later n ≡ Some j) e g.here) now in
+        let same = same_some (later q) j x (subst (λ n. later n ≡ Some j) e g.here) now in
         subst (λ (x : Join). P q x) same (subst (λ n. P n j) e told)
 
     kept_old : (q x : ℕ) → p ≢ q → KeepsPlace later owns q x → KeepsPlace opened owner q x
@@ -435,9 +436,9 @@ module _ {size : ℕ} {pars : List Par} {own : ℕ → Holding} {opener : ℕ �
 
     above_new : (q s : ℕ) → new ≡ s → Under by q s → (p ≡ q) ⊎ Under opener q p
     above_new q s e (child a by_q) =
-        inl (only_one (by new) p q g.opens_new (subst (λ n. by n ≡ Some q) (sym e) by_q))
+        inl (same_some (by new) p q g.opens_new (subst (λ n. by n ≡ Some q) (sym e) by_q))
     above_new q s e (deeper a o by_o above) =
-        let same : p ≡ o = only_one (by new) p o g.opens_new (subst (λ n. by n ≡ Some o) (sym e) by_o) in
+        let same : p ≡ o = same_some (by new) p o g.opens_new (subst (λ n. by n ≡ Some o) (sym e) by_o) in
         inr (subst (λ n. Under opener q n) (sym same)
         (under_before q o (λ e. let z : p ≡ o = same in omega (arith, g.low)) above))
 
@@ -490,7 +491,7 @@ module _ {size : ℕ} {pars : List Par} {own : ℕ → Holding} {opener : ℕ �
         elim (t.within q x (to_use e) now claimed) [
           | inl mine ↦ let more = above_is_less t p q (lent_by t q p e mine end.0) in omega (arith, less, more)
           | inr own_end ↦
-              let same = only_one (owner (cell_of e.address)) p q end.0 own_end.0 in omega (arith, less, same)
+              let same = same_some (owner (cell_of e.address)) p q end.0 own_end.0 in omega (arith, less, same)
         ]
 
     -- the new process and one that is neither its opener nor above it
@@ -509,7 +510,7 @@ module _ {size : ℕ} {pars : List Par} {own : ℕ → Holding} {opener : ℕ �
         → IsBehind size c ⊎ Given c → claims x.rest (clash c) ≡ true → ⊥
     under q x c above now (inl far) claimed = behind_rest q x c now far claimed
     under q x c (inl e) now (inr gift) claimed =
-        let same = only_one (opened q) j x (subst (λ n. opened n ≡ Some j) e g.is) now in
+        let same = same_some (opened q) j x (subst (λ n. opened n ≡ Some j) e g.is) now in
         gift.rest (subst (λ (y : Join). claims y.rest (clash c) ≡ true) (sym same) claimed)
     under q x c (inr above) now (inr gift) claimed = elim gift.from [
       | inl mine ↦ t.below q p x c above now mine claimed
@@ -545,13 +546,13 @@ module _ {size : ℕ} {pars : List Par} {own : ℕ → Holding} {opener : ℕ �
     comes = record {
       rises = λ s o by_o. elim (cases_eq new s) [
         | inl e ↦
-            let same = only_one (by new) p o g.opens_new (subst (λ n. by n ≡ Some o) (sym e) by_o) in
+            let same = same_some (by new) p o g.opens_new (subst (λ n. by n ≡ Some o) (sym e) by_o) in
             omega (arith, same, e, g.low)
         | inr differ ↦ t.rises s o (sym (g.by_others s differ) ∙ by_o)
       ];
       counted = λ s o c by_o claimed. elim (cases_eq new s) [
         | inl e ↦
-            let same = only_one (by new) p o g.opens_new (subst (λ n. by n ≡ Some o) (sym e) by_o) in
+            let same = same_some (by new) p o g.opens_new (subst (λ n. by n ≡ Some o) (sym e) by_o) in
             subst (λ n. Counted opened n s) same (subst (λ n. Counted opened p n) e
             (record { join = j; is_open = g.is; member = g.member }))
         | inr differ ↦ t.counted s o c (sym (g.by_others s differ) ∙ by_o) (claimed_before s c differ claimed)

@@ -2,6 +2,7 @@
 use Rattle.std.proofs.Common.{◌≡◌, ◌≢◌, ℕ, ◌/◌, ◌<◌, ◌≤◌, true, ◌⊎◌, inl, inr, List, Option, Some, None, refl, sym, ap}
 use Rattle.std.proofs.Common.{◌∙◌, subst, arith}
 use Rattle.std.proofs.lemmas.Bool.{cases_eq}
+use Rattle.small_laws.proofs.Options.{same_some}
 use Rattle.module_format.specs.Contents.{Par}
 use Rattle.machine_state.specs.declared.holding.End.{End}
 use Rattle.machine_state.specs.Memory.{place_of}
@@ -10,7 +11,7 @@ use Rattle.machine_state.specs.World.{Join}
 use Rattle.machine_state.specs.Moves.{cell_of}
 use Rattle.machine_state.specs.Ownership.{NoClash, Under, child, deeper, Counted, KeepsPlace, in_block, in_channel}
 use Rattle.machine_state.specs.Ownership.{OwnEnd, Holders, Claim, to_write, to_read, to_use, claims, clash}
-use Rattle.machine_state.proofs.Claims.{twice, written_is_read, only_one}
+use Rattle.machine_state.proofs.Claims.{twice, written_is_read}
 
 -- ---- what follows from it
 
@@ -62,7 +63,7 @@ module _ {size : ℕ} {pars : List Par} {own : ℕ → Holding} {opener : ℕ �
   lent_by p q e held owned = elim (t.ends p e held) [
     | inl outside ↦ absurd (outside_is_free q e outside owned)
     | inr lent ↦
-        subst (λ n. Under opener n p) (only_one (owner (cell_of e.address)) lent.0.process q lent.0.owned owned)
+        subst (λ n. Under opener n p) (same_some (owner (cell_of e.address)) lent.0.process q lent.0.owned owned)
         lent.0.above
   ]
 
@@ -111,7 +112,7 @@ module _ {size : ℕ} {pars : List Par} {own : ℕ → Holding} {opener : ℕ �
   own_end p q (to_read x) differ beside mine other = mine
   own_end p q (to_use e) differ beside mine other = elim (now_claims q (to_use e) other) [
     | inl theirs ↦ beside (lent_by q p e theirs mine.0)
-    | inr theirs ↦ differ (only_one (owner (cell_of e.address)) p q mine.0 theirs.0)
+    | inr theirs ↦ differ (same_some (owner (cell_of e.address)) p q mine.0 theirs.0)
   ]
 
   end_back : (p : ℕ) (c : Claim) → OwnEnd owner p (clash c) → OwnEnd owner p c

@@ -5,6 +5,7 @@ use Rattle.std.proofs.lemmas.Bool.{cases_eq}
 use Rattle.std.proofs.lemmas.Option.{slice_get_within}
 use Rattle.std.specs.Prelude.{slice_get, slice_set}
 use Rattle.std.specs.List.{remove}
+use Rattle.small_laws.proofs.Lookups.{slice_get-append_left}
 use Rattle.machine_state.specs.declared.process.Task.{Task}
 use Rattle.machine_state.specs.declared.process.Condition.TheVariants.{Ready}
 use Rattle.machine_state.specs.Moves.{picked}
@@ -177,12 +178,6 @@ pick_line tasks None (p ∷ ps) pick l =
 
 -- ---- one more at the end
 
-pub got_before : {A : Type 0} (xs ys : List A) (p : ℕ) (x : A) → slice_get xs p ≡ Some x
-    → slice_get (xs ++ ys) p ≡ Some x
-got_before [] ys p x h = absurd (cc)
-got_before (z ∷ zs) ys zero x h = h
-got_before (z ∷ zs) ys (suc p) x h = got_before zs ys p x h
-
 pub got_last : {A : Type 0} (xs : List A) (y : A) → slice_get (xs ++ y ∷ []) (length xs) ≡ Some y
 got_last [] y = refl
 got_last (x ∷ xs) y = got_last xs y
@@ -203,7 +198,7 @@ all_ready_before tasks more [] all = tt
 all_ready_before tasks more (q ∷ qs) all = (
   record {
     task = all.0.task;
-    here = got_before tasks more q all.0.task all.0.here;
+    here = slice_get-append_left tasks more q all.0.task all.0.here;
     ready = all.0.ready;
   },
   all_ready_before tasks more qs all.1,

@@ -3,6 +3,7 @@ use Rattle.std.proofs.Common.{◌≡◌, ◌≢◌, ℕ, List, Option, Some, Non
 use Rattle.std.proofs.lemmas.List.{length-set}
 use Rattle.std.proofs.lemmas.Option.{slice_get_within}
 use Rattle.std.specs.Prelude.{slice_set}
+use Rattle.small_laws.proofs.Options.{same_some}
 use Rattle.machine_state.specs.declared.process.Channel.{Channel}
 use Rattle.machine_state.specs.declared.process.Task.{Task}
 use Rattle.machine_state.specs.declared.process.Mode.TheVariants.{Plain}
@@ -13,7 +14,6 @@ use Rattle.machine_state.specs.Turn.{Here}
 use Rattle.machine_state.proofs.Lines.{got_other}
 use Rattle.machine_state.proofs.MovesLeaveAlone.{with_opened, without}
 use Rattle.machine_state.proofs.Waiting.{WaitsIn}
-use Rattle.machine_state.proofs.Claims.{only_one}
 use Rattle.machine_state.proofs.Modes.{IsOutside}
 use Rattle.machine_state.proofs.Roles.{field_other, field_same, field_pushed}
 use Rattle.machine_state.proofs.Changes as change
@@ -73,7 +73,7 @@ module _ (h : Here) (w : World) (keeps : WaitsIn w) where
   others_hold ts rs cs ls (change.closes_join r o roles x none par t here over) =
       outside _ x.outside (λ p u at differ alive.
       field_other held nothing roles o (with_opened None x.role) p
-      (λ e. alive (ap (λ (y : Task). y.condition) (only_one (slice_get w.tasks p) u t at
+      (λ e. alive (ap (λ (y : Task). y.condition) (same_some (slice_get w.tasks p) u t at
       (sym (got_other w.tasks h.process p _ differ)
       ∙ subst (λ n. slice_get (going h w r Plain Ended) n ≡ Some t) e here)) ∙ over))
       ∙ others_keep h w o roles x.back p differ)

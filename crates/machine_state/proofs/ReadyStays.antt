@@ -3,6 +3,8 @@ use Rattle.std.proofs.Common.{◌≡◌, ◌≢◌, ℕ, ◌+◌, true, false, �
 use Rattle.std.proofs.Common.{is_some, refl, sym, ap, ◌∙◌, subst, slice_get, eqb-true}
 use Rattle.std.proofs.lemmas.Bool.{cases_eq}
 use Rattle.std.specs.Prelude.{slice_set}
+use Rattle.small_laws.proofs.Options.{same_some}
+use Rattle.small_laws.proofs.Lookups.{slice_get-append_left}
 use Rattle.module_format.specs.Contents.{Contents, Par}
 use Rattle.module_format.specs.declared.rows.Direction.TheVariants.{In}
 use Rattle.machine_state.specs.declared.link.InputLink.{InputLink}
@@ -26,8 +28,8 @@ use Rattle.machine_state.specs.Waiting.{WaitsOn}
 use Rattle.machine_state.specs.ChannelLaws.{WaitsAt, HaveTheirWaiters}
 use Rattle.machine_state.specs.EnabledLaws.{HasEnabled, a_channel, a_link, Alternates, AllAlternate, EnabledIsHeld}
 use Rattle.machine_state.specs.EnabledLaws.{HasSender, HasByte, ReadyStays, WhatIsReadyStays}
-use Rattle.machine_state.proofs.Lines.{got_set, got_other, got_before}
-use Rattle.machine_state.proofs.Claims.{only_one, not_some}
+use Rattle.machine_state.proofs.Lines.{got_set, got_other}
+use Rattle.machine_state.proofs.Claims.{not_some}
 use Rattle.machine_state.proofs.MovesLeaveAlone.{is_last}
 use Rattle.machine_state.proofs.Modes.{IsOutside}
 use Rattle.machine_state.proofs.Turns.{turn_happens}
@@ -103,7 +105,7 @@ cell_set : (w : World) (n : ℕ) (old new : Channel) → slice_get w.channels n 
 cell_set w n old new at kept k p q e x = elim (cases_eq n k) [
   | inl it ↦
       let here = subst (λ i. slice_get w.channels i ≡ Some (Some x.channel)) (sym it) x.here in
-      let one : Some old ≡ Some x.channel = only_one (slice_get w.channels n) (Some old) (Some x.channel) at here in
+      let one : Some old ≡ Some x.channel = same_some (slice_get w.channels n) (Some old) (Some x.channel) at here in
       let is : old ≡ x.channel = cc in
       let now = kept p q e (record {
         channel = x.channel;
@@ -135,7 +137,7 @@ input_set : (w : World) (n : ℕ) (old new : InputLink) → slice_get w.links.in
     → BytesStay w (slice_set w.links.inputs n new)
 input_set w n old new at kept k p byte x = elim (cases_eq n k) [
   | inl it ↦
-      let is = only_one (slice_get w.links.inputs k) old x.link
+      let is = same_some (slice_get w.links.inputs k) old x.link
       (subst (λ i. slice_get w.links.inputs i ≡ Some old) it at) x.here in
       let now = kept p byte (ap (λ (l : InputLink). l.enabled) is ∙ x.by)
       (ap (λ (l : InputLink). l.kept) is ∙ x.kept) in
@@ -178,7 +180,7 @@ module _ (h : Here) (w : World) (runs : w.queue.running ≡ Some h.process)
   -- it is no sender
   not_itself : (k p q : ℕ) (e : Exchange) → HasSender w.tasks w.channels k (Some p) q e → h.process ≢ q
   not_itself k p q e x same =
-      let one = only_one (slice_get w.tasks q) h.from x.sender
+      let one = same_some (slice_get w.tasks q) h.from x.sender
       (subst (λ n. slice_get w.tasks n ≡ Some h.from) same there) x.there in
       let z : Ready ≡ Sending e = sym ready ∙ (ap (λ (t : Task). t.condition) one ∙ x.sends) in cc
 
@@ -186,7 +188,7 @@ module _ (h : Here) (w : World) (runs : w.queue.running ≡ Some h.process)
   not_mine : IsOutside h.from.mode → (p : ℕ) → HasEnabled w.channels w.links.inputs p → p ≢ h.process
   not_mine outside p has same =
       let x = alternates p has in
-      let one = only_one (slice_get w.tasks p) x.task h.from x.here
+      let one = same_some (slice_get w.tasks p) x.task h.from x.here
       (subst (λ n. slice_get w.tasks n ≡ Some h.from) (sym same) there) in
       not_outside h.from.mode h.from.condition outside
       (subst (λ (t : Task). Alternates t.mode t.condition) one x.alternates)
@@ -196,7 +198,7 @@ module _ (h : Here) (w : World) (runs : w.queue.running ≡ Some h.process)
       → t.condition ≡ Ended → ⊥
   alive p has t here over =
       let x = alternates p has in
-      let one = only_one (slice_get w.tasks p) x.task t x.here here in
+      let one = same_some (slice_get w.tasks p) x.task t x.here here in
       not_ended x.task.mode x.task.condition (ap (λ (t : Task). t.condition) one ∙ over) x.alternates
 
   tasks_set : (r : Registers) (mode : Mode) (c : Condition) → TasksStay w (going h w r mode c)
@@ -255,7 +257,7 @@ module _ (h : Here) (w : World) (runs : w.queue.running ≡ Some h.process)
     tasks = λ k p q e x. still_other (going h w r h.from.mode h.from.condition) other u q (Sending e)
         (differ k p q e x) (tasks_set r h.from.mode h.from.condition k p q e x);
     cells = cell_set w source c (record c { waiting = None }) at (λ p q e x by waiting.
-        absurd (differ source p q e x (only_one c.waiting other q waits waiting)));
+        absurd (differ source p q e x (same_some c.waiting other q waits waiting)));
     bytes = bytes_same w;
   }
 
@@ -263,7 +265,7 @@ module _ (h : Here) (w : World) (runs : w.queue.running ≡ Some h.process)
   not_receiver : (other : ℕ) (wanted : Exchange) → Partner h w other (Receiving wanted) → (k p q : ℕ) (x : Exchange)
       → HasSender w.tasks w.channels k (Some p) q x → other ≢ q
   not_receiver other wanted y k p q x s equal =
-      let one = only_one (slice_get w.tasks q) y.task s.sender
+      let one = same_some (slice_get w.tasks q) y.task s.sender
       (subst (λ n. slice_get w.tasks n ≡ Some y.task) equal y.here) s.there in
       let z : Receiving wanted ≡ Sending x = sym y.waits ∙ (ap (λ (t : Task). t.condition) one ∙ s.sends) in cc
 
@@ -331,7 +333,7 @@ module _ (h : Here) (w : World) (runs : w.queue.running ≡ Some h.process)
         let t = tasks_set r Starting h.from.condition k p q e x in
         record {
           task = t.task;
-          here = got_before (going h w r Starting h.from.condition) (child ∷ []) q t.task t.here;
+          here = slice_get-append_left (going h w r Starting h.from.condition) (child ∷ []) q t.task t.here;
           waits = t.waits;
         };
     cells = λ k p q e x. (
@@ -378,7 +380,7 @@ module _ (m : Contents) (w : World) where
   elsewhere : (p : ℕ) (t : Task) (e : Exchange) (done : ℕ) → slice_get w.tasks p ≡ Some t
       → t.condition ≡ OnLink e done → (k o q : ℕ) (x : Exchange) → HasSender w.tasks w.channels k (Some o) q x → p ≢ q
   elsewhere p t e done here is k o q x s same =
-      let one = only_one (slice_get w.tasks q) t s.sender (subst (λ n. slice_get w.tasks n ≡ Some t) same here)
+      let one = same_some (slice_get w.tasks q) t s.sender (subst (λ n. slice_get w.tasks n ≡ Some t) same here)
       s.there in
       let z : OnLink e done ≡ Sending x = sym is ∙ (ap (λ (y : Task). y.condition) one ∙ s.sends) in cc
 

@@ -45,8 +45,7 @@ use Rattle.machine_state.specs.declared.event.Event.TheVariants.{Step}
 use Rattle.prefix_decoder.specs.declared.function.Fun.{Fun}
 use Rattle.prefix_decoder.specs.Functions.{fun_of, function_code, nibble}
 use Rattle.prefix_decoder.specs.Operand.{with_nibble}
-use Rattle.std.proofs.lemmas.Bool.{le-leb, lt-ltb}
-use Rattle.machine_state.proofs.SpanLaws.{both_true, or_left, or_right}
+use Rattle.std.proofs.lemmas.Bool.{le-leb, lt-ltb, and_parts, and_from, or_left, or_right}
 use Rattle.machine_state.proofs.Writing.{outcome_is, of_waiting_is}
 use Rattle.machine_state.specs.Spans.{less}
 use Rattle.std.specs.Option.{option_map}
@@ -55,7 +54,6 @@ use Rattle.std.specs.Int.{w32, cast_unsigned, cast_signed}
 use Rattle.word_arithmetic.specs.Word.{least_word}
 use Rattle.module_format.specs.Contexts.{parameters_at}
 use Rattle.machine_state.proofs.MovesLeaveAlone.{on_task_beside, wake_beside, rouse_beside}
-use Rattle.machine_state.proofs.Combining.{and_true}
 use Rattle.machine_state.proofs.EveryInstruction.{here, readable_word, each_step}
 use Rattle.machine_state.proofs.Agreeing.{Covers, byte_agrees, words_agree, word_same, copy_agrees, bytes_agree, Alike}
 use Rattle.machine_state.proofs.Agreeing.{alike}
@@ -685,7 +683,7 @@ module _ (seen : ℕ → Bool) where
           → list_all (plans.word_is_defined n0) addresses ≡ list_all (plans.word_is_defined w.memory) addresses
       defined_alike [] own = refl
       defined_alike (a ∷ addresses) own =
-          let parts = and_true _ _ own in
+          let parts = and_parts _ _ own in
           let one : word_at n0 (place_of a) ≡ word_at w.memory (place_of a) =
           the_word (place_of a) (readable_word mine (place_of a) parts.0) in
           let rest = defined_alike addresses parts.1 in
@@ -701,7 +699,7 @@ module _ (seen : ℕ → Bool) where
       named_alike base [] own = refl
       named_alike base (None ∷ names) own = named_alike base names own
       named_alike base (Some word ∷ names) own =
-          let parts = and_true _ _ own in
+          let parts = and_parts _ _ own in
           let place = place_of (shares.frame_address base word) in
           let one : word_at n0 place ≡ word_at w.memory place = the_word place parts.0 in
           let rest = named_alike base names parts.1 in
@@ -719,13 +717,13 @@ module _ (seen : ℕ → Bool) where
           → list_all (λ a. plans.is_word n0 a v) addresses ≡ list_all (λ a. plans.is_word w.memory a v) addresses
       empty_alike v [] own = refl
       empty_alike v (a ∷ addresses) own =
-          let parts = and_true _ _ own in
+          let parts = and_parts _ _ own in
           and_same (word_alike v a parts.0) (empty_alike v addresses parts.1)
 
       words_defined : (plan : plans.Plan) → plans.words_are_held mine plan ≡ true
           → plans.words_are_defined n0 plan ≡ plans.words_are_defined w.memory plan
       words_defined plan held =
-          let parts = and_true (list_all (λ a. may_write_word mine (place_of a))
+          let parts = and_parts (list_all (λ a. may_write_word mine (place_of a))
           (plans.block_addresses plan.base plan.par ++ plans.channel_addresses plan.base plan.par))
           (list_all (λ (named : Option ℤ). elim named as (λ o. Bool) [
             | None ↦ true
@@ -742,14 +740,14 @@ module _ (seen : ℕ → Bool) where
           let block = shares.frame_address plan.base plan.par.block in
           let second = shares.frame_address block (pos 1) in
           let channels = plans.channel_addresses plan.base plan.par in
-          let parts = and_true (list_all (λ a. may_write_word mine (place_of a)) (block ∷ second ∷ channels))
+          let parts = and_parts (list_all (λ a. may_write_word mine (place_of a)) (block ∷ second ∷ channels))
           (list_all (λ (named : Option ℤ). elim named as (λ o. Bool) [
             | None ↦ true
             | Some word ↦ may_read_word mine (place_of (shares.frame_address plan.base word))
           ]) (lookups.named_from plan.par 0 plan.parameters)) held in
-          let front = and_true (may_write_word mine (place_of block)) (list_all (λ a. may_write_word mine (place_of a))
+          let front = and_parts (may_write_word mine (place_of block)) (list_all (λ a. may_write_word mine (place_of a))
           (second ∷ channels)) parts.0 in
-          let rest = and_true (may_write_word mine (place_of second))
+          let rest = and_parts (may_write_word mine (place_of second))
           (list_all (λ a. may_write_word mine (place_of a)) channels) front.1 in
           let code_start = data_start + 4 * h.contents.data_words in
           and_same (and_same
@@ -946,7 +944,7 @@ module _ (m : Contents) (w : World) (n : Memory) (slice : Bool) (pick : ℕ)
         let place = place_of sent.address + i in
         or_right _ (is_supplied (supply m w) place)
         (ap (λ (o : Option Exchange). is_supplied o place) is
-        ∙ both_true _ _ (le-leb (place_of sent.address) place (omega arith))
+        ∙ and_from _ _ (le-leb (place_of sent.address) place (omega arith))
         (lt-ltb place (place_of sent.address + sent.length) (omega arith)))
 
     prefix : (after : ℤ) (b : Bool) → SameTurn seen (if b

@@ -2,9 +2,11 @@
 use Rattle.std.proofs.Common.{◌≡◌, ℕ, ◌+◌, ◌-◌, ◌<◌, ◌≤◌, ◌&&◌, Bool, true, false, ◌⊎◌, inl, inr, ℤ, pos, negsuc, ◌+ℤ◌}
 use Rattle.std.proofs.Common.{int_le, List, [], ◌∷◌, ◌++◌, map, refl, sym, ap, ap₂, subst, arith, eqb-true, nat_lt}
 use Rattle.std.proofs.Common.{not, if◌then◌else◌}
-use Rattle.std.proofs.lemmas.Bool.{cases_lt, lt-ltb, leb-true, le-leb, eqb-false}
+use Rattle.std.proofs.lemmas.Bool.{cases_lt, lt-ltb, leb-true, le-leb, and_parts, and_from, or_cases}
 use Rattle.std.specs.Prelude.{◌==◌}
 use Rattle.std.specs.List.{list_any, list_all}
+use Rattle.std.proofs.lemmas.Bool.{or_left}
+use Rattle.small_laws.proofs.Comparisons.{eqb-self}
 use Rattle.module_format.specs.declared.rows.Direction.{Direction}
 use Rattle.module_format.specs.declared.rows.Direction.TheVariants.{In, Out}
 use Rattle.module_format.specs.Contents.{Contents, Par}
@@ -16,8 +18,7 @@ use Rattle.machine_state.specs.Spans.{reads_place, is_same_end, is_listed, all_p
 use Rattle.machine_state.specs.World.{constants_start}
 use Rattle.machine_state.specs.BranchShares.{holding_of}
 use Rattle.machine_state.specs.StartPlans.{hidden, block_addresses, channel_addresses, with_ends}
-use Rattle.machine_state.proofs.Combining.{and_true}
-use Rattle.machine_state.proofs.SpanLaws.{both_true, or_true, or_left, runs_tell}
+use Rattle.machine_state.proofs.SpanLaws.{runs_tell}
 use Rattle.machine_state.proofs.Writing.{all_at}
 use Rattle.machine_state.proofs.Among.{among_more, all_among, any_among, mapped_among, any_all, filtered}
 use Rattle.machine_state.specs.Ownership.{IsAmong, Claim, to_write, to_read, to_use, claims, clash}
@@ -35,22 +36,15 @@ same_as_itself : (a : Direction) → same_direction a a ≡ true
 same_as_itself In = refl
 same_as_itself Out = refl
 
-pub number_itself : (n : ℕ) → (n == n) ≡ true
-number_itself n = on (n == n) refl
-  where
-    on : (b : Bool) → (n == n) ≡ b → (n == n) ≡ true
-    on true e = e
-    on false e = absurd (eqb-false n n e refl)
-
 end_is : (x e : End) → ((x.address == e.address) && same_direction x.direction e.direction) ≡ true → x ≡ e
 end_is x e same =
-    let both = and_true _ _ same in
+    let both = and_parts _ _ same in
     let address : x.address ≡ e.address = eqb-true x.address e.address both.0 in
     let direction : x.direction ≡ e.direction = direction_is x.direction e.direction both.1 in
     ap₂ (λ (a : ℕ) (d : Direction). let y : End = record { address = a; direction = d } in y) address direction
 
 end_itself : (x : End) → ((x.address == x.address) && same_direction x.direction x.direction) ≡ true
-end_itself x = both_true _ _ (number_itself x.address) (same_as_itself x.direction)
+end_itself x = and_from _ _ (eqb-self x.address) (same_as_itself x.direction)
 
 pub end_among : (h : Holding) (e : End) → has_end h e ≡ true → IsAmong e h.ends
 end_among h e held = on h.ends held
@@ -59,7 +53,7 @@ end_among h e held = on h.ends held
         → list_any (λ (x : End). (x.address == e.address) && same_direction x.direction e.direction) xs ≡ true
         → IsAmong e xs
     on [] held = absurd (cc)
-    on (x ∷ xs) held = elim (or_true ((x.address == e.address) && same_direction x.direction e.direction) _ held) [
+    on (x ∷ xs) held = elim (or_cases ((x.address == e.address) && same_direction x.direction e.direction) _ held) [
       | inl here ↦ inl (end_is x e here)
       | inr there ↦ inr (on xs there)
     ]
@@ -70,7 +64,7 @@ end_held h e among = any_among
 
 listed_among : (xs : List End) (e : End) → is_listed xs e ≡ true → IsAmong e xs
 listed_among [] e listed = absurd (cc)
-listed_among (x ∷ xs) e listed = elim (or_true (is_same_end e x) _ listed) [
+listed_among (x ∷ xs) e listed = elim (or_cases (is_same_end e x) _ listed) [
   | inl here ↦ inl (sym (end_is e x here))
   | inr there ↦ inr (listed_among xs e there)
 ]
@@ -123,9 +117,9 @@ within_passes : (n : ℕ) (test : ℕ → Bool) (start : ℤ) (size x : ℕ)
     → is_within n test (record { start = start; size = size }) ≡ true
     → stretches_over (record { start = start; size = size }) x ≡ true → test x ≡ true
 within_passes n test (pos first) size x within over =
-    let all = (and_true (lies_in n (record { start = pos first; size = size }))
+    let all = (and_parts (lies_in n (record { start = pos first; size = size }))
     (all_places test first size) within).1 in
-    let ends = and_true (int_le (pos first) (pos x)) (int_le (pos (x + 1)) (pos first +ℤ pos size)) over in
+    let ends = and_parts (int_le (pos first) (pos x)) (int_le (pos (x + 1)) (pos first +ℤ pos size)) over in
     let high : x + 1 ≤ first + size = int_le_tells (x + 1) (first + size) ends.1 in
     test_at test first size x all (int_le_tells first x ends.0) (omega arith)
 within_passes n test (negsuc k) size x within over = absurd (cc)
@@ -148,18 +142,18 @@ module _ (n : ℕ) (h : Holding) (share : Share) where
   unfolding less
   left_write x own =
       let passes = (runs_tell _ 0 n x own).passes in
-      let both = and_true _ _ passes in
-      let first = and_true _ _ both.0 in
+      let both = and_parts _ _ passes in
+      let first = and_parts _ _ both.0 in
       (first.0, first.1, both.1)
 
   left_read : (x : ℕ) → may_read (less n h share) x ≡ true
       → (may_read h x ≡ true) × (not (writes_place share x) ≡ true)
   unfolding less
-  left_read x own = elim (or_true (may_write (less n h share) x) _ own) [
+  left_read x own = elim (or_cases (may_write (less n h share) x) _ own) [
     | inl written ↦ let w = left_write x written in (or_left _ _ w.0, w.1)
     | inr read ↦
         let passes = (runs_tell _ 0 n x read).passes in
-        let first = and_true _ _ (and_true _ _ passes).0 in
+        let first = and_parts _ _ (and_parts _ _ passes).0 in
         (first.0, first.1)
   ]
 
@@ -195,11 +189,11 @@ module _ (m : Contents) (n : ℕ) (h : Holding) (share : Share)
 
   given_read : (x : ℕ) → may_read (holding_of m n share) x ≡ true
       → (writes_place share x ≡ true) ⊎ ((reads_place share x ≡ true) ⊎ (constants_start m ≤ x))
-  given_read x own = elim (or_true (may_write (holding_of m n share) x) _ own) [
+  given_read x own = elim (or_cases (may_write (holding_of m n share) x) _ own) [
     | inl written ↦ inl (given_write x written)
-    | inr read ↦ elim (or_true (reads_place share x) _ (and_true _ _ (runs_tell _ 0 n x read).passes).1) [
+    | inr read ↦ elim (or_cases (reads_place share x) _ (and_parts _ _ (runs_tell _ 0 n x read).passes).1) [
       | inl there ↦ inr (inl there)
-      | inr constant ↦ inr (inr (not_below x (constants_start m) (and_true _ _ constant).1))
+      | inr constant ↦ inr (inr (not_below x (constants_start m) (and_parts _ _ constant).1))
     ]
   ]
 
@@ -238,7 +232,7 @@ pub hidden_is_gone : (n : ℕ) (h : Holding) (base : ℕ) (par : Par) (a x : ℕ
 hidden_is_gone n h base par a x among low high read =
     let addresses = block_addresses base par ++ channel_addresses base par in
     let over : stretches_over (word_stretch a) x ≡ true =
-    both_true _ _ (int_le_there (place_of a) x low) (int_le_there (x + 1) (place_of a + 4) (omega arith)) in
+    and_from _ _ (int_le_there (place_of a) x low) (int_le_there (x + 1) (place_of a + 4) (omega arith)) in
     cannot_be (writes_place (hidden base par) x)
     (any_among (λ (s : Stretch). stretches_over s x) (map word_stretch addresses) (word_stretch a)
     (mapped_among word_stretch addresses a among) over)

@@ -1,44 +1,22 @@
 -- Spans in normal form cover the places that pass the test.
-use Rattle.std.proofs.Common.{◌≡◌, ℕ, zero, suc, ◌+◌, ◌<◌, ◌≤◌, ◌&&◌, ◌||◌, Bool, true, false, cond, ◌⊎◌, inl, inr}
+use Rattle.std.proofs.Common.{◌≡◌, ℕ, zero, suc, ◌+◌, ◌<◌, ◌≤◌, Bool, true, false, cond, ◌⊎◌, inl, inr}
 use Rattle.std.proofs.Common.{List, []}
 use Rattle.std.proofs.Common.{◌∷◌, refl, sym, ap, ◌∙◌, arith, eqb-true}
-use Rattle.std.proofs.lemmas.Bool.{cases_eq, leb-true, le-leb, ltb-true, lt-ltb}
+use Rattle.std.proofs.lemmas.Bool.{cases_eq, leb-true, le-leb, ltb-true, lt-ltb, and_parts, and_from, or_cases, or_left}
 use Rattle.std.specs.Prelude.{◌==◌}
 use Rattle.std.specs.List.{list_any}
+use Rattle.std.proofs.lemmas.Bool.{or_right}
+use Rattle.small_laws.proofs.Connectives.{same_tests}
 use Rattle.machine_state.specs.declared.holding.Span.{Span}
 use Rattle.machine_state.specs.Holding.{covers}
 use Rattle.machine_state.specs.Spans.{with_place, runs}
 use Rattle.machine_state.specs.SpanLaws.{RunsCoverTheTest}
-use Rattle.machine_state.proofs.Combining.{and_true}
-
-pub both_true : (a b : Bool) → a ≡ true → b ≡ true → (a && b) ≡ true
-both_true true true p q = refl
-both_true true false p q = absurd (cc)
-both_true false b p q = absurd (cc)
-
-pub or_true : (a b : Bool) → (a || b) ≡ true → (a ≡ true) ⊎ (b ≡ true)
-or_true true b h = inl refl
-or_true false b h = inr h
-
-pub or_left : (a b : Bool) → a ≡ true → (a || b) ≡ true
-or_left true b h = refl
-or_left false b h = absurd (cc)
-
-pub or_right : (a b : Bool) → b ≡ true → (a || b) ≡ true
-or_right true b h = refl
-or_right false b h = h
-
--- two tests that hold together are one
-pub same_test : (a b : Bool) → (a ≡ true → b ≡ true) → (b ≡ true → a ≡ true) → a ≡ b
-same_test true b p q = sym (p refl)
-same_test false true p q = q refl
-same_test false false p q = refl
 
 pub covers_tells : (s : Span) (q : ℕ) → covers s q ≡ true → (s.start ≤ q) × (q < s.end)
-covers_tells s q h = let both = and_true _ _ h in (leb-true s.start q both.0, ltb-true q s.end both.1)
+covers_tells s q h = let both = and_parts _ _ h in (leb-true s.start q both.0, ltb-true q s.end both.1)
 
 pub covers_there : (s : Span) (q : ℕ) → s.start ≤ q → q < s.end → covers s q ≡ true
-covers_there s q a b = both_true _ _ (le-leb s.start q a) (lt-ltb q s.end b)
+covers_there s q a b = and_from _ _ (le-leb s.start q a) (lt-ltb q s.end b)
 
 abbrev pub among : List Span → ℕ → Bool
 among spans q = list_any (λ span. covers span q) spans
@@ -69,7 +47,7 @@ runs_proper test p (suc n) = on (runs_proper test (p + 1) n) (test p)
 
 with_place_tells : (p : ℕ) (spans : List Span) (q : ℕ) → among (with_place p spans) q ≡ true
     → (q ≡ p) ⊎ (among spans q ≡ true)
-with_place_tells p [] q h = elim (or_true _ false h) [
+with_place_tells p [] q h = elim (or_cases _ false h) [
   | inl e ↦ let both = covers_tells (record { start = p; end = p + 1 }) q e in inl (omega (arith, both.0, both.1))
   | inr e ↦ absurd (cc)
 ]
@@ -78,7 +56,7 @@ with_place_tells p (s ∷ spans) q h = on (s.start == p + 1) refl h
     on : (b : Bool) → (s.start == p + 1) ≡ b → among (cond b
         (record { start = p; end = s.end } ∷ spans) (record { start = p; end = p + 1 } ∷ s ∷ spans)) q ≡ true
         → (q ≡ p) ⊎ (among (s ∷ spans) q ≡ true)
-    on true e h = elim (or_true _ (among spans q) h) [
+    on true e h = elim (or_cases _ (among spans q) h) [
       | inl c ↦
           let both = covers_tells (record { start = p; end = s.end }) q c in
           let same : s.start ≡ p + 1 = eqb-true s.start (p + 1) e in
@@ -88,7 +66,7 @@ with_place_tells p (s ∷ spans) q h = on (s.start == p + 1) refl h
           ]
       | inr c ↦ inr (or_right (covers s q) _ c)
     ]
-    on false e h = elim (or_true _ (among (s ∷ spans) q) h) [
+    on false e h = elim (or_cases _ (among (s ∷ spans) q) h) [
       | inl c ↦ let both = covers_tells (record { start = p; end = p + 1 }) q c in inl (omega (arith, both.0, both.1))
       | inr c ↦ inr c
     ]
@@ -107,7 +85,7 @@ with_place_has p (s ∷ spans) q proper h = on (s.start == p + 1) refl
         elim h [
           | inl here ↦ or_left _ _
               (covers_there (record { start = p; end = s.end }) q (omega arith) (omega (arith, proper.0)))
-          | inr there ↦ elim (or_true (covers s q) _ there) [
+          | inr there ↦ elim (or_cases (covers s q) _ there) [
             | inl c ↦
                 let both = covers_tells s q c in
                 or_left _ _ (covers_there (record { start = p; end = s.end }) q (omega (arith, both.0)) both.1)
@@ -168,9 +146,9 @@ runs_have test p (suc n) q h = on (runs_have test (p + 1) n q) (test p) refl
         later (further (λ here. let x : true ≡ false = sym h.passes ∙ (ap test here ∙ e) in cc))
 
 pub runs_cover_the_test : RunsCoverTheTest
-runs_cover_the_test test n place = same_test _ _
-    (λ h. let t = runs_tell test 0 n place h in both_true _ _ (lt-ltb place n (omega (arith, t.below))) t.passes)
-    (λ h. let both = and_true _ _ h in runs_have test 0 n place
+runs_cover_the_test test n place = same_tests _ _
+    (λ h. let t = runs_tell test 0 n place h in and_from _ _ (lt-ltb place n (omega (arith, t.below))) t.passes)
+    (λ h. let both = and_parts _ _ h in runs_have test 0 n place
     (record { above = omega arith; below = (let b = ltb-true place n both.0 in omega arith); passes = both.1 }))
 
 pub ruleset normal_spans = (runs_cover_the_test)

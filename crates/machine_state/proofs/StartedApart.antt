@@ -2,12 +2,13 @@
 use Rattle.std.proofs.Common.{◌≡◌, ℕ, zero, suc, ◌+◌, ◌*◌, ◌/◌, ◌%◌, ◌^◌, ◌<◌, ◌≤◌, Bool, true, false, ◌⊎◌, inl, inr}
 use Rattle.std.proofs.Common.{ℤ, pos, List, [], ◌∷◌, ◌++◌, length, Option, Some, None, refl, sym, ap, ◌∙◌, subst}
 use Rattle.std.proofs.Common.{slice_get, arith, eqb-true}
-use Rattle.std.proofs.lemmas.Bool.{cases_eq, cases_lt}
+use Rattle.std.proofs.lemmas.Bool.{cases_eq, cases_lt, and_parts}
 use Rattle.std.proofs.lemmas.List.{length-set}
 use Rattle.std.proofs.lemmas.Int.{ints, of_z-to_z}
 use Rattle.std.specs.Prelude.{◌==◌, slice_set}
 use Rattle.std.specs.List.{list_all}
 use Rattle.std.specs.Int.{w32, cast_unsigned, cast_signed}
+use Rattle.small_laws.proofs.Options.{same_some}
 use Rattle.word_arithmetic.specs.Word.{least_word}
 use Rattle.module_format.specs.Contents.{Contents, Par, Branch}
 use Rattle.module_format.specs.declared.rows.ChannelRow.{ChannelRow}
@@ -21,14 +22,13 @@ use Rattle.machine_state.specs.StartPlans.{share_is_there, ends_are_there, is_wo
 use Rattle.machine_state.specs.JoinLookups.{Found, found_from, found_in_row, found_at}
 use Rattle.machine_state.specs.BranchShares.{frame_address, frame_base, holding_of}
 use Rattle.machine_state.specs.Joins.{join_after, with_channels}
-use Rattle.machine_state.proofs.Combining.{and_true}
 use Rattle.machine_state.proofs.Lines.{got_set}
 use Rattle.machine_state.proofs.Starting.{MayStart, MayOpen}
 use Rattle.machine_state.proofs.Among.{among_left, among_right, all_among}
 use Rattle.machine_state.specs.Ownership.{IsAmong, Claim, to_write, to_read, to_use, claims, owner_in, InBlock}
 use Rattle.machine_state.specs.Ownership.{KeepsPlace, in_block, in_channel, OwnEnd, HoldersIn}
 use Rattle.machine_state.specs.Roles.{own_in, opener_in, opened_in}
-use Rattle.machine_state.proofs.Claims.{IsBehind, only_one}
+use Rattle.machine_state.proofs.Claims.{IsBehind}
 use Rattle.machine_state.proofs.Shares.{left_claims, given_claims, hidden_is_gone, end_among, end_held}
 use Rattle.machine_state.proofs.Shares.{with_ends_tells}
 use Rattle.machine_state.proofs.EvenWords.{even_local, even_base, even_place, next_place, same_word, in_word}
@@ -84,11 +84,11 @@ pub record Follows (plan : Plan) (j : Join) : Type 0 where
 share_tells : (n : ℕ) (plan : Plan) (workspace : ℕ) (b : Branch) → share_is_there n plan workspace b ≡ true
     → (list_all (is_within n (may_write plan.rest)) (share_by plan b).writes ≡ true)
     × (list_all (is_within n (may_read plan.rest)) (share_by plan b).reads ≡ true)
-share_tells n plan workspace b there = ((and_true _ _ (and_true _ _ there).0).1, (and_true _ _ there).1)
+share_tells n plan workspace b there = ((and_parts _ _ (and_parts _ _ there).0).1, (and_parts _ _ there).1)
 
 ends_tell : (plan : Plan) (b : Branch) → ends_are_there plan b ≡ true
     → list_all (is_listed plan.rest.ends) (share_by plan b).ends ≡ true
-ends_tell plan b there = (and_true _ _ there).0
+ends_tell plan b there = (and_parts _ _ there).0
 
 module _ (m : Contents) (roles : List Role) (channels : List (Option Channel)) (t : HoldersIn m roles channels)
     (p : ℕ) (r : Role) (here : slice_get roles p ≡ Some r) where
@@ -200,9 +200,9 @@ word_place : (h : Holding) (place x : ℕ) → may_write_word h place ≡ true �
     → may_write h x ≡ true
 unfolding may_write_word
 word_place h place x own low high =
-    let p = and_true _ _ own in
-    let q = and_true _ _ p.0 in
-    let r = and_true _ _ q.0 in
+    let p = and_parts _ _ own in
+    let q = and_parts _ _ p.0 in
+    let r = and_parts _ _ q.0 in
     elim (cases_eq place x) [
       | inl e ↦ subst (λ n. may_write h n ≡ true) e r.0
       | inr first ↦ elim (cases_eq (place + 1) x) [
@@ -286,7 +286,7 @@ module _ (m : Contents) (roles : List Role) (channels : List (Option Channel)) (
   module _ (may : MayOpen m memory own plan) where
     word_own : (a : ℕ) → IsAmong a kept_words → may_write_word own (place_of a) ≡ true
     word_own a among = all_among (λ a. may_write_word own (place_of a)) kept_words a
-        (and_true (list_all (λ a. may_write_word own (place_of a)) kept_words) _ may.held).0 among
+        (and_parts (list_all (λ a. may_write_word own (place_of a)) kept_words) _ may.held).0 among
 
     place_own : (a x : ℕ) → IsAmong a kept_words → place_of a ≤ x → x < place_of a + 4
         → may_write (own_in roles p) x ≡ true
@@ -349,8 +349,8 @@ module _ (m : Contents) (roles : List Role) (channels : List (Option Channel)) (
     not_channel : (b a x : ℕ) → IsAmong b (block_addresses base found.par)
         → IsAmong a (channel_addresses base found.par) → place_of b ≡ place_of a → ⊥
     not_channel b a x in_block_words in_channels same =
-        let first = and_true _ _ may.prepared in
-        let two = and_true _ _ first.0 in
+        let first = and_parts _ _ may.prepared in
+        let two = and_parts _ _ first.0 in
         let empty = all_among (λ a. is_word memory a least_word)
         (channel_addresses base found.par) a first.1 in_channels in
         on two.0 two.1 empty in_block_words
@@ -418,7 +418,7 @@ module _ (m : Contents) (roles : List Role) (channels : List (Option Channel)) (
             → KeepsPlace (opened_in (slice_set roles p (record r { opened = Some fresh_join }))) (owner_in cells) p x
             → ⊥
         hides_it x read (in_block y now inside) =
-            let same = only_one (opened_in (slice_set roles p
+            let same = same_some (opened_in (slice_set roles p
             (record r { opened = Some fresh_join })) p) y fresh_join now
             (opened_here m roles channels t p r here (Some fresh_join)) in
             let w = block_word x (subst (λ (z : Join). InBlock z x) same inside) in

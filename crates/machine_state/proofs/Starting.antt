@@ -1,5 +1,6 @@
 -- What the tests of a start say once they have passed.
 use Rattle.std.proofs.Common.{◌≡◌, ℕ, ◌&&◌, Bool, true, false, List, [], ◌∷◌, length, None, refl}
+use Rattle.std.proofs.lemmas.Bool.{and_parts}
 use Rattle.module_format.specs.Contents.{Contents}
 use Rattle.machine_state.specs.declared.fault.FaultKind.{FaultKind}
 use Rattle.machine_state.specs.declared.fault.FaultKind.TheVariants.{EndNotHeld, NotOwn, Undefined, JoinOrder}
@@ -8,7 +9,6 @@ use Rattle.machine_state.specs.Holding.{Holding}
 use Rattle.machine_state.specs.StartPlans.{Plan, first_fault, first_faults, later_faults, ends_are_there}
 use Rattle.machine_state.specs.StartPlans.{share_is_there, words_are_held, words_are_defined, is_next, is_prepared}
 use Rattle.machine_state.specs.JoinLookups.{Found}
-use Rattle.machine_state.proofs.Combining.{and_true}
 
 -- the first test passes, and the others
 passes : (b : Bool) (kind : FaultKind) (tests : List (Bool × FaultKind)) → first_fault ((b, kind) ∷ tests) ≡ None
@@ -49,6 +49,6 @@ first_tests m memory h plan found workspace none =
     let b = passes (share && held) NotOwn ((defined, Undefined) ∷ (next && prepared, JoinOrder) ∷ []) a.1 in
     let c = passes defined Undefined ((next && prepared, JoinOrder) ∷ []) b.1 in
     let d = passes (next && prepared) JoinOrder [] c.1 in
-    let own = and_true share held b.0 in
-    let ready = and_true next prepared d.0 in
+    let own = and_parts share held b.0 in
+    let ready = and_parts next prepared d.0 in
     (record { ends = a.0; share = own.0; next = ready.0 }, record { held = own.1; prepared = ready.1 })

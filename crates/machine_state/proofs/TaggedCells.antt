@@ -2,9 +2,10 @@
 use Rattle.std.proofs.Common.{◌≡◌, ℕ, zero, suc, ◌<◌, ◌≤◌, Bool, true, false, cond, List, [], ◌∷◌, ◌++◌, length}
 use Rattle.std.proofs.Common.{get_or, set, replicate, map, Option, Some, None, refl, ap, ◌∙◌, arith}
 use Rattle.std.proofs.lemmas.List.{set_past, append_assoc, length-replicate}
-use Rattle.std.proofs.Common.{◌+◌, ◌-◌, ◌⊎◌, inl, inr, ◌&&◌, is_some, sym, subst, take, drop, drop-cons}
+use Rattle.std.proofs.Common.{◌+◌, ◌-◌, ◌⊎◌, inl, inr, is_some, sym, subst, take, drop, drop-cons}
 use Rattle.std.proofs.lemmas.Bool.Decides.{leb_tells}
 use Rattle.std.specs.Option.{unwrap_or}
+use Rattle.std.proofs.lemmas.Bool.{and_parts}
 use Rattle.machine_state.specs.Memory.{Memory, byte_at}
 use Rattle.machine_state.specs.Spans.{all_places}
 use Rattle.machine_state.specs.Exchanges.{bytes_at}
@@ -107,11 +108,6 @@ tagged_cells_loaded size padding code constants =
 
 -- ---- defined bytes, as they are lent
 
-and_both : (a b : Bool) → (a && b) ≡ true → (a ≡ true) × (b ≡ true)
-and_both true true e = (refl, refl)
-and_both true false e = absurd (cc)
-and_both false b e = absurd (cc)
-
 -- whether the byte at a place is defined
 abbrev pub is_defined : List ℕ → List Bool → ℕ → Bool
 is_defined bytes tags place = is_some (byte_at (tagged_cells bytes tags) place)
@@ -147,7 +143,7 @@ lent_from : (bytes : List ℕ) (tags : List Bool) (place count : ℕ) → length
 unfolding all_places
 lent_from bytes tags place zero same defined = refl
 lent_from bytes tags place (suc n) same defined =
-    let both = and_both (is_defined bytes tags place)
+    let both = and_parts (is_defined bytes tags place)
     (all_places (λ p. is_some (byte_at (tagged_cells bytes tags) p)) (place + 1) n) defined in
     let here = defined_byte bytes tags place same both.0 in
     let next : place + 1 ≡ suc place = omega arith in
@@ -183,11 +179,11 @@ lent_within : (bytes : List ℕ) (tags : List Bool) (place count : ℕ) → leng
 unfolding all_places
 lent_within bytes tags place zero same defined some = absurd (omega arith)
 lent_within bytes tags place (suc zero) same defined some =
-    let both = and_both (is_defined bytes tags place) true defined in
+    let both = and_parts (is_defined bytes tags place) true defined in
     let here = defined_byte bytes tags place same both.0 in
     omega (arith, here.0)
 lent_within bytes tags place (suc (suc n)) same defined some =
-    let both = and_both (is_defined bytes tags place)
+    let both = and_parts (is_defined bytes tags place)
     (all_places (λ p. is_some (byte_at (tagged_cells bytes tags) p)) (place + 1) (suc n)) defined in
     let later = lent_within bytes tags (place + 1) (suc n) same both.1 (omega arith) in
     omega (arith, later)

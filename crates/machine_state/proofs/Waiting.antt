@@ -2,10 +2,13 @@
 use Rattle.std.proofs.Common.{◌≡◌, ◌≢◌, ℕ, zero, suc, ◌+◌, ◌*◌, ◌<◌, ◌≤◌, Bool, true, false, if◌then◌else◌, ◌⊎◌, inl}
 use Rattle.std.proofs.Common.{inr, ℤ, List, [], ◌∷◌, ◌++◌, length, Option, Some, None, is_some, refl, sym, ap, ◌∙◌}
 use Rattle.std.proofs.Common.{subst, slice_get, arith, eqb-true}
-use Rattle.std.proofs.lemmas.Bool.{cases_eq, eqb-false}
+use Rattle.std.proofs.lemmas.Bool.{cases_eq, eqb-false, or_cases, or_left, or_right}
 use Rattle.std.proofs.lemmas.List.{length-set, length-append}
 use Rattle.std.proofs.lemmas.Option.{slice_get_within}
 use Rattle.std.specs.Prelude.{◌%◌, ◌^◌, replicate, ◌==◌, filter, not, slice_set}
+use Rattle.small_laws.proofs.Options.{same_some}
+use Rattle.small_laws.proofs.Comparisons.{eqb-self}
+use Rattle.small_laws.proofs.Lookups.{slice_get-append_left}
 use Rattle.module_format.specs.Contents.{Contents, Par}
 use Rattle.machine_state.specs.declared.event.Event.{Event}
 use Rattle.machine_state.specs.declared.link.InputLink.{InputLink}
@@ -47,21 +50,12 @@ use Rattle.machine_state.specs.declared.link.Link.{Link}
 use Rattle.machine_state.specs.Exchanges.{link_from, condition_of, waits_at}
 use Rattle.machine_state.specs.declared.process.Channel.{Channel}
 use Rattle.machine_state.specs.Holding.{Holding, nothing}
-use Rattle.machine_state.proofs.SpanLaws.{or_true, or_left, or_right}
 use Rattle.machine_state.proofs.EveryInstruction.{each_step}
 use Rattle.machine_state.proofs.Writing.{Message, messages}
-use Rattle.machine_state.proofs.Claims.{only_one}
 use Rattle.machine_state.proofs.Lines.{got_set, got_other, got_within, set_either, all_ready_without}
-use Rattle.machine_state.proofs.Lines.{absent_by_condition, push_line, told_in, pick_line, got_before, got_last}
+use Rattle.machine_state.proofs.Lines.{absent_by_condition, push_line, told_in, pick_line, got_last}
 use Rattle.machine_state.proofs.Lines.{got_either, all_ready_before, new_absent}
 use Rattle.machine_state.proofs.MovesLeaveAlone.{rouse_beside, on_role_only, on_role_is, on_task_is, chooses}
-
-is_itself : (n : ℕ) → (n == n) ≡ true
-is_itself n = on (n == n) refl
-  where
-    on : (b : Bool) → (n == n) ≡ b → (n == n) ≡ true
-    on true e = e
-    on false e = absurd (eqb-false n n e refl)
 
 -- ---- what holds besides the line
 
@@ -107,7 +101,7 @@ module _ (tasks : List Task) (q : ℕ) (t u : Task) (here : slice_get tasks q �
   changed_here p e = subst (λ n. slice_get (slice_set tasks q u) n ≡ Some u) e (got_set tasks q t u here)
 
   it_was : (p : ℕ) (x : Task) → q ≡ p → slice_get tasks p ≡ Some x → t.condition ≡ x.condition
-  it_was p x e there = ap (λ (v : Task). v.condition) (only_one (slice_get tasks p) t x
+  it_was p x e there = ap (λ (v : Task). v.condition) (same_some (slice_get tasks p) t x
       (subst (λ n. slice_get tasks n ≡ Some t) e here) there)
 
   waits_after : ((e : Exchange) (done : ℕ) → t.condition ≡ OnLink e done → u.condition ≡ OnLink e done)
@@ -285,7 +279,7 @@ rest_role tasks roles links q r new here opener opened gone counts h = record {
     another p x o a b (inr c) = elim (cases_eq q o) [
       | inl e ↦
           let same : c.role ≡ r =
-          only_one (slice_get roles q) c.role r (subst (λ n. slice_get roles n ≡ Some c.role) (sym e) c.here) here in
+          same_some (slice_get roles q) c.role r (subst (λ n. slice_get roles n ≡ Some c.role) (sym e) c.here) here in
           by_opener p x o (counts p x c.join a (b ∙ ap (λ (n : ℕ). Some n) (sym e))
           (ap (λ (y : Role). y.opened) (sym same) ∙ c.is_open) c.member) e
       | inr differ ↦ inr (elsewhere o p differ c)
@@ -465,7 +459,7 @@ opened_is w p r here = ap (λ (o : Option Role). elim o as (λ o. Option Join)
     [ None ↦ None | Some role ↦ role.opened ]) here
 
 member_last : (members : List ℕ) (p : ℕ) → is_member (members ++ p ∷ []) p ≡ true
-member_last [] p = or_left _ _ (is_itself p)
+member_last [] p = or_left _ _ (eqb-self p)
 member_last (q ∷ qs) p = or_right (q == p) _ (member_last qs p)
 
 -- each process has a role, and each role is of a process
@@ -486,7 +480,7 @@ member_stays : (members : List ℕ) (gone p : ℕ) → gone ≢ p → is_member 
     → is_member (filter (λ q. not (q == gone)) members) p ≡ true
 member_stays [] gone p differ h = h
 member_stays (q ∷ qs) gone p differ h =
-    on (member_stays qs gone p differ) (q == gone) refl (or_true (q == p) (is_member qs p) h)
+    on (member_stays qs gone p differ) (q == gone) refl (or_cases (q == p) (is_member qs p) h)
   where
     on : (is_member qs p ≡ true → is_member (filter (λ q. not (q == gone)) qs) p ≡ true) → (b : Bool)
         → (q == gone) ≡ b → ((q == p) ≡ true) ⊎ (is_member qs p ≡ true)
@@ -498,7 +492,7 @@ member_stays (q ∷ qs) gone p differ h =
 
 member_before : (members more : List ℕ) (p : ℕ) → is_member members p ≡ true → is_member (members ++ more) p ≡ true
 member_before [] more p h = absurd (cc)
-member_before (q ∷ qs) more p h = elim (or_true (q == p) (is_member qs p) h) [
+member_before (q ∷ qs) more p h = elim (or_cases (q == p) (is_member qs p) h) [
   | inl here ↦ or_left _ _ here
   | inr there ↦ or_right (q == p) _ (member_before qs more p there)
 ]
@@ -516,7 +510,7 @@ module _ (h : Here) (w : World) (runs : w.queue.running ≡ Some h.process)
   is_ready : h.from.condition ≡ Ready
   is_ready =
       let first = in_front.ready.0 in
-      ap (λ (t : Task). t.condition) (only_one (slice_get w.tasks h.process) h.from first.task there first.here)
+      ap (λ (t : Task). t.condition) (same_some (slice_get w.tasks h.process) h.from first.task there first.here)
       ∙ first.ready
 
   absent : IsAbsent h.process w.queue.ready
@@ -583,7 +577,7 @@ module _ (h : Here) (w : World) (runs : w.queue.running ≡ Some h.process)
       on_process : (t : Task) → slice_get w.tasks other ≡ Some t → t.condition ≡ c → WaitsIn (wake other v)
       on_process t here was = elim (cases_eq h.process other) [
         | inl e ↦ absurd (
-            let mine : h.from ≡ t = only_one (slice_get w.tasks other) h.from t
+            let mine : h.from ≡ t = same_some (slice_get w.tasks other) h.from t
             (subst (λ n. slice_get w.tasks n ≡ Some h.from) e there) here in
             waits (sym was ∙ (ap (λ (x : Task). x.condition) (sym mine) ∙ is_ready)))
         | inr differ ↦
@@ -698,7 +692,7 @@ module _ (h : Here) (w : World) (runs : w.queue.running ≡ Some h.process)
       old : WaitsIn given
       old = role_keeps h.process f v (λ r here. opener r) (λ r j here is. inl (members r j here is))
           (λ r here over none. absurd (
-          let mine : u ≡ over.task = only_one (slice_get (slice_set w.tasks h.process u) h.process) u over.task
+          let mine : u ≡ over.task = same_some (slice_get (slice_set w.tasks h.process u) h.process) u over.task
           (it_is u) over.here in
           let e : Ready ≡ Ended =
           sym is_ready ∙ (sym same ∙ (ap (λ (t : Task). t.condition) mine ∙ over.over)) in cc))
@@ -719,7 +713,7 @@ module _ (h : Here) (w : World) (runs : w.queue.running ≡ Some h.process)
       } ∷ []) h.process (length w.tasks)
       counts_new = record {
         role = f role.0;
-        here = got_before given.roles _ h.process (f role.0)
+        here = slice_get-append_left given.roles _ h.process (f role.0)
             (ap (λ (x : World). slice_get x.roles h.process) (on_role_is h.process f v role.0 role.1)
             ∙ got_set w.roles h.process role.0 (f role.0) role.1);
         join = (grows role.0 role.1).join;
@@ -736,7 +730,7 @@ module _ (h : Here) (w : World) (runs : w.queue.running ≡ Some h.process)
       waits_before : {p word : ℕ} → WaitsOn given.tasks p word → WaitsOn (given.tasks ++ child ∷ []) p word
       waits_before {p} {word} x = record {
         task = x.task;
-        here = got_before given.tasks (child ∷ []) p x.task x.here;
+        here = slice_get-append_left given.tasks (child ∷ []) p x.task x.here;
         exchange = x.exchange;
         done = x.done;
         waits = x.waits;
@@ -747,7 +741,7 @@ module _ (h : Here) (w : World) (runs : w.queue.running ≡ Some h.process)
       over_before : (p : ℕ) → IsOver given.tasks p → IsOver (given.tasks ++ child ∷ []) p
       over_before p over = record {
         task = over.task;
-        here = got_before given.tasks (child ∷ []) p over.task over.here;
+        here = slice_get-append_left given.tasks (child ∷ []) p over.task over.here;
         over = over.over;
       }
 
@@ -760,7 +754,7 @@ module _ (h : Here) (w : World) (runs : w.queue.running ≡ Some h.process)
       counted_before p r o (inl gone) = inl (gone.0, over_before p gone.1)
       counted_before p r o (inr c) = inr (record {
         role = c.role;
-        here = got_before given.roles _ o c.role c.here;
+        here = slice_get-append_left given.roles _ o c.role c.here;
         join = c.join;
         is_open = c.is_open;
         member = c.member;
@@ -770,7 +764,7 @@ module _ (h : Here) (w : World) (runs : w.queue.running ≡ Some h.process)
       opens_before p j (inl member) = inl member
       opens_before p j (inr over) = inr (record {
         task = over.task;
-        here = got_before given.tasks (child ∷ []) p over.task over.here;
+        here = slice_get-append_left given.tasks (child ∷ []) p over.task over.here;
         over = over.over;
       })
 
@@ -948,7 +942,7 @@ module _ (h : Here) (w : World) (runs : w.queue.running ≡ Some h.process)
           )
           other_count p y k differ (inr c) = elim (cases_eq o k) [
             | inl e ↦ absurd (
-                let same : c.role ≡ less r = only_one (slice_get (slice_set roles o (less r)) o) c.role (less r)
+                let same : c.role ≡ less r = same_some (slice_get (slice_set roles o (less r)) o) c.role (less r)
                 (subst (λ n. slice_get (slice_set roles o (less r)) n ≡ Some c.role) (sym e) c.here) again in
                 let is_it : Some c.join ≡ Some (record j {
                   members = filter (λ q. not (q == h.process)) j.members;
@@ -1015,7 +1009,7 @@ module _ (h : Here) (w : World) (runs : w.queue.running ≡ Some h.process)
       elim (keeps.rest.joins h.process r.0 j r.1 r.2) [
         | inl member ↦ member
         | inr over ↦ absurd (
-            let same : h.from ≡ over.task = only_one (slice_get w.tasks h.process) h.from over.task there over.here in
+            let same : h.from ≡ over.task = same_some (slice_get w.tasks h.process) h.from over.task there over.here in
             let e : Ready ≡ Ended = sym is_ready ∙ (ap (λ (t : Task). t.condition) same ∙ over.over) in cc)
       ]
 
@@ -1097,7 +1091,7 @@ module _ (h : Here) (w : World) (runs : w.queue.running ≡ Some h.process)
   moved_keeps o after (turns.starts_first target workspace l found is none tests) says =
       let plan = turns.plan_of h w found in
       begins_branch plan found workspace l.registers (opened h plan l w).0.memory
-      (with_channels h.process plan.base plan.par.channels w.channels) (or_left _ _ (is_itself h.process))
+      (with_channels h.process plan.base plan.par.channels w.channels) (or_left _ _ (eqb-self h.process))
       (λ role j here shown. absurd (
       let e : None ≡ Some j = sym none ∙ (opened_is w h.process role here ∙ shown) in cc))
   moved_keeps o after (turns.starts_later target workspace l found j is is_open same tests) says =
@@ -1126,7 +1120,7 @@ module _ (h : Here) (w : World) (runs : w.queue.running ≡ Some h.process)
       (λ p x k a b shown member. inr (k, shown, member)) (rest u)) opener r.0 j par
       (got_other w.roles h.process opener gone (λ e. omega (arith, below)) ∙ r.1) r.2
       (λ x a b.
-      let same_one : gone ≡ x = only_one (slice_get roles h.process) gone x
+      let same_one : gone ≡ x = same_some (slice_get roles h.process) gone x
       (got_set w.roles h.process mine.0 gone mine.1) a in
       sym (ap (λ (z : Role). z.opened) same_one) ∙ (sym (opened_is w h.process mine.0 mine.1) ∙ none)))
   moved_keeps o after (turns.it_begins l) says =
@@ -1183,7 +1177,7 @@ module _ (h : Here) (w : World) (runs : w.queue.running ≡ Some h.process)
 -- who waits on two links waits on one
 pub same_link : (tasks : List Task) (p word other : ℕ) → WaitsOn tasks p word → WaitsOn tasks p other → word ≡ other
 same_link tasks p word other x y =
-    let same : x.task ≡ y.task = only_one (slice_get tasks p) x.task y.task x.here y.here in
+    let same : x.task ≡ y.task = same_some (slice_get tasks p) x.task y.task x.here y.here in
     let is : OnLink x.exchange x.done ≡ OnLink y.exchange y.done =
     sym x.waits ∙ (ap (λ (t : Task). t.condition) same ∙ y.waits) in
     let e : x.exchange ≡ y.exchange = cc in

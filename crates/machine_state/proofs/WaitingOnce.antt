@@ -1,6 +1,7 @@
 -- No process waits for messages in two places, and no two processes wait in one.
 use Rattle.std.proofs.Common.{◌≡◌, ℕ, inl, inr, Option, Some, None, refl, sym, ap, ◌∙◌, subst, slice_get}
 use Rattle.std.proofs.Common.{List, arith}
+use Rattle.small_laws.proofs.Options.{same_some}
 use Rattle.machine_state.specs.declared.link.InputLink.{InputLink}
 use Rattle.machine_state.specs.declared.link.OutputLink.{OutputLink}
 use Rattle.machine_state.specs.declared.process.Channel.{Channel}
@@ -16,7 +17,6 @@ use Rattle.machine_state.specs.WaitingOnce.{Post, a_cell, an_input, an_output, r
 use Rattle.machine_state.specs.WaitingOnce.{NoTwoWaitTogether}
 use Rattle.machine_state.specs.Happens.{world_after}
 use Rattle.machine_state.proofs.Lines.{told_in}
-use Rattle.machine_state.proofs.Claims.{only_one}
 use Rattle.machine_state.proofs.Waiting.{WaitsIn, reached, same_link, low_output}
 use Rattle.machine_state.proofs.ChannelWaiters.{waits_once, channels_have_their_waiters}
 use Rattle.machine_state.proofs.WhoWaits.{who_waits_is_recorded}
@@ -46,7 +46,7 @@ output_there w k p is = told_in (λ (l : OutputLink). l.waiting) w.links.outputs
 -- who waits on a channel does not wait on a link
 not_both : (w : World) (p k word : ℕ) → WaitsAt w.tasks p k → WaitsOn w.tasks p word → ⊥
 not_both w p k word x y =
-    let same = ap (λ (t : Task). t.condition) (only_one (slice_get w.tasks p) x.task y.task x.here y.here) in
+    let same = ap (λ (t : Task). t.condition) (same_some (slice_get w.tasks p) x.task y.task x.here y.here) in
     elim x.waits [
       | inl sends ↦ let z : Sending x.exchange ≡ OnLink y.exchange y.done = sym sends ∙ (same ∙ y.waits) in cc
       | inr receives ↦
@@ -98,8 +98,8 @@ nobody_waits_twice m es =
 one_waiter : {A : Type 0} (waiting : A → Option ℕ) (links : List A) (k n p q : ℕ) (l x : A) → k ≡ n
     → slice_get links k ≡ Some l → slice_get links n ≡ Some x → waiting l ≡ Some p → waiting x ≡ Some q → p ≡ q
 one_waiter waiting links k n p q l x number here there one two =
-    let link = only_one (slice_get links n) l x (subst (λ i. slice_get links i ≡ Some l) number here) there in
-    only_one (waiting l) p q one (ap waiting link ∙ two)
+    let link = same_some (slice_get links n) l x (subst (λ i. slice_get links i ≡ Some l) number here) there in
+    same_some (waiting l) p q one (ap waiting link ∙ two)
 
 linked_once : (w : World) → WaitsIn w → (p q : ℕ) (e f : Exchange) → e.channel ≡ f.channel
     → IsAtLink w.roles w.links p e → IsAtLink w.roles w.links q f → p ≡ q
@@ -124,10 +124,10 @@ no_two_wait_together m es format =
           let x = recorded p t d e here waits in
           let y = recorded q u g f there other in
           let one : Some x.channel ≡ Some y.channel =
-          only_one (slice_get w.channels (cell_of f.channel)) (Some x.channel) (Some y.channel)
+          same_some (slice_get w.channels (cell_of f.channel)) (Some x.channel) (Some y.channel)
           (subst (λ n. slice_get w.channels n ≡ Some (Some x.channel)) cell x.here) y.here in
           let same : x.channel ≡ y.channel = cc in
-          only_one x.channel.waiting p q x.waiting (ap (λ (c : Channel). c.waiting) same ∙ y.waiting);
+          same_some x.channel.waiting p q x.waiting (ap (λ (c : Channel). c.waiting) same ∙ y.waiting);
       on_links = λ p q t u e f i j here there waits other word.
           linked_once w (reached m es) p q e f word (linked p t e i here waits) (linked q u f j there other);
     }

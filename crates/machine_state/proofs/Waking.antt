@@ -3,12 +3,12 @@ use Rattle.std.proofs.Common.{◌≡◌, ◌≢◌, ℕ, true, inl, inr, List, O
 use Rattle.std.proofs.Common.{slice_get}
 use Rattle.std.proofs.lemmas.Bool.{cases_eq}
 use Rattle.std.specs.Prelude.{slice_set}
+use Rattle.small_laws.proofs.Options.{same_some}
 use Rattle.machine_state.specs.declared.process.Task.{Task}
 use Rattle.machine_state.specs.declared.process.Mode.TheVariants.{Enabling}
 use Rattle.machine_state.specs.declared.process.Condition.{Condition}
 use Rattle.machine_state.specs.declared.process.Condition.TheVariants.{Ready, Alternating}
 use Rattle.machine_state.proofs.Lines.{got_set, got_other, set_either}
-use Rattle.machine_state.proofs.Claims.{only_one}
 use Rattle.machine_state.proofs.Changes as change
 use Rattle.machine_state.proofs.Changes.{Roused}
 
@@ -61,7 +61,7 @@ still_set tasks q t u there p c keeps x = elim (cases_eq q p) [
   | inl e ↦ record {
     task = u;
     here = subst (λ n. slice_get (slice_set tasks q u) n ≡ Some u) e (got_set tasks q t u there);
-    waits = keeps (ap (λ (y : Task). y.condition) (only_one (slice_get tasks p) t x.task
+    waits = keeps (ap (λ (y : Task). y.condition) (same_some (slice_get tasks p) t x.task
         (subst (λ n. slice_get tasks n ≡ Some t) e there) x.here) ∙ x.waits);
   }
   | inr differ ↦ still_other tasks q u p c differ x

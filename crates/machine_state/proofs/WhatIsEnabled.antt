@@ -2,6 +2,7 @@
 use Rattle.std.proofs.Common.{◌≡◌, ◌≢◌, ℕ, zero, suc, ◌+◌, ◌||◌, Bool, true, false, ◌⊎◌, inl, inr, List, [], ◌∷◌, ◌++◌}
 use Rattle.std.proofs.Common.{Option, Some, None, is_some, refl, sym, ap, ◌∙◌, subst, slice_get}
 use Rattle.std.specs.Prelude.{slice_set}
+use Rattle.small_laws.proofs.Options.{same_some}
 use Rattle.module_format.specs.Contents.{Contents}
 use Rattle.machine_state.specs.declared.link.InputLink.{InputLink}
 use Rattle.machine_state.specs.declared.process.Channel.{Channel}
@@ -25,7 +26,7 @@ use Rattle.machine_state.specs.EnabledLaws.{IsInAlternation}
 use Rattle.machine_state.specs.EnabledLaws.{AllAlternate, MayWait, HasReady, a_sender, a_byte, NothingIsReady}
 use Rattle.machine_state.specs.EnabledLaws.{WhoMayWaitHasNothingReady}
 use Rattle.machine_state.proofs.Lines.{got_other, got_either, set_either}
-use Rattle.machine_state.proofs.Claims.{only_one, not_some}
+use Rattle.machine_state.proofs.Claims.{not_some}
 use Rattle.machine_state.proofs.Modes.{IsOutside}
 use Rattle.machine_state.proofs.Waking.{roused_was}
 use Rattle.machine_state.proofs.Waiting.{WaitsIn, reached}
@@ -63,16 +64,16 @@ roused_may_wait tasks later o (change.who_enables q x there is awake) p t altern
         | inl mode ↦ absurd (cc)
         | inr waits ↦ absurd (awake waits)
       ]
-      | inr other ↦ ((λ e. other.0 (only_one (Some q) q p refl e)), other.1)
+      | inr other ↦ ((λ e. other.0 (same_some (Some q) q p refl e)), other.1)
     ]
 roused_may_wait tasks later o (change.who_waits q x there waits) p t alternates here may =
     elim (set_either tasks q (record x { condition = Ready }) p t here) [
       | inl it ↦
-          let same = only_one (slice_get tasks p) alternates.task x alternates.here
+          let same = same_some (slice_get tasks p) alternates.task x alternates.here
           (subst (λ n. slice_get tasks n ≡ Some x) it.0 there) in
           absurd (on (subst (λ (y : Task). Alternates y.mode y.condition) same alternates.alternates)
           (subst (λ (y : Task). MayWait y) it.1 may))
-      | inr other ↦ ((λ e. other.0 (only_one (Some q) q p refl e)), other.1)
+      | inr other ↦ ((λ e. other.0 (same_some (Some q) q p refl e)), other.1)
     ]
   where
     on : Alternates x.mode x.condition → (x.mode ≡ Enabling false) ⊎ (Ready ≡ Alternating) → ⊥
@@ -152,7 +153,7 @@ module _ (h : Here) (w : World) (runs : w.queue.running ≡ Some h.process)
       → h.process ≢ p
   not_waiting k c p here waits e =
       let x = waiters k c p here waits in
-      let same = only_one (slice_get w.tasks p) x.task h.from x.here
+      let same = same_some (slice_get w.tasks p) x.task h.from x.here
       (subst (λ n. slice_get w.tasks n ≡ Some h.from) e there) in
       let is_ready = ap (λ (t : Task). t.condition) same ∙ ready in
       elim x.waits [
@@ -202,7 +203,7 @@ module _ (h : Here) (w : World) (runs : w.queue.running ≡ Some h.process)
           let has_it = subst (λ n. HasReady w.tasks w.channels w.links.inputs n) (sym it.0) old in
           let enabled = ready_is_enabled w.tasks w.channels w.links.inputs h.process has_it in
           let x = alternates h.process enabled in
-          let same = only_one (slice_get w.tasks h.process) x.task h.from x.here there in
+          let same = same_some (slice_get w.tasks h.process) x.task h.from x.here there in
           all h.process h.from there (mays enabled (subst (λ (y : Task). Alternates y.mode y.condition) same
           x.alternates) (subst (λ (y : Task). MayWait y) it.1 waits)) has_it
       on old (inr other) = all p t other.1 waits old
@@ -334,7 +335,7 @@ module _ (h : Here) (w : World) (runs : w.queue.running ≡ Some h.process)
     ]
     | inr other ↦ elim (before p has) [
       | inl old ↦ all p t other.1 waits old
-      | inr new ↦ other.0 (only_one (Some h.process) h.process p refl new.0)
+      | inr new ↦ other.0 (same_some (Some h.process) h.process p refl new.0)
     ]
   ]
 
@@ -399,7 +400,7 @@ module _ (h : Here) (w : World) (runs : w.queue.running ≡ Some h.process)
           ] in
           let x = alternates p before in
           let differ : h.process ≢ p = λ same. not_plain x.task.mode x.task.condition
-          (ap (λ (y : Task). y.mode) (only_one (slice_get w.tasks p) x.task h.from x.here
+          (ap (λ (y : Task). y.mode) (same_some (slice_get w.tasks p) x.task h.from x.here
           (subst (λ n. slice_get w.tasks n ≡ Some h.from) same there)) ∙ is) x.alternates in
           record { task = x.task; here = got_other w.tasks h.process p _ differ ∙ x.here; alternates = x.alternates }
 
@@ -450,7 +451,7 @@ module _ (h : Here) (w : World) (runs : w.queue.running ≡ Some h.process)
   changed ts rs cs ls (change.waits_to_receive r e c is holds at none) =
       goes r h.from.mode (Receiving e) (λ e sends. cc) (plain is h.from.mode (Receiving e)) cs w.links.inputs
       (fewer_cells (cell_of e.channel) (record c { waiting = Some h.process })
-      (λ q mine. only_one (Some h.process) h.process q refl mine)) same_inputs
+      (λ q mine. same_some (Some h.process) h.process q refl mine)) same_inputs
   changed ts rs cs ls (change.waits_to_send r e c tasks is holds at none roused) = sends is r e c tasks at roused
   changed ts rs cs ls (change.meets_sender r e sent c other is holds at waits x) =
       meets r other sent.channel c (Sending sent) x

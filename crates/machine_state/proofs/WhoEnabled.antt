@@ -2,9 +2,13 @@
 use Rattle.std.proofs.Common.{◌≡◌, ℕ, zero, suc, ◌+◌, ◌||◌, Bool, true, false, ◌⊎◌, inl, inr}
 use Rattle.std.proofs.Common.{List, [], ◌∷◌, Option, Some, None, is_some, refl, sym, ap, ◌∙◌, subst}
 use Rattle.std.proofs.Common.{slice_get, replicate}
-use Rattle.std.proofs.lemmas.Bool.{cases_eq}
+use Rattle.std.proofs.lemmas.Bool.{cases_eq, or_left, or_right}
 use Rattle.std.specs.Prelude.{slice_set}
 use Rattle.std.specs.List.{list_any}
+use Rattle.std.proofs.lemmas.Map.Keys.{any_passes_from_place}
+use Rattle.small_laws.proofs.Options.{same_some}
+use Rattle.small_laws.proofs.Comparisons.{eqb-self}
+use Rattle.small_laws.proofs.Lookups.{slice_get-append_left}
 use Rattle.module_format.specs.Contents.{Contents}
 use Rattle.machine_state.specs.declared.link.InputLink.{InputLink}
 use Rattle.machine_state.specs.declared.process.Channel.{Channel}
@@ -24,10 +28,8 @@ use Rattle.machine_state.specs.Joins.{closed_task, without_channels}
 use Rattle.machine_state.specs.Happens.{world_after}
 use Rattle.machine_state.specs.EnabledLaws.{HasEnabled, a_channel, a_link, Enables, Alternates}
 use Rattle.machine_state.specs.EnabledLaws.{IsInAlternation, AllAlternate, WhoEnabledAlternates}
-use Rattle.machine_state.proofs.SpanLaws.{or_left, or_right}
-use Rattle.machine_state.proofs.Lines.{got_set, got_other, set_either, got_before}
-use Rattle.machine_state.proofs.Claims.{only_one, not_some}
-use Rattle.machine_state.proofs.Shares.{number_itself}
+use Rattle.machine_state.proofs.Lines.{got_set, got_other, set_either}
+use Rattle.machine_state.proofs.Claims.{not_some}
 use Rattle.machine_state.proofs.Modes.{IsOutside}
 use Rattle.machine_state.proofs.Waiting.{WaitsIn, reached}
 use Rattle.machine_state.proofs.ChannelWaiters.{new_is_quiet, left_channel}
@@ -84,22 +86,16 @@ set_link_enabled cells inputs k new p (a_link n l here is) = elim (set_either in
   | inr old ↦ inl (a_link n l old.1 is)
 ]
 
-pub any_at : {A : Type 0} (f : A → Bool) (xs : List A) (k : ℕ) (x : A) → slice_get xs k ≡ Some x → f x ≡ true
-    → list_any f xs ≡ true
-any_at f [] k x here passes = absurd (cc)
-any_at f (y ∷ ys) zero x here passes =
-    let e : y ≡ x = cc in or_left _ _ (subst (λ z. f z ≡ true) (sym e) passes)
-any_at f (y ∷ ys) (suc k) x here passes = or_right (f y) _ (any_at f ys k x here passes)
-
 pub by_itself : (o : Option ℕ) (p : ℕ) → o ≡ Some p → is_by o p ≡ true
-by_itself o p is = subst (λ (o : Option ℕ). is_by o p ≡ true) (sym is) (number_itself p)
+by_itself o p is = subst (λ (o : Option ℕ). is_by o p ≡ true) (sym is) (eqb-self p)
 
 pub it_has_enabled : (w : World) (p : ℕ) → HasEnabled w.channels w.links.inputs p → has_enabled w p ≡ true
 it_has_enabled w p (a_link k l here is) =
-    or_left _ _ (any_at (λ (link : InputLink). is_by link.enabled p) w.links.inputs k l here (by_itself l.enabled p is))
+    or_left _ _ (any_passes_from_place (λ (link : InputLink). is_by link.enabled p) w.links.inputs k l here
+    (by_itself l.enabled p is))
 it_has_enabled w p (a_channel k c here is) =
     or_right (list_any (λ (link : InputLink). is_by link.enabled p) w.links.inputs) _
-    (any_at (λ (cell : Option Channel). elim cell as (λ o. Bool) [
+    (any_passes_from_place (λ (cell : Option Channel). elim cell as (λ o. Bool) [
       | None ↦ false
       | Some channel ↦ is_by channel.enabled p
     ]) w.channels k (Some c) here (by_itself c.enabled p is))
@@ -112,7 +108,7 @@ alternates_set : (tasks : List Task) (q : ℕ) (t u : Task) → slice_get tasks 
     → IsInAlternation (slice_set tasks q u) p
 alternates_set tasks q t u there keeps p x = elim (cases_eq q p) [
   | inl e ↦
-      let same = only_one (slice_get tasks p) x.task t x.here (subst (λ n. slice_get tasks n ≡ Some t) e there) in
+      let same = same_some (slice_get tasks p) x.task t x.here (subst (λ n. slice_get tasks n ≡ Some t) e there) in
       record {
         task = u;
         here = subst (λ n. slice_get (slice_set tasks q u) n ≡ Some u) e (got_set tasks q t u there);
@@ -166,7 +162,7 @@ module _ (h : Here) (w : World) (runs : w.queue.running ≡ Some h.process)
       → HasEnabled w.channels w.links.inputs p ⊎ (Some h.process ≡ Some p) → IsInAlternation (going h w r mode c) p
   goes_new r mode c alternates p (inl old) = goes r mode c (λ has was. alternates) p old
   goes_new r mode c alternates p (inr new) =
-      let e = only_one (Some h.process) h.process p refl new in
+      let e = same_some (Some h.process) h.process p refl new in
       subst (λ n. IsInAlternation (going h w r mode c) n) e (record {
         task = record { registers = r; mode = mode; condition = c };
         here = got_set w.tasks h.process h.from (record { registers = r; mode = mode; condition = c }) there;
@@ -245,7 +241,7 @@ module _ (h : Here) (w : World) (runs : w.queue.running ≡ Some h.process)
       let x = goes r Starting h.from.condition (outside is Starting h.from.condition) p (old has) in
       record {
         task = x.task;
-        here = got_before (going h w r Starting h.from.condition) (child ∷ []) p x.task x.here;
+        here = slice_get-append_left (going h w r Starting h.from.condition) (child ∷ []) p x.task x.here;
         alternates = x.alternates;
       }
     where

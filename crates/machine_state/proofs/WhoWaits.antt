@@ -4,6 +4,7 @@ use Rattle.std.proofs.Common.{Option, Some, None, refl, sym, ap, ◌∙◌, subs
 use Rattle.std.proofs.lemmas.Bool.{cases_eq}
 use Rattle.std.proofs.lemmas.Option.{slice_get_within}
 use Rattle.std.specs.Prelude.{◌==◌, slice_set}
+use Rattle.small_laws.proofs.Options.{same_some}
 use Rattle.module_format.specs.Contents.{Contents, Par}
 use Rattle.module_format.specs.declared.rows.Direction.{Direction}
 use Rattle.module_format.specs.declared.rows.Direction.TheVariants.{In, Out}
@@ -35,7 +36,7 @@ use Rattle.machine_state.proofs.Waiting.{WaitsIn, reached}
 use Rattle.machine_state.proofs.Among.{none_among}
 use Rattle.machine_state.specs.Ownership.{IsAmong, Claim, to_use, claims, owner_in, owner_of, HoldersIn}
 use Rattle.machine_state.specs.Roles.{own_in, opener_in, opened_in}
-use Rattle.machine_state.proofs.Claims.{nothing_claimed, only_one, not_some}
+use Rattle.machine_state.proofs.Claims.{nothing_claimed, not_some}
 use Rattle.machine_state.proofs.Owners.{row_addresses, new_owner}
 use Rattle.machine_state.proofs.Holders.{now_claims, lent_by, reaches}
 use Rattle.machine_state.proofs.Roles.{field_set, field_other, opened_is, opened_here, gives_back}
@@ -140,9 +141,9 @@ not_theirs m h w o roles x par st none p end c at holds differ same =
           let above = lent_by t1 p o end mine owned in
           let it = reaches t1 o p (to_use end) above mine in
           none_among fewer.members it.0 none (subst (λ (k : Join). IsAmong it.0 k.members)
-          (only_one (opened_in later o) it.2.join fewer it.2.is_open
+          (same_some (opened_in later o) it.2.join fewer it.2.is_open
           (opened_here m roles w.channels t o x.role x.here (Some fewer))) it.2.member)
-      | inr own ↦ differ (only_one (owner_in w.channels (cell_of end.address)) o p owned own.0)
+      | inr own ↦ differ (same_some (owner_in w.channels (cell_of end.address)) o p owned own.0)
     ]
 
 -- ---- an instruction of the running process
@@ -169,7 +170,7 @@ module _ (h : Here) (w : World) (there : slice_get w.tasks h.process ≡ Some h.
       let before : owner_in w.channels k ≡ Some c.opener = ap owner_of at in
       let theirs = opens.still k c.opener before in
       let cells = with_channels h.process plan.base plan.par.channels w.channels in
-      let same = only_one (owner_in cells k) h.process c.opener
+      let same = same_some (owner_in cells k) h.process c.opener
       (subst (λ n. owner_in cells n ≡ Some h.process) cell mine) theirs in
       let join_there = st.holders.opens k c.opener before in
       let z : None ≡ Some join_there.0 = sym none ∙ (ap (opened_in w.roles) same ∙ join_there.1) in cc)
@@ -200,7 +201,7 @@ module _ (h : Here) (w : World) (runs : w.queue.running ≡ Some h.process)
       → IsRecorded w.roles (with_cell w address new) p d e
   kept_there address old new is same p d e x = elim (cases_eq (cell_of address) (cell_of e.channel)) [
     | inl cell ↦
-        let one : Some old ≡ Some x.channel = only_one (slice_get w.channels (cell_of e.channel)) (Some old)
+        let one : Some old ≡ Some x.channel = same_some (slice_get w.channels (cell_of e.channel)) (Some old)
         (Some x.channel) (subst (λ n. slice_get w.channels n ≡ Some (Some old)) cell is) x.here in
         let it : old ≡ x.channel = cc in
         record {
@@ -230,7 +231,7 @@ module _ (h : Here) (w : World) (runs : w.queue.running ≡ Some h.process)
       → IsRecorded w.roles (slice_set w.channels k new) p d e
   elsewhere k old new at p d e never x = elim (cases_eq k (cell_of e.channel)) [
     | inl cell ↦ absurd (
-        let one : Some old ≡ Some x.channel = only_one (slice_get w.channels (cell_of e.channel)) (Some old)
+        let one : Some old ≡ Some x.channel = same_some (slice_get w.channels (cell_of e.channel)) (Some old)
         (Some x.channel) (subst (λ n. slice_get w.channels n ≡ Some (Some old)) cell at) x.here in
         let it : old ≡ x.channel = cc in
         never (ap (λ (c : Channel). c.waiting) it ∙ x.waiting))
@@ -276,7 +277,7 @@ module _ (h : Here) (w : World) (runs : w.queue.running ≡ Some h.process)
       let woken = ready_was (λ c. WaitsTo d c e) (no_wait Ready calm_ready d e)
       (going h w r h.from.mode h.from.condition) other u ready p t here waits in
       elsewhere (cell_of source) c (Some (record c { waiting = None })) at p d e
-      (λ mine. woken.0 (only_one c.waiting other p partner mine))
+      (λ mine. woken.0 (same_some c.waiting other p partner mine))
       (all p t d e (was r h.from.mode h.from.condition calm_from p t d e woken.1 waits).1 waits)
 
   -- who was recorded is so still, where it holds what it did and channels stay

@@ -3,6 +3,7 @@ use Rattle.std.proofs.Common.{◌≡◌, ◌≢◌, ℕ, zero, suc, ◌+◌, ◌
 use Rattle.std.proofs.Common.{List, [], ◌∷◌, ◌++◌, Option, Some, None, refl, sym, ap, ◌∙◌, subst, slice_get, arith}
 use Rattle.std.proofs.lemmas.Bool.{cases_eq}
 use Rattle.std.specs.Prelude.{slice_set}
+use Rattle.small_laws.proofs.Options.{same_some}
 use Rattle.module_format.specs.Contents.{Contents}
 use Rattle.module_format.specs.declared.rows.Direction.{Direction}
 use Rattle.module_format.specs.declared.rows.Direction.TheVariants.{In, Out}
@@ -28,7 +29,6 @@ use Rattle.machine_state.specs.LinkLaws.{IsAtLink, at_input, at_output, AreAtLin
 use Rattle.machine_state.proofs.Lines.{got_set, got_other, got_either, got_within, set_either}
 use Rattle.machine_state.proofs.Waking.{ready_was, roused_was}
 use Rattle.machine_state.proofs.Waiting.{WaitsIn, reached, low_output}
-use Rattle.machine_state.proofs.Claims.{only_one}
 use Rattle.machine_state.proofs.OthersHold.{HoldOn, others_hold}
 use Rattle.machine_state.proofs.ApartLaws.{holdings_stay_apart}
 use Rattle.machine_state.proofs.Changes as change
@@ -71,7 +71,7 @@ link_set waiting word links n old new p e at same k l here waits there = elim (c
     new,
     subst (λ i. slice_get (slice_set links n new) i ≡ Some new) it (got_set links n old new at),
     (
-        let one = only_one (slice_get links k) old l (subst (λ i. slice_get links i ≡ Some old) it at) here in
+        let one = same_some (slice_get links k) old l (subst (λ i. slice_get links i ≡ Some old) it at) here in
         same (there ∙ ap word (sym it)) (ap waiting one ∙ waits)),
   )
   | inr differ ↦ (l, got_other links n k new differ ∙ here, waits)
@@ -310,7 +310,7 @@ module _ (m : Contents) (w : World) (keeps : WaitsIn w)
       changed h w runs here keeps apart all ts rs cs ls x (others_hold h w keeps ts rs cs ls x)
   passed ts rs cs ls (change.fills_last p k link here waiting x) = frees p _ ls refl (λ q e differ. (
     input_set w k link (record link { waiting = None }) q e here
-        (λ word waits. absurd (differ (only_one link.waiting p q waiting waits))),
+        (λ word waits. absurd (differ (same_some link.waiting p q waiting waits))),
     same_outputs w.links q e,
   ))
   passed ts rs cs ls (change.fills_more p k x) = further p (input_word k) x
@@ -321,7 +321,7 @@ module _ (m : Contents) (w : World) (keeps : WaitsIn w)
       (same_outputs w.links p e) (all p before.0 e done before.1 before.2)
   passed ts rs cs ls (change.acknowledges p k link here waiting x) = frees p _ ls refl (λ q e differ. (
     same_inputs w.links q e,
-    output_set w k link None q e here (λ word waits. absurd (differ (only_one link.waiting p q waiting waits))),
+    output_set w k link None q e here (λ word waits. absurd (differ (same_some link.waiting p q waiting waits))),
   ))
 
 loaded_at_links : (m : Contents) → AreAtLinks (loaded m).tasks (loaded m).roles (loaded m).links

@@ -2,7 +2,7 @@
 use Rattle.std.proofs.Common.{◌≡◌, ℕ, zero, suc, ◌+◌, ◌%◌, ◌^◌, ◌<◌, ◌≤◌, ◌&&◌, Bool, true, false, if◌then◌else◌, ◌⊎◌}
 use Rattle.std.proofs.Common.{inl, inr, ℤ, pos, negsuc, List, [], ◌∷◌, ◌++◌, length, Option, Some, None, is_some}
 use Rattle.std.proofs.Common.{Result, Ok, Err, refl, sym, ap, ◌∙◌, subst, slice_get, arith, eqb-true}
-use Rattle.std.proofs.lemmas.Bool.{cases_lt, cases_eq, le-leb, lt-ltb}
+use Rattle.std.proofs.lemmas.Bool.{cases_lt, cases_eq, le-leb, lt-ltb, and_parts, and_from}
 use Rattle.std.proofs.lemmas.List.{get_or_past}
 use Rattle.std.specs.Prelude.{⊤, ◌==◌}
 use Rattle.std.specs.List.{list_all}
@@ -48,11 +48,10 @@ use Rattle.machine_state.specs.Writing.{delivery, is_delivered, is_own, WritesWe
 use Rattle.machine_state.specs.Writing.{wanted_by, wanted_on, ArriveWrites, ArrivalsWriteOne}
 use Rattle.machine_state.specs.Writing.{AcknowledgementsWriteNothing}
 use Rattle.machine_state.proofs.Reading.{length-with_byte, byte_at-with_byte, byte_at-with_byte_other}
-use Rattle.machine_state.proofs.Combining.{and_true}
 use Rattle.machine_state.proofs.EveryInstruction.{Wants, OfAsked, wants_asked, here, scheduled, each_step}
 use Rattle.machine_state.proofs.Frame.{changes_more, changes_nothing, write_is_own, byte_is_own, copy_is_own}
 use Rattle.machine_state.proofs.Frame.{steps_change_own}
-use Rattle.machine_state.proofs.SpanLaws.{both_true, runs_tell}
+use Rattle.machine_state.proofs.SpanLaws.{runs_tell}
 use Rattle.machine_state.proofs.MovesLeaveAlone.{on_task_only, wake_only, rouse_only, on_role_only, joined_quiet}
 use Rattle.machine_state.proofs.Starting.{first_tests, later_tests}
 use Rattle.machine_state.specs.Endings as turns
@@ -105,10 +104,10 @@ pub all_at : (test : ℕ → Bool) (place n i : ℕ) → all_places test place n
 unfolding all_places
 all_at test place zero i all inside = absurd (omega arith)
 all_at test place (suc n) zero all inside =
-    let e : place + 0 ≡ place = omega arith in rw e (and_true _ _ all).0
+    let e : place + 0 ≡ place = omega arith in rw e (and_parts _ _ all).0
 all_at test place (suc n) (suc i) all inside =
     let e : place + suc i ≡ place + 1 + i = omega arith in
-    rw e (all_at test (place + 1) n i (and_true _ _ all).1 (omega arith))
+    rw e (all_at test (place + 1) n i (and_parts _ _ all).1 (omega arith))
 
 -- ---- what an outcome says of a message: it has a byte at least
 
@@ -166,7 +165,7 @@ words_are_own : (h : Holding) (addresses : List ℕ) (m : Memory)
     → list_all (λ a. may_write_word h (place_of a)) addresses ≡ true → ChangesOwn h m (without_words addresses m)
 words_are_own h [] m own = changes_nothing h m
 words_are_own h (a ∷ addresses) m own =
-    let both = and_true _ _ own in
+    let both = and_parts _ _ own in
     changes_more h m (with_word m (place_of a) None) _ (write_is_own h m (place_of a) None both.0)
     (words_are_own h addresses (with_word m (place_of a) None) both.1)
 
@@ -174,28 +173,28 @@ passed_word : (h : Holding) (test : ℕ → Bool) → ((q : ℕ) → test q ≡ 
     → word_passes test place ≡ true → may_write_word h place ≡ true
 unfolding may_write_word
 passed_word h test own place passes =
-    let p = and_true _ _ passes in
-    let q = and_true _ _ p.0 in
-    let r = and_true _ _ q.0 in
-    both_true _ _ (both_true _ _ (both_true _ _ (own _ r.0) (own _ r.1)) (own _ q.1)) (own _ p.1)
+    let p = and_parts _ _ passes in
+    let q = and_parts _ _ p.0 in
+    let r = and_parts _ _ q.0 in
+    and_from _ _ (and_from _ _ (and_from _ _ (own _ r.0) (own _ r.1)) (own _ q.1)) (own _ p.1)
 
 scheduling_is_own : (h : Holding) (test : ℕ → Bool) (workspace : ℕ)
     → ((q : ℕ) → test q ≡ true → may_write h q ≡ true)
     → list_all (word_passes test) (scheduling_places workspace) ≡ true
     → list_all (λ a. may_write_word h (place_of a)) (scheduling_addresses workspace) ≡ true
 scheduling_is_own h test workspace own passes =
-    let p = and_true _ _ passes in
-    let q = and_true _ _ p.1 in
-    let r = and_true _ _ q.1 in
-    both_true _ _ (passed_word h test own _ p.0) (both_true _ _ (passed_word h test own _ q.0)
-    (both_true _ _ (passed_word h test own _ r.0) refl))
+    let p = and_parts _ _ passes in
+    let q = and_parts _ _ p.1 in
+    let r = and_parts _ _ q.1 in
+    and_from _ _ (passed_word h test own _ p.0) (and_from _ _ (passed_word h test own _ q.0)
+    (and_from _ _ (passed_word h test own _ r.0) refl))
 
 -- what is left was there
 less_writes : (n : ℕ) (h : Holding) (share : Share) (q : ℕ) → may_write (less n h share) q ≡ true
     → may_write h q ≡ true
 unfolding less
 less_writes n h share q own =
-    (and_true _ _ (and_true _ _ (runs_tell _ 0 n q own).passes).0).0
+    (and_parts _ _ (and_parts _ _ (runs_tell _ 0 n q own).passes).0).0
 
 -- the scheduling words of the new process, by the test of the start
 start_is_own : (h : Holding) (n : ℕ) (plan : Plan) (workspace : ℕ) (found : Found) (m : Memory)
@@ -206,14 +205,14 @@ start_is_own h n plan workspace found m own there =
     words_are_own h (scheduling_addresses workspace) m
     (scheduling_is_own h (λ place. may_write plan.rest place
     && writes_place (share_by plan found.branch) place) workspace
-    (λ q both. own q (and_true _ _ both).0) (and_true _ _ (and_true _ _ there).0).0)
+    (λ q both. own q (and_parts _ _ both).0) (and_parts _ _ (and_parts _ _ there).0).0)
 
 -- the words that an open join keeps
 words_taken : (h : Holding) (plan : Plan) → words_are_held h plan ≡ true
     → list_all (λ a. may_write_word h (place_of a))
     (block_addresses plan.base plan.par ++ channel_addresses plan.base plan.par) ≡ true
 words_taken h plan held =
-    (and_true (list_all (λ a. may_write_word h (place_of a))
+    (and_parts (list_all (λ a. may_write_word h (place_of a))
     (block_addresses plan.base plan.par ++ channel_addresses plan.base plan.par))
     (list_all (λ (named : Option ℤ). elim named as (λ o. Bool) [
       | None ↦ true
@@ -290,7 +289,7 @@ delivers h d e wanted old middle new changes is sent same = rw (same, is) (recor
         apart (inl below) b = inl below
         apart (inr above) (inr past) = inr past
         apart (inr above) (inl within) = absurd (
-            let x : true ≡ false = sym (both_true _ _ (le-leb to q above) (lt-ltb q (to + e.length) within)) ∙ outside
+            let x : true ≡ false = sym (and_from _ _ (le-leb to q above) (lt-ltb q (to + e.length) within)) ∙ outside
             in cc)
 
     become : (x : Delivery) → Some (record { sent = e; wanted = wanted }) ≡ Some x → (i : ℕ) → i < x.sent.length

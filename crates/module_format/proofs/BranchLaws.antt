@@ -4,6 +4,7 @@ use Rattle.std.proofs.Common.{◌∙◌, append_assoc, arith, FitsSigned}
 use Rattle.std.specs.Int.{w32}
 use Rattle.std.specs.List.{flat_map, list_any, AllByRecursion}
 use Rattle.std.proofs.lemmas.Bool.{ltb-true, lt-ltb, leb-true, le-leb, not-true, or_parts}
+use Rattle.small_laws.proofs.Comparisons.{int_lt-true, lt-int_lt}
 use Rattle.module_format.specs.declared.rows.Interval.{Interval}
 use Rattle.module_format.specs.declared.rows.BranchCounts.{BranchCounts}
 use Rattle.module_format.specs.Contents.{Branch, counts_of, CountsFit}
@@ -17,7 +18,7 @@ use Rattle.module_format.specs.ReadingPars.{branch_entry_at, branch_counts_at, b
 use Rattle.module_format.proofs.ReadsInSteps.{Has, has_ok, step, Spelled, tested_takes, tested_again}
 use Rattle.module_format.proofs.ReadsInSteps.{nothing_taken, field, all_taken}
 use Rattle.module_format.proofs.ReadsInSteps.{list_takes, list_again}
-use Rattle.module_format.proofs.FieldLaws.{int_lt-true, int_lt-holds, u16_takes, u16_again, in_code_takes}
+use Rattle.module_format.proofs.FieldLaws.{u16_takes, u16_again, in_code_takes}
 use Rattle.module_format.proofs.FieldLaws.{in_code_again, int_takes, int_again}
 use Rattle.module_format.proofs.RowLaws.{first_word_takes, first_word_again}
 use Rattle.module_format.proofs.EndLaws.{end_takes, end_again}
@@ -45,7 +46,7 @@ module _ (size : ℕ) where
   interval_end_again : (lo hi : ℤ) (rest : List ℕ) → FitsSigned w32 hi → lo <ℤ hi
       → interval_end_at size lo (i32_bytes hi ++ rest) ≡ Ok (hi, rest)
   unfolding interval_end_at
-  interval_end_again lo hi rest fits some = tested_again _ _ _ _ (int_again size hi rest fits) (int_lt-holds _ _ some)
+  interval_end_again lo hi rest fits some = tested_again _ _ _ _ (int_again size hi rest fits) (lt-int_lt _ _ some)
 
   pub words_take : (low : ℤ) (bytes : List ℕ) → IsBytes bytes
       → Has (words_at size low bytes) (Spelled bytes interval_bytes (IntervalKeeps low))

@@ -1,13 +1,13 @@
 -- The laws of single fields: a field that is read is spelled so, and a field that is spelled so is read.
-use Rattle.std.proofs.Common.{◌≡◌, ◌≢◌, true, ℕ, ◌+◌, ◌^◌, ◌<◌, ◌≤◌, ℤ, ◌≤ℤ◌, suc, [], ◌∷◌, false, ltb, leb, eqb, List}
+use Rattle.std.proofs.Common.{◌≡◌, ℕ, ◌+◌, ◌^◌, ◌<◌, ◌≤◌, ℤ, ◌≤ℤ◌, suc, [], ◌∷◌, false, ltb, leb, List}
 use Rattle.std.proofs.Common.{◌++◌, length, take, drop, Ok, refl, sym, arith, rules, inl, inr, FitsSigned}
-use Rattle.std.specs.Prelude.{int_lt, int_le, ◌<ℤ◌}
 use Rattle.std.specs.Int.{w32, cast_signed, cast_unsigned}
 use Rattle.std.proofs.lemmas.Bool.{cases_lt, ltb-true, lt-ltb, ltb-false, le-ltb, leb-true, le-leb, and_parts}
 use Rattle.std.proofs.lemmas.List.{take_at, drop_at, take-append-drop, length-append, length-take, get_or-drop}
 use Rattle.std.proofs.lemmas.List.{get_or-take, get_or_past}
 use Rattle.std.proofs.lemmas.Nat.{le_bytes_2, le_bytes_4, le_bytes_8}
 use Rattle.std.proofs.lemmas.Int.{ints, to_z-of_z, of_z-to_z}
+use Rattle.small_laws.proofs.Comparisons.{int_le-true, le-int_le}
 use Rattle.byteorder.specs.Endian.{little_number}
 use Rattle.byteorder.specs.Numbers.{little_number-reads_back}
 use Rattle.module_format.specs.declared.fault.FormatFaultKind.TheVariants as faults
@@ -31,34 +31,6 @@ IsBytes-take n bytes h i =
 
 pub IsBytes-rest : (b : ℕ) (bytes : List ℕ) → IsBytes (b ∷ bytes) → IsBytes bytes
 IsBytes-rest b bytes h i = h (suc i)
-
--- tests
-pub eqb-false : (a b : ℕ) → eqb a b ≡ false → a ≢ b
-eqb-false a b e h = grind (arith, h, e)
-
-pub eqb-differ : (a b : ℕ) → a ≢ b → eqb a b ≡ false
-eqb-differ a b h = grind (arith, h)
-
-pub int_lt-false : (a b : ℤ) → int_lt a b ≡ false → b ≤ℤ a
-int_lt-false a b e = grind (arith, ints)
-
-pub int_le-lt : (a b : ℤ) → b ≤ℤ a → int_lt a b ≡ false
-int_le-lt a b h = grind (arith, ints)
-
-pub int_le-false : (a b : ℤ) → int_le a b ≡ false → b <ℤ a
-int_le-false a b e = grind (arith, ints)
-
-pub int_le-true : (a b : ℤ) → int_le a b ≡ true → a ≤ℤ b
-int_le-true a b e = grind (arith, ints)
-
-pub int_le-le : (a b : ℤ) → a ≤ℤ b → int_le a b ≡ true
-int_le-le a b h = grind (arith, ints)
-
-pub int_lt-true : (a b : ℤ) → int_lt a b ≡ true → a <ℤ b
-int_lt-true a b e = grind (arith, ints)
-
-pub int_lt-holds : (a b : ℤ) → a <ℤ b → int_lt a b ≡ true
-int_lt-holds a b h = grind (arith, ints)
 
 -- ---- numbers
 
@@ -241,7 +213,7 @@ module _ (size : ℕ) where
   unfolding interval_at hi_at
   interval_again lo hi rest h =
       step _ (int_again lo (i32_bytes hi ++ rest) h.lo_fits)
-      (step _ (tested_again _ _ _ _ (int_again hi rest h.hi_fits) (int_le-le _ _ h.ordered)) refl)
+      (step _ (tested_again _ _ _ _ (int_again hi rest h.hi_fits) (le-int_le _ _ h.ordered)) refl)
 
 -- ---- runs of bytes
 

@@ -9,10 +9,10 @@ use Rattle.std.proofs.Math.Bool.{or-true, and-false}
 use Rattle.std.specs.Coded.{×_prop, Unit-prop}
 use Rattle.std.proofs.Props.{props}
 use Rattle.std.proofs.lemmas.Int.{ints}
+use Rattle.small_laws.proofs.Comparisons.{int_lt-false, le-int_lt, int_le-false, int_le-true, le-int_le, lt-int_lt}
 use Rattle.module_format.specs.declared.rows.Interval.{Interval}
 use Rattle.module_format.specs.Order.{InOrder}
 use Rattle.module_format.specs.Pars.{IntervalKeeps, behind_interval, meet}
-use Rattle.module_format.proofs.FieldLaws.{int_le-false, int_le-true, int_le-le, int_lt-false, int_le-lt, int_lt-holds}
 
 -- there is one proof at most that intervals rise
 pub intervals_prop : (low : ℤ) (is : List Interval) → IsProp (InOrder IntervalKeeps behind_interval low is)
@@ -65,14 +65,14 @@ module _ (d : Interval) where
           let b = some_at low ws k h inside in
           let c = int_le-true (get_or ws k d).hi i.lo e in
           let le : (get_or ws j d).hi ≤ℤ i.lo = grind (arith, ints) in
-          int_le-le (get_or ws j d).hi i.lo le
+          le-int_le (get_or ws j d).hi i.lo le
       | inr ge ↦
           let same : j ≡ k = omega arith in
           rw same e
     ]
 
     passed : (w : Interval) → int_le w.hi i.lo ≡ true → meet i w ≡ false
-    passed w e = rw (int_le-lt i.lo w.hi (int_le-true w.hi i.lo e)) refl
+    passed w e = rw (le-int_lt i.lo w.hi (int_le-true w.hi i.lo e)) refl
 
     one_tells : (low : ℤ) (ws : List Interval) (n : ℕ) → InOrder IntervalKeeps behind_interval low ws
         → n < length ws
@@ -80,7 +80,7 @@ module _ (d : Interval) where
         → int_lt (get_or ws n d).lo i.hi ≡ list_any (meet i) ws
     one_tells low ws n h inside before here =
         let w = get_or ws n d in
-        let begins : int_lt i.lo w.hi ≡ true = int_lt-holds i.lo w.hi (int_le-false w.hi i.lo here) in
+        let begins : int_lt i.lo w.hi ≡ true = lt-int_lt i.lo w.hi (int_le-false w.hi i.lo here) in
         elim (int_lt w.lo i.hi) as (λ b. int_lt w.lo i.hi ≡ b → b ≡ list_any (meet i) ws) [
           | true ↦ λ e. sym (found (meet i) ws n inside (rw (begins, e) refl))
           | false ↦ λ e. sym (not_found (meet i) ws (λ k lt. elim (cases_lt k n) [
@@ -96,7 +96,7 @@ module _ (d : Interval) where
                       let same : k ≡ n = omega arith in
                       rw same (int_lt-false w.lo i.hi e)
                 ] in
-                rw (int_le-lt (get_or ws k d).lo i.hi behind) (and-false (int_lt i.lo (get_or ws k d).hi))
+                rw (le-int_lt (get_or ws k d).lo i.hi behind) (and-false (int_lt i.lo (get_or ws k d).hi))
           ]))
         ] refl
 

@@ -6,8 +6,7 @@ use Rattle.std.specs.List.{list_any}
 use Rattle.std.specs.Int.{bit_at}
 use Rattle.std.proofs.Math.Bool.{or-false, or-true}
 use Rattle.std.proofs.Math.Nat.{div-add-mod}
-use Rattle.std.proofs.lemmas.Bool.{cases_eq, eq-eqb}
-use Rattle.std.proofs.lemmas.Bool.Decides.{nat_tests}
+use Rattle.std.proofs.lemmas.Bool.{cases_eq, eq-eqb, ne_eqb}
 use Rattle.std.proofs.lemmas.List.{get_or-set_same, get_or-set_other}
 use Rattle.std.proofs.lemmas.List.Folds.{list_any-append}
 use Rattle.std.proofs.lemmas.Nat.{one_shl}
@@ -26,9 +25,6 @@ none_added n at = rw (zeros n (at / 64), bit_at-zero (at % 64)) refl
 -- the words with the bit of one more offset
 abbrev pub with_bit : List ℕ → ℕ → List ℕ
 with_bit words at = slice_set words (at / 64) (bit_or (slice_index words (at / 64)) (2 ^ (at % 64)))
-
-differs : (at n : ℕ) → at ≢ n → eqb at n ≡ false
-differs at n other = grind (arith, nat_tests)
 
 -- one number more
 any_more : (at n : ℕ) (numbers : List ℕ)
@@ -55,11 +51,11 @@ has_added words at inside n =
             let kept : bit_at (bit_or word (2 ^ (at % 64))) (n % 64) ≡ bit_at word (n % 64) =
             ap (λ m. bit_at (bit_or word m) (n % 64)) mask
             ∙ bit_at_set_other w64 word (at % 64) below (n % 64) other in
-            rw (here, get_or-set_same words (at / 64) _ 0 inside, kept, differs at n apart) (sym (or-false _))
+            rw (here, get_or-set_same words (at / 64) _ 0 inside, kept, ne_eqb at n apart) (sym (or-false _))
       ]
       | inr other ↦
           let apart : at ≢ n = λ e. other (ap (λ (k : ℕ). k / 64) (sym e)) in
-          rw (get_or-set_other words (at / 64) (n / 64) _ 0 other, differs at n apart) (sym (or-false _))
+          rw (get_or-set_other words (at / 64) (n / 64) _ 0 other, ne_eqb at n apart) (sym (or-false _))
     ]
 
 -- the set of one offset more

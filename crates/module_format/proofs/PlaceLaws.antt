@@ -6,6 +6,7 @@ use Rattle.std.proofs.lemmas.Bool.{cases_lt, lt-ltb, le-ltb}
 use Rattle.std.proofs.lemmas.List.{length-append, length-map, get_or_push, get_or_append_left}
 use Rattle.std.proofs.lemmas.List.Sums.{sum_by-cons}
 use Rattle.std.proofs.lemmas.Option.{slice_get-map}
+use Rattle.small_laws.proofs.Lookups.{slice_get-append_left}
 use Rattle.module_format.specs.declared.places.Place.{Place}
 use Rattle.module_format.specs.declared.limits.TheConstants.{MAX_BRANCHES}
 use Rattle.module_format.specs.Contents.{Branch, Par, Contents}
@@ -70,12 +71,6 @@ context_before own code_len before (r ∷ rows) (suc k) row keeps is =
 
 -- ---- rows
 
-slice_get_left : {X : Type 0} (xs ys : List X) (i : ℕ) (x : X) → slice_get xs i ≡ Some x
-    → slice_get (xs ++ ys) i ≡ Some x
-slice_get_left [] ys i x is = absurd cc
-slice_get_left (z ∷ xs) ys zero x is = is
-slice_get_left (z ∷ xs) ys (suc i) x is = slice_get_left xs ys i x is
-
 slice_get_right : {X : Type 0} (xs ys : List X) (n i : ℕ) → n ≡ length xs
     → slice_get (xs ++ ys) (n + i) ≡ slice_get ys i
 slice_get_right [] ys n i long = let here : n + i ≡ i = omega arith in ap (slice_get ys) here
@@ -94,7 +89,7 @@ branch_stands (r ∷ rows) zero b row x is here =
     slice_get-map paired r.branches b ∙ ap (option_map paired) in_row ∙ ap (λ (q : Par). Some (q, x)) same in
     let place : 0 + b ≡ b = omega arith in
     ap (slice_get (branches_of (r ∷ rows))) place
-    ∙ slice_get_left (map paired r.branches) (branches_of rows) b (row, x) found
+    ∙ slice_get-append_left (map paired r.branches) (branches_of rows) b (row, x) found
 branch_stands (r ∷ rows) (suc k) b row x is here =
     let count = count_cons r (take k rows) in
     let place : branch_count (take (suc k) (r ∷ rows)) + b ≡ length r.branches + (branch_count (take k rows) + b) =

@@ -7,6 +7,7 @@ use Rattle.std.specs.Int.{w32}
 use Rattle.std.specs.List.{flat_map, list_all, AllByRecursion}
 use Rattle.std.proofs.lemmas.Int.{ints}
 use Rattle.std.proofs.lemmas.Bool.{leb-true, le-leb, ltb-true, lt-ltb, eqb-true, and_parts}
+use Rattle.small_laws.proofs.Comparisons.{int_le-true, le-int_le, int_lt-true, lt-int_lt}
 use Rattle.module_format.specs.declared.fault.FormatFaultKind.TheVariants as faults
 use Rattle.module_format.specs.declared.limits.TheConstants.{MAX_PARAMETERS, MAX_MESSAGE}
 use Rattle.module_format.specs.declared.rows.Ends.{Ends}
@@ -35,8 +36,7 @@ use Rattle.module_format.proofs.ReadsInSteps.{join, tested_takes, tested_again, 
 use Rattle.module_format.proofs.FieldLaws.{IsBytes-rest, wide16, wide64, number_takes, number_again, limited_takes}
 use Rattle.module_format.proofs.FieldLaws.{limited_again, u32_takes, u32_again, positive_takes, positive_again}
 use Rattle.module_format.proofs.FieldLaws.{in_code_takes, in_code_again, int_takes, int_again, interval_takes}
-use Rattle.module_format.proofs.FieldLaws.{interval_again, byte_takes, int_le-true, int_le-le, int_lt-true}
-use Rattle.module_format.proofs.FieldLaws.{int_lt-holds}
+use Rattle.module_format.proofs.FieldLaws.{interval_again, byte_takes}
 use Rattle.module_format.proofs.OrderLaws.{parted, joined}
 use Rattle.module_format.proofs.RowLaws.{span_takes, span_again}
 
@@ -246,7 +246,7 @@ module _ (size : ℕ) (version : Version) (hi : ℤ) where
         let some : 1 ≤ word = omega arith in
         let fits : word < 2 ^ 16 = omega (arith, ints) in
         let within = tested_again _ _ _ _ (number_again size 2 u16_bytes (2 ^ 16) wide16 word rest fits)
-        (rw (le-leb _ _ some, int_lt-holds _ _ inside) refl) in
+        (rw (le-leb _ _ some, lt-int_lt _ _ inside) refl) in
         tested_again _ _ _ _ within (lt-ltb _ _ rises)
 
     parameter_again : (low : ℕ) (p : Parameter) (rest : List ℕ) → ParameterIn version hi low p
@@ -285,7 +285,7 @@ module _ (size : ℕ) where
         → tested (int_at size (i32_bytes n ++ rest)) (λ n. int_le least n && int_le n most) faults.Range
         (place size (i32_bytes n ++ rest)) ≡ Ok (n, rest)
     bounded_again n rest fits above below =
-        tested_again _ _ _ _ (int_again size n rest fits) (rw (int_le-le _ _ above, int_le-le _ _ below) refl)
+        tested_again _ _ _ _ (int_again size n rest fits) (rw (le-int_le _ _ above, le-int_le _ _ below) refl)
 
   rising_takes : (code_len low : ℕ) (bytes : List ℕ) → IsBytes bytes
       → Has (rising_at size code_len low bytes) (Spelled bytes u32_bytes (λ n. (low < n) × (n < code_len)))
@@ -387,7 +387,7 @@ all_within lo hi (word ∷ words) e =
 pub within_all : (lo hi : ℤ) (words : List ℤ) → AllByRecursion (IsBetween lo hi) words
     → list_all (is_within lo hi) words ≡ true
 within_all lo hi [] h = refl
-within_all lo hi (word ∷ words) h = rw (int_le-le _ _ h.0.low, int_le-le _ _ h.0.high) (within_all lo hi words h.1)
+within_all lo hi (word ∷ words) h = rw (le-int_le _ _ h.0.low, le-int_le _ _ h.0.high) (within_all lo hi words h.1)
 
 module _ (size : ℕ) where
   table_start_takes : (low : ℕ) (bytes : List ℕ) → IsBytes bytes

@@ -3,6 +3,7 @@ use Rattle.std.proofs.Common.{◌≡◌, ℕ, ◌+◌, cond, ltb, List, [], ◌�
 use Rattle.std.specs.Prelude.{⊤, int_lt, IsTrue, MatchOption}
 use Rattle.std.specs.List.{flat_map, AllByRecursion}
 use Rattle.std.proofs.lemmas.Bool.{ltb-true, lt-ltb}
+use Rattle.small_laws.proofs.Comparisons.{int_lt-false, le-int_lt}
 use Rattle.module_format.specs.declared.fault.FormatFault.{FormatFault}
 use Rattle.module_format.specs.declared.fault.FormatFaultKind.TheVariants as faults
 use Rattle.module_format.specs.Rows.{Fact}
@@ -25,7 +26,6 @@ use Rattle.module_format.specs.References.{references_in, label_references}
 use Rattle.module_format.specs.References.{parameter_references, end_references, branch_references, par_references}
 use Rattle.module_format.specs.References.{references_at}
 use Rattle.module_format.proofs.ReadsInSteps.{Has, has_ok, has_err, has_then, has_unless, has_if, has_weaker, step}
-use Rattle.module_format.proofs.FieldLaws.{int_lt-false, int_le-lt}
 
 fact_fits : (parameters at : ℕ) (f : Fact) → Has (fact_references parameters at f) (λ _. FactFits parameters f)
 unfolding fact_references
@@ -62,7 +62,7 @@ entry_fits context at e =
 entry_passes : (context : Context) (at : ℕ) (e : Entry) → EntryFits context e → entry_references context at e ≡ passes
 unfolding entry_references
 entry_passes context at e h =
-    rw (int_le-lt _ _ h.low, int_le-lt _ _ h.high) (fact_passes context.parameters (at + 8) e.fact h.fact)
+    rw (le-int_lt _ _ h.low, le-int_lt _ _ h.high) (fact_passes context.parameters (at + 8) e.fact h.fact)
 
 -- ---- lists
 

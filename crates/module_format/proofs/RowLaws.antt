@@ -5,7 +5,8 @@ use Rattle.std.specs.Prelude.{nat_le, int_le}
 use Rattle.std.specs.Int.{w32}
 use Rattle.std.specs.List.{flat_map, list_any, AllByRecursion}
 use Rattle.std.proofs.lemmas.Int.{ints}
-use Rattle.std.proofs.lemmas.Bool.{leb-true, le-leb, ltb-true, lt-ltb, eqb-true, not-true, and_parts}
+use Rattle.std.proofs.lemmas.Bool.{leb-true, le-leb, ltb-true, lt-ltb, eqb-true, not-true, and_parts, eqb-false, ne_eqb}
+use Rattle.small_laws.proofs.Comparisons.{int_le-true, le-int_le}
 use Rattle.module_format.specs.declared.fault.FormatFaultKind.TheVariants as faults
 use Rattle.module_format.specs.Rows.{Fact}
 use Rattle.module_format.specs.declared.fact.Fact.TheVariants as facts
@@ -29,7 +30,7 @@ use Rattle.module_format.proofs.ReadsInSteps.{nothing_taken, tag_taken, field, r
 use Rattle.module_format.proofs.ReadsInSteps.{Has, has_ok, has_err, has_then, has_if, has_cond, has_weaker, step}
 use Rattle.module_format.proofs.ReadsInSteps.{Spelled}
 use Rattle.module_format.proofs.ReadsInSteps.{join, tested_takes, tested_again, list_takes, list_again}
-use Rattle.module_format.proofs.FieldLaws.{IsBytes-rest, eqb-false, eqb-differ, int_le-true, int_le-le, wide16, wide64}
+use Rattle.module_format.proofs.FieldLaws.{IsBytes-rest, wide16, wide64}
 use Rattle.module_format.proofs.FieldLaws.{number_takes, number_again, u32_takes, u32_again, int_takes, int_again}
 use Rattle.module_format.proofs.FieldLaws.{byte_takes, at_most_takes, at_most_again, interval_takes, interval_again}
 use Rattle.module_format.proofs.FieldLaws.{in_code_takes, in_code_again}
@@ -131,7 +132,7 @@ module _ (size : ℕ) where
   count_again base n rest some limit last =
       let lt : n < 2 ^ 32 = omega (arith, ints) in
       tested_again _ _ _ _ (u32_again size n rest lt)
-      (rw (le-leb _ _ some, int_le-le _ _ limit, int_le-le _ _ last) refl)
+      (rw (le-leb _ _ some, le-int_le _ _ limit, le-int_le _ _ last) refl)
 
   loop_again : (base : ℤ) (count weight : ℕ) (rest : List ℕ) → IsLoop base count weight
       → loop_at size ((i32_bytes base ++ u32_bytes count ++ u64_bytes weight) ++ rest)
@@ -267,7 +268,7 @@ module _ (size : ℕ) where
   pub first_word_again : (low z : ℤ) (rest : List ℕ) → FitsSigned w32 z → low ≤ℤ z
       → first_word_at size low (i32_bytes z ++ rest) ≡ Ok (z, rest)
   unfolding first_word_at
-  first_word_again low z rest fits apart = tested_again _ _ _ _ (int_again size z rest fits) (int_le-le _ _ apart)
+  first_word_again low z rest fits apart = tested_again _ _ _ _ (int_again size z rest fits) (le-int_le _ _ apart)
 
   -- a number that isn't 0
   pub span_takes : (bytes : List ℕ) → IsBytes bytes
@@ -338,7 +339,7 @@ no_entry (p ∷ ps) offset e =
 pub none_begins : (procedures : List Procedure) (offset : ℕ) → AllByRecursion (λ p. p.entry ≢ offset) procedures
     → list_any (λ p. eqb p.entry offset) procedures ≡ false
 none_begins [] offset h = refl
-none_begins (p ∷ ps) offset h = rw (eqb-differ p.entry offset h.0) (none_begins ps offset h.1)
+none_begins (p ∷ ps) offset h = rw (ne_eqb p.entry offset h.0) (none_begins ps offset h.1)
 
 module _ (size code_len : ℕ) (procedures : List Procedure) where
   label_offset_takes : (low : ℕ) (bytes : List ℕ) → IsBytes bytes

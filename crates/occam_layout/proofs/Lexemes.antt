@@ -10,6 +10,7 @@ use Rattle.std.proofs.lemmas.Bool.{and_parts, cond_both, cond-true, cond-false, 
 use Rattle.std.proofs.lemmas.Bool.{ltb-true, or_from}
 use Rattle.std.proofs.lemmas.List.{length-append, length-take-le, take-append-drop, take-take}
 use Rattle.std.proofs.lemmas.List.Folds.{length-prefix_len}
+use Rattle.std.proofs.Math.Bool.{and-false}
 use Rattle.occam_layout.specs.declared.fault.Fault.{Fault}
 use Rattle.occam_layout.specs.declared.fault.Fault.TheVariants as faults
 use Rattle.occam_layout.specs.Characters.{decoded, body_len}
@@ -18,7 +19,7 @@ use Rattle.occam_layout.specs.Reading.{◌>>=◌, is_name_byte, value, word_at, 
 use Rattle.occam_layout.specs.Reading.{one_byte, character_at, string_at, single_at, pair_or, sign_at, token_at}
 use Rattle.occam_layout.specs.Tokens.{is_last, is_lexeme, IsLongest, in_int, bits_of, character_of, body_of, meaning}
 use Rattle.occam_layout.proofs.Scanning.{letter-name}
-use Rattle.occam_layout.proofs.Spelling.{and_false, bytes_eq-longer}
+use Rattle.occam_layout.proofs.Spelling.{bytes_eq-longer}
 
 -- ---- runs of bytes
 
@@ -53,7 +54,7 @@ run_ends is (c ∷ rest) d others e = ends' (is c) is c (prefix_len is rest) res
 spoiled : (is : ℕ → Bool) (front : List ℕ) (d : ℕ) (others : List ℕ) → is d ≡ false
     → list_all is (front ++ d ∷ others) ≡ false
 spoiled is [] d others h = rw h refl
-spoiled is (c ∷ front) d others h = rw (spoiled is front d others h) (and_false (is c))
+spoiled is (c ∷ front) d others h = rw (spoiled is front d others h) (and-false (is c))
 
 run_longest : (is : ℕ → Bool) (bytes more others : List ℕ) → 0 < length more
     → drop (prefix_len is bytes) bytes ≡ more ++ others

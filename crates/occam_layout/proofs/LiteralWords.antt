@@ -5,9 +5,8 @@ use Rattle.std.specs.Prelude.{◌||◌, ok_or, nat_lt, unwrap_or, bytes_eq, IfSo
 use Rattle.std.specs.Int.{w32, cast_signed}
 use Rattle.std.specs.Char.{is_ascii_alphabetic, is_ascii_digit, is_ascii_hexdigit}
 use Rattle.std.specs.List.{prefix_len, list_any}
-use Rattle.std.proofs.lemmas.Bool.{ltb-false, cond_both}
+use Rattle.std.proofs.lemmas.Bool.{ltb-false, cond_both, and_parts, or_parts}
 use Rattle.word_arithmetic.proofs.BitLaws.{cast_fits}
-use Rattle.word_arithmetic.proofs.EndsLaws.{and_out}
 use Rattle.word_arithmetic.proofs.WordLaws.{is_word_in}
 use Rattle.occam_layout.specs.declared.fault.Fault.{Fault}
 use Rattle.occam_layout.specs.declared.fault.Fault.TheVariants as faults
@@ -84,10 +83,6 @@ decimal_words bytes =
     cond_both (nat_lt number (2 ^ 31)) (Ok (Integer (pos number), len)) (Err faults.Literal) IsInWords (λ h. h)
     (λ h. tt)
 
-not_either : (a b : Bool) → (a || b) ≡ false → b ≡ false
-not_either true b h = absurd (cc h)
-not_either false b h = h
-
 hexadecimal_words : (bytes : List ℕ) → IsInWords (hexadecimal_at bytes)
 unfolding hexadecimal_at
 hexadecimal_words bytes =
@@ -96,7 +91,7 @@ hexadecimal_words bytes =
     cond_both (eqb len 0 || nat_lt 8 len) (Err faults.Literal) (Ok (Integer (cast_signed w32 number), len + 1))
     IsInWords (λ h. tt)
     (λ h. is_word_in (cast_signed w32 number)
-    (cast_fits number (fits_word bytes (ltb-false 8 len (not_either (eqb len 0) (nat_lt 8 len) h)))))
+    (cast_fits number (fits_word bytes (ltb-false 8 len (or_parts (eqb len 0) (nat_lt 8 len) h).1))))
 
 -- ---- characters and strings
 
@@ -114,7 +109,7 @@ quoted_words quote bytes all =
 
 one_byte_words : (bytes : List ℕ) → are_bytes bytes ≡ true → IfOk (one_byte bytes) (λ b. is_byte b ≡ true)
 one_byte_words [] h = tt
-one_byte_words (b ∷ []) h = (and_out (is_byte b) true h).0
+one_byte_words (b ∷ []) h = (and_parts (is_byte b) true h).0
 one_byte_words (b ∷ c ∷ rest) h = tt
 
 character_words : (bytes : List ℕ) → AreSmall bytes → IsInWords (character_at bytes)

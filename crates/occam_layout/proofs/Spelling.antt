@@ -3,18 +3,15 @@ use Rattle.std.proofs.Common.{◌≡◌, ℕ, suc, Bool, true, false, cond, eqb,
 use Rattle.std.specs.Prelude.{bytes_eq, filter, ◌||◌, ◌&&◌, ◌==◌}
 use Rattle.std.specs.List.{list_any}
 use Rattle.std.proofs.lemmas.Bool.{eqb-false}
+use Rattle.std.proofs.Math.Bool.{and-false}
 use Rattle.occam_layout.specs.Kind.{keyword_among}
-
-pub and_false : (b : Bool) → (b && false) ≡ false
-and_false true = refl
-and_false false = refl
 
 pub bytes_eq-longer : (text word : List ℕ) → (length word ≡ length text → ⊥) → bytes_eq text word ≡ false
 bytes_eq-longer [] [] h = absurd (h refl)
 bytes_eq-longer [] (w ∷ word) h = refl
 bytes_eq-longer (t ∷ text) [] h = refl
 bytes_eq-longer (t ∷ text) (w ∷ word) h = ap (λ b. eqb t w && b)
-    (bytes_eq-longer text word (λ e. h (ap suc e))) ∙ and_false (eqb t w)
+    (bytes_eq-longer text word (λ e. h (ap suc e))) ∙ and-false (eqb t w)
 
 any_but_one : (b : Bool) (text word : List ℕ) (some all : List (List ℕ)) → (b ≡ false → bytes_eq text word ≡ false)
     → list_any (bytes_eq text) some ≡ list_any (bytes_eq text) all

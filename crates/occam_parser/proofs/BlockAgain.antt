@@ -1,9 +1,9 @@
 -- What is written on lines is read again.
 use Rattle.std.proofs.Common.{◌≡◌, ℕ, zero, suc, ◌+◌, ◌<◌, ◌≤◌, true, false, cond, List, [], ◌∷◌, ◌++◌, length}
-use Rattle.std.proofs.Common.{◌==◌, Option, Some, None, refl, sym, ap, subst, arith, append_assoc}
+use Rattle.std.proofs.Common.{Option, Some, None, refl, sym, ap, subst, arith, append_assoc}
 use Rattle.std.proofs.Common.{length-append, ◌∙◌}
 use Rattle.std.proofs.lemmas.Bool.{eq-eqb}
-use Rattle.std.proofs.lemmas.Bool.Decides.{nat_tests}
+use Rattle.small_laws.proofs.Comparisons.{lt-eqb}
 use Rattle.occam_parser.specs.declared.head.BlockKind.{BlockKind}
 use Rattle.occam_parser.specs.Expressions.{written}
 use Rattle.occam_parser.specs.Reading.{◌>>=◌}
@@ -34,11 +34,8 @@ Stops level rest = (k : ℕ) → level < k → begins_at k rest ≡ false
 stops_deeper : (level : ℕ) (rest : List Row) → Stops level rest → Stops (level + 1) rest
 stops_deeper level rest s k h = s k (omega arith)
 
-differs : (a b : ℕ) → a < b → (a == b) ≡ false
-differs a b h = grind (arith, nat_tests)
-
 pub stops_at_row : (level : ℕ) (r : Row) (rest : List Row) → r.level ≡ level → Stops level (r ∷ rest)
-stops_at_row level r rest e k h = differs r.level k (omega arith)
+stops_at_row level r rest e k h = lt-eqb r.level k (omega arith)
 
 -- ---- declarations
 

@@ -1,6 +1,7 @@
 -- Marks and operators at the front.
 use Rattle.std.proofs.Common.{◌≡◌, Bool, true, false, cond, List, [], ◌∷◌, Option, Some, None, refl, sym, ap}
 use Rattle.std.proofs.Common.{◌∙◌}
+use Rattle.std.proofs.lemmas.Option.{cond_some}
 use denote.Enum.Bare.{same_true, true_same}
 use Rattle.occam_layout.specs.declared.mark.Mark as mark_type
 use Rattle.occam_layout.specs.declared.mark.Mark.TheVariants as mark
@@ -18,13 +19,13 @@ use Rattle.occam_parser.specs.declared.tree.PrefixOperator.TheVariants as prefix
 use Rattle.occam_parser.specs.Terminals.{Terminal, Mark}
 use Rattle.occam_parser.specs.Expressions.{prefix_sign, operator_mark}
 use Rattle.occam_parser.specs.Reading.{behind, prefix_at, is_mark, operator_of, marked_by, operator_at}
-use Rattle.occam_parser.proofs.Options.{chosen, at_some}
+use Rattle.occam_parser.proofs.Options.{at_some}
 
 -- what was found is what was wanted
 found_is : (found wanted : mark_type.Mark) (ts rest : List Terminal) (b : Bool)
     → (b ≡ true → found ≡ wanted) → cond b (Some ts) None ≡ Some rest → Mark found ∷ ts ≡ Mark wanted ∷ rest
 found_is found wanted ts rest b same e =
-    let h = chosen b ts rest e in
+    let h = cond_some b ts rest e in
     ap (λ k. Mark k ∷ ts) (same h.0) ∙ ap (λ us. Mark wanted ∷ us) h.1
 
 pub behind_is : (m : mark_type.Mark) (ts rest : List Terminal) → behind m ts ≡ Some rest → ts ≡ Mark m ∷ rest

@@ -11,10 +11,6 @@ bind_some (Some x) f y e = (x, refl, e)
 pub at_some : {A : Type 0} (P : A → Type 0) (a x : A) → Some a ≡ Some x → P a → P x
 at_some P a x e h = let is : a ≡ x = cc in subst P is h
 
-pub chosen : {A : Type 0} (b : Bool) (x y : A) → cond b (Some x) None ≡ Some y → (b ≡ true) × (x ≡ y)
-chosen true x y e = (refl, cc)
-chosen false x y e = absurd (cc)
-
 pub not_chosen : {A : Type 0} (b : Bool) (x y : A) → cond b None (Some x) ≡ Some y → (b ≡ false) × (x ≡ y)
 not_chosen true x y e = absurd (cc)
 not_chosen false x y e = (refl, cc)

@@ -1,8 +1,8 @@
 -- Programs: what is read is written so, and what is written is read again.
-use Rattle.std.proofs.Common.{◌≡◌, ℕ, zero, suc, ◌≤◌, Bool, true, false, ◌&&◌, cond, List, [], ◌∷◌, ◌++◌}
+use Rattle.std.proofs.Common.{◌≡◌, ℕ, zero, suc, ◌≤◌, Bool, true, false, cond, List, [], ◌∷◌, ◌++◌}
 use Rattle.std.proofs.Common.{length, nat_lt, ◌==◌, Option, Some, None, refl, sym, ap, subst, arith, append_assoc}
 use Rattle.std.proofs.Common.{append-nil, length-append, ◌∙◌}
-use Rattle.std.proofs.lemmas.Bool.{eqb-true, ltb-false}
+use Rattle.std.proofs.lemmas.Bool.{eqb-true, ltb-false, and_parts}
 use Rattle.occam_layout.specs.declared.mark.Mark.TheVariants as mark
 use Rattle.occam_parser.specs.Terminals.{Terminal, Mark}
 use Rattle.occam_parser.specs.Reading.{◌>>=◌, behind}
@@ -22,11 +22,6 @@ use Rattle.occam_parser.proofs.BlockAgain.{Stops, process_again, stops_at_row}
 
 -- ---- what is read is written so
 
-both_true : (a b : Bool) → (a && b) ≡ true → (a ≡ true) × (b ≡ true)
-both_true true true e = (refl, refl)
-both_true true false e = absurd (cc)
-both_true false b e = absurd (cc)
-
 ended_is : (ts : List Terminal) → ended ts ≡ true → ts ≡ []
 ended_is [] e = refl
 ended_is (t ∷ ts) e = absurd (cc)
@@ -35,7 +30,7 @@ colon_is : (r : Row) (o : Option (List Terminal)) → behind mark.Colon r.termin
     → r ≡ colon_row r.number
 colon_is r None b e = absurd (cc)
 colon_is r (Some after) b e =
-    let h = both_true (r.level == 0) (ended after) e in
+    let h = and_parts (r.level == 0) (ended after) e in
     row_eq r 0 (Mark mark.Colon ∷ []) (eqb-true r.level 0 h.0)
     (behind_is mark.Colon r.terminals after b ∙ ap (λ us. Mark mark.Colon ∷ us) (ended_is after h.1))
 

@@ -3,6 +3,7 @@ use Rattle.std.proofs.Common.{◌≡◌, ℕ, ◌<◌, List, [], ◌∷◌, ◌+
 use Rattle.std.proofs.Common.{Result, Ok, Err, refl, sym, ap, subst, arith, ◌∙◌, rules, Vec, Global}
 use Rattle.std.specs.Borrow.{Bor}
 use Rattle.std.proofs.lemmas.List.{length-map, map_push}
+use Rattle.std.proofs.lemmas.Simd.{map-map}
 use Rattle.occam_layout.specs.declared.token.Line.{Line}
 use Rattle.occam_parser.specs.declared.fault.Refusal.{Refusal}
 use Rattle.occam_parser.specs.declared.head.BlockKind.{BlockKind}
@@ -42,10 +43,6 @@ all_push f found pushed x e = ap (λ xs. all_of (map f xs)) e ∙ ap all_of (map
 
 -- ---- values of the program
 
-map_twice : {A B C : Type 0} (f : B → C) (g : A → B) (xs : List A) → map f (map g xs) ≡ map (λ x. f (g x)) xs
-map_twice f g [] = refl
-map_twice f g (x ∷ xs) = ap (λ ys. f (g x) ∷ ys) (map_twice f g xs)
-
 seq_view : (v : Vec CodeProcess Global) → construct_of (Seq v) ≡ Block block.Seq
     (all_of (map Plain (map process_of v.items)))
 seq_view v = search (rules, the_lemmas)
@@ -55,10 +52,10 @@ par_view : (v : Vec CodeProcess Global) → construct_of (Par v) ≡ Block block
 par_view v = search (rules, the_lemmas)
 
 pub view-Seq : (v : Vec CodeProcess Global) → construct_of (Seq v) ≡ Block block.Seq (all_processes v.items)
-view-Seq v = seq_view v ∙ ap (λ cs. Block block.Seq (all_of cs)) (map_twice Plain process_of v.items)
+view-Seq v = seq_view v ∙ ap (λ cs. Block block.Seq (all_of cs)) (map-map Plain process_of v.items)
 
 pub view-Par : (v : Vec CodeProcess Global) → construct_of (Par v) ≡ Block block.Par (all_processes v.items)
-view-Par v = par_view v ∙ ap (λ cs. Block block.Par (all_of cs)) (map_twice Plain process_of v.items)
+view-Par v = par_view v ∙ ap (λ cs. Block block.Par (all_of cs)) (map-map Plain process_of v.items)
 
 pub view-If : (v : Vec CodeChoice Global) → construct_of (If v) ≡ Block block.If (all_choices v.items)
 view-If v = search (rules, the_lemmas)

@@ -1,7 +1,7 @@
 -- A block that is read component by component.
 use Rattle.std.proofs.Common.{◌≡◌, ℕ, zero, suc, ◌<◌, ◌≤◌, Bool, true, false, not, ◌&&◌, cond, List, [], ◌∷◌}
 use Rattle.std.proofs.Common.{length, nat_lt, ◌==◌, Option, Some, None, refl, ap, arith, ◌∙◌}
-use Rattle.std.proofs.lemmas.Bool.{eqb-true, eq-eqb, ltb-false, le-ltb}
+use Rattle.std.proofs.lemmas.Bool.{eqb-true, eq-eqb, ltb-false, le-ltb, and_parts, not-true}
 use Rattle.occam_parser.specs.Reading.{◌>>=◌}
 use Rattle.occam_parser.specs.Blocks.{Row, Part, Components, NoComponent, Further, Component}
 use Rattle.occam_parser.proofs.Options.{at_some}
@@ -71,15 +71,6 @@ block_ends item level start found rows w c = c.so_far ∙ ends_at item level c.t
 
 -- ---- lines at a level
 
-both_true : (a b : Bool) → (a && b) ≡ true → (a ≡ true) × (b ≡ true)
-both_true true true e = (refl, refl)
-both_true true false e = absurd (cc)
-both_true false b e = absurd (cc)
-
-not_true : (b : Bool) → not b ≡ true → b ≡ false
-not_true true e = absurd (cc)
-not_true false e = refl
-
 both : (a b : Bool) → a ≡ true → b ≡ false → (a && not b) ≡ true
 both true false e f = refl
 both true true e f = absurd (cc)
@@ -87,9 +78,9 @@ both false b e f = absurd (cc)
 
 pub at_is : (level : ℕ) (r : Row) → is_at level r ≡ true → (r.level ≡ level) × (level ≤ 64)
 at_is level r e =
-    let h = both_true (r.level == level) (not (nat_lt 64 r.level)) e in
+    let h = and_parts (r.level == level) (not (nat_lt 64 r.level)) e in
     let same = eqb-true r.level level h.0 in
-    let low = ltb-false 64 r.level (not_true (nat_lt 64 r.level) h.1) in
+    let low = ltb-false 64 r.level (not-true (nat_lt 64 r.level) h.1) in
     (same, omega arith)
 
 pub at_again : (level : ℕ) (r : Row) → r.level ≡ level → level ≤ 64 → is_at level r ≡ true

@@ -5,6 +5,7 @@ use Rattle.std.specs.Prelude.{◌&&◌}
 use Rattle.std.specs.List.{list_all}
 use Rattle.std.proofs.lemmas.List.Folds.{list_all-append}
 use Rattle.std.proofs.lemmas.Bool.{and_from}
+use Rattle.std.proofs.Math.Bool.{and-true}
 use Rattle.occam_layout.specs.declared.token.Token.{Token}
 use Rattle.occam_layout.specs.declared.token.TokenKind.{TokenKind}
 use Rattle.occam_layout.specs.declared.token.TokenKind.TheVariants as token
@@ -53,10 +54,6 @@ use Rattle.occam_parser.specs.Words.{component_has_words, item_has_words, items_
 joined : {a b p q : Bool} → a ≡ p → b ≡ q → (a && b) ≡ (p && q)
 joined {a} {b} {p} {q} h k = ap (λ x. x && b) h ∙ ap (λ y. p && y) k
 
-and_true : (b : Bool) → (b && true) ≡ b
-and_true false = refl
-and_true true = refl
-
 and_assoc : (a b c : Bool) → (a && (b && c)) ≡ ((a && b) && c)
 and_assoc false b c = refl
 and_assoc true b c = refl
@@ -69,7 +66,7 @@ both front back p q h k = list_all-append is_in_words front back ∙ joined h k
 -- what a mark ends
 ended : (ts : List Terminal) (m : mark_type.Mark) (p : Bool) → are_in_words ts ≡ p
     → are_in_words (ts ++ Mark m ∷ []) ≡ p
-ended ts m p h = both ts (Mark m ∷ []) p true h refl ∙ and_true p
+ended ts m p h = both ts (Mark m ∷ []) p true h refl ∙ and-true p
 
 sign_words : (op : PrefixOperator) (ts : List Terminal)
     → are_in_words (prefix_sign op ∷ ts) ≡ are_in_words ts
@@ -103,8 +100,8 @@ mutual
       (terms_words op ts) (term_words t)
 
   term_words : (t : Term) → are_in_words (written_term t) ≡ has_words_in t
-  term_words (Number value) = and_true (is_word value)
-  term_words (Byte byte) = and_true (is_byte byte)
+  term_words (Number value) = and-true (is_word value)
+  term_words (Byte byte) = and-true (is_byte byte)
   term_words (Truth holds) = truth_words holds
   term_words MostPos = refl
   term_words MostNeg = refl
@@ -163,7 +160,7 @@ constant_words type name (Table size items) =
 constant_words type name (Bytes size bytes) =
     both (in_brackets (Some size)) (behind_size type name (Bytes size bytes)) (has_words size) (are_bytes bytes)
     (in_brackets_words (Some size))
-    (type_words type (named_value name (Bytes size bytes)) ∙ and_true (are_bytes bytes))
+    (type_words type (named_value name (Bytes size bytes)) ∙ and-true (are_bytes bytes))
 
 channel_words_first : (is_channel : Bool) (ts : List Terminal)
     → are_in_words (channel_words is_channel ++ ts) ≡ are_in_words ts
@@ -180,7 +177,7 @@ names_words is_channel n =
     (in_brackets_words n.size)
     (channel_words_first is_channel typed ∙ type_words n.value_type (spelled ++ Mark mark.Colon ∷ [])
     ∙ ended spelled mark.Colon true named)
-    ∙ and_true (has_words_if_any n.size)
+    ∙ and-true (has_words_if_any n.size)
 
 declaration_words : (d : Declaration) → are_in_words (written_declaration d) ≡ declaration_has_words d
 declaration_words (Constants c) = constant_words c.value_type c.name c.value
@@ -221,7 +218,7 @@ guard_words (Receives condition channel target) =
     (place_words target))
 guard_words (Skips e) =
     both (written e) (Mark mark.Guard ∷ Mark mark.Skip ∷ []) (has_words e) true (expression_words e) refl
-    ∙ and_true (has_words e)
+    ∙ and-true (has_words e)
 
 value_word_first : (kind : FormalKind) (ts : List Terminal) → are_in_words (value_word kind ++ ts) ≡ are_in_words ts
 value_word_first formal_kind.Value ts = refl
@@ -239,7 +236,7 @@ written_formal_words f =
     value_word_first f.kind (in_brackets f.size ++ (formal_words f.kind ++ typed))
     ∙ both (in_brackets f.size) (formal_words f.kind ++ typed) (has_words_if_any f.size) true (in_brackets_words f.size)
     (formal_words_first f.kind typed ∙ type_words f.value_type (Name f.name ∷ []))
-    ∙ and_true (has_words_if_any f.size)
+    ∙ and-true (has_words_if_any f.size)
 
 -- ---- processes
 
@@ -260,7 +257,7 @@ mutual
 
   construct_words : (c : Construct) (line level : ℕ)
       → rows_in_words (lines_of_construct c line level) ≡ construct_has_words c
-  construct_words (Act a) line level = and_true (are_in_words (written_action a)) ∙ action_words a
+  construct_words (Act a) line level = and-true (are_in_words (written_action a)) ∙ action_words a
   construct_words (Block kind cs) line level = joined (block_words kind []) (components_words cs (level + 1))
   construct_words (Replicated r b) line level = body_words b r line level
 

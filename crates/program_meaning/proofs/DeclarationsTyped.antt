@@ -4,8 +4,8 @@ use Rattle.std.proofs.Common.{None, Ok, Err, Result, refl, arith}
 use Rattle.std.proofs.lemmas.Int.{ints}
 use Rattle.std.specs.Prelude.{map, fold, replicate, nat_eq, int_le, unsigned_abs, option_map, option_and_then, IfSome}
 use Rattle.std.specs.List.{AllByRecursion, list_all}
+use Rattle.std.proofs.lemmas.Bool.{and_parts}
 use Rattle.word_arithmetic.specs.Range.{Ends, constant}
-use Rattle.word_arithmetic.proofs.EndsLaws.{and_out}
 use Rattle.occam_parser.specs.declared.tree.ValueType.{ValueType}
 use Rattle.occam_parser.specs.declared.tree.ValueType.TheVariants as value_type
 use Rattle.occam_parser.specs.Expressions.{Expression}
@@ -107,7 +107,7 @@ items_typed : (type : ValueType) (es : List Entry) (env : Environment) (items : 
     → IfSome (numbers_of env items) (AllByRecursion (IsOfType type))
 items_typed type es env [] meets typed words values = tt
 items_typed type es env (e ∷ items) meets typed words values =
-    let each = and_out (has_words e) (list_all has_words items) words in
+    let each = and_parts (has_words e) (list_all has_words items) words in
     all_typed type (number_of env e) (numbers_of env items)
     (value_typed type es env e (values.0).0 meets typed each.0 (values.0).1)
     (items_typed type es env items meets typed each.1 values.1)
@@ -144,7 +144,7 @@ bytes_of_type value_type.Byte bytes r is all = each bytes all
     each : (bytes : List ℕ) → are_bytes bytes ≡ true → AllByRecursion (IsOfType value_type.Byte) (map pos bytes)
     each [] all = tt
     each (b ∷ bytes) all =
-        let both = and_out (is_byte b) (are_bytes bytes) all in (byte_in_range b both.0, each bytes both.1)
+        let both = and_parts (is_byte b) (are_bytes bytes) all in (byte_in_range b both.0, each bytes both.1)
 
 known_value : (type : ValueType) (value : Option ℤ) → IsKnown (Constant type value)
     → (v : ℤ) × (value ≡ Some v)
@@ -162,12 +162,12 @@ constant_typed es env type (Table size items) meets typed known words =
     table_holds type (size_in es size) (length (as_list items)) (range_of_items es type items)
     (option_map Many (numbers_of env (as_list items)))
     (λ r is. many_held type (numbers_of env (as_list items)) (items_typed type es env (as_list items) meets typed
-    (and_out (has_words size) (list_all has_words (as_list items)) words).1
+    (and_parts (has_words size) (list_all has_words (as_list items)) words).1
     (first_value es type first items.first items.others refl
     (have_values es type (option_map constant first) items.others r is)))) known
 constant_typed es env type (Bytes size bytes) meets typed known words =
     table_holds type (size_in es size) (length bytes) (range_of_bytes type bytes) (Some (Many (map pos bytes)))
-    (λ r is. bytes_of_type type bytes r is (and_out (has_words size) (are_bytes bytes) words).1) known
+    (λ r is. bytes_of_type type bytes r is (and_parts (has_words size) (are_bytes bytes) words).1) known
 
 zero_of : (type : ValueType) → IsOfType type (pos 0)
 zero_of value_type.Int = omega (arith, ints)

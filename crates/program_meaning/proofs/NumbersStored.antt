@@ -5,8 +5,8 @@ use Rattle.std.proofs.Common.{Some, None, refl, sym, ap, subst, arith, ◌∙◌
 use Rattle.std.proofs.lemmas.Int.{ints}
 use Rattle.std.specs.Prelude.{bytes_eq, option_map, option_and_then, int_le, int_lt}
 use Rattle.std.specs.List.{AllByRecursion}
+use Rattle.std.proofs.lemmas.Bool.{and_parts}
 use Rattle.word_arithmetic.specs.Range.{Ends, InRange}
-use Rattle.word_arithmetic.proofs.EndsLaws.{and_out}
 use Rattle.occam_parser.specs.declared.tree.ValueType.{ValueType}
 use Rattle.scalar_ranges.specs.declared.scope.ScalarKind.{ScalarKind}
 use Rattle.scalar_ranges.specs.declared.scope.ArrayKind.{ArrayKind}
@@ -84,7 +84,7 @@ array_held : (kind : ArrayKind) (type : ValueType) (size : ℕ) (range : Ends) (
 array_held kind type size range Nothing i v r is sub within p = absurd is
 array_held kind type size range (One old) i v r is sub within p = absurd is
 array_held kind type size range (Many vs) i v r is sub within p =
-    let w = and_out (int_le (pos 0) r.lo) (int_lt r.hi (pos size)) sub in
+    let w = and_parts (int_le (pos 0) r.lo) (int_lt r.hi (pos size)) sub in
     let low = within.from_lo in
     let high = within.to_hi in
     many_stored (InRange range) vs (element_set i v vs) (IsHeld (Array kind type (Some size) range))

@@ -4,7 +4,7 @@ use Rattle.std.proofs.Common.{None, Ok, refl, subst, arith, ◌∙◌, ◌<◌, 
 use Rattle.std.proofs.lemmas.Int.{ints}
 use Rattle.std.proofs.lemmas.Nat.{shr_le}
 use Rattle.std.specs.Prelude.{option_map, option_and_then, IfSome, FitsSigned, unsigned_abs}
-use Rattle.std.proofs.lemmas.Bool.{ltb-true}
+use Rattle.std.proofs.lemmas.Bool.{ltb-true, and_parts}
 use Rattle.std.specs.Int.{w32, cast_unsigned}
 use Rattle.std.specs.List.{AllByRecursion}
 use Rattle.word_arithmetic.specs.Word.{word_not, least_word, greatest_word, shifted_left, shifted_right}
@@ -12,7 +12,7 @@ use Rattle.word_arithmetic.specs.Range.{InRange, in_range, full, bytes}
 use Rattle.word_arithmetic.specs.declared.binary.Binary.TheVariants as binary
 use Rattle.word_arithmetic.proofs.BinaryLaws.{binary_gives_words}
 use Rattle.word_arithmetic.proofs.BitLaws.{not_fits, wrapped_fits, cast_fits, bits_below}
-use Rattle.word_arithmetic.proofs.EndsLaws.{in_range_out, and_out}
+use Rattle.word_arithmetic.proofs.EndsLaws.{in_range_out}
 use Rattle.word_arithmetic.proofs.WordLaws.{is_word_out}
 use Rattle.occam_layout.specs.Words.{is_byte}
 use Rattle.occam_parser.specs.declared.tree.ValueType.{ValueType}
@@ -203,7 +203,7 @@ module _ (es : List Entry) (env : Environment)
     expression_typed (Prefixed prefix.Not a) t w is = tt
     expression_typed (Paired (pair.Arithmetic op) a b) t w is =
         let h = both_ok (type_of_term es a) (type_of_term es b) (pair_type (pair.Arithmetic op)) t is in
-        let v = and_out (has_words_in a) (has_words_in b) w in
+        let v = and_parts (has_words_in a) (has_words_in b) w in
         pair_typed op h.0 h.1 t (number_of_term env a) (number_of_term env b) (term_typed a h.0 v.0 h.2)
         (term_typed b h.1 v.1 h.3) h.4
     expression_typed (Paired (pair.Comparison op) a b) t w is = tt
@@ -214,13 +214,13 @@ module _ (es : List Entry) (env : Environment)
         → type_of_terms es (chain.Arithmetic op) ts ≡ Ok t → IfSome (number_of_terms env op ts) (IsNumberOf t)
     terms_typed op (Two a b) t w is =
         let h = both_ok (type_of_term es a) (type_of_term es b) (chain_type (chain.Arithmetic op)) t is in
-        let v = and_out (has_words_in a) (has_words_in b) w in
+        let v = and_parts (has_words_in a) (has_words_in b) w in
         chain_typed op h.0 h.1 t (number_of_term env a) (number_of_term env b) (term_typed a h.0 v.0 h.2)
         (term_typed b h.1 v.1 h.3) h.4
     terms_typed op (Then ts b) t w is =
         let h = both_ok (type_of_terms es (chain.Arithmetic op) ts) (type_of_term es b)
         (chain_type (chain.Arithmetic op)) t is in
-        let v = and_out (have_words ts) (has_words_in b) w in
+        let v = and_parts (have_words ts) (has_words_in b) w in
         chain_typed op h.0 h.1 t (number_of_terms env op ts) (number_of_term env b) (terms_typed op ts h.0 v.0 h.2)
         (term_typed b h.1 v.1 h.3) h.4
 

@@ -4,12 +4,13 @@ use Rattle.std.proofs.Common.{IsSomeAnd, refl, subst, arith, int_le, int_lt, len
 use Rattle.std.specs.Prelude.{option_map, option_and_then, IsSome}
 use Rattle.std.specs.List.{AllByRecursion}
 use Rattle.std.proofs.lemmas.Int.{ints}
+use Rattle.std.proofs.lemmas.Bool.{and_parts}
 use Rattle.word_arithmetic.specs.Word.{word_not, least_word, greatest_word}
 use Rattle.word_arithmetic.specs.Comparison.{compares}
 use Rattle.word_arithmetic.specs.declared.compare.Comparison.{Comparison}
 use Rattle.word_arithmetic.specs.declared.binary.Binary.TheVariants as binary
 use Rattle.word_arithmetic.specs.Range.{Ends, InRange, is_within}
-use Rattle.word_arithmetic.proofs.EndsLaws.{and_out, in_range_in}
+use Rattle.word_arithmetic.proofs.EndsLaws.{in_range_in}
 use Rattle.occam_parser.specs.declared.tree.ValueType.{ValueType}
 use Rattle.occam_parser.specs.declared.tree.ValueType.TheVariants as value_type
 use Rattle.occam_parser.specs.declared.tree.PrefixOperator.TheVariants as prefix
@@ -185,7 +186,7 @@ element_in : (vs : List ℤ) (size : ℕ) (range : Ends) (b : Bound) (i : ℤ) �
     → IsSomeAnd (item_of vs i) (InRange range)
 element_in vs size range b i e all sub is =
     let m = bound_lies b i is in
-    let w = and_out (int_le (pos 0) (ends b).lo) (int_lt (ends b).hi (pos size)) sub in
+    let w = and_parts (int_le (pos 0) (ends b).lo) (int_lt (ends b).hi (pos size)) sub in
     item_holds (InRange range) vs size i e all (omega (arith, ints, w.0)) (omega (arith, ints, w.1))
 
 subscripted_has : (m : Meaning) (h : Held) (a s u : ExprType) (b d : Bound) (n : Option ℤ) (w : Option Bool)
@@ -221,7 +222,7 @@ convert_in : (to : ValueType) (b : Bound) (x : ℤ) → is_within (ends b) (type
     → IsSomeAnd (converted to x) (IsBound b)
 convert_in to b x inside is =
     let m = bound_lies b x is in
-    let w = and_out (int_le (type_range to).lo (ends b).lo) (int_le (ends b).hi (type_range to).hi) inside in
+    let w = and_parts (int_le (type_range to).lo (ends b).lo) (int_le (ends b).hi (type_range to).hi) inside in
     let in_it : InRange (type_range to) x =
     record { from_lo = omega (arith, ints, w.0); to_hi = omega (arith, ints, w.1) } in
     rw (in_range_in (type_range to) x in_it) is

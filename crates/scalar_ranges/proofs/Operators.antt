@@ -2,13 +2,14 @@
 use Rattle.std.proofs.Common.{◌≡◌, ℕ, ℤ, pos, ◌≤ℤ◌, Bool, true, Option, Some, None, Ok, IsSomeAnd}
 use Rattle.std.proofs.Common.{sym, ap, subst, arith, int_le, unsigned_abs}
 use Rattle.std.proofs.lemmas.Int.{ints}
+use Rattle.std.proofs.lemmas.Bool.{and_parts}
 use Rattle.word_arithmetic.specs.Word.{word_not, shifted_left, shifted_right}
 use Rattle.word_arithmetic.specs.Range.{Ends, InRange, IsRange, IsWordIn, in_range, is_within, not_range}
 use Rattle.word_arithmetic.specs.Range.{shift_left_range}
 use Rattle.word_arithmetic.specs.Binary.{computed, result_range}
 use Rattle.word_arithmetic.specs.declared.binary.Binary.{Binary}
 use Rattle.word_arithmetic.specs.declared.binary.Binary.TheVariants as binary
-use Rattle.word_arithmetic.proofs.EndsLaws.{words_in_order_are_ranges, members_lie_between, and_out, in_range_in}
+use Rattle.word_arithmetic.proofs.EndsLaws.{words_in_order_are_ranges, members_lie_between, in_range_in}
 use Rattle.word_arithmetic.proofs.BinaryLaws.{binary_holds}
 use Rattle.word_arithmetic.proofs.BitLaws.{not_holds, shift_left_holds, shift_right_holds}
 use Rattle.occam_parser.specs.declared.tree.ArithmeticPair.{ArithmeticPair}
@@ -81,7 +82,7 @@ binary_members op = record {
 -- a count between the counts of bits
 count_in : (s : Ends) (y : ℤ) → is_within s counts ≡ true → InRange s y → InRange counts y
 count_in s y e m =
-    let w = and_out (int_le (pos 0) s.lo) (int_le s.hi (pos 31)) e in
+    let w = and_parts (int_le (pos 0) s.lo) (int_le s.hi (pos 31)) e in
     record { from_lo = omega (arith, ints, w.0); to_hi = omega (arith, ints, w.1) }
 
 shifted_in : (shift : ℤ → ℕ → ℤ) (x y : ℤ) (b : Bool) (t : Ends) → in_range counts y ≡ b → InRange counts y
@@ -95,7 +96,7 @@ shift_members : (shift : ℤ → ℕ → ℤ) (range : Ends → Ends → Ends)
 shift_members shift range holds = record {
   members = λ r s t p q e x y m n.
       let f = passed (is_within s counts) (range r s) t e in
-      let w = and_out (int_le (pos 0) s.lo) (int_le s.hi (pos 31)) f.0 in
+      let w = and_parts (int_le (pos 0) s.lo) (int_le s.hi (pos 31)) f.0 in
       shifted_in shift x y true t (in_range_in counts y (count_in s y f.0 n)) (count_in s y f.0 n)
       (subst (λ u. InRange u (shift x (unsigned_abs y))) f.1 (holds r s p (omega (arith, ints, w.0)) x y m n));
 }

@@ -1,7 +1,7 @@
 -- A branch that is started has its frame, and holds what its context names.
 use Rattle.std.proofs.Common.{◌≡◌, ℕ, ◌+◌, ◌-◌, ◌<◌, ◌≤◌, ◌&&◌, ◌||◌, not, Bool, true, false, ◌⊎◌, inl, inr, ℤ, pos}
 use Rattle.std.proofs.Common.{◌+ℤ◌, ◌≤ℤ◌, negsuc, List, length, Option, Some, None, refl, sym, ap, ◌∙◌, subst, arith}
-use Rattle.std.proofs.lemmas.Bool.{cases_lt, lt-ltb, ltb-true}
+use Rattle.std.proofs.lemmas.Bool.{cases_lt, lt-ltb, ltb-true, and_parts, or_cases}
 use Rattle.std.proofs.lemmas.Int.{ints}
 use Rattle.std.specs.Prelude.{slice_get, nat_lt}
 use Rattle.module_format.specs.declared.contexts.Context.{Context}
@@ -26,9 +26,8 @@ use Rattle.machine_state.specs.Ownership.{IsAmong}
 use Rattle.machine_state.specs.Spans.{Share, writes_place, reads_place}
 use Rattle.machine_state.specs.World.{constants_start}
 use Rattle.machine_state.proofs.Among.{mapped_among}
-use Rattle.machine_state.proofs.Combining.{and_true}
 use Rattle.machine_state.proofs.Shares.{end_held}
-use Rattle.machine_state.proofs.SpanLaws.{or_true, runs_tell}
+use Rattle.machine_state.proofs.SpanLaws.{runs_tell}
 use Rattle.states.proofs.RowFacts.{and-parts}
 use Rattle.rulings.specs.Channels.{message_length}
 use Rattle.rulings.specs.Lends.{IsRegionKind}
@@ -115,7 +114,7 @@ module _ (m : Contents) (found : Found) (layout : Layout) (base : ℕ) (addresse
   -- one that it may read is given it to write or to read
   is_read : (k : ℤ) → rights.may_read_word m (context_of m found) k ≡ true
       → (is_among found.branch.writes k ≡ true) ⊎ (is_among found.branch.reads k ≡ true)
-  is_read k t = or_true (is_among found.branch.writes k) (is_among found.branch.reads k)
+  is_read k t = or_cases (is_among found.branch.writes k) (is_among found.branch.reads k)
       (sym (ap (λ (o : Option (Par × Branch)). elim o as (λ o. Bool) [
         | None ↦ true
         | Some found ↦ is_among found.1.writes k || is_among found.1.reads k
@@ -269,15 +268,15 @@ module _ (m : Contents) (found : Found) (layout : Layout) (base : ℕ) (addresse
 
   -- what it may read its starter could read
   was_read : (x : ℕ) → may_read mine x ≡ true → may_read h x ≡ true
-  was_read x own = elim (or_true (may_write mine x) _ own) [
+  was_read x own = elim (or_cases (may_write mine x) _ own) [
     | inl w ↦ readable_byte h x (was_written x w)
-    | inr r ↦ elim (or_true (reads_place gift x) _ (and_true _ _ (runs_tell (λ place.
+    | inr r ↦ elim (or_cases (reads_place gift x) _ (and_parts _ _ (runs_tell (λ place.
         not (writes_place gift place) && (reads_place gift place
         || (nat_lt place (constants_start m + length m.constants) && not (nat_lt place (constants_start m)))))
         0 (length memory) x r).passes).1) [
           | inl there ↦ read_held m found layout base addresses h memory depth workspace s x there
           | inr constant ↦
-              let both = and_true _ _ constant in
+              let both = and_parts _ _ constant in
               constant_read (ltb-true x (constants_start m + length m.constants) both.0) both.1
         ]
   ]

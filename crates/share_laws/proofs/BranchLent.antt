@@ -3,6 +3,7 @@ use Rattle.std.proofs.Common.{◌≡◌, ℕ, ◌+◌, ◌*◌, ◌/◌, ◌&&�
 use Rattle.std.proofs.Common.{Some, None, refl, sym, ap, ◌∙◌, subst, arith, eqb-true}
 use Rattle.std.proofs.lemmas.Int.{ints}
 use Rattle.std.specs.Prelude.{slice_get, option_map, IsTrue, ◌%◌}
+use Rattle.std.proofs.lemmas.Bool.{or_cases}
 use Rattle.module_format.specs.declared.fact.Region.TheVariants as regions
 use Rattle.module_format.specs.declared.rows.Parameter.{Parameter}
 use Rattle.module_format.specs.declared.rows.ParameterKind.{ParameterKind}
@@ -18,7 +19,6 @@ use Rattle.machine_state.specs.BranchContexts.{context_of, IsContextOf}
 use Rattle.machine_state.specs.BranchShares.{region_size}
 use Rattle.machine_state.specs.JoinLookups.{Found}
 use Rattle.machine_state.specs.Memory.{place_of}
-use Rattle.machine_state.proofs.SpanLaws.{or_true}
 use Rattle.states.proofs.RowFacts.{and-parts}
 use Rattle.rulings.specs.Lends.{IsRegionKind, of_parameter, Part}
 use Rattle.rulings.specs.Meaning.{Layout, place_in}
@@ -115,7 +115,7 @@ module _ (m : Contents) (found : Found) (layout other : Layout) (keeps : Keeps m
   -- one that it may read its opener may read
   reads : (k : ℤ) → rights.may_read_word m (context_of m found) k ≡ true
       → rights.may_read_word m found.par.context k ≡ true
-  reads k t = elim (or_true (is_among found.branch.writes k) (is_among found.branch.reads k)
+  reads k t = elim (or_cases (is_among found.branch.writes k) (is_among found.branch.reads k)
       (sym (ap (λ (o : Option (Par × Branch)). elim o as (λ o. Bool) [
         | None ↦ true
         | Some found ↦ is_among found.1.writes k || is_among found.1.reads k

@@ -3,11 +3,11 @@ use Rattle.std.proofs.Common.{◌≡◌, ℕ, zero, suc, ◌<◌, ◌||◌, not,
 use Rattle.std.proofs.Common.{refl, sym, ap, ◌∙◌, arith}
 use Rattle.std.specs.Prelude.{slice_get}
 use Rattle.std.specs.List.{list_any}
+use Rattle.std.proofs.lemmas.Bool.{and_from}
 use Rattle.module_format.specs.Pars.{key_of}
 use Rattle.module_format.specs.Contents.{Contents, Branch}
 use Rattle.certificate.specs.Rights.{is_among, is_same_end}
 use Rattle.machine_state.specs.JoinLookups.{Found}
-use Rattle.machine_state.proofs.SpanLaws.{both_true}
 use Rattle.rulings.specs.Reach.{is_listed}
 use Rattle.rulings.specs.Remaining.{some_started, is_hidden}
 use Rattle.rulings.specs.Remaining.{word_given_to_write, word_given_to_read}
@@ -46,11 +46,11 @@ module _ (m : Contents) (found : Found) (g : IsGivenOnce m found) where
   -- what is given once is left
   is_left : IsLeft m found
   is_left = record {
-    writes = λ k among. both_true _ _ (both_true _ _ (g.writes k among) (written_shown k among))
+    writes = λ k among. and_from _ _ (and_from _ _ (g.writes k among) (written_shown k among))
         (none_of (word_given_to_write found.par found.number k) (word_given_to_read found.par found.number k)
         (unstarted (λ b. is_among b.writes k) (λ i b low there. ((g.beside i b low there).writes k among).0))
         (unstarted (λ b. is_among b.reads k) (λ i b low there. ((g.beside i b low there).writes k among).1)));
-    reads = λ k among. both_true _ _ (both_true _ _ (g.reads k among) (read_shown k among))
+    reads = λ k among. and_from _ _ (and_from _ _ (g.reads k among) (read_shown k among))
         (not_true _ (unstarted (λ b. is_among b.writes k) (λ i b low there. (g.beside i b low there).reads k among)));
     written = λ j listed.
         let w = g.written j listed in
@@ -72,7 +72,7 @@ module _ (m : Contents) (found : Found) (g : IsGivenOnce m found) where
       written = unstarted (λ b. is_listed b.written_parameters j)
           (λ i b low there. (g.beside i b low there).read j listed);
     };
-    ends = λ e among. both_true _ _ (g.ends e among) (not_true _ (unstarted
+    ends = λ e among. and_from _ _ (g.ends e among) (not_true _ (unstarted
         (λ b. list_any (λ other. is_same_end (key_of other) (key_of e)) b.ends)
         (λ i b low there. (g.beside i b low there).ends e among)));
     scheduling = g.scheduling;

@@ -2,6 +2,7 @@
 use Rattle.std.proofs.Common.{◌≡◌, ℕ, ◌+◌, ◌<◌, ◌&&◌, not, ℤ, true, List, length, Option, Some, None, refl, sym, ap}
 use Rattle.std.proofs.Common.{◌∙◌, subst}
 use Rattle.std.specs.Prelude.{slice_get}
+use Rattle.std.proofs.lemmas.Bool.{and_from}
 use Rattle.module_format.specs.Rows.{Fact}
 use Rattle.module_format.specs.declared.fact.Fact.TheVariants.{Unknown, Number, Pointer, CodeAddress, Loop}
 use Rattle.module_format.specs.declared.fact.Fact.TheVariants.{ReturnAddress}
@@ -15,7 +16,6 @@ use Rattle.machine_state.specs.Holding.{Holding, may_read}
 use Rattle.machine_state.specs.JoinLookups.{Found}
 use Rattle.machine_state.specs.Memory.{Memory}
 use Rattle.machine_state.specs.Site.{Local}
-use Rattle.machine_state.proofs.SpanLaws.{both_true}
 use Rattle.states.specs.declared.known.Known.{Known}
 use Rattle.states.specs.declared.known.Mode as modes
 use Rattle.states.specs.declared.known.Mode.TheVariants.{Starting}
@@ -169,7 +169,7 @@ openers_go_on m found act base addresses h memory depth workspace s l opens firs
         → (words_left m found.par found.par.context 0).reads k ≡ true
     left_before k t =
         let a = and-parts (rights.may_read_word m found.par.context k && not (is_hidden found.par k)) _ t in
-        both_true _ _ a.0 (not_true _ (none_started found.par (λ b. is_among b.writes k)))
+        and_from _ _ a.0 (not_true _ (none_started found.par (λ b. is_among b.writes k)))
 
 -- what the opening leaves can start the first branch
 pub openings_can_start : OpeningsCanStart

@@ -5,6 +5,7 @@ use Rattle.std.proofs.lemmas.Int.{ints}
 use Rattle.std.specs.Int.{w32}
 use Rattle.std.specs.Prelude.{int_le}
 use Rattle.std.specs.List.{list_any}
+use Rattle.std.proofs.lemmas.Bool.{or_cases, or_left, or_right}
 use Rattle.module_format.specs.declared.rows.ChannelRow.{ChannelRow}
 use Rattle.module_format.specs.declared.rows.EndKind.TheVariants.{FrameWord}
 use Rattle.module_format.specs.Contents.{Contents, Par}
@@ -21,7 +22,6 @@ use Rattle.machine_state.specs.Spans.{Stretch, stretches_over, writes_place}
 use Rattle.machine_state.specs.StartPlans.{hidden}
 use Rattle.machine_state.proofs.Among.{any_among}
 use Rattle.machine_state.proofs.EvenWords.{next_place}
-use Rattle.machine_state.proofs.SpanLaws.{or_true, or_left, or_right}
 use Rattle.states.specs.State.{is_word}
 use Rattle.states.proofs.RowFacts.{and-parts, le-from}
 use Rattle.rulings.specs.Meaning.{Layout, HasFrame, IsOwnWord, words_in}
@@ -140,7 +140,7 @@ module _ (m : Contents) (row : ℕ) (par : Par) (layout : Layout) (base : ℕ) (
       → list_any (λ s. stretches_over s x) (map stretch (map (λ (c : ChannelRow). frame_address base c.word) cs)) ≡ true
       → (k : ℤ) × (is_hidden par k ≡ true) × IsByteOf layout.origin k x
   channel_byte [] x all h = absurd (cc)
-  channel_byte (c ∷ cs) x all h = elim (or_true (stretches_over (stretch (frame_address base c.word)) x) _ h) [
+  channel_byte (c ∷ cs) x all h = elim (or_cases (stretches_over (stretch (frame_address base c.word)) x) _ h) [
     | inl here ↦
         let hides = channel_hides c.word (channel_is_word c (all c (inl refl))) in
         of_place c.word hides (frame_address base c.word) x
@@ -151,10 +151,10 @@ module _ (m : Contents) (row : ℕ) (par : Par) (layout : Layout) (base : ℕ) (
   -- a byte of what no branch has is one of a hidden word
   pub hidden_byte : (x : ℕ) → writes_place (hidden base par) x ≡ true
       → (k : ℤ) × (is_hidden par k ≡ true) × IsByteOf layout.origin k x
-  hidden_byte x h = elim (or_true (stretches_over (stretch (frame_address base par.block)) x) _ h) [
+  hidden_byte x h = elim (or_cases (stretches_over (stretch (frame_address base par.block)) x) _ h) [
     | inl here ↦ of_place par.block block_hides (frame_address base par.block) x
         (hidden_place par.block block_hides fits_words.block) here
-    | inr there ↦ elim (or_true (stretches_over (stretch (frame_address (frame_address base par.block) (pos 1))) x) _
+    | inr there ↦ elim (or_cases (stretches_over (stretch (frame_address (frame_address base par.block) (pos 1))) x) _
         there) [
           | inl here ↦ of_place (par.block +ℤ pos 1) next_hides (frame_address (frame_address base par.block) (pos 1)) x
               second_place here
@@ -171,7 +171,7 @@ module _ (m : Contents) (row : ℕ) (par : Par) (layout : Layout) (base : ℕ) (
       on : (cs : List ChannelRow) → ((c : ChannelRow) → IsAmong c cs → FitsSigned w32 c.word)
           → list_any (λ (c : ChannelRow). is_word c.word k) cs ≡ true → FitsSigned w32 k
       on [] all h = absurd (cc)
-      on (c ∷ cs) all h = elim (or_true (is_word c.word k) _ h) [
+      on (c ∷ cs) all h = elim (or_cases (is_word c.word k) _ h) [
         | inl here ↦ elim (word_test c.word k) [
           | inl t ↦ subst (λ (z : ℤ). FitsSigned w32 z) t.1 (all c (inl refl))
           | inr t ↦ let no' : false ≡ true = sym t.0 ∙ here in absurd (cc)

@@ -4,10 +4,10 @@ use Rattle.std.proofs.Common.{[], ◌∷◌, sym, ◌∙◌, subst, arith, nat_a
 use Rattle.std.proofs.lemmas.Int.{ints}
 use Rattle.std.specs.Prelude.{int_le, int_lt}
 use Rattle.std.specs.List.{list_any, list_all}
+use Rattle.std.proofs.lemmas.Bool.{and_from, or_cases, or_left, or_right}
 use Rattle.module_format.specs.declared.rows.Interval.{Interval}
 use Rattle.module_format.specs.Pars.{meet}
 use Rattle.certificate.specs.Rights.{is_among}
-use Rattle.machine_state.proofs.SpanLaws.{both_true, or_true, or_left, or_right}
 use Rattle.certificate.specs.Words.{all_words}
 use Rattle.states.proofs.RowFacts.{and-parts, le-from, lt-from, lt-yes}
 use Rattle.rulings.proofs.Offsets.{all_words_at}
@@ -29,7 +29,7 @@ pub words_pass : (test : ℤ → Bool) (is : List Interval) (k : ℤ)
 words_pass test [] k all among = absurd (cc)
 words_pass test (i ∷ is) k all among =
     let both = and-parts (all_words test i.lo (nat_abs (i.hi -ℤ i.lo))) _ all in
-    elim (or_true (int_le i.lo k && int_lt k i.hi) _ among) [
+    elim (or_cases (int_le i.lo k && int_lt k i.hi) _ among) [
       | inl here ↦
           let ends = and-parts (int_le i.lo k) (int_lt k i.hi) here in
           word_passes test i k both.0 (le-from i.lo k ends.0) (lt-from k i.hi ends.1)
@@ -40,12 +40,12 @@ words_pass test (i ∷ is) k all among =
 meets_one : (other : Interval) (is : List Interval) (k : ℤ) → other.lo ≤ℤ k → k <ℤ other.hi → is_among is k ≡ true
     → list_any (meet other) is ≡ true
 meets_one other [] k low high among = absurd (cc)
-meets_one other (i ∷ is) k low high among = elim (or_true (int_le i.lo k && int_lt k i.hi) _ among) [
+meets_one other (i ∷ is) k low high among = elim (or_cases (int_le i.lo k && int_lt k i.hi) _ among) [
   | inl here ↦
       let ends = and-parts (int_le i.lo k) (int_lt k i.hi) here in
       let from = le-from i.lo k ends.0 in
       let to = lt-from k i.hi ends.1 in
-      or_left _ _ (both_true (int_lt other.lo i.hi) (int_lt i.lo other.hi)
+      or_left _ _ (and_from (int_lt other.lo i.hi) (int_lt i.lo other.hi)
       (lt-yes other.lo i.hi (omega (arith, ints, low, to))) (lt-yes i.lo other.hi (omega (arith, ints, from, high))))
   | inr there ↦ or_right (meet other i) _ (meets_one other is k low high there)
 ]
@@ -54,7 +54,7 @@ meets_one other (i ∷ is) k low high among = elim (or_true (int_le i.lo k && in
 common_word : (is others : List Interval) (k : ℤ) → is_among is k ≡ true → is_among others k ≡ true
     → list_any (λ other. list_any (meet other) is) others ≡ true
 common_word is [] k mine theirs = absurd (cc)
-common_word is (other ∷ others) k mine theirs = elim (or_true (int_le other.lo k && int_lt k other.hi) _ theirs) [
+common_word is (other ∷ others) k mine theirs = elim (or_cases (int_le other.lo k && int_lt k other.hi) _ theirs) [
   | inl here ↦
       let ends = and-parts (int_le other.lo k) (int_lt k other.hi) here in
       or_left _ _ (meets_one other is k (le-from other.lo k ends.0) (lt-from k other.hi ends.1) mine)

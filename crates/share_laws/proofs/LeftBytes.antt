@@ -1,7 +1,7 @@
 -- The bytes of a share are held by the starter, and lie beside what the starter keeps.
 use Rattle.std.proofs.Common.{pos, ◌≡◌, ℕ, ◌+◌, ◌-◌, ◌<◌, ◌≤◌, ◌&&◌, ◌||◌, not, Bool, true, false, inl, inr, ℤ, List}
 use Rattle.std.proofs.Common.{length, Option, Some, refl, sym, ap, ◌∙◌, subst, arith}
-use Rattle.std.proofs.lemmas.Bool.{cases_eq, lt-ltb, le-ltb}
+use Rattle.std.proofs.lemmas.Bool.{cases_eq, lt-ltb, le-ltb, and_from, or_cases, or_left, or_right}
 use Rattle.std.proofs.lemmas.Int.{ints}
 use Rattle.std.specs.Prelude.{slice_get, nat_lt}
 use Rattle.module_format.specs.declared.rows.Parameter.{Parameter}
@@ -20,7 +20,7 @@ use Rattle.machine_state.specs.JoinLookups.{Found}
 use Rattle.machine_state.specs.Memory.{Memory, place_of}
 use Rattle.machine_state.specs.Spans.{Share, less, writes_place, reads_place}
 use Rattle.machine_state.specs.World.{constants_start}
-use Rattle.machine_state.proofs.SpanLaws.{both_true, or_true, or_left, or_right, runs_have, runs_tell}
+use Rattle.machine_state.proofs.SpanLaws.{runs_have, runs_tell}
 use Rattle.states.proofs.RowFacts.{and-parts}
 use Rattle.rulings.specs.Lends.{IsRegionKind}
 use Rattle.rulings.specs.Meaning.{place_in, Layout, words_left}
@@ -69,7 +69,7 @@ pub word_of_bytes : (h : Holding) (place : ℕ) → ((i : ℕ) → i < 4 → may
 unfolding may_write_word
 word_of_bytes h place each =
     let first : may_write h place ≡ true = subst (λ n. may_write h n ≡ true) (omega arith) (each 0 (omega arith)) in
-    both_true _ _ (both_true _ _ (both_true _ _ first (each 1 (omega arith))) (each 2 (omega arith)))
+    and_from _ _ (and_from _ _ (and_from _ _ first (each 1 (omega arith))) (each 2 (omega arith)))
     (each 3 (omega arith))
 
 -- the same of reading
@@ -78,7 +78,7 @@ pub word_to_read : (h : Holding) (place : ℕ) → ((i : ℕ) → i < 4 → may_
 unfolding may_read_word
 word_to_read h place each =
     let first : may_read h place ≡ true = subst (λ n. may_read h n ≡ true) (omega arith) (each 0 (omega arith)) in
-    both_true _ _ (both_true _ _ (both_true _ _ first (each 1 (omega arith))) (each 2 (omega arith)))
+    and_from _ _ (and_from _ _ (and_from _ _ first (each 1 (omega arith))) (each 2 (omega arith)))
     (each 3 (omega arith))
 
 -- ---- what is left, and what is given, place by place
@@ -90,7 +90,7 @@ unfolding less
 less_written n h share x inside own w r = runs_have _ 0 n x (record {
   above = omega arith;
   below = omega arith;
-  passes = both_true _ _ (both_true _ _ own (not_true _ w)) (not_true _ r);
+  passes = and_from _ _ (and_from _ _ own (not_true _ w)) (not_true _ r);
 })
 
 -- one that may be read, and that it has not to write, may be read
@@ -105,7 +105,7 @@ less_read n h share x inside read w = on (may_write h x) (reads_place share x) r
         && (not (may_write h place) || reads_place share place)) 0 n x (record {
           above = omega arith;
           below = omega arith;
-          passes = both_true _ _ (both_true _ _ read (not_true _ w)) passes;
+          passes = and_from _ _ (and_from _ _ read (not_true _ w)) passes;
         }))
 
     on : (a b : Bool) → may_write h x ≡ a → reads_place share x ≡ b → may_read (less n h share) x ≡ true
@@ -116,7 +116,7 @@ less_read n h share x inside read w = on (may_write h x) (reads_place share x) r
 -- what is left lies in memory
 pub less_inside : (n : ℕ) (h : Holding) (share : Share) (x : ℕ) → may_read (less n h share) x ≡ true → x < n
 unfolding less
-less_inside n h share x read = elim (or_true (may_write (less n h share) x) _ read) [
+less_inside n h share x read = elim (or_cases (may_write (less n h share) x) _ read) [
   | inl own ↦ let t = runs_tell (λ place.
       may_write h place && not (writes_place share place) && not (reads_place share place)) 0 n x own in
       let below = t.below in omega (arith, below)
@@ -144,7 +144,7 @@ given_constant m n share x inside low high = on (writes_place share x) refl
         (record {
           above = omega arith;
           below = omega arith;
-          passes = both_true _ _ (not_true _ e) (or_right (reads_place share x) _ (both_true _ _ (lt-ltb x _ high)
+          passes = and_from _ _ (not_true _ e) (or_right (reads_place share x) _ (and_from _ _ (lt-ltb x _ high)
               (not_true _ (le-ltb x (constants_start m) low))));
         }))
 
@@ -161,7 +161,7 @@ given_read m n share x inside r = on (writes_place share x) refl
         (record {
           above = omega arith;
           below = omega arith;
-          passes = both_true _ _ (not_true _ e) (or_left _ _ r);
+          passes = and_from _ _ (not_true _ e) (or_left _ _ r);
         }))
 
 -- ---- words that are left
@@ -174,8 +174,8 @@ module _ (m : Contents) (par : Par) (context started : ℕ) where
       let a = and-parts (rights.may_write_word m context k && not (is_hidden par k))
       (not (word_given_to_write par started k || word_given_to_read par started k)) h in
       let b = and-parts (rights.may_write_word m context k) (not (is_hidden par k)) a.0 in
-      both_true (rights.may_read_word m context k && not (is_hidden par k)) (not (word_given_to_write par started k))
-      (both_true (rights.may_read_word m context k) (not (is_hidden par k)) (written_readable m context k b.0) b.1)
+      and_from (rights.may_read_word m context k && not (is_hidden par k)) (not (word_given_to_write par started k))
+      (and_from (rights.may_read_word m context k) (not (is_hidden par k)) (written_readable m context k b.0) b.1)
       (first (word_given_to_write par started k) (word_given_to_read par started k) a.1)
     where
       first : (x y : Bool) → not (x || y) ≡ true → not x ≡ true

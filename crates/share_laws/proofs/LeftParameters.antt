@@ -3,6 +3,7 @@ use Rattle.std.proofs.Common.{◌≡◌, ℕ, zero, suc, ◌+◌, ◌||◌, Bool
 use Rattle.std.proofs.Common.{◌∷◌, Option, Some, None, refl, sym, ap, ◌∙◌, subst, arith}
 use Rattle.std.specs.Prelude.{slice_get, option_map, take}
 use Rattle.std.specs.List.{list_any}
+use Rattle.small_laws.proofs.Options.{same_some}
 use Rattle.word_arithmetic.specs.Word.{least_word, greatest_word}
 use Rattle.module_format.specs.declared.rows.Parameter.{Parameter}
 use Rattle.module_format.specs.declared.rows.ParameterKind.{ParameterKind}
@@ -14,7 +15,6 @@ use Rattle.certificate.specs.Branches.{numbered_branch}
 use Rattle.machine_state.specs.BranchContexts.{context_of}
 use Rattle.machine_state.specs.BranchShares.{region_size}
 use Rattle.machine_state.specs.JoinLookups.{Found}
-use Rattle.machine_state.proofs.Claims.{only_one}
 use Rattle.rulings.specs.Lends.{IsRegionKind}
 use Rattle.rulings.specs.Meaning.{Layout}
 use Rattle.rulings.specs.Reach.{is_listed, may_write_parameter, may_read_parameter}
@@ -177,7 +177,7 @@ module _ (m : Contents) (found : Found) (layout : Layout) (is : IsBranch m found
           let same : ◌≡◌ {A = Option Parameter}
           (Some (record q { kind = kind_left found.par (found.number + 1) j q.kind })) (Some p) = h in
           let is_p : (record q { kind = kind_left found.par (found.number + 1) j q.kind }) ≡ p =
-          only_one _ _ p refl h in
+          same_some _ _ p refl h in
           record {
             theirs = record q { kind = kind_left found.par found.number j q.kind };
             found_there = ap (option_map (λ (p : Parameter).
@@ -264,7 +264,7 @@ module _ (m : Contents) (found : Found) (layout : Layout)
         → (size : ℕ) × (lo : ℤ) × (hi : ℤ) × (raw.kind ≡ WrittenRegion size lo hi)
     must_be listed =
         let l = left.written j listed in
-        let same = only_one (slice_get (parameters_at m found.par.context) j) raw l.parameter there l.found in
+        let same = same_some (slice_get (parameters_at m found.par.context) j) raw l.parameter there l.found in
         (l.size, l.lo, l.hi, ap (λ (p : Parameter). p.kind) same ∙ l.kind)
 
     on_lists : (kind : ParameterKind) → raw.kind ≡ kind → (w r : Bool)
@@ -319,7 +319,7 @@ module _ (m : Contents) (found : Found) (layout : Layout)
           → Taken j p
       on None e h = absurd (cc)
       on (Some raw) e h =
-          let is_p : (record raw { kind = kind_used m (context_of m found) j raw.kind }) ≡ p = only_one _ _ p refl h in
+          let is_p : (record raw { kind = kind_used m (context_of m found) j raw.kind }) ≡ p = same_some _ _ p refl h in
           record {
             theirs = record raw {
               kind = kind_left found.par found.number j (kind_used m found.par.context j raw.kind);
@@ -364,7 +364,7 @@ module _ (m : Contents) (found : Found) (layout : Layout) (left : IsLeft m found
       region.hi)
   written_left listed =
       let l = left.written j listed in
-      let same = only_one (slice_get (parameters_at m found.par.context) j) raw l.parameter there l.found in
+      let same = same_some (slice_get (parameters_at m found.par.context) j) raw l.parameter there l.found in
       let kind : raw.kind ≡ WrittenRegion l.size l.lo l.hi = ap (λ (p : Parameter). p.kind) same ∙ l.kind in
       let is : left_parameter.kind ≡ WrittenRegion l.size l.lo l.hi =
       ap (λ (b : Bool). left_by b (parameter_given_to_read found.par found.number j)

@@ -2,7 +2,7 @@
 use Rattle.std.proofs.Common.{◌≡◌, ℕ, ◌+◌, ◌<◌, ◌&&◌, ◌||◌, not, Bool, true, false, cond, ◌⊎◌, inl, inr, ℤ}
 use Rattle.std.proofs.Common.{if◌then◌else◌, List, [], ◌∷◌, ◌++◌, length, map, Option, Some, None, refl, sym, ap, ◌∙◌}
 use Rattle.std.proofs.Common.{subst, arith, eqb-true}
-use Rattle.std.proofs.lemmas.Bool.{eq-eqb}
+use Rattle.std.proofs.lemmas.Bool.{eq-eqb, or_cases, or_left, or_right}
 use Rattle.std.specs.Prelude.{option_map, take, ◌==◌, find, int_le}
 use Rattle.std.specs.List.{list_any}
 use Rattle.module_format.specs.declared.rows.ChannelRow.{ChannelRow}
@@ -28,7 +28,6 @@ use Rattle.machine_state.specs.StartPlans.{hidden, with_ends, channel_addresses}
 use Rattle.machine_state.specs.World.{constants_start}
 use Rattle.machine_state.proofs.Among.{among_left, among_right, among_more, filter_keeps}
 use Rattle.machine_state.proofs.Shares.{left_claims, end_among, end_held}
-use Rattle.machine_state.proofs.SpanLaws.{or_true, or_left, or_right}
 use Rattle.states.specs.State.{is_word}
 use Rattle.states.proofs.RowFacts.{and-parts}
 use Rattle.rulings.specs.Channels.{message_length}
@@ -223,7 +222,7 @@ channel_listed : (cs : List ChannelRow) (word : ℤ) → listed_length cs word �
 channel_listed [] word h any = absurd (cc)
 channel_listed (c ∷ cs) word h any = elim (word_test c.word word) [
   | inl t ↦ absurd (by_test (is_word c.word word) t.0 h)
-  | inr t ↦ elim (or_true (is_word c.word word) _ any) [
+  | inr t ↦ elim (or_cases (is_word c.word word) _ any) [
     | inl here ↦ let no' : false ≡ true = sym t.0 ∙ here in cc
     | inr there ↦ channel_listed cs word (sym (not_here (is_word c.word word) t.0) ∙ h) there
   ]
@@ -418,7 +417,7 @@ module _ (m : Contents) (row : ℕ) (par : Par) (layout : Layout) (base : ℕ) (
   left_end kind direction t =
       let e : EndRow = record { kind = kind; direction = direction } in
       let a = and-parts (rights.has_end m par.context e || is_own_end par kind) _ t in
-      elim (or_true (rights.has_end m par.context e) (is_own_end par kind) a.0) [
+      elim (or_cases (rights.has_end m par.context e) (is_own_end par kind) a.0) [
         | inl has ↦ of_context has (λ k is same.
             let held = o.named.ends kind direction has in
             let free = channel_free m row par layout base h memory depth workspace o k direction is in
@@ -460,7 +459,7 @@ module _ (m : Contents) (row : ℕ) (par : Par) (layout : Layout) (base : ℕ) (
   address_among : (cs : List ChannelRow) (k : ℤ) → list_any (λ (c : ChannelRow). is_word c.word k) cs ≡ true
       → IsAmong (frame_address base k) (map (λ (c : ChannelRow). frame_address base c.word) cs)
   address_among [] k h = absurd (cc)
-  address_among (c ∷ cs) k h = elim (or_true (is_word c.word k) _ h) [
+  address_among (c ∷ cs) k h = elim (or_cases (is_word c.word k) _ h) [
     | inl here ↦ inl (ap (frame_address base) (same_word_by c.word k here))
     | inr there ↦ inr (address_among cs k there)
   ]

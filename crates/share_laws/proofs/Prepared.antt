@@ -2,7 +2,7 @@
 use Rattle.std.proofs.Common.{◌≡◌, ℕ, zero, suc, ◌+◌, ◌*◌, ◌%◌, ◌^◌, ◌<◌, ◌&&◌, Bool, true, false, if◌then◌else◌, inl}
 use Rattle.std.proofs.Common.{inr, ℤ, pos, ◌+ℤ◌, List, [], ◌∷◌, ◌++◌, map, length, Option, Some, None, FitsSigned, refl}
 use Rattle.std.proofs.Common.{sym, ap, ◌∙◌, subst, arith}
-use Rattle.std.proofs.lemmas.Bool.{eq-eqb}
+use Rattle.std.proofs.lemmas.Bool.{eq-eqb, and_from}
 use Rattle.std.proofs.lemmas.Int.{ints, of_z-to_z}
 use Rattle.std.proofs.lemmas.Option.{slice_get-map}
 use Rattle.std.specs.Int.{w32, cast_unsigned, cast_signed}
@@ -25,7 +25,6 @@ use Rattle.machine_state.specs.Ownership.{IsAmong}
 use Rattle.machine_state.specs.StartPlans.{Plan, word_in, first_plan, later_plan, block_addresses, channel_addresses}
 use Rattle.machine_state.specs.StartPlans.{ends_are_there, share_is_there, words_are_held, words_are_defined}
 use Rattle.machine_state.specs.StartPlans.{word_is_defined, is_word, is_prepared, is_next, first_fault, first_faults}
-use Rattle.machine_state.proofs.SpanLaws.{both_true}
 use Rattle.states.proofs.FrameBounds.{frame-is-small}
 use Rattle.states.proofs.RowFacts.{and-parts, le-from, lt-from}
 use Rattle.rulings.specs.Remaining.{is_hidden}
@@ -68,7 +67,7 @@ named_each : (test : Option ℤ → Bool) (par : Par) (j : ℕ) (ps : List Param
     → test (Some (pos p.word)) ≡ true) → list_all test (named_from par j ps) ≡ true
 named_each test par j [] none each = refl
 named_each test par j (p ∷ ps) none each =
-    both_true _ _ (on (row_names par j) refl) (named_each test par (j + 1) ps none (λ i q there names.
+    and_from _ _ (on (row_names par j) refl) (named_each test par (j + 1) ps none (λ i q there names.
     each (suc i) q there (ap (row_names par) (let e : j + suc i ≡ j + 1 + i = omega arith in e) ∙ names)))
   where
     on : (b : Bool) → row_names par j ≡ b → test (if b then Some (pos p.word) else None) ≡ true
@@ -168,7 +167,7 @@ module _ (m : Contents) (p : ℕ) (found : Found) (layout : Layout) (h : Holding
       on : (cs : List ChannelRow) → ((c : ChannelRow) → IsAmong c cs → test (frame_address base c.word) ≡ true)
           → list_all test (map (λ (c : ChannelRow). frame_address base c.word) cs) ≡ true
       on [] each = refl
-      on (c ∷ cs) each = both_true _ _ (each c (inl refl)) (on cs (λ d among. each d (inr among)))
+      on (c ∷ cs) each = and_from _ _ (each c (inl refl)) (on cs (λ d among. each d (inr among)))
 
   -- ---- words of parameters
 
@@ -218,7 +217,7 @@ module _ (m : Contents) (p : ℕ) (found : Found) (layout : Layout) (h : Holding
 
   -- the words that open the PAR are held
   held : words_are_held h plan ≡ true
-  held = both_true _ _
+  held = and_from _ _
       (all_from (λ a. may_write_word h (place_of a)) kept_addresses (λ a among.
       let t = hidden_address m found.row found.par layout base h memory found.par.depth workspace o a among in
       subst (λ (x : ℕ). may_write_word h x ≡ true) (sym t.place) t.word.mine))
@@ -230,9 +229,9 @@ module _ (m : Contents) (p : ℕ) (found : Found) (layout : Layout) (h : Holding
 
   -- the words are defined
   defined : words_are_defined memory plan ≡ true
-  defined = both_true _ _
-      (both_true _ _ (is_defined (frame_address base found.par.block) _ block_word)
-      (both_true _ _ (is_defined (frame_address (frame_address base found.par.block) (pos 1)) _ count_word)
+  defined = and_from _ _
+      (and_from _ _ (is_defined (frame_address base found.par.block) _ block_word)
+      (and_from _ _ (is_defined (frame_address (frame_address base found.par.block) (pos 1)) _ count_word)
       (channel_each (word_is_defined memory) (λ c among. is_defined (frame_address base c.word) _ (channel_word c
       among)))))
       (parameter_each (word_is_defined memory) (λ j q names there.
@@ -246,7 +245,7 @@ module _ (m : Contents) (p : ℕ) (found : Found) (layout : Layout) (h : Holding
 
   -- the words are as they are asked for
   prepared : is_prepared m memory plan ≡ true
-  prepared = both_true _ _ (both_true _ _
+  prepared = and_from _ _ (and_from _ _
       (word_passes memory (frame_address base found.par.block) (word_of (pos (code_address m found.par.successor)))
       (cast_signed w32 ((data_start + 4 * m.data_words + found.par.successor) % 2 ^ 32)) block_word code_word)
       (word_passes memory (frame_address (frame_address base found.par.block) (pos 1))
@@ -303,10 +302,10 @@ module _ (m : Contents) (p : ℕ) (found : Found) (layout : Layout) (h : Holding
       (share_is_there (length memory) plan (frame_address base found.branch.workspace) found.branch
       && words_are_held h plan) (words_are_defined memory plan)
       (is_next plan found (frame_address base found.branch.workspace) && is_prepared m memory plan) share.ends
-      (both_true _ _ (subst (λ (n : ℕ).
+      (and_from _ _ (subst (λ (n : ℕ).
       share_is_there n plan (frame_address base found.branch.workspace) found.branch ≡ true) size share.share) held)
       defined
-      (both_true _ _ (both_true _ _ (eq-eqb found.number 0 first) (eq-eqb (frame_address base found.branch.workspace)
+      (and_from _ _ (and_from _ _ (eq-eqb found.number 0 first) (eq-eqb (frame_address base found.branch.workspace)
       (frame_address base found.branch.workspace) refl)) prepared)
 
 -- the plan of a first start
@@ -326,5 +325,5 @@ later_starts_pass m join found layout memory depth workspace can number =
     (share_is_there (length memory) (later_plan m join found.par) (frame_address join.base found.branch.workspace)
     found.branch) (is_next (later_plan m join found.par) found (frame_address join.base found.branch.workspace))
     share.ends share.share
-    (both_true _ _ (eq-eqb found.number join.started number) (eq-eqb (frame_address join.base found.branch.workspace)
+    (and_from _ _ (eq-eqb found.number join.started number) (eq-eqb (frame_address join.base found.branch.workspace)
     (frame_address join.base found.branch.workspace) refl))

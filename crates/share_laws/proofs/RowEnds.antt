@@ -4,6 +4,8 @@ use Rattle.std.proofs.Common.{ap₂, ◌∙◌, arith, eqb-true, if◌then◌els
 use Rattle.std.proofs.lemmas.Int.{ints}
 use Rattle.std.specs.Prelude.{◌==◌, int_le, is_some}
 use Rattle.std.specs.List.{list_any}
+use Rattle.std.proofs.lemmas.Bool.{and_from, or_cases}
+use Rattle.small_laws.proofs.Comparisons.{eqb-self}
 use Rattle.module_format.specs.declared.rows.Direction.{Direction}
 use Rattle.module_format.specs.declared.rows.Direction.TheVariants.{In, Out}
 use Rattle.module_format.specs.declared.rows.EndKind.{EndKind}
@@ -19,8 +21,6 @@ use Rattle.machine_state.specs.Holding.{same_direction}
 use Rattle.machine_state.specs.Ownership.{IsAmong}
 use Rattle.machine_state.specs.Spans.{is_listed}
 use Rattle.machine_state.proofs.Among.{any_among}
-use Rattle.machine_state.proofs.Shares.{number_itself}
-use Rattle.machine_state.proofs.SpanLaws.{both_true, or_true}
 use Rattle.states.proofs.RowFacts.{and-parts, le-yes}
 use Rattle.rulings.proofs.Words.{same_word_by}
 
@@ -59,16 +59,16 @@ same_end_by a b h =
 
 -- an end has its own key
 pub end_itself : (e : EndRow) → is_same_end (key_of e) (key_of e) ≡ true
-end_itself e = both_true _ _ (both_true _ _ (both_true _ _ (number_itself (kind_of e.kind))
-    (both_true _ _ (le-yes (number_of e.kind) (number_of e.kind) (omega (arith, ints)))
+end_itself e = and_from _ _ (and_from _ _ (and_from _ _ (eqb-self (kind_of e.kind))
+    (and_from _ _ (le-yes (number_of e.kind) (number_of e.kind) (omega (arith, ints)))
     (le-yes (number_of e.kind) (number_of e.kind) (omega (arith, ints)))))
-    (number_itself (element_of e.kind))) (number_itself (direction_number e.direction))
+    (eqb-self (element_of e.kind))) (eqb-self (direction_number e.direction))
 
 -- an end whose key is listed is in the list
 pub listed_end : (es : List EndRow) (e : EndRow)
     → list_any (λ other. is_same_end (key_of other) (key_of e)) es ≡ true → IsAmong e es
 listed_end [] e h = absurd (cc)
-listed_end (x ∷ es) e h = elim (or_true (is_same_end (key_of x) (key_of e)) _ h) [
+listed_end (x ∷ es) e h = elim (or_cases (is_same_end (key_of x) (key_of e)) _ h) [
   | inl here ↦ inl (same_end_by x e here)
   | inr there ↦ inr (listed_end es e there)
 ]
@@ -102,7 +102,7 @@ direction_is Out In same = absurd (cc)
 pub listed_among : (xs : List End) (e : End) → is_listed xs e ≡ true → IsAmong e xs
 listed_among [] e listed = absurd (cc)
 listed_among (x ∷ xs) e listed =
-    elim (or_true ((e.address == x.address) && same_direction e.direction x.direction) _ listed) [
+    elim (or_cases ((e.address == x.address) && same_direction e.direction x.direction) _ listed) [
       | inl here ↦
           let both = and-parts (e.address == x.address) (same_direction e.direction x.direction) here in
           inl (ap₂ (λ (a : ℕ) (d : Direction). let y : End = record { address = a; direction = d } in y)

@@ -1,11 +1,12 @@
 -- What the format says of a branch's row.
 use Rattle.std.proofs.Common.{◌≡◌, ℕ, zero, suc, ◌||◌, Bool, true, false, inl, inr, ℤ, pos, negsuc, List, [], ◌∷◌}
 use Rattle.std.proofs.Common.{length, Option, Some, None, refl, ap, ◌∙◌, subst, arith}
-use Rattle.std.proofs.lemmas.Bool.{eqb-true}
+use Rattle.std.proofs.lemmas.Bool.{eqb-true, or_cases, or_left, or_right}
 use Rattle.std.proofs.lemmas.Int.{ints}
 use Rattle.std.specs.Prelude.{slice_get, IsTrue, ◌==◌, FitsSigned}
 use Rattle.std.specs.Int.{w32}
 use Rattle.std.specs.List.{list_any, AllByRecursion}
+use Rattle.small_laws.proofs.Comparisons.{eqb-self}
 use Rattle.module_format.specs.declared.rows.Interval.{Interval}
 use Rattle.module_format.specs.declared.rows.Parameter.{Parameter}
 use Rattle.module_format.specs.declared.rows.EndKind.TheVariants as ends
@@ -25,8 +26,6 @@ use Rattle.machine_state.specs.JoinLookups as lookups
 use Rattle.machine_state.specs.Ownership.{IsAmong}
 use Rattle.machine_state.proofs.Among.{any_among}
 use Rattle.machine_state.proofs.FoundContexts.{branches_are_contexts}
-use Rattle.machine_state.proofs.Shares.{number_itself}
-use Rattle.machine_state.proofs.SpanLaws.{or_true, or_left, or_right}
 use Rattle.rulings.specs.Reach.{is_listed}
 use Rattle.share_laws.specs.Shares.{IsBranch}
 use Rattle.share_laws.proofs.Stretches.{AreProper}
@@ -143,7 +142,7 @@ module _ (m : Contents) (found : Found) (keeps : Keeps m) (is : IsBranch m found
   end_is_named j element e kind among = named j
       (or_right (is_listed found.branch.written_parameters j || is_listed found.branch.read_parameters j) _
       (any_among (λ (e : EndRow). lookups.names_end j e.kind) found.branch.ends e among
-      (ap (lookups.names_end j) kind ∙ number_itself j)))
+      (ap (lookups.names_end j) kind ∙ eqb-self j)))
 
   -- a parameter that the branch is to read is a region
   pub read_is_region : (j : ℕ) (p : Parameter) → is_listed found.branch.read_parameters j ≡ true
@@ -153,7 +152,7 @@ module _ (m : Contents) (found : Found) (keeps : Keeps m) (is : IsBranch m found
       listed_at : (numbers : List ℕ) → AllByRecursion (λ j. IsTrue (names is_region (parameters_at m found.par.context)
           j)) numbers → is_listed numbers j ≡ true → IsTrue (names is_region (parameters_at m found.par.context) j)
       listed_at [] all h = absurd (cc)
-      listed_at (k ∷ ks) all h = elim (or_true (k == j) _ h) [
+      listed_at (k ∷ ks) all h = elim (or_cases (k == j) _ h) [
         | inl here ↦ subst (λ n. IsTrue (names is_region (parameters_at m found.par.context) n)) (eqb-true k j here)
             all.0
         | inr later ↦ listed_at ks all.1 later

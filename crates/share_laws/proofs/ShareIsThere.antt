@@ -7,6 +7,9 @@ use Rattle.std.proofs.lemmas.Int.{ints}
 use Rattle.std.specs.Int.{w32}
 use Rattle.std.specs.Prelude.{slice_get, int_le, int_lt, ◌==◌}
 use Rattle.std.specs.List.{list_any, list_all, flat_map}
+use Rattle.std.proofs.lemmas.Bool.{and_from}
+use Rattle.small_laws.proofs.Options.{same_some}
+use Rattle.small_laws.proofs.Comparisons.{eqb-self}
 use Rattle.module_format.specs.declared.rows.Direction.{Direction}
 use Rattle.module_format.specs.declared.rows.Direction.TheVariants.{In, Out}
 use Rattle.module_format.specs.declared.rows.EndKey.{EndKey}
@@ -35,9 +38,7 @@ use Rattle.machine_state.specs.Spans.{Stretch, Share, lies_in, is_within, all_pl
 use Rattle.machine_state.specs.Spans.{is_listed, is_same_end, differ}
 use Rattle.machine_state.specs.StartPlans.{word_passes, scheduling_places}
 use Rattle.machine_state.proofs.Among.{among_more, any_among}
-use Rattle.machine_state.proofs.Claims.{only_one}
-use Rattle.machine_state.proofs.Shares.{end_among, number_itself}
-use Rattle.machine_state.proofs.SpanLaws.{both_true}
+use Rattle.machine_state.proofs.Shares.{end_among}
 use Rattle.states.proofs.RowFacts.{le-yes, lt-yes}
 use Rattle.rulings.specs.Meaning.{Layout, place_in}
 use Rattle.rulings.specs.Reach as reach
@@ -61,7 +62,7 @@ pub all_from : {A : Type 0} (test : A → Bool) (xs : List A) → ((x : A) → I
     → list_all test xs ≡ true
 all_from test [] each = refl
 all_from test (x ∷ xs) each =
-    both_true _ _ (each x (inl refl)) (all_from test xs (λ y among. each y (inr among)))
+    and_from _ _ (each x (inl refl)) (all_from test xs (λ y among. each y (inr among)))
 
 -- an item of mapped ones comes from one
 among_map : {A B : Type 0} (f : A → B) (xs : List A) (y : B) → IsAmong y (map f xs) → (x : A) × IsAmong x xs × (f x ≡ y)
@@ -80,7 +81,7 @@ among_flat f (x ∷ xs) y among = elim (among_more y (f x) (flat_map f xs) among
 
 -- a number that is in the list is listed
 listed_number : (js : List ℕ) (j : ℕ) → IsAmong j js → reach.is_listed js j ≡ true
-listed_number js j among = any_among (λ k. k == j) js j among (number_itself j)
+listed_number js j among = any_among (λ k. k == j) js j among (eqb-self j)
 
 -- ---- stretches
 
@@ -90,7 +91,7 @@ places_from : (test : ℕ → Bool) (first size : ℕ) → ((x : ℕ) → first 
 unfolding all_places
 places_from test first zero each = refl
 places_from test first (suc size) each =
-    both_true (test first) (all_places test (first + 1) size) (each first (omega arith) (omega arith))
+    and_from (test first) (all_places test (first + 1) size) (each first (omega arith) (omega arith))
     (places_from test (first + 1) size (λ x low high. each x (omega (arith, low)) (omega (arith, high))))
 
 -- a stretch that is not empty lies in memory, if each of its places passes a test that only places of memory pass
@@ -99,8 +100,8 @@ stretch_within : (n : ℕ) (test : ℕ → Bool) (first size : ℕ) → 1 ≤ si
     → is_within n test (record { start = pos first; size = size }) ≡ true
 stretch_within n test first size some each inside =
     let last = inside (first + (size - 1)) (each (first + (size - 1)) (omega arith) (omega (arith, some))) in
-    both_true (lies_in n (record { start = pos first; size = size })) (all_places test first size)
-    (both_true (int_le (pos 0) (pos first)) (int_le (pos first +ℤ pos size) (pos n))
+    and_from (lies_in n (record { start = pos first; size = size })) (all_places test first size)
+    (and_from (int_le (pos 0) (pos first)) (int_le (pos first +ℤ pos size) (pos n))
     (le-yes (pos 0) (pos first) (omega (arith, ints)))
     (le-yes (pos first +ℤ pos size) (pos n) (omega (arith, ints, last, some))))
     (places_from test first size each)
@@ -109,7 +110,7 @@ stretch_within n test first size some each inside =
 over_from : (first size x : ℕ) → first ≤ x → x < first + size
     → stretches_over (record { start = pos first; size = size }) x ≡ true
 over_from first size x low high =
-    both_true (int_le (pos first) (pos x)) (int_le (pos (x + 1)) (pos first +ℤ pos size))
+    and_from (int_le (pos first) (pos x)) (int_le (pos (x + 1)) (pos first +ℤ pos size))
     (le-yes (pos first) (pos x) (omega (arith, ints, low)))
     (le-yes (pos (x + 1)) (pos first +ℤ pos size) (omega (arith, ints, high)))
 
@@ -165,7 +166,7 @@ ends_differ : (layout : Layout) (low : EndKey) (es : List EndRow) → InOrder En
     → differ (map (end_at layout) es) ≡ true
 ends_differ layout low [] order once = refl
 ends_differ layout low (e ∷ es) order once =
-    both_true _ _ (not_true _ (is_false _ (λ listed.
+    and_from _ _ (not_true _ (is_false _ (λ listed.
     let r = among_map (end_at layout) es (end_at layout e)
     (listed_among (map (end_at layout) es) (end_at layout e) listed) in
     let same : r.0 ≡ e = once r.0 e (inr r.1) (inl refl) r.2 in
@@ -180,7 +181,7 @@ same_as_itself Out = refl
 -- an end that is in the list is listed
 among_listed : (xs : List End) (e : End) → IsAmong e xs → is_listed xs e ≡ true
 among_listed xs e among = any_among (is_same_end e) xs e among
-    (both_true _ _ (number_itself e.address) (same_as_itself e.direction))
+    (and_from _ _ (eqb-self e.address) (same_as_itself e.direction))
 
 -- ---- regions
 
@@ -229,7 +230,7 @@ module _ (m : Contents) (found : Found) (layout : Layout) (base : ℕ) (addresse
       let r = among_map (words_of base) words t among in
       let some = proper r.0 r.1 in
       let place = at r.0.lo (any_among (λ (i : Interval). int_le i.lo r.0.lo && int_lt r.0.lo i.hi) words r.0 r.1
-      (both_true (int_le r.0.lo r.0.lo) (int_lt r.0.lo r.0.hi) (le-yes r.0.lo r.0.lo (omega (arith, ints)))
+      (and_from (int_le r.0.lo r.0.lo) (int_lt r.0.lo r.0.hi) (le-yes r.0.lo r.0.lo (omega (arith, ints)))
       (lt-yes r.0.lo r.0.hi some))) in
       let origin_is = s.laid.origin in
       let is = place.1 in (
@@ -265,7 +266,7 @@ module _ (m : Contents) (found : Found) (layout : Layout) (base : ℕ) (addresse
             found.branch.written_parameters t region in
             region_some (parameters_at m found.par.context) addresses r.0 t (λ p there.
             let l = s.left.written r.0 (listed_number found.branch.written_parameters r.0 r.1) in
-            let same = only_one (slice_get (parameters_at m found.par.context) r.0) p l.parameter there l.found in
+            let same = same_some (slice_get (parameters_at m found.par.context) r.0) p l.parameter there l.found in
             bytes_of r.0 p there (ap (λ (p : Parameter). is_region p.kind) same ∙ ap is_region l.kind)) r.2
       ]
 
@@ -343,7 +344,7 @@ module _ (m : Contents) (found : Found) (layout : Layout) (base : ℕ) (addresse
       let frame = (branches_hold_their_shares m found layout base addresses h memory depth workspace s).frame in
       let at = local_place frame (negsuc n) fits w.place w.is w.inside in
       let byte : (i : ℕ) → i < 4 → (may_write h (w.place + i) && writes_place gift (w.place + i)) ≡ true =
-      λ i less. both_true _ _ (bytes_written h w.place w.mine i less)
+      λ i less. and_from _ _ (bytes_written h w.place w.mine i less)
       ((of_words m found layout base addresses h memory depth workspace s).writes (w.place + i)
       (of_word (found.branch.workspace +ℤ negsuc n) among (let is = w.is in
       record { low = omega (arith, ints, is); high = omega (arith, ints, is, less) }))) in
@@ -351,15 +352,15 @@ module _ (m : Contents) (found : Found) (layout : Layout) (base : ℕ) (addresse
       subst (λ x. (may_write h x && writes_place gift x) ≡ true) (let e : w.place + 0 ≡ w.place = omega arith in e)
       (byte 0 (omega arith)) in
       subst (λ x. word_passes (λ place. may_write h place && writes_place gift place) x ≡ true) (sym at)
-      (both_true _ _ (both_true _ _ (both_true _ _ first (byte 1 (omega arith))) (byte 2 (omega arith)))
+      (and_from _ _ (and_from _ _ (and_from _ _ first (byte 1 (omega arith))) (byte 2 (omega arith)))
       (byte 3 (omega arith)))
 
   -- so are all three
   pub scheduling_is_there : list_all (word_passes (λ place. may_write h place && writes_place gift place))
       (scheduling_places (frame_address base found.branch.workspace)) ≡ true
-  scheduling_is_there = both_true _ _ (scheduled 0 (omega arith) (omega (arith, ints)))
-      (both_true _ _ (scheduled 1 (omega arith) (omega (arith, ints)))
-      (both_true _ _ (scheduled 2 (omega arith) (omega (arith, ints))) refl))
+  scheduling_is_there = and_from _ _ (scheduled 0 (omega arith) (omega (arith, ints)))
+      (and_from _ _ (scheduled 1 (omega arith) (omega (arith, ints)))
+      (and_from _ _ (scheduled 2 (omega arith) (omega (arith, ints))) refl))
 
 -- the tests of a start
 pub shares_are_there : SharesAreThere
@@ -367,7 +368,7 @@ shares_are_there m found layout plan memory depth workspace same s = record {
   ends = subst (λ (ps : List Parameter).
       (list_all (is_listed plan.rest.ends) (share_of plan.base ps plan.addresses found.branch).ends
       && differ (share_of plan.base ps plan.addresses found.branch).ends) ≡ true) (sym same)
-      (both_true _ _ (ends_held m found layout plan.base plan.addresses plan.rest memory depth workspace s)
+      (and_from _ _ (ends_held m found layout plan.base plan.addresses plan.rest memory depth workspace s)
       (ends_once m found layout plan.base plan.addresses plan.rest memory depth workspace s));
   share = subst (λ (ps : List Parameter).
       (list_all (word_passes (λ place. may_write plan.rest place
@@ -377,7 +378,7 @@ shares_are_there m found layout plan memory depth workspace same s = record {
       (share_of plan.base ps plan.addresses found.branch).writes
       && list_all (is_within (length memory) (may_read plan.rest))
       (share_of plan.base ps plan.addresses found.branch).reads) ≡ true) (sym same)
-      (both_true _ _ (both_true _ _
+      (and_from _ _ (and_from _ _
       (scheduling_is_there m found layout plan.base plan.addresses plan.rest memory depth workspace s)
       (writes_are_there m found layout plan.base plan.addresses plan.rest memory depth workspace s))
       (reads_are_there m found layout plan.base plan.addresses plan.rest memory depth workspace s));

@@ -2,6 +2,7 @@
 use Rattle.std.proofs.Common.{◌≡◌, ℕ, ◌+◌, ◌<◌, ◌&&◌, ◌||◌, not, Bool, true, false, inl, inr, ℤ, List, [], ◌∷◌, length}
 use Rattle.std.proofs.Common.{map, Option, Some, refl, sym, ap, ap₂, ◌∙◌, subst, arith}
 use Rattle.std.specs.List.{list_any}
+use Rattle.std.proofs.lemmas.Bool.{and_from}
 use Rattle.module_format.specs.declared.rows.Direction.{Direction}
 use Rattle.module_format.specs.declared.rows.EndKind.{EndKind}
 use Rattle.module_format.specs.declared.rows.EndRow.{EndRow}
@@ -21,7 +22,6 @@ use Rattle.machine_state.specs.Spans.{Share, less, writes_place, reads_place, is
 use Rattle.machine_state.specs.World.{constants_start}
 use Rattle.machine_state.proofs.Among.{filter_keeps}
 use Rattle.machine_state.proofs.Shares.{left_claims, end_among, end_held}
-use Rattle.machine_state.proofs.SpanLaws.{both_true}
 use Rattle.states.proofs.RowFacts.{and-parts}
 use Rattle.rulings.specs.Lends.{IsRegionKind}
 use Rattle.rulings.specs.Meaning.{Layout, HasFrame, words_left}
@@ -127,7 +127,7 @@ module _ (m : Contents) (found : Found) (layout : Layout) (base : ℕ) (addresse
       let r = both_false (word_given_to_read found.par found.number k) (is_among found.branch.reads k)
       (sym (given (λ b. is_among b.reads k)) ∙ b.1) in
       record {
-        before_it = both_true _ _ a.0 (none_of (word_given_to_write found.par found.number k)
+        before_it = and_from _ _ a.0 (none_of (word_given_to_write found.par found.number k)
             (word_given_to_read found.par found.number k) w.0 r.0);
         not_written = w.1;
         not_read = r.1;
@@ -143,7 +143,7 @@ module _ (m : Contents) (found : Found) (layout : Layout) (base : ℕ) (addresse
       let a = and-parts (rights.may_read_word m found.par.context k && not (is_hidden found.par k)) _ t in
       let w = both_false (word_given_to_write found.par found.number k) (is_among found.branch.writes k)
       (sym (given (λ b. is_among b.writes k)) ∙ was_false _ a.1) in
-      record { before_it = both_true _ _ a.0 (not_true _ w.0); not_written = w.1 }
+      record { before_it = and_from _ _ a.0 (not_true _ w.0); not_written = w.1 }
 
   -- a byte of a word that the branch has not to write is none of its share's
   word_unwritten : (k : ℤ) (x : ℕ) → before.words.reads k ≡ true → is_among found.branch.writes k ≡ false
@@ -316,7 +316,7 @@ module _ (m : Contents) (found : Found) (layout : Layout) (base : ℕ) (addresse
       let g = both_false (end_given found.par found.number e) _
       (sym (given (λ b. list_any (λ other. is_same_end (key_of other) (key_of e)) b.ends)) ∙ was_false _ a.1) in
       record {
-        before_it = both_true _ _ a.0 (not_true _ g.0);
+        before_it = and_from _ _ a.0 (not_true _ g.0);
         not_given = λ among. let no' : false ≡ true = sym g.1 ∙ end_listed found.branch.ends e among in cc;
       }
 

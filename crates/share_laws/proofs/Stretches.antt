@@ -2,18 +2,17 @@
 use Rattle.std.proofs.Common.{◌≡◌, ℕ, ◌+◌, ◌*◌, ◌/◌, ◌<◌, ◌≤◌, ◌&&◌, Bool, true, false, ◌⊎◌, inl, inr, ℤ, pos, ◌+ℤ◌}
 use Rattle.std.proofs.Common.{◌-ℤ◌, ◌*ℤ◌, ◌≤ℤ◌, ◌<ℤ◌, List, [], ◌∷◌, ◌++◌, map, Option, Some, None, refl, sym, ap, ◌∙◌}
 use Rattle.std.proofs.Common.{subst, arith, nat_abs}
-use Rattle.std.proofs.lemmas.Bool.{eqb-true}
+use Rattle.std.proofs.lemmas.Bool.{eqb-true, and_from, or_cases, or_left, or_right}
 use Rattle.std.proofs.lemmas.Int.{ints}
 use Rattle.std.specs.Prelude.{int_le, int_lt, slice_get, ◌==◌}
 use Rattle.std.specs.List.{list_any, flat_map, AllByRecursion}
+use Rattle.small_laws.proofs.Comparisons.{eqb-self}
 use Rattle.module_format.specs.declared.rows.Parameter.{Parameter}
 use Rattle.module_format.specs.declared.rows.Interval.{Interval}
 use Rattle.certificate.specs.Rights.{is_among}
 use Rattle.machine_state.specs.BranchShares.{words_of, region_of, region_size, address_of}
 use Rattle.machine_state.specs.Memory.{place_of, data_start}
 use Rattle.machine_state.specs.Spans.{Stretch, stretches_over}
-use Rattle.machine_state.proofs.Shares.{number_itself}
-use Rattle.machine_state.proofs.SpanLaws.{both_true, or_true, or_left, or_right}
 use Rattle.states.proofs.RowFacts.{and-parts, le-yes, lt-yes, le-from, lt-from}
 use Rattle.rulings.specs.Meaning.{place_in}
 use Rattle.rulings.specs.Reach.{is_listed}
@@ -25,7 +24,7 @@ use Rattle.rulings.specs.Regions.{IsByteOf}
 pub any_either : {A : Type 0} (test : A → Bool) (xs ys : List A) → list_any test (xs ++ ys) ≡ true
     → (list_any test xs ≡ true) ⊎ (list_any test ys ≡ true)
 any_either test [] ys h = inr h
-any_either test (x ∷ xs) ys h = elim (or_true (test x) _ h) [
+any_either test (x ∷ xs) ys h = elim (or_cases (test x) _ h) [
   | inl here ↦ inl (or_left _ _ here)
   | inr there ↦ elim (any_either test xs ys there) [ inl p ↦ inl (or_right (test x) _ p) | inr q ↦ inr q ]
 ]
@@ -34,7 +33,7 @@ any_either test (x ∷ xs) ys h = elim (or_true (test x) _ h) [
 pub any_first : {A : Type 0} (test : A → Bool) (xs ys : List A) → list_any test xs ≡ true
     → list_any test (xs ++ ys) ≡ true
 any_first test [] ys h = absurd (cc)
-any_first test (x ∷ xs) ys h = elim (or_true (test x) _ h) [
+any_first test (x ∷ xs) ys h = elim (or_cases (test x) _ h) [
   | inl here ↦ or_left _ _ here
   | inr there ↦ or_right (test x) _ (any_first test xs ys there)
 ]
@@ -60,7 +59,7 @@ over_tells start size place h =
 over_there : (start : ℤ) (size place : ℕ) → start ≤ℤ pos place → pos place <ℤ (start +ℤ pos size)
     → stretches_over (record { start = start; size = size }) place ≡ true
 over_there start size place low high =
-    both_true (int_le start (pos place)) (int_le (pos (place + 1)) (start +ℤ pos size))
+    and_from (int_le start (pos place)) (int_le (pos (place + 1)) (start +ℤ pos size))
     (le-yes start (pos place) low) (le-yes (pos (place + 1)) (start +ℤ pos size) (omega (arith, ints, high)))
 
 -- no interval ends before it begins
@@ -98,11 +97,11 @@ module _ (base : ℕ) (origin : ℤ) (at : pos base ≡ pos data_start +ℤ orig
       → list_any (λ s. stretches_over s place) (map (words_of base) is) ≡ true
       → (k : ℤ) × (is_among is k ≡ true) × IsByteOf origin k place
   words_found [] place proper h = absurd (cc)
-  words_found (i ∷ is) place proper h = elim (or_true (stretches_over (words_of base i) place) _ h) [
+  words_found (i ∷ is) place proper h = elim (or_cases (stretches_over (words_of base i) place) _ h) [
     | inl here ↦
         let w = word_found i.lo i.hi place proper.0 here in (
           w.0,
-          or_left _ _ (both_true (int_le i.lo w.0) (int_lt w.0 i.hi) (le-yes i.lo w.0 w.1) (lt-yes w.0 i.hi w.2)),
+          or_left _ _ (and_from (int_le i.lo w.0) (int_lt w.0 i.hi) (le-yes i.lo w.0 w.1) (lt-yes w.0 i.hi w.2)),
           w.3,
         )
     | inr there ↦
@@ -114,7 +113,7 @@ module _ (base : ℕ) (origin : ℤ) (at : pos base ≡ pos data_start +ℤ orig
   pub words_there : (is : List Interval) (k : ℤ) (place : ℕ) → is_among is k ≡ true → IsByteOf origin k place
       → list_any (λ s. stretches_over s place) (map (words_of base) is) ≡ true
   words_there [] k place among b = absurd (cc)
-  words_there (i ∷ is) k place among b = elim (or_true (int_le i.lo k && int_lt k i.hi) _ among) [
+  words_there (i ∷ is) k place among b = elim (or_cases (int_le i.lo k && int_lt k i.hi) _ among) [
     | inl here ↦
         let both = and-parts (int_le i.lo k) (int_lt k i.hi) here in
         or_left _ _ (word_there i.lo i.hi k place (le-from i.lo k both.0) (lt-from k i.hi both.1) b)
@@ -149,7 +148,7 @@ module _ (parameters : List Parameter) (addresses : List (Option ℕ)) where
   region_found j place None q at found h = absurd (cc)
   region_found j place (Some a) None at found h = absurd (cc)
   region_found j place (Some a) (Some p) at found h =
-      elim (or_true (stretches_over (record { start = pos (place_of a); size = region_size p.kind }) place) false h) [
+      elim (or_cases (stretches_over (record { start = pos (place_of a); size = region_size p.kind }) place) false h) [
         | inl here ↦
             let t = over_tells (pos (place_of a)) (region_size p.kind) place here in
             (p, a, refl, refl, omega (arith, ints, t.0), omega (arith, ints, t.1))
@@ -169,7 +168,7 @@ module _ (parameters : List Parameter) (addresses : List (Option ℕ)) where
               j = j;
               p = r.0;
               address = r.1;
-              listed = or_left (j == j) _ (number_itself j);
+              listed = or_left (j == j) _ (eqb-self j);
               found = r.2;
               at = r.3;
               low = r.4;
@@ -215,7 +214,7 @@ module _ (parameters : List Parameter) (addresses : List (Option ℕ)) where
       → place < place_of address + region_size p.kind
       → list_any (λ s. stretches_over s place) (flat_map (region_of parameters addresses) numbers) ≡ true
   regions_there [] j place address p listed found at low high = absurd (cc)
-  regions_there (k ∷ ks) j place address p listed found at low high = elim (or_true (k == j) _ listed) [
+  regions_there (k ∷ ks) j place address p listed found at low high = elim (or_cases (k == j) _ listed) [
     | inl here ↦ any_first (λ s. stretches_over s place) (region_of parameters addresses k)
         (flat_map (region_of parameters addresses) ks)
         (subst (λ n. list_any (λ s. stretches_over s place) (region_of parameters addresses n) ≡ true)

@@ -3,6 +3,7 @@ use Rattle.std.proofs.Common.{◌≡◌, ℕ, ◌+◌, ◌<◌, ◌&&◌, not, t
 use Rattle.std.proofs.Common.{◌++◌, length, map, Option, None, FitsSigned, refl, sym, ◌∙◌, subst, arith}
 use Rattle.std.proofs.lemmas.Int.{ints}
 use Rattle.std.specs.Int.{w32}
+use Rattle.std.proofs.lemmas.Bool.{or_right}
 use Rattle.module_format.specs.declared.rows.ChannelRow.{ChannelRow}
 use Rattle.module_format.specs.Contents.{Contents, Par}
 use Rattle.certificate.specs.Rights as rights
@@ -16,7 +17,6 @@ use Rattle.machine_state.specs.Memory.{Memory, data_start, place_of, with_word, 
 use Rattle.machine_state.specs.Ownership.{IsAmong}
 use Rattle.machine_state.specs.StartPlans.{scheduling_addresses, block_addresses, channel_addresses}
 use Rattle.machine_state.proofs.Reading.{length-with_word}
-use Rattle.machine_state.proofs.SpanLaws.{or_right}
 use Rattle.states.proofs.RowFacts.{and-parts}
 use Rattle.rulings.specs.Meaning.{Layout, IsOwnWord, HasFrame, words_in, words_left, frame_word}
 use Rattle.rulings.specs.Regions.{Scope, Keeps, scope_of, scope_left}

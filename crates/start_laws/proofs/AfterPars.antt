@@ -5,6 +5,7 @@ use Rattle.std.proofs.Common.{refl, sym, ap, ◌∙◌, arith, eqb-true}
 use Rattle.std.proofs.lemmas.Int.{ints}
 use Rattle.std.specs.Prelude.{int_le, int_lt}
 use Rattle.std.specs.List.{list_any}
+use Rattle.std.proofs.lemmas.Bool.{and_from, or_cases, or_left, or_right}
 use Rattle.module_format.specs.Rows.{Fact, Entry}
 use Rattle.module_format.specs.declared.fact.Fact.TheVariants.{Unknown, Number, Pointer, CodeAddress, Loop}
 use Rattle.module_format.specs.declared.fact.Fact.TheVariants.{ReturnAddress}
@@ -14,7 +15,6 @@ use Rattle.module_format.specs.Stack.{of_empty}
 use Rattle.module_format.specs.Contents.{Par, Branch, Label}
 use Rattle.certificate.specs.Rights.{is_among}
 use Rattle.certificate.specs.Starting.{is_unknown, is_written, is_loop, is_written_loop, says_of_hidden}
-use Rattle.machine_state.proofs.SpanLaws.{or_true, or_left, or_right, both_true}
 use Rattle.states.specs.declared.known.WordFact.TheVariants.{Alone}
 use Rattle.states.specs.State.{is_word, is_about, is_alone, is_silent, said_of, entry_fact}
 use Rattle.states.proofs.RowFacts.{and-parts, le-from, lt-from}
@@ -91,14 +91,14 @@ entry_silent par entry k quiet hides about = on (is_unknown entry.fact) refl
     channel : (channels : List ChannelRow) → list_any (λ (c : ChannelRow). is_word c.word k) channels ≡ true
         → list_any (λ (c : ChannelRow). is_about entry c.word) channels ≡ true
     channel [] some = absurd (cc)
-    channel (c ∷ channels) some = elim (or_true (is_word c.word k) _ some) [
+    channel (c ∷ channels) some = elim (or_cases (is_word c.word k) _ some) [
       | inl it ↦ or_left _ _ (ap (is_about entry) (same_word_by c.word k it) ∙ about)
       | inr later ↦ or_right (is_about entry c.word) _ (channel channels later)
     ]
 
     of_block : (is_word par.block k || is_word (par.block +ℤ pos 1) k) ≡ true
         → (is_about entry par.block || is_about entry (par.block +ℤ pos 1)) ≡ true
-    of_block block = elim (or_true (is_word par.block k) _ block) [
+    of_block block = elim (or_cases (is_word par.block k) _ block) [
       | inl first ↦ or_left _ _ (ap (is_about entry) (same_word_by par.block k first) ∙ about)
       | inr second ↦ or_right (is_about entry par.block) _
           (ap (is_about entry) (same_word_by (par.block +ℤ pos 1) k second) ∙ about)
@@ -106,7 +106,7 @@ entry_silent par entry k quiet hides about = on (is_unknown entry.fact) refl
 
     meets : (is_about entry par.block || is_about entry (par.block +ℤ pos 1)
         || list_any (λ (c : ChannelRow). is_about entry c.word) par.channels) ≡ true
-    meets = elim (or_true _ (is_channel_word par k) hides) [
+    meets = elim (or_cases _ (is_channel_word par k) hides) [
       | inr there ↦ or_right (is_about entry par.block || is_about entry (par.block +ℤ pos 1)) _
           (channel par.channels there)
       | inl block ↦ or_left _ _ (of_block block)
@@ -115,7 +115,7 @@ entry_silent par entry k quiet hides about = on (is_unknown entry.fact) refl
     on : (b : Bool) → is_unknown entry.fact ≡ b → is_unknown entry.fact ≡ true
     on true e = e
     on false e =
-        let loud : says_of_hidden par entry ≡ true = both_true _ _ (ap not e) meets in
+        let loud : says_of_hidden par entry ≡ true = and_from _ _ (ap not e) meets in
         let no' : false ≡ true = sym quiet ∙ loud in absurd (cc)
 
 unknown_said : (fact : Fact) (first : Bool) → fact ≡ Unknown → said_of fact first ≡ Alone Unknown
@@ -185,5 +185,5 @@ written_alone par (entry ∷ entries) k pairs none writes =
               (two_words entry.word k entry.span two (le-from entry.word k place.0)
               (lt-from k (entry.word +ℤ pos entry.span) place.1) other.1) ∙ writes)
         ] in
-        let loud : is_written_loop par entry ≡ true = both_true _ _ loop meets in
+        let loud : is_written_loop par entry ≡ true = and_from _ _ loop meets in
         let no' : false ≡ true = sym quiet ∙ loud in cc

@@ -2,7 +2,7 @@
 use Rattle.std.proofs.Common.{◌≡◌, ℕ, zero, suc, ◌*◌, ◌≤◌, ◌&&◌, not, Bool, true, false, ℤ, pos}
 use Rattle.std.proofs.Common.{◌+ℤ◌, neg_ℤ, Some, Ok, Err, refl, sym, ap, ◌∙◌}
 use Rattle.std.proofs.Common.{arith, if◌then◌else◌}
-use Rattle.std.proofs.lemmas.Bool.{le-ltb}
+use Rattle.std.proofs.lemmas.Bool.{le-ltb, and_from}
 use Rattle.std.proofs.lemmas.Int.{ints}
 use Rattle.std.specs.Prelude.{int_le, int_lt}
 use Rattle.module_format.specs.declared.fact.Fact.TheVariants.{Unknown}
@@ -14,7 +14,6 @@ use Rattle.machine_state.specs.declared.process.Mode.TheVariants as machine
 use Rattle.machine_state.specs.Holding.{Holding}
 use Rattle.machine_state.specs.JoinLookups.{Found}
 use Rattle.machine_state.specs.Memory.{Memory}
-use Rattle.machine_state.proofs.SpanLaws.{both_true}
 use Rattle.states.specs.declared.rule.Rule.TheVariants as rules
 use Rattle.states.specs.declared.known.WordFact.TheVariants.{Alone}
 use Rattle.states.specs.State.{State, Facts, begun, plain}
@@ -92,7 +91,7 @@ module _ (m : Contents) (found : Found) (s : State) (t : Label) where
       lt-yes k found.branch.workspace (omega (arith, ints, is)) in
       let near : int_le found.branch.workspace (k +ℤ pos 3) ≡ true =
       le-yes found.branch.workspace (k +ℤ pos 3) (omega (arith, ints, is, low)) in
-      let both = both_true _ _ below near in
+      let both = and_from _ _ below near in
       ap (λ (b : Bool). if may_read_word m (context_of m found) k && not b then Alone (plain (s.frame k))
       else Alone Unknown) both
       ∙ on (may_read_word m (context_of m found) k)

@@ -4,6 +4,8 @@ use Rattle.std.proofs.Common.{◌≡◌, ℕ, ◌+◌, ◌-◌, ◌≤◌, ◌==
 use Rattle.std.proofs.Common.{length, Option, Some, None, Ok, refl, sym, ap, ◌∙◌, subst, arith}
 use Rattle.std.specs.Prelude.{sum_by}
 use Rattle.std.specs.List.{list_any, list_all}
+use Rattle.std.proofs.lemmas.Bool.{and_from}
+use Rattle.small_laws.proofs.Comparisons.{eqb-self}
 use Rattle.module_format.specs.Rows.{Fact}
 use Rattle.module_format.specs.declared.fact.Fact.TheVariants.{Unknown}
 use Rattle.module_format.specs.declared.stack.Stack.{Stack}
@@ -16,8 +18,6 @@ use Rattle.certificate.specs.Starting.{leaves_loops, is_written_loop, is_written
 use Rattle.machine_state.specs.BranchContexts.{context_of}
 use Rattle.machine_state.specs.JoinLookups.{Found}
 use Rattle.machine_state.specs.Site.{Local}
-use Rattle.machine_state.proofs.Shares.{number_itself}
-use Rattle.machine_state.proofs.SpanLaws.{both_true}
 use Rattle.states.specs.declared.known.Mode as states
 use Rattle.states.specs.declared.known.Mode.TheVariants.{Plain}
 use Rattle.states.specs.State.{State, Facts, begun, is_word}
@@ -136,8 +136,8 @@ module _ (x : Here) (s : State) (l : Local) (wf : IsWellFormed x.m) (keeps : Kee
         let i = both.1.is in
         is_below there both.1.label
         (let same : cost (view there) both.1.label ≤ cost (view there) both.1.label = omega arith in same)
-        (both_true _ _ (both_true _ _ (both_true _ _ (both_true _ _ (both_true _ _ (both_true _ _ (both_true _ _
-        (ap (λ (c : ℕ). found.par.context == c) i.context ∙ number_itself found.par.context)
+        (and_from _ _ (and_from _ _ (and_from _ _ (and_from _ _ (and_from _ _ (and_from _ _ (and_from _ _
+        (ap (λ (c : ℕ). found.par.context == c) i.context ∙ eqb-self found.par.context)
         (ap (is_word found.par.block) i.depth ∙ is_itself found.par.block)) refl)
         (ap (λ (stack : Stack Fact). implies Unknown stack.a) i.registers))
         (ap (λ (stack : Stack Fact). implies Unknown stack.b) i.registers))

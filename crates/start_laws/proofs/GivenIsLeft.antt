@@ -5,6 +5,7 @@ use Rattle.std.proofs.Common.{arith, eqb-true, if◌then◌else◌}
 use Rattle.std.proofs.lemmas.Int.{ints}
 use Rattle.std.specs.Prelude.{slice_get, ◌==◌, is_some}
 use Rattle.std.specs.List.{list_any, list_all}
+use Rattle.std.proofs.lemmas.Bool.{and_from, or_cases, or_left, or_right}
 use Rattle.module_format.specs.declared.contexts.Context.{Context}
 use Rattle.module_format.specs.declared.rows.ChannelRow.{ChannelRow}
 use Rattle.module_format.specs.declared.rows.EndRow.{EndRow}
@@ -25,7 +26,6 @@ use Rattle.machine_state.specs.BranchContexts.{context_of}
 use Rattle.machine_state.specs.JoinLookups.{Found}
 use Rattle.machine_state.specs.Ownership.{IsAmong}
 use Rattle.machine_state.proofs.Among.{all_among, any_among}
-use Rattle.machine_state.proofs.SpanLaws.{both_true, or_true, or_left, or_right}
 use Rattle.states.specs.State.{State, is_word}
 use Rattle.states.proofs.RowFacts.{and-parts}
 use Rattle.rulings.specs.Reach.{is_listed, may_write_parameter, may_read_parameter, writable_size, readable_size}
@@ -58,7 +58,7 @@ neither false b h = (refl, h)
 common_number : (numbers others : List ℕ) (j : ℕ) → is_listed numbers j ≡ true → is_listed others j ≡ true
     → have_common_number numbers others ≡ true
 common_number numbers [] j mine theirs = absurd (cc)
-common_number numbers (k ∷ others) j mine theirs = elim (or_true (k == j) _ theirs) [
+common_number numbers (k ∷ others) j mine theirs = elim (or_cases (k == j) _ theirs) [
   | inl here ↦ or_left _ _ (subst (λ n. is_listed numbers n ≡ true) (sym (eqb-true k j here)) mine)
   | inr there ↦ or_right (is_listed numbers k) _ (common_number numbers others j mine there)
 ]
@@ -72,7 +72,7 @@ no_common_number numbers others j apart mine =
 number_passes : (test : ℕ → Bool) (numbers : List ℕ) (j : ℕ) → list_all test numbers ≡ true
     → is_listed numbers j ≡ true → test j ≡ true
 number_passes test [] j all listed = absurd (cc)
-number_passes test (k ∷ numbers) j all listed = elim (or_true (k == j) _ listed) [
+number_passes test (k ∷ numbers) j all listed = elim (or_cases (k == j) _ listed) [
   | inl here ↦ ap test (sym (eqb-true k j here)) ∙ (and-parts (test k) _ all).0
   | inr there ↦ number_passes test numbers j (and-parts (test k) _ all).1 there
 ]
@@ -144,11 +144,11 @@ module _ (m : Contents) (s : State) (found : Found) (t : IsTested m s found) whe
 
   -- the branch may read what it is given
   written_known : (k : ℤ) → is_among found.branch.writes k ≡ true → may_read_word m (context_of m found) k ≡ true
-  written_known k among = reads_is k ∙ both_true _ _ (in_frame k (and-parts _ _ (written k among)).0)
+  written_known k among = reads_is k ∙ and_from _ _ (in_frame k (and-parts _ _ (written k among)).0)
       (or_left _ (is_among found.branch.reads k) among)
 
   read_known : (k : ℤ) → is_among found.branch.reads k ≡ true → may_read_word m (context_of m found) k ≡ true
-  read_known k among = reads_is k ∙ both_true _ _ (in_frame k (and-parts _ _ (read k among)).0)
+  read_known k among = reads_is k ∙ and_from _ _ (in_frame k (and-parts _ _ (read k among)).0)
       (or_right (is_among found.branch.writes k) _ among)
 
   -- which is nothing of the block or a channel
@@ -156,9 +156,9 @@ module _ (m : Contents) (s : State) (found : Found) (t : IsTested m s found) whe
   shown k hides =
       let three = and-parts _ _ gives.2 in
       let two = and-parts (not (may_read_word m (context_of m found) found.par.block)) _ three.0 in
-      elim (or_true _ (is_channel_word found.par k) hides) [
+      elim (or_cases _ (is_channel_word found.par k) hides) [
         | inr channel ↦ of_channel found.par.channels three.1 channel
-        | inl block ↦ elim (or_true (is_word found.par.block k) _ block) [
+        | inl block ↦ elim (or_cases (is_word found.par.block k) _ block) [
           | inl first ↦ ap (may_read_word m (context_of m found)) (sym (same_word_by found.par.block k first))
               ∙ was_false _ two.0
           | inr second ↦ ap (may_read_word m (context_of m found))
@@ -173,7 +173,7 @@ module _ (m : Contents) (s : State) (found : Found) (t : IsTested m s found) whe
       of_channel [] all some = absurd (cc)
       of_channel (c ∷ channels) all some =
           let both = and-parts (not (may_read_word m (context_of m found) c.word)) _ all in
-          elim (or_true (is_word c.word k) _ some) [
+          elim (or_cases (is_word c.word k) _ some) [
             | inl it ↦ ap (may_read_word m (context_of m found)) (sym (same_word_by c.word k it)) ∙ was_false _ both.0
             | inr later ↦ of_channel channels both.1 later
           ]
@@ -230,7 +230,7 @@ module _ (m : Contents) (s : State) (found : Found) (t : IsTested m s found) whe
         | None ↦ if context_of m found == 0 then gives_link m.lengths e.kind e.direction
             else gives_parameter (parameters_at m (context_of m found)) e.kind e.direction
       ]) numbered
-      ∙ both_true _ _ (there (context_at m (context_of m found))
+      ∙ and_from _ _ (there (context_at m (context_of m found))
       (and-parts (has_word (context_at m (context_of m found)) (found.branch.workspace -ℤ pos 1)) _
       (and-parts _ _ (and-parts _ _ t.scheduling).0).0).0)
       (any_among (λ (other : EndRow). is_same_end (key_of other) (key_of e)) found.branch.ends e among (end_itself e))
@@ -244,7 +244,7 @@ module _ (m : Contents) (s : State) (found : Found) (t : IsTested m s found) whe
   module _ (n : ℕ) (other : Branch) (low : n < found.number) (there : slice_get found.par.branches n ≡ Some other)
     where
       not_shared : share_what_is_written found.branch other ≡ false
-      not_shared = elim (or_true (other.entry == found.branch.entry) _
+      not_shared = elim (or_cases (other.entry == found.branch.entry) _
           (all_among (is_beside found.branch) (started_in m s.mode) other t.apart (t.started n other low there))) [
             | inl same ↦ absurd (clash _ same (t.differs n other low there))
             | inr apart ↦ was_false _ apart
@@ -286,7 +286,7 @@ module _ (m : Contents) (s : State) (found : Found) (t : IsTested m s found) whe
           has_too : (es : List EndRow) → list_any (λ x. is_same_end (key_of x) (key_of e)) es ≡ true
               → list_any (has_end m (context_of m found)) es ≡ true
           has_too [] h = absurd (cc)
-          has_too (x ∷ es) h = elim (or_true (is_same_end (key_of x) (key_of e)) _ h) [
+          has_too (x ∷ es) h = elim (or_cases (is_same_end (key_of x) (key_of e)) _ h) [
             | inl it ↦ or_left _ _ (ap (has_end m (context_of m found)) (same_end_by x e it) ∙ listed e among)
             | inr later ↦ or_right (has_end m (context_of m found) x) _ (has_too es later)
           ]

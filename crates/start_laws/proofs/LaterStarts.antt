@@ -2,6 +2,7 @@
 use Rattle.std.proofs.Common.{◌≡◌, ℕ, ◌+◌, ◌-◌, ◌≤◌, ◌<◌, ◌||◌, not, Bool, true, false, inl, inr, ℤ}
 use Rattle.std.proofs.Common.{List, [], ◌∷◌, take, Option, Some, None, refl, sym, ap, ◌∙◌, subst, arith}
 use Rattle.std.specs.Prelude.{slice_get}
+use Rattle.std.proofs.lemmas.Bool.{and_from, or_cases}
 use Rattle.module_format.specs.Contents.{Contents, Par, Branch, Label, label_at}
 use Rattle.module_format.specs.Contexts.{context_at}
 use Rattle.module_format.specs.Keeping.{Keeps}
@@ -12,7 +13,6 @@ use Rattle.machine_state.specs.declared.process.Mode.TheVariants as machine_mode
 use Rattle.machine_state.specs.JoinLookups.{Found}
 use Rattle.machine_state.specs.Ownership.{IsAmong}
 use Rattle.machine_state.specs.Site.{Local}
-use Rattle.machine_state.proofs.SpanLaws.{both_true, or_true}
 use Rattle.states.specs.declared.known.Mode as states
 use Rattle.states.specs.declared.known.Mode.TheVariants.{Starting}
 use Rattle.states.specs.State.{State}
@@ -48,7 +48,7 @@ module _ (m : Contents) (found : Found) (left : IsLeft m found) where
       let three = and-parts _ (not (word_given_to_write found.par found.number k
       || word_given_to_read found.par found.number k)) (left.writes k among) in
       let two = and-parts (may_write_word m found.par.context k) _ three.0 in
-      both_true _ _ (both_true _ _ (written_readable m found.par.context k two.0) two.1)
+      and_from _ _ (and_from _ _ (written_readable m found.par.context k two.0) two.1)
       (not_written (word_given_to_write found.par found.number k) (word_given_to_read found.par found.number k) three.1)
     where
       not_written : (a b : Bool) → not (a || b) ≡ true → not a ≡ true
@@ -58,7 +58,7 @@ module _ (m : Contents) (found : Found) (left : IsLeft m found) where
   -- so of all that the branch may read
   pub left_to_read : (k : ℤ) → (is_among found.branch.writes k || is_among found.branch.reads k) ≡ true
       → (words_left m found.par found.par.context found.number).reads k ≡ true
-  left_to_read k among = elim (or_true (is_among found.branch.writes k) _ among) [
+  left_to_read k among = elim (or_cases (is_among found.branch.writes k) _ among) [
     | inl mine ↦ left_written k mine
     | inr seen ↦ left.reads k seen
   ]
@@ -69,7 +69,7 @@ pub left_before : (m : Contents) (found : Found) → IsBranch m found → (k : �
     → (words_left m found.par found.par.context found.number).reads k ≡ true
 left_before m found is k h =
     let both = and-parts _ (not (word_given_to_write found.par (found.number + 1) k)) h in
-    both_true _ _ both.0 (not_true _ (first (word_given_to_write found.par found.number k) (is_among
+    and_from _ _ both.0 (not_true _ (first (word_given_to_write found.par found.number k) (is_among
     found.branch.writes k)
     (sym (one_more found.par found.number found.branch (λ b. is_among b.writes k) is.branch) ∙ was_false _ both.1)))
   where

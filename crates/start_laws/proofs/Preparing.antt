@@ -5,6 +5,7 @@ use Rattle.std.proofs.Common.{arith, eqb-true}
 use Rattle.std.proofs.lemmas.Int.{ints}
 use Rattle.std.specs.Prelude.{slice_get}
 use Rattle.std.specs.List.{list_any, list_all}
+use Rattle.std.proofs.lemmas.Bool.{or_cases}
 use Rattle.word_arithmetic.specs.Word.{least_word}
 use Rattle.module_format.specs.declared.fact.Fact.TheVariants.{Unknown, Number, Pointer, CodeAddress, Loop}
 use Rattle.module_format.specs.declared.fact.Fact.TheVariants.{ReturnAddress}
@@ -22,7 +23,6 @@ use Rattle.machine_state.specs.JoinLookups.{branch_names, names_end}
 use Rattle.machine_state.specs.Memory.{Memory}
 use Rattle.machine_state.specs.Ownership.{IsAmong}
 use Rattle.machine_state.proofs.Among.{all_among, any_all}
-use Rattle.machine_state.proofs.SpanLaws.{or_true}
 use Rattle.states.specs.declared.known.WordFact.{WordFact}
 use Rattle.states.specs.declared.known.WordFact.TheVariants.{Alone, Index, Count}
 use Rattle.states.specs.State.{State, is_word}
@@ -137,9 +137,9 @@ module _ (m : Contents) (s : State) (act : Activation) (memory : Memory) (par : 
 
   -- the words of the block and the channels are the starter's own
   pub hidden_own : (k : ℤ) → is_hidden par k ≡ true → may_write_word m par.context k ≡ true
-  hidden_own k hides = may_write k (elim (or_true _ (is_channel_word par k) hides) [
+  hidden_own k hides = may_write k (elim (or_cases _ (is_channel_word par k) hides) [
     | inr there ↦ channel_word k par.channels there three.1
-    | inl block ↦ elim (or_true (is_word par.block k) _ block) [
+    | inl block ↦ elim (or_cases (is_word par.block k) _ block) [
       | inl first ↦ ap (may_write_word m s.context) (sym (same_word_by par.block k first)) ∙ first_of_block.0
       | inr second ↦ ap (may_write_word m s.context) (sym (same_word_by (par.block +ℤ pos 1) k second))
           ∙ second_of_block.0
@@ -185,12 +185,12 @@ module _ (m : Contents) (s : State) (act : Activation) (memory : Memory) (par : 
   branch_given b j all names =
       let last = and-parts _ (list_all (λ (e : EndRow). end_is_as_given m s e.kind) b.ends) all in
       let both = and-parts (list_all (is_as_given m s) b.written_parameters) _ last.0 in
-      elim (or_true _ (list_any (λ (e : EndRow). names_end j e.kind) b.ends) names) [
+      elim (or_cases _ (list_any (λ (e : EndRow). names_end j e.kind) b.ends) names) [
         | inr ends ↦
             let e = any_all (λ (e : EndRow). names_end j e.kind) (λ (e : EndRow). end_is_as_given m s e.kind) b.ends
             ends last.1 in
             end_given e.0.kind j e.2 e.1
-        | inl numbers ↦ elim (or_true (list_any (λ k. k == j) b.written_parameters) _ numbers) [
+        | inl numbers ↦ elim (or_cases (list_any (λ k. k == j) b.written_parameters) _ numbers) [
           | inl written ↦ listed_given b.written_parameters j both.0 written
           | inr read ↦ listed_given b.read_parameters j both.1 read
         ]

@@ -8,6 +8,8 @@ use Rattle.std.proofs.lemmas.Int.{ints}
 use Rattle.std.specs.Prelude.{int_le, sum_by}
 use Rattle.std.specs.List.{list_any, list_all}
 use Rattle.std.proofs.lemmas.List.Sums.{sum_by-cons}
+use Rattle.std.proofs.lemmas.Bool.{and_from}
+use Rattle.small_laws.proofs.Comparisons.{eqb-self}
 use Rattle.module_format.specs.Rows.{Fact, Entry}
 use Rattle.module_format.specs.declared.fact.Fact.TheVariants.{Unknown, Number, Pointer, CodeAddress, Loop}
 use Rattle.module_format.specs.declared.fact.Fact.TheVariants.{ReturnAddress}
@@ -19,8 +21,6 @@ use Rattle.module_format.specs.Facts.{end_of}
 use Rattle.module_format.specs.Contents.{Par}
 use Rattle.module_format.specs.Regions.{is_same_region}
 use Rattle.certificate.specs.Starting.{is_written, is_loop, is_written_loop}
-use Rattle.machine_state.proofs.Shares.{number_itself}
-use Rattle.machine_state.proofs.SpanLaws.{both_true}
 use Rattle.states.specs.declared.known.WordFact.{WordFact}
 use Rattle.states.specs.declared.known.WordFact.TheVariants.{Alone, Index, Count}
 use Rattle.states.specs.State.{Facts, is_about, is_alone, said_of, entry_fact}
@@ -46,18 +46,18 @@ step_itself Word = refl
 region_itself : (region : Region) → is_same_region region region ≡ true
 region_itself regions.Frame = refl
 region_itself regions.Constants = refl
-region_itself (regions.Parameter j) = number_itself j
+region_itself (regions.Parameter j) = eqb-self j
 
 range_itself : (lo hi : ℤ) → (int_le lo lo && int_le hi hi) ≡ true
 range_itself lo hi =
-    both_true _ _ (le-yes lo lo (omega (arith, ints))) (le-yes hi hi (omega (arith, ints)))
+    and_from _ _ (le-yes lo lo (omega (arith, ints))) (le-yes hi hi (omega (arith, ints)))
 
 implies_itself : (fact : Fact) → (is_loop fact ≡ true → ⊥) → implies fact fact ≡ true
 implies_itself Unknown other = refl
 implies_itself (Number lo hi) other = range_itself lo hi
 implies_itself (Pointer region lo hi step) other =
-    both_true _ _ (both_true _ _ (region_itself region) (range_itself lo hi)) (step_itself step)
-implies_itself (CodeAddress offset) other = number_itself offset
+    and_from _ _ (and_from _ _ (region_itself region) (range_itself lo hi)) (step_itself step)
+implies_itself (CodeAddress offset) other = eqb-self offset
 implies_itself (Loop base count weight) other = absurd (other refl)
 implies_itself ReturnAddress other = refl
 
@@ -65,11 +65,11 @@ said_itself : (fact : Fact) (first : Bool) → says (said_of fact first) (said_o
 said_itself Unknown first = refl
 said_itself (Number lo hi) first = range_itself lo hi
 said_itself (Pointer region lo hi step) first = implies_itself (Pointer region lo hi step) (λ e. cc)
-said_itself (CodeAddress offset) first = number_itself offset
+said_itself (CodeAddress offset) first = eqb-self offset
 said_itself (Loop base count weight) true =
-    both_true _ _ (both_true _ _ (is_itself base) (number_itself count)) (number_itself weight)
+    and_from _ _ (and_from _ _ (is_itself base) (eqb-self count)) (eqb-self weight)
 said_itself (Loop base count weight) false =
-    both_true _ _ (both_true _ _ (is_itself base) (number_itself count)) (number_itself weight)
+    and_from _ _ (and_from _ _ (is_itself base) (eqb-self count)) (eqb-self weight)
 said_itself ReturnAddress first = refl
 
 -- ---- loops, by the facts of their words
@@ -135,7 +135,7 @@ module _ (par : Par) (facts : Facts) where
   words_hold given entry entries zero these low t = refl
   words_hold given entry entries (suc more) these low t =
       let both = and-parts (is_left par facts (entry.word +ℤ pos more) (said_of entry.fact (eqb more 0))) _ t in
-      both_true _ _ (on both.0 (bool_cases (is_written par (entry.word +ℤ pos more))))
+      and_from _ _ (on both.0 (bool_cases (is_written par (entry.word +ℤ pos more))))
       (words_hold given entry entries more these (omega (arith, low)) both.1)
     where
       about : is_about entry (entry.word +ℤ pos more) ≡ true
@@ -165,7 +165,7 @@ module _ (par : Par) (facts : Facts) where
       let parts = rise-parts low entry entries rise in
       let from : low ≤ℤ entry.word = parts.0 in
       let both = and-parts (words_pass (is_left par facts) entry entry.span) _ t in
-      both_true _ _ (words_hold given entry entries entry.span (record {
+      and_from _ _ (words_hold given entry entries entry.span (record {
         written = λ k above. these.written k (omega (arith, ints, from, above));
         others = these.others;
       }) (let same : entry.span ≤ entry.span = omega arith in same) both.0)
@@ -197,7 +197,7 @@ module _ (par : Par) (facts : Facts) where
   loop_stays given entry others none loop =
       let quiet : (is_written par entry.word || is_written par (entry.word +ℤ pos 1)) ≡ false =
       is_false _ (λ meets.
-      let loud : is_written_loop par entry ≡ true = both_true _ _ loop meets in
+      let loud : is_written_loop par entry ≡ true = and_from _ _ loop meets in
       let no' : false ≡ true = sym none ∙ loud in cc) in
       let both = neither (is_written par entry.word) (is_written par (entry.word +ℤ pos 1)) quiet in
       record { first = others entry.word both.0; second = others (entry.word +ℤ pos 1) both.1 }
@@ -219,7 +219,7 @@ module _ (par : Par) (facts : Facts) where
   whole_after given (entry ∷ entries) others none whole =
       let quiet = neither (is_written_loop par entry) (list_any (is_written_loop par) entries) none in
       let both = and-parts (is_whole facts entry) (list_all (is_whole facts) entries) whole in
-      both_true _ _ ((entry_same given entry others quiet.0).0 ∙ both.0)
+      and_from _ _ ((entry_same given entry others quiet.0).0 ∙ both.0)
       (whole_after given entries others quiet.1 both.1)
 
   pub price_after : (given : Facts) (entries : List Entry)

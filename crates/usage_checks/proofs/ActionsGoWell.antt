@@ -5,8 +5,8 @@ use Rattle.std.proofs.Common.{Result, refl, sym, ap, subst, ◌∙◌, arith, Is
 use Rattle.std.proofs.lemmas.Bool.Decides.{nat_tests}
 use Rattle.std.specs.Prelude.{option_and_then, is_some, bytes_eq, nat_eq, nat_le, take, unwrap_or, IsSome, IfSome}
 use Rattle.std.specs.List.{AllByRecursion}
+use Rattle.std.proofs.lemmas.Bool.{and_parts}
 use Rattle.word_arithmetic.specs.Range.{Ends, InRange, full}
-use Rattle.word_arithmetic.proofs.EndsLaws.{and_out}
 use Rattle.occam_parser.specs.declared.tree.ValueType.{ValueType}
 use Rattle.occam_parser.specs.declared.tree.ValueType.TheVariants as value_type
 use Rattle.occam_parser.specs.Expressions.{Expression}
@@ -446,7 +446,7 @@ action_well s signatures count (Assign target value) es env l sequential words m
     goes_on (option_and_then (stored env target) (number_of env value)) l (after_assignment target value es)
     (assigned_to es env target.name target.subscript h.0 value h.1
     (meant count es target.name h.0 target.subscript (meaning_in target.name es) refl main.own whole h.2) holds h.3
-    (and_out (place_has_words target) (has_words value) words).1)
+    (and_parts (place_has_words target) (has_words value) words).1)
 action_well s signatures count (Input channel target) es env l sequential words main whole holds h =
     input_well es (after_input target es) env l target (port_of s env direction.Input channel)
     (λ p v is typed. received_into es env target.name target.subscript h.0 v p.carries

@@ -4,6 +4,7 @@ use Rattle.std.proofs.Common.{refl, subst, ◌∙◌, arith}
 use Rattle.std.proofs.lemmas.Int.{ints}
 use Rattle.std.specs.Prelude.{bytes_eq, int_le, unwrap_or, unsigned_abs, ◌*ℤ◌, ◌^◌, FitsSigned, IfSome}
 use Rattle.std.specs.Int.{w32}
+use Rattle.std.proofs.lemmas.Bool.{and_parts}
 use Rattle.word_arithmetic.specs.Word.{least_word, greatest_word, word_not, shifted_left, shifted_right}
 use Rattle.word_arithmetic.specs.Range.{Ends, InRange, IsRange, constant, full, bytes, fitting, range_between}
 use Rattle.word_arithmetic.specs.Range.{is_within}
@@ -14,7 +15,7 @@ use Rattle.word_arithmetic.specs.declared.binary.Binary.{Binary}
 use Rattle.word_arithmetic.specs.declared.binary.Binary.TheVariants as binary
 use Rattle.word_arithmetic.specs.declared.unary.Unary.TheVariants as unary
 use Rattle.word_arithmetic.proofs.BinaryLaws.{binary_gives_words}
-use Rattle.word_arithmetic.proofs.EndsLaws.{and_out, fitting_some, words_in_order_are_ranges}
+use Rattle.word_arithmetic.proofs.EndsLaws.{fitting_some, words_in_order_are_ranges}
 use Rattle.word_arithmetic.proofs.RangesOfRanges.{binary_gives_ranges, unary_gives_ranges}
 use Rattle.word_arithmetic.proofs.WordLaws.{is_word_out}
 use Rattle.word_arithmetic.proofs.BitLaws.{not_fits}
@@ -254,11 +255,11 @@ converted_typed : (to : ValueType) (s t : ExprType) (c d : Bound) → converted_
 converted_typed to types.Condition t c d type is = absurd (cc type)
 converted_typed to types.Int t c d type is =
     let lies = passed_ok (is_within (ends c) (type_range to)) _ c d is in
-    let both = and_out (int_le (type_range to).lo (ends c).lo) (int_le (ends c).hi (type_range to).hi) lies.0 in
+    let both = and_parts (int_le (type_range to).lo (ends c).lo) (int_le (ends c).hi (type_range to).hi) lies.0 in
     typed_as to t c d (ok_same _ t type) lies.1 (omega (arith, ints, both.0), omega (arith, ints, both.1))
 converted_typed to types.Byte t c d type is =
     let lies = passed_ok (is_within (ends c) (type_range to)) _ c d is in
-    let both = and_out (int_le (type_range to).lo (ends c).lo) (int_le (ends c).hi (type_range to).hi) lies.0 in
+    let both = and_parts (int_le (type_range to).lo (ends c).lo) (int_le (ends c).hi (type_range to).hi) lies.0 in
     typed_as to t c d (ok_same _ t type) lies.1 (omega (arith, ints, both.0), omega (arith, ints, both.1))
 
 -- ---- expressions
@@ -291,7 +292,7 @@ module _ (es : List Entry) (all : AreInTypes es) where
     expression_typed (Paired (pair.Arithmetic op) a b) t d w type is =
         let h = both_ok (type_of_term es a) (type_of_term es b) (pair_type (pair.Arithmetic op)) t type in
         let c = both_ok (bound_of_term es a) (bound_of_term es b) (pair_bound (pair.Arithmetic op)) d is in
-        let v = and_out (has_words_in a) (has_words_in b) w in
+        let v = and_parts (has_words_in a) (has_words_in b) w in
         pair_typed op h.0 h.1 t c.0 c.1 d (term_typed a h.0 c.0 v.0 h.2 c.2) (term_typed b h.1 c.1 v.1 h.3 c.3) h.4 c.4
     expression_typed (Paired (pair.Comparison op) a b) t d w type is =
         let h = both_ok (type_of_term es a) (type_of_term es b) (pair_type (pair.Comparison op)) t type in
@@ -305,14 +306,14 @@ module _ (es : List Entry) (all : AreInTypes es) where
     terms_typed op (Two a b) t d w type is =
         let h = both_ok (type_of_term es a) (type_of_term es b) (chain_type (chain.Arithmetic op)) t type in
         let c = both_ok (bound_of_term es a) (bound_of_term es b) (chain_bound (chain.Arithmetic op)) d is in
-        let v = and_out (has_words_in a) (has_words_in b) w in
+        let v = and_parts (has_words_in a) (has_words_in b) w in
         chain_typed op h.0 h.1 t c.0 c.1 d (term_typed a h.0 c.0 v.0 h.2 c.2) (term_typed b h.1 c.1 v.1 h.3 c.3) h.4 c.4
     terms_typed op (Then ts b) t d w type is =
         let h = both_ok (type_of_terms es (chain.Arithmetic op) ts) (type_of_term es b)
         (chain_type (chain.Arithmetic op)) t type in
         let c = both_ok (bound_of_terms es (chain.Arithmetic op) ts) (bound_of_term es b)
         (chain_bound (chain.Arithmetic op)) d is in
-        let v = and_out (have_words ts) (has_words_in b) w in
+        let v = and_parts (have_words ts) (has_words_in b) w in
         chain_typed op h.0 h.1 t c.0 c.1 d (terms_typed op ts h.0 c.0 v.0 h.2 c.2) (term_typed b h.1 c.1 v.1 h.3 c.3)
         h.4 c.4
 

@@ -5,12 +5,12 @@ use Rattle.std.proofs.Common.{nat_eq, nat_lt}
 use Rattle.std.proofs.lemmas.Bool.Decides.{nat_tests}
 use Rattle.std.proofs.lemmas.Int.{ints}
 use Rattle.std.specs.Prelude.{option_and_then, int_le, unsigned_abs}
+use Rattle.std.proofs.lemmas.Bool.{and_parts}
 use Rattle.word_arithmetic.specs.Word.{least_word, greatest_word, word_not}
 use Rattle.word_arithmetic.specs.Range.{Ends, is_within, constant, shift_left_range}
 use Rattle.word_arithmetic.specs.Binary.{computed, result_range}
 use Rattle.word_arithmetic.specs.declared.binary.Binary.TheVariants as binary
 use Rattle.word_arithmetic.specs.declared.compare.Comparison.{Comparison}
-use Rattle.word_arithmetic.proofs.EndsLaws.{and_out}
 use Rattle.occam_parser.specs.declared.tree.ValueType.{ValueType}
 use Rattle.occam_parser.specs.declared.tree.PrefixOperator.TheVariants as prefix
 use Rattle.occam_parser.specs.declared.tree.PairOperator.TheVariants as pair
@@ -204,7 +204,7 @@ module _ (count : ℕ) (es : List Entry) (w : AreWhole count es) where
         let s = both_ok (type_of_term es x) (type_of_term es y) (pair_type (pair.Arithmetic op)) u e in
         let b = both_ok (bound_of_term es x) (bound_of_term es y) (pair_bound (pair.Arithmetic op)) d f in
         let numbers = pair_numbers op s.0 s.1 u s.4 in
-        let constants = and_out (is_constant_term es x) (is_constant_term es y) c in
+        let constants = and_parts (is_constant_term es x) (is_constant_term es y) c in
         arithmetic_exact op b.0 b.1 d (term_exact x s.0 b.0 s.2 numbers.0 constants.0 b.2)
         (term_exact y s.1 b.1 s.3 numbers.1 constants.1 b.3) b.4
     exact (Paired (pair.Comparison op) x y) u d e n c f =
@@ -225,7 +225,7 @@ module _ (count : ℕ) (es : List Entry) (w : AreWhole count es) where
         let s = both_ok (type_of_term es x) (type_of_term es y) (chain_type (chain.Arithmetic op)) u e in
         let b = both_ok (bound_of_term es x) (bound_of_term es y) (chain_bound (chain.Arithmetic op)) d f in
         let numbers = chain_numbers op s.0 s.1 u s.4 in
-        let constants = and_out (is_constant_term es x) (is_constant_term es y) c in
+        let constants = and_parts (is_constant_term es x) (is_constant_term es y) c in
         gives_exact (computed (operation_of op)) (result_range (operation_of op)) b.0 b.1 d
         (term_exact x s.0 b.0 s.2 numbers.0 constants.0 b.2)
         (term_exact y s.1 b.1 s.3 numbers.1 constants.1 b.3) b.4
@@ -235,7 +235,7 @@ module _ (count : ℕ) (es : List Entry) (w : AreWhole count es) where
         let b = both_ok (bound_of_terms es (chain.Arithmetic op) ts) (bound_of_term es y)
         (chain_bound (chain.Arithmetic op)) d f in
         let numbers = chain_numbers op s.0 s.1 u s.4 in
-        let constants = and_out (are_constant es ts) (is_constant_term es y) c in
+        let constants = and_parts (are_constant es ts) (is_constant_term es y) c in
         gives_exact (computed (operation_of op)) (result_range (operation_of op)) b.0 b.1 d
         (terms_exact ts op s.0 b.0 s.2 constants.0 b.2)
         (term_exact y s.1 b.1 s.3 numbers.1 constants.1 b.3) b.4

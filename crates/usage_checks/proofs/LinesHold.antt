@@ -5,8 +5,8 @@ use Rattle.std.proofs.Common.{length, Option, Some, None, Result, Ok, Err, inl, 
 use Rattle.std.proofs.Common.{nat_eq, nat_lt, option_map}
 use Rattle.std.specs.Prelude.{fold, int_le, int_lt, is_some, unwrap_or}
 use Rattle.std.specs.List.{AllByRecursion}
+use Rattle.std.proofs.lemmas.Bool.{and_parts}
 use Rattle.word_arithmetic.specs.Range.{Ends, constant, hull}
-use Rattle.word_arithmetic.proofs.EndsLaws.{and_out}
 use Rattle.occam_parser.specs.declared.tree.FormalKind.{FormalKind}
 use Rattle.occam_parser.specs.declared.tree.FormalKind.TheVariants as formal_kind
 use Rattle.occam_parser.specs.declared.tree.ValueType.{ValueType}
@@ -124,7 +124,7 @@ target_holds count es p whole none =
 element_known : (size : ℕ) (v : ℤ) → is_subscript size (constant v) ≡ true
     → (i : ℕ) × (element_in (Some size) (Some v) ≡ Some i)
 element_known size (pos i) h =
-    let inside : nat_lt i size ≡ true = (and_out (int_le (pos 0) (pos i)) (int_lt (pos i) (pos size)) h).1 in
+    let inside : nat_lt i size ≡ true = (and_parts (int_le (pos 0) (pos i)) (int_lt (pos i) (pos size)) h).1 in
     (i, ap (λ t. cond t (Some i) None) inside)
 element_known size (negsuc i) h = absurd (cc h)
 

@@ -5,9 +5,9 @@ use Rattle.std.proofs.Common.{◌≤◌, ◌+ℤ◌, negsuc, append_assoc, eq-or
 use Rattle.std.proofs.lemmas.Int.{ints}
 use Rattle.std.proofs.lemmas.List.{length-append, append-nil}
 use Rattle.std.specs.Prelude.{int_le, is_some, unsigned_abs}
+use Rattle.std.proofs.lemmas.Bool.{and_parts}
 use Rattle.word_arithmetic.specs.Word.{greatest_word, is_word}
 use Rattle.word_arithmetic.specs.Range.{Ends}
-use Rattle.word_arithmetic.proofs.EndsLaws.{and_out}
 use Rattle.word_arithmetic.proofs.WordLaws.{words_lie_between}
 use Rattle.occam_parser.specs.Terminals.{Terminal}
 use Rattle.occam_parser.specs.OneOrMore.{as_list}
@@ -98,13 +98,13 @@ pub index_word : (base count : ℤ) (n turns : ℕ) → (int_le (pos 0) count &&
     → n < turns → (turns ≡ 1) ⊎ ((is_count base count ≡ true) × (turns ≡ unsigned_abs count))
     → is_word (base +ℤ pos n) ≡ true
 index_word base count n turns h less (inl once) =
-    let both = and_out (int_le (pos 0) count) (fits_word (Some base) count) h in
-    let fits = and_out (is_word base) (int_le (base +ℤ count) (greatest_word +ℤ pos 1)) both.1 in
+    let both = and_parts (int_le (pos 0) count) (fits_word (Some base) count) h in
+    let fits = and_parts (is_word base) (int_le (base +ℤ count) (greatest_word +ℤ pos 1)) both.1 in
     let same : base +ℤ pos n ≡ base = omega (arith, ints, less, once) in
     subst (λ v. is_word v ≡ true) (sym same) fits.0
 index_word base (pos times) n turns h less (inr (counted, all)) =
-    let both = and_out (int_le (pos 0) (pos times)) (fits_word (Some base) (pos times)) h in
-    let fits = and_out (is_word base) (int_le (base +ℤ pos times) (greatest_word +ℤ pos 1)) both.1 in
+    let both = and_parts (int_le (pos 0) (pos times)) (fits_word (Some base) (pos times)) h in
+    let fits = and_parts (is_word base) (int_le (base +ℤ pos times) (greatest_word +ℤ pos 1)) both.1 in
     let lies = (words_lie_between base).0 fits.0 in
     (words_lie_between (base +ℤ pos n)).1
     (omega (arith, ints, lies.0), omega (arith, ints, less, all, fits.1))

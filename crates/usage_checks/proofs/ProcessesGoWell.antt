@@ -6,9 +6,9 @@ use Rattle.std.proofs.Common.{◌∷◌, length, Option, Some, None, inl, inr, r
 use Rattle.std.proofs.lemmas.Int.{ints}
 use Rattle.std.specs.Prelude.{option_map, nat_eq, int_le, unsigned_abs, FitsSigned}
 use Rattle.std.specs.Int.{w32}
+use Rattle.std.proofs.lemmas.Bool.{and_parts}
 use Rattle.word_arithmetic.specs.Word.{greatest_word, is_word}
 use Rattle.word_arithmetic.specs.Range.{Ends, InRange, constant, full}
-use Rattle.word_arithmetic.proofs.EndsLaws.{and_out}
 use Rattle.word_arithmetic.proofs.WordLaws.{is_word_out}
 use Rattle.occam_layout.specs.declared.mark.Mark.TheVariants as mark
 use Rattle.occam_parser.specs.declared.tree.ValueType.{ValueType}
@@ -170,8 +170,8 @@ at_least_one (suc n) some = grind (arith, ints)
 counts_on : (base : ℤ) (n : ℕ) → (int_le (pos 0) (pos n) && fits_word (Some base) (pos n)) ≡ true → 0 < n
     → is_count base (pos n) ≡ true
 counts_on base n h some =
-    let both = and_out (int_le (pos 0) (pos n)) (fits_word (Some base) (pos n)) h in
-    let fits = and_out (is_word base) (int_le (base +ℤ pos n) (greatest_word +ℤ pos 1)) both.1 in
+    let both = and_parts (int_le (pos 0) (pos n)) (fits_word (Some base) (pos n)) h in
+    let fits = and_parts (is_word base) (int_le (base +ℤ pos n) (greatest_word +ℤ pos 1)) both.1 in
     ap (λ t. t && int_le (base +ℤ pos n) (greatest_word +ℤ pos 1)) (at_least_one n some) ∙ fits.1
 
 -- each index is a word
@@ -228,7 +228,7 @@ module _ (items : List ProgramItem) (s : Surroundings) where
   declared_goes d p none goes = record {
     well = λ t first k env l reached sequential words stands.
         let right = places_hold items t (AProcess first (Declared d p)) k none reached in
-        let both = and_out (declaration_has_words d) (process_has_words p) words in
+        let both = and_parts (declaration_has_words d) (process_has_words p) words in
         let inner = with_entries (add_declaration d) k in
         let longer = declared_long d k.entries in
         let final = (inside t.around p inner).entries in
@@ -257,7 +257,7 @@ module _ (items : List ProgramItem) (s : Surroundings) where
       let a = t.around in
       let m = after_components a (Mark mark.Seq) cs k in
       let ns = changed_by_components a.signatures k.entries cs in
-      let both = and_out (components_have_words cs) (process_has_words p) words in
+      let both = and_parts (components_have_words cs) (process_has_words p) words in
       let remains = components_stay a ns (Mark mark.Seq) cs k is (covers_itself ns) stands.low in
       let below = remains_low ns k m remains stands.low in
       let here = to_process t (Plain p) m (reach (AComponent (Plain p)) m (inl (refl, refl))) in
@@ -321,8 +321,8 @@ module _ (items : List ProgramItem) (s : Surroundings) where
       let c = Chosen line e p in
       let ns = changed_by_components a.signatures k.entries cs in
       let m = after_components a (Mark mark.If) cs (begin k) in
-      let all = and_out (components_have_words cs) (has_words e && process_has_words p) words in
-      let both = and_out (has_words e) (process_has_words p) all.1 in
+      let all = and_parts (components_have_words cs) (has_words e && process_has_words p) words in
+      let both = and_parts (has_words e) (process_has_words p) all.1 in
       let h = components_stay a ns (Mark mark.If) cs k is (covers_itself ns) stands.low in
       let x : Known = record { entries = h.start; blocks = record { start = h.start; ends = h.ends } ∷ k.blocks } in
       let alike = within_shape ns h.start k.entries h.starts in
@@ -593,7 +593,7 @@ module _ (items : List ProgramItem) (s : Surroundings) where
       (sym ((λ i. happens (is_counted i) (h.base_is i) (times i)) ∙ more))
       (sym ((λ i. (turns_from (is_counted i) (h.base_is i) (times i)).count)
       ∙ ap (λ b. cond b (unsigned_abs (pos (suc n))) 1) more)) reach goes seq
-      (and_out (has_words e) (process_has_words p) words).1 (λ i less. turn_word h.base i (suc n) fits less) stands
+      (and_parts (has_words e) (process_has_words p) words).1 (λ i less. turn_word h.base i (suc n) fits less) stands
   body_well none word c t counted r (pos n) k env l is_counted seq words goes h count reach stands = absurd seq
 
   -- ---- constructs
@@ -668,7 +668,7 @@ module _ (items : List ProgramItem) (s : Surroundings) where
         (outermost (length k.entries) end)) (sym count)
         (body_well none word c u (is_before line a.uncounted) r h.count k env l
         (ap (is_before line) stands.counted) sequential
-        (and_out (replicator_has_words r) (component_has_words c) words).1 goes h refl
+        (and_parts (replicator_has_words r) (component_has_words c) words).1 goes h refl
         (λ n less. to_part t u first line whole (AComponent c) k _ reached (n, refl, refl, less, refl))
         (record { counted = stands.counted; main = stands.main; low = stands.low; holds = stands.holds })));
   }

@@ -7,8 +7,8 @@ use Rattle.std.proofs.lemmas.Bool.Decides.{nat_tests}
 use Rattle.std.proofs.lemmas.List.{length-append, append-nil}
 use Rattle.std.specs.List.{AllByRecursion, slice_get, list_all}
 use Rattle.std.specs.Prelude.{nat_eq, option_map}
+use Rattle.std.proofs.lemmas.Bool.{and_parts}
 use Rattle.word_arithmetic.specs.Range.{Ends, full}
-use Rattle.word_arithmetic.proofs.EndsLaws.{and_out}
 use Rattle.occam_parser.specs.declared.tree.ValueType.{ValueType}
 use Rattle.occam_parser.specs.declared.tree.FormalKind.{FormalKind}
 use Rattle.occam_parser.specs.declared.tree.FormalKind.TheVariants as formal_kind
@@ -346,7 +346,7 @@ formals_true : (outer : List Entry) (fs : List Formal) (es : List Entry) (env : 
     → IsTrueIn es env → IsTrueIn (add_formals outer fs es) (bind_formals fs env)
 formals_true outer [] es env links holds = holds
 formals_true outer (f ∷ fs) es env links holds =
-    let both = and_out (is_link_as f.kind f.size f.name) (are_links fs) links in
+    let both = and_parts (is_link_as f.kind f.size f.name) (are_links fs) links in
     let means = link_means outer f.kind f.size f.value_type f.name both.0 in
     formals_true outer fs (add f.name (formal_meaning outer f) es) (bind f.name Nothing env) both.1
     (subst (λ m. IsTrueIn (add f.name m es) (bind f.name Nothing env)) (sym means)
@@ -357,7 +357,7 @@ formals_linked : (outer : List Entry) (fs : List Formal) (es : List Entry) (ps :
 formals_linked outer [] es ps links linked =
     subst (λ qs. Linked qs (shape es)) (sym (append-nil ps)) linked
 formals_linked outer (f ∷ fs) es ps links linked =
-    let both = and_out (is_link_as f.kind f.size f.name) (are_links fs) links in
+    let both = and_parts (is_link_as f.kind f.size f.name) (are_links fs) links in
     let means = link_means outer f.kind f.size f.value_type f.name both.0 in
     let m = formal_meaning outer f in
     let flat : with_range (λ r. full) m ≡ Channel f.value_type = ap (with_range (λ r. full)) means in
@@ -401,8 +401,8 @@ last_well : (items : List ProgramItem) (listens : List Bool) (o : Outside) (item
 last_well items listens o (GlobalConstant c) env l none comes main sequential words before = absurd sequential
 last_well items listens o (GlobalProcedure p) env l none comes main sequential words before =
     main_well items listens o p env l none comes
-    (and_out (is_main_name p.head.name) (are_links p.head.formals) main).1 sequential
-    (and_out (list_all formal_has_words p.head.formals) (process_has_words p.body) words).1 before
+    (and_parts (is_main_name p.head.name) (are_links p.head.formals) main).1 sequential
+    (and_parts (list_all formal_has_words p.head.formals) (process_has_words p.body) words).1 before
 
 further_sequential : (item next : ProgramItem) (items : List ProgramItem)
     → IsSequentialProgram (item ∷ next ∷ items) → IsSequentialProgram (next ∷ items)
@@ -418,11 +418,11 @@ items_well : (items : List ProgramItem) (listens : List Bool) (before : Outside)
 items_well items listens before item [] env l none unbroken comes main sequential words holds =
     last_well items listens (weighed item before) item env l none
     (comes (weighed item before) item (inl (refl, refl))) main sequential
-    (and_out (item_has_words item) (list_all item_has_words []) words).0
+    (and_parts (item_has_words item) (list_all item_has_words []) words).0
     (weighed_before item before env (λ f x. unbroken f (inl (inl x))) holds)
 items_well items listens before item (next ∷ rest) env l none unbroken comes main sequential words holds =
     let o = weighed item before in
-    let both = and_out (item_has_words item) (list_all item_has_words (next ∷ rest)) words in
+    let both = and_parts (item_has_words item) (list_all item_has_words (next ∷ rest)) words in
     unstuck_or (declare_item item env) (λ inner. run_items listens next rest inner l) (Before (after_item item before))
     (item_after item items o env none (comes o item (inl (refl, refl))) both.0
     (weighed_before item before env (λ f x. unbroken f (inl (inl x))) holds))

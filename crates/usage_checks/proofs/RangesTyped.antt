@@ -6,6 +6,7 @@ use Rattle.std.proofs.lemmas.List.{length-append}
 use Rattle.std.specs.List.{list_all}
 use Rattle.std.proofs.lemmas.Int.{ints}
 use Rattle.std.specs.Prelude.{option_map, int_le}
+use Rattle.std.proofs.lemmas.Bool.{and_parts}
 use Rattle.occam_layout.specs.declared.mark.Mark.TheVariants as mark
 use Rattle.occam_parser.specs.declared.tree.ValueType.TheVariants as value_type
 use Rattle.occam_parser.specs.Terminals.{Terminal, Mark}
@@ -19,7 +20,6 @@ use Rattle.occam_parser.specs.Words.{item_has_words, items_have_words, formal_ha
 use Rattle.occam_parser.specs.Words.{replicator_has_words, components_have_words, component_has_words, guard_has_words}
 use Rattle.word_arithmetic.specs.Word.{greatest_word, is_word, checked}
 use Rattle.word_arithmetic.specs.Range.{Ends, constant, full}
-use Rattle.word_arithmetic.proofs.EndsLaws.{and_out}
 use Rattle.word_arithmetic.proofs.WordLaws.{is_word_out}
 use Rattle.scalar_ranges.specs.declared.types.ExprType.TheVariants as types
 use Rattle.scalar_ranges.specs.Entries.{Constant, Entry}
@@ -136,7 +136,7 @@ range_by : (t : Bool) (base count : ℤ) → is_count base count ≡ t → is_wo
     → RangeWithin (cond t (record { lo = base; hi = base +ℤ (count -ℤ pos 1) }) (constant base)) full
 range_by true base count is word =
     let fits = is_word_out base word in
-    let both = and_out (int_le (pos 1) count) (int_le (base +ℤ count) (greatest_word +ℤ pos 1)) is in
+    let both = and_parts (int_le (pos 1) count) (int_le (base +ℤ count) (greatest_word +ℤ pos 1)) is in
     (omega (arith, ints, fits), omega (arith, ints, both.1))
 range_by false base count is word =
     let fits = is_word_out base word in (omega (arith, ints, fits), omega (arith, ints, fits))
@@ -145,8 +145,8 @@ range_by false base count is word =
 pub index_typed : (counted sequential : Bool) (es : List Entry) (r : Replicator) (n : ℕ) → ReplicatorHolds es r
     → IsInType (index_in (repeats_of counted es sequential r) n)
 index_typed counted sequential es r n h =
-    let both = and_out (int_le (pos 0) h.count) (fits_word (Some h.base) h.count) h.fits in
-    let fits = and_out (is_word h.base) (int_le (h.base +ℤ h.count) (greatest_word +ℤ pos 1)) both.1 in
+    let both = and_parts (int_le (pos 0) h.count) (fits_word (Some h.base) h.count) h.fits in
+    let fits = and_parts (is_word h.base) (int_le (h.base +ℤ h.count) (greatest_word +ℤ pos 1)) both.1 in
     let range = index_range (value_as es types.Int r.base) (value_as es types.Int r.count) in
     index_by sequential range (repeats_of counted es sequential r).turns.first n
     (subst (λ q. RangeWithin q full) (λ i. index_range (sym h.base_is i) (sym h.count_is i))
@@ -194,8 +194,8 @@ entered_place (Guarded line g p) k h =
 process_words : {part : Part} (c : Component part) → component_has_words c ≡ true
     → process_has_words (process_of c) ≡ true
 process_words (Plain p) words = words
-process_words (Chosen line e p) words = (and_out (has_words e) (process_has_words p) words).1
-process_words (Guarded line g p) words = (and_out (guard_has_words g) (process_has_words p) words).1
+process_words (Chosen line e p) words = (and_parts (has_words e) (process_has_words p) words).1
+process_words (Guarded line g p) words = (and_parts (guard_has_words g) (process_has_words p) words).1
 
 -- ---- items
 
@@ -257,7 +257,7 @@ module _ (items : List ProgramItem) where
       let a = t.around in
       let y = chosen e x in
       let rest = excluded e x.entries start in
-      let both = and_out (has_words e) (process_has_words p) words in
+      let both = and_parts (has_words e) (process_has_words p) words in
       let rest_long = long_alike rest start (shapes_stay.excluding x.entries start e) in
       let y_long = long_alike y.entries x.entries (shapes_stay.narrowing x.entries e true) in
       let blocks : y.blocks ≡ record { start = rest; ends = ends } ∷ k.blocks =
@@ -276,7 +276,7 @@ module _ (items : List ProgramItem) where
   branch_typed (Mark mark.Alt) (Guarded line g p) t all k x start ends is apart reached words goes h =
       let a = t.around in
       let y = with_entries (after_guard g) x in
-      let both = and_out (guard_has_words g) (process_has_words p) words in
+      let both = and_parts (guard_has_words g) (process_has_words p) words in
       let alike = guard_shape g x.entries in
       let y_long = long_alike y.entries x.entries alike in
       let begun = ap begun_with h.blocks in
@@ -371,7 +371,7 @@ module _ (items : List ProgramItem) where
       let a = t.around in
       let m = after_components a word cs (begun word k) in
       let ns = changed_by_components a.signatures k.entries cs in
-      let both = and_out (components_have_words cs) (component_has_words c) words in
+      let both = and_parts (components_have_words cs) (component_has_words c) words in
       more_typed word c t ns k m is low (components_stay a ns word cs k is (covers_itself ns) low)
       (reach (AComponent c) m (inl (refl, refl))) both.1 each.1
       (components_typed word cs t k is both.0 low typed each.0 (λ piece x among. reach piece x (inr among)))
@@ -639,7 +639,7 @@ module _ (items : List ProgramItem) where
       → ProcessTyped (Declared d p)
   declared_ends none d p goes = record {
     typed = λ t first k reached words low typed.
-        let both = and_out (declaration_has_words d) (process_has_words p) words in
+        let both = and_parts (declaration_has_words d) (process_has_words p) words in
         let inner = with_entries (add_declaration d) k in
         let longer = declared_long d k.entries in
         outer_typed (length k.entries) inner (inside t.around p inner) longer
@@ -681,7 +681,7 @@ module _ (items : List ProgramItem) where
         typed_left (length k.entries) (after_construct t.around line whole k).entries
         (body_typed word c u (is_before line t.around.uncounted) r k (kind_fits kind) right.holds
         (λ n less. to_part t u first line whole (AComponent c) k _ reached (n, refl, refl, less, refl))
-        (and_out (replicator_has_words r) (component_has_words c) words).1 goes typed);
+        (and_parts (replicator_has_words r) (component_has_words c) words).1 goes typed);
   }
 
 module _ (items : List ProgramItem) (none : BreaksNoRule items) where
@@ -726,7 +726,7 @@ module _ (items : List ProgramItem) (none : BreaksNoRule items) where
   among_typed word NoComponent t k piece l is words low typed reach among = absurd among
   among_typed word (Further cs c) t k piece l is words low typed reach (inl here) =
       let a = t.around in
-      let both = and_out (components_have_words cs) (component_has_words c) words in
+      let both = and_parts (components_have_words cs) (component_has_words c) words in
       let ns = changed_by_components a.signatures k.entries cs in
       let m = after_components a word cs (begun word k) in
       let parts = components_stay a ns word cs k is (covers_itself ns) low in
@@ -738,7 +738,7 @@ module _ (items : List ProgramItem) (none : BreaksNoRule items) where
         low = parts_low items word ns k m parts low;
       })
   among_typed word (Further cs c) t k piece l is words low typed reach (inr earlier) =
-      let both = and_out (components_have_words cs) (component_has_words c) words in
+      let both = and_parts (components_have_words cs) (component_has_words c) words in
       among_typed word cs t k piece l is both.0 low typed (λ q x among. reach q x (inr among)) earlier
 
   part_place : (s t : Standing) (first line : ℕ) (c : Construct) (piece : Piece) (k l : Known)
@@ -754,7 +754,7 @@ module _ (items : List ProgramItem) (none : BreaksNoRule items) where
       let u = in_block word k s in
       let whole = Replicated r (One kind c) in
       let right = places_hold items s (AProcess first (Does line whole)) k none reached in
-      let words = (and_out (replicator_has_words r) (component_has_words c) at.words).1 in
+      let words = (and_parts (replicator_has_words r) (component_has_words c) at.words).1 in
       let h = body_places items word c u (is_before line s.around.uncounted) r k stands.0 (kind_fits kind) right.holds
       stands.3 (λ n less. to_part s u first line whole (AComponent c) k _ reached (n, refl, refl, less, refl)) words
       (part_typed c) at.typed in
@@ -770,7 +770,7 @@ module _ (items : List ProgramItem) (none : BreaksNoRule items) where
       let begun = ap begun_with at.blocks in
       record {
         typed = formals_typed o.known.entries p.head.formals o.known.entries at.typed;
-        words = (and_out (list_all formal_has_words p.head.formals) (process_has_words p.body) words).1;
+        words = (and_parts (list_all formal_has_words p.head.formals) (process_has_words p.body) words).1;
         low = omega (arith, begun);
       }
 
@@ -805,12 +805,12 @@ module _ (items : List ProgramItem) (none : BreaksNoRule items) where
       → AtItem o × (item_has_words x ≡ true)
   items_typed [] before comes words at o x here = absurd here
   items_typed (item ∷ rest) before comes words at o x (inl here) =
-      let both = and_out (item_has_words item) (items_have_words rest) words in
+      let both = and_parts (item_has_words item) (items_have_words rest) words in
       subst (λ (y : Outside × ProgramItem). AtItem y.0 × (item_has_words y.1 ≡ true))
       (λ i. (sym here.1 i, sym here.0 i))
       (weighing_item before.uncounted (measures_of_item before.signatures before.known.entries item) before at, both.0)
   items_typed (item ∷ rest) before comes words at o x (inr later) =
-      let both = and_out (item_has_words item) (items_have_words rest) words in
+      let both = and_parts (item_has_words item) (items_have_words rest) words in
       let w = weighed item before in
       items_typed rest (after_item item before) (λ o y further. comes o y (inr further)) both.1
       (walk_item item w (comes w item (inl (refl, refl))) both.0
@@ -825,7 +825,7 @@ module _ (items : List ProgramItem) (none : BreaksNoRule items) where
       body_place o p comes at.1 at.0
   reached_place words s piece k (behind t first d p l reached) =
       let at = reached_place words t (AProcess first (Declared d p)) l reached in
-      let both = and_out (declaration_has_words d) (process_has_words p) at.words in
+      let both = and_parts (declaration_has_words d) (process_has_words p) at.words in
       let longer = declared_long d l.entries in
       let low = at.low in
       record {

@@ -4,8 +4,8 @@ use Rattle.std.proofs.Common.{None, Ok, Err, Result, inl, inr, refl, sym, ap, su
 use Rattle.std.proofs.lemmas.Int.{ints, clamps}
 use Rattle.std.specs.Prelude.{nat_eq, nat_lt, fold, option_map, IfSome}
 use Rattle.std.specs.List.{list_all}
+use Rattle.std.proofs.lemmas.Bool.{and_parts}
 use Rattle.word_arithmetic.specs.Range.{Ends, InRange, constant, hull, full, bytes}
-use Rattle.word_arithmetic.proofs.EndsLaws.{and_out}
 use Rattle.occam_layout.specs.Words.{is_byte, are_bytes}
 use Rattle.occam_parser.specs.declared.tree.ValueType.{ValueType}
 use Rattle.occam_parser.specs.declared.tree.ValueType.TheVariants as value_type
@@ -281,7 +281,7 @@ action_typed signatures es Skip words h typed = typed
 action_typed signatures es Stop words h typed = typed
 action_typed signatures es (Assign target value) words h typed =
     assignment_typed es target.name target.subscript value h.0 h.1 typed
-    (and_out (place_has_words target) (has_words value) words).1 h.2 h.3
+    (and_parts (place_has_words target) (has_words value) words).1 h.2 h.3
 action_typed signatures es (Input channel target) words h typed = typed_receive (variable_at es target) es typed
 action_typed signatures es (Output channel value) words h typed = typed
 action_typed signatures es (Instance name actuals) words h typed =
@@ -348,7 +348,7 @@ items_typed : (es : List Entry) (type : ValueType) (o : Option Ends) (items : Li
     → IsRangeOf type (fold (λ range e. with_value range (value_as es (type_of_values type) e)) o items)
 items_typed es type o [] typed words h = h
 items_typed es type o (e ∷ items) typed words h =
-    let both = and_out (has_words e) (list_all has_words items) words in
+    let both = and_parts (has_words e) (list_all has_words items) words in
     let value = value_as es (type_of_values type) e in
     items_typed es type (with_value o value) items typed both.1
     (one_more type o value h (λ v is. value_typed es type e v typed both.0 is))
@@ -362,7 +362,7 @@ bytes_typed : (r : Ends) (bs : List ℕ) → are_bytes bs ≡ true → RangeWith
     → RangeWithin (fold (λ range b. hull range (constant (pos b))) r bs) bytes
 bytes_typed r [] all h = h
 bytes_typed r (b ∷ bs) all h =
-    let both = and_out (is_byte b) (are_bytes bs) all in
+    let both = and_parts (is_byte b) (are_bytes bs) all in
     let w = byte_in_range b both.0 in
     let low = w.from_lo in
     let high = w.to_hi in
@@ -373,7 +373,7 @@ text_typed : (type : ValueType) (bs : List ℕ) → are_bytes bs ≡ true → Is
 text_typed value_type.Int bs all = tt
 text_typed value_type.Byte [] all = tt
 text_typed value_type.Byte (b ∷ bs) all =
-    let both = and_out (is_byte b) (are_bytes bs) all in
+    let both = and_parts (is_byte b) (are_bytes bs) all in
     let w = byte_in_range b both.0 in
     bytes_typed (constant (pos b)) bs both.1 (w.from_lo, w.to_hi)
 
@@ -393,15 +393,15 @@ constant_typed : (es : List Entry) (type : ValueType) (value : Value) → AreInT
 constant_typed es type (lines.Scalar e) typed words =
     constant_by type (value_as es (type_of_values type) e) (λ v is. value_typed es type e v typed words is)
 constant_typed es type (lines.Table size items) typed words =
-    let all = (and_out (has_words size) (list_all has_words (as_list items)) words).1 in
-    let each = and_out (has_words items.first) (list_all has_words items.others) all in
+    let all = (and_parts (has_words size) (list_all has_words (as_list items)) words).1 in
+    let each = and_parts (has_words items.first) (list_all has_words items.others) all in
     let first = value_as es (type_of_values type) items.first in
     table_typed type (size_in es size) _ (range_of_items es type items)
     (items_typed es type (option_map constant first) items.others typed each.1
     (first_typed type first (λ v is. value_typed es type items.first v typed each.0 is)))
 constant_typed es type (lines.Bytes size bs) typed words =
     table_typed type (size_in es size) (length bs) (range_of_bytes type bs)
-    (text_typed type bs (and_out (has_words size) (are_bytes bs) words).1)
+    (text_typed type bs (and_parts (has_words size) (are_bytes bs) words).1)
 
 zero_within : (type : ValueType) → RangeWithin (constant (pos 0)) (type_range type)
 zero_within value_type.Int = (omega (arith, ints), omega (arith, ints))

@@ -8,6 +8,7 @@ use Rattle.std.proofs.lemmas.Int.{ints}
 use Rattle.std.proofs.lemmas.Option.{slice_get_within}
 use Rattle.std.specs.List.{list_any}
 use Rattle.std.specs.Prelude.{slice_get, slice_set, nat_lt}
+use Rattle.small_laws.proofs.Options.{same_some}
 use Rattle.module_format.specs.Contents.{Contents}
 use Rattle.module_format.specs.declared.rows.Direction.TheVariants.{In}
 use Rattle.module_format.specs.declared.rows.EndKind.{EndKind}
@@ -41,7 +42,6 @@ use Rattle.machine_state.specs.Site.{ends_alternation}
 use Rattle.machine_state.specs.Turn.{Here as Turning, at_here, between}
 use Rattle.machine_state.specs.World.{World, held, holding_at, input_word}
 use Rattle.machine_state.proofs.Changes.{channel_there}
-use Rattle.machine_state.proofs.Claims.{only_one}
 use Rattle.machine_state.proofs.Lines.{got_set, got_within}
 use Rattle.machine_state.proofs.Waiting.{link_found, link_low}
 use Rattle.states.specs.declared.known.Guard.{Guard}
@@ -309,7 +309,7 @@ module _ (m : Contents) (wf : IsWellFormed m) (w : World) (lawful : IsLawful m w
       (λ address enables.
       let same = enabled_as_before w (counted after) p refl refl in
       let a = lawful.alternate p (is_in_list w p address (same.fewer address enables)) in
-      let it = only_one (slice_get w.tasks p) a.task t a.here r.here in
+      let it = same_some (slice_get w.tasks p) a.task t a.here r.here in
       plain_beside (ap (λ (u : Task). u.mode) it ∙ plain_process modes_fit begun.before) a.alternates) refl)
 
   -- ---- the channel of a guard
@@ -411,7 +411,7 @@ module _ (m : Contents) (wf : IsWellFormed m) (w : World) (lawful : IsLawful m w
   by_nobody q other e = cc
 
   by_another : (o : Option ℕ) → is_by o p ≡ true → (q : ℕ) → p ≢ q → o ≡ Some q → ⊥
-  by_another o own q other e = other (only_one o p q (is_by_it o p own) e)
+  by_another o own q other e = other (same_some o p q (is_by_it o p own) e)
 
   -- ---- enbc, enbs
 

@@ -36,8 +36,8 @@ use Rattle.verifier.proofs.Tables.{holds_aside}
 use Rattle.certified_worlds.specs.Alternating.{EnablesAt, a_channel, a_link}
 use Rattle.machine_state.specs.EnabledLaws.{HasReady, a_sender, a_byte}
 use Rattle.machine_state.specs.declared.process.Mode.TheVariants as modes
-use Rattle.machine_state.proofs.Claims.{only_one}
 use Rattle.std.proofs.lemmas.Bool.{cases_eq}
+use Rattle.small_laws.proofs.Options.{same_some}
 use Rattle.verifier.proofs.Tables.{dispatch_holds}
 use Rattle.verifier.proofs.Rousing.{rouse_holds}
 
@@ -126,7 +126,7 @@ module _ (m : Contents) (w : World) (lawful : IsLawful m w) (h : Holds m w) (k b
     | inl same ↦ a_link j with_it at
         (subst (λ n. slice_get (slice_set w.links.inputs k with_it) n ≡ Some with_it) same
         (got_set w.links.inputs k l with_it here))
-        (ap (λ (x : InputLink). x.enabled) (only_one (slice_get w.links.inputs j) l link
+        (ap (λ (x : InputLink). x.enabled) (same_some (slice_get w.links.inputs j) l link
         (subst (λ n. slice_get w.links.inputs n ≡ Some l) same here) there) ∙ is)
     | inr differ ↦ a_link j link at (got_other w.links.inputs k j with_it differ ∙ there) is
   ]
@@ -137,7 +137,7 @@ module _ (m : Contents) (w : World) (lawful : IsLawful m w) (h : Holds m w) (k b
   ready_still p (a_sender j c q sender e at is waiting there sends) = a_sender j c q sender e at is waiting there sends
   ready_still p (a_byte j link b at is there) = elim (cases_eq k j) [
     | inl same ↦
-        let one = only_one (slice_get w.links.inputs j) l link (subst (λ n. slice_get w.links.inputs n ≡ Some l) same
+        let one = same_some (slice_get w.links.inputs j) l link (subst (λ n. slice_get w.links.inputs n ≡ Some l) same
         here)
         at in
         let no' : None ≡ Some b = sym empty ∙ (ap (λ (x : InputLink). x.kept) one ∙ there) in

@@ -5,6 +5,7 @@ use Rattle.std.proofs.Common.{Some, refl, sym, ap, ◌∙◌, subst, arith}
 use Rattle.std.proofs.lemmas.Bool.{cases_eq}
 use Rattle.std.proofs.lemmas.Option.{slice_get_within}
 use Rattle.std.specs.Prelude.{slice_get, slice_set}
+use Rattle.small_laws.proofs.Options.{same_some}
 use Rattle.module_format.specs.Contents.{Contents}
 use Rattle.module_format.specs.declared.rows.Direction.TheVariants.{In}
 use Rattle.machine_state.specs.declared.link.InputLink.{InputLink}
@@ -21,7 +22,6 @@ use Rattle.machine_state.specs.Moves.{cell_of, channel_at}
 use Rattle.machine_state.specs.Ownership.{IsWord}
 use Rattle.machine_state.specs.World.{World, holding_at, input_word}
 use Rattle.machine_state.proofs.Changes.{channel_there}
-use Rattle.machine_state.proofs.Claims.{only_one}
 use Rattle.machine_state.proofs.EnabledIsHeld.{only_receiver, word_of}
 use Rattle.machine_state.proofs.Lines.{got_set, got_other, set_either}
 use Rattle.machine_state.proofs.Waiting.{link_found}
@@ -84,7 +84,7 @@ module _ (m : Contents) (wf : IsWellFormed m) (w : World) (lawful : IsLawful m w
   -- and what a process has enabled there is by it
   pub source_is_by : (p address : ℕ) (s : Source) → IsSource w address s → EnablesAt w p address → s.enabled ≡ Some p
   source_is_by p address s (on_channel c outside at) (a_channel word d here is) =
-      let one : Some c ≡ Some d = only_one (slice_get w.channels (cell_of address)) (Some c) (Some d) (channel_there
+      let one : Some c ≡ Some d = same_some (slice_get w.channels (cell_of address)) (Some c) (Some d) (channel_there
       w address c at) here in
       let same : c ≡ d = cc in
       ap (λ (c : Channel). c.enabled) same ∙ is
@@ -96,7 +96,7 @@ module _ (m : Contents) (wf : IsWellFormed m) (w : World) (lawful : IsLawful m w
   source_is_by p address s (on_link k link found here) (a_link j other there at is) =
       let on = link_found (input_word 0) address k found in
       let same : j ≡ k = omega (arith, on, there) in
-      ap (λ (l : InputLink). l.enabled) (only_one (slice_get w.links.inputs k) link other here
+      ap (λ (l : InputLink). l.enabled) (same_some (slice_get w.links.inputs k) link other here
       (subst (λ n. slice_get w.links.inputs n ≡ Some other) same at)) ∙ is
 
   -- What is enabled at an end that a process holds to receive by is enabled by it.
@@ -137,7 +137,7 @@ module _ (m : Contents) (wf : IsWellFormed m) (w : World) (lawful : IsLawful m w
           let theirs = word_of m w lawful.stands q (record { address = e.channel; direction = In }) c
           (subst (λ n. slice_get w.channels n ≡ Some (Some c)) (sym cell) there) end in
           one_holds w lawful.apart p q (record { address = address; direction = In }) (λ it.
-          let one = only_one (slice_get w.tasks q) t u (subst (λ n. slice_get w.tasks n ≡ Some t) it here) stands in
+          let one = same_some (slice_get w.tasks q) t u (subst (λ n. slice_get w.tasks n ≡ Some t) it here) stands in
           let no' : Ready ≡ Receiving e = sym ready ∙ (ap (λ (x : Task). x.condition) one ∙ receives) in
           cc) held
           (subst (λ a. has_end (holding_at w.roles q) (record { address = a; direction = In }) ≡ true)
@@ -170,7 +170,7 @@ module _ (m : Contents) (wf : IsWellFormed m) (w : World) (lawful : IsLawful m w
 
         here : EnablesAt after p address → by ≡ Some p
         here (a_channel other d there is) =
-            let one : Some (record c { enabled = by }) ≡ Some d = only_one (slice_get after.channels (cell_of
+            let one : Some (record c { enabled = by }) ≡ Some d = same_some (slice_get after.channels (cell_of
             address)) (Some (record c { enabled = by })) (Some d) set there in
             let same : (record c { enabled = by }) ≡ d = cc in
             ap (λ (c : Channel). c.enabled) same ∙ is
@@ -203,7 +203,7 @@ module _ (m : Contents) (wf : IsWellFormed m) (w : World) (lawful : IsLawful m w
             is kept
         ready none (a_sender k d q sender e there is waiting stands sends) = elim (cases_eq (cell_of address) k) [
           | inl same ↦
-              let one : Some c ≡ Some d = only_one (slice_get w.channels k) (Some c) (Some d)
+              let one : Some c ≡ Some d = same_some (slice_get w.channels k) (Some c) (Some d)
               (subst (λ n. slice_get w.channels n ≡ Some (Some c)) same found) there in
               let it : c ≡ d = cc in
               absurd (elim none [
@@ -240,7 +240,7 @@ module _ (m : Contents) (wf : IsWellFormed m) (w : World) (lawful : IsLawful m w
             (few_links k link found) at)
         here (a_link j other on there is) =
             let same : j ≡ k = omega (arith, on, at) in
-            ap (λ (l : InputLink). l.enabled) (only_one (slice_get after.links.inputs k) (record link {
+            ap (λ (l : InputLink). l.enabled) (same_some (slice_get after.links.inputs k) (record link {
               enabled = by;
             }) other set
             (subst (λ n. slice_get after.links.inputs n ≡ Some other) same there)) ∙ is
@@ -276,7 +276,7 @@ module _ (m : Contents) (wf : IsWellFormed m) (w : World) (lawful : IsLawful m w
             sends
         ready none (a_byte j other byte there is kept) = elim (cases_eq k j) [
           | inl same ↦
-              let it = only_one (slice_get w.links.inputs j) link other
+              let it = same_some (slice_get w.links.inputs j) link other
               (subst (λ n. slice_get w.links.inputs n ≡ Some link) same found) there in
               absurd (elim none [
                 | inl enabled ↦ enabled (ap (λ (l : InputLink). l.enabled) it ∙ is)

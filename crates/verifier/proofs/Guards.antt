@@ -4,6 +4,8 @@ use Rattle.std.proofs.Common.{length, Option, Some, None, refl, sym, ap, ◌∙�
 use Rattle.std.proofs.lemmas.Bool.{cases_eq, cases_lt}
 use Rattle.std.proofs.lemmas.Option.{slice_get_within}
 use Rattle.std.specs.Prelude.{slice_get}
+use Rattle.small_laws.proofs.Options.{same_some}
+use Rattle.small_laws.proofs.Lookups.{slice_get-append_left}
 use Rattle.module_format.specs.Contents.{Contents}
 use Rattle.module_format.specs.declared.rows.Direction.TheVariants.{In}
 use Rattle.module_format.specs.declared.rows.EndKind.{EndKind}
@@ -14,8 +16,7 @@ use Rattle.machine_state.specs.Holding.{Holding}
 use Rattle.machine_state.specs.Memory.{Memory}
 use Rattle.machine_state.specs.Site.{Local}
 use Rattle.machine_state.specs.World.{World}
-use Rattle.machine_state.proofs.Claims.{only_one}
-use Rattle.machine_state.proofs.Lines.{got_set, got_other, got_before, got_last, got_either, set_either}
+use Rattle.machine_state.proofs.Lines.{got_set, got_other, got_last, got_either, set_either}
 use Rattle.states.specs.declared.known.Guard.{Guard}
 use Rattle.states.specs.declared.known.GuardKind.{GuardKind}
 use Rattle.states.specs.declared.known.GuardKind.TheVariants.{Channel as AtChannel, Skip}
@@ -116,7 +117,7 @@ module _ (m : Contents) (x : Here) (kind : GuardKind) (holds : Bool) (next : Sta
       number = old.number;
       left = let none = ap first_left more.mode in omega (arith, none);
       here = subst (λ (guards : List Guard). slice_get guards old.number ≡ Some g) (sym more.list)
-          (got_before x.before.guards (new ∷ []) old.number g old.here);
+          (slice_get-append_left x.before.guards (new ∷ []) old.number g old.here);
       value = old.value;
       is = values_as g ∙ old.is;
       holds = old.holds;
@@ -293,7 +294,7 @@ module _ (m : Contents) (x : Here) (kind : GuardKind) (holds : Bool) (distance :
 
     disabled_true : (g : Guard) (was : IsTrueGuard w.memory x.act x.before g) → was.number ≡ done → IsDisabled g
     disabled_true g was number =
-        let it = only_one (slice_get x.before.guards done) g less.guard
+        let it = same_some (slice_get x.before.guards done) g less.guard
         (subst (λ (n : ℕ). slice_get x.before.guards n ≡ Some g) number was.here) less.there in
         record {
           is = it;

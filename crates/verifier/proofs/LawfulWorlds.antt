@@ -1,6 +1,7 @@
 -- What the laws of every module say of a world that events lead to, as the invariant's proof reads it.
 use Rattle.std.proofs.Common.{◌≡◌, ℕ, List, length, Option, Some, ap, ◌∙◌, subst}
 use Rattle.std.specs.Prelude.{slice_get}
+use Rattle.small_laws.proofs.Options.{same_some}
 use Rattle.module_format.specs.Contents.{Contents}
 use Rattle.module_format.specs.Keeping.{Keeps}
 use Rattle.machine_state.specs.declared.event.Event.{Event}
@@ -18,7 +19,6 @@ use Rattle.world_laws.specs.InsideMemory.{LiesInMemory}
 use Rattle.world_laws.proofs.InsideMemory.{holdings_lie}
 use Rattle.share_laws.specs.Opening.{HasNoEndsInside}
 use Rattle.share_laws.proofs.EndsOutside.{ends_lie_outside}
-use Rattle.machine_state.proofs.Claims.{only_one}
 use Rattle.machine_state.proofs.Waiting.{lines_are_ready, links_have_their_waiters, branches_are_counted}
 use Rattle.machine_state.proofs.WhoStarts.{openers_are_starting}
 use Rattle.machine_state.proofs.LinkCounts.{links_stay_four}
@@ -74,4 +74,4 @@ pub runs_ready : {m : Contents} (w : World) → IsLawful m w → (p : ℕ) (t : 
     → slice_get w.tasks p ≡ Some t → t.condition ≡ Ready
 runs_ready w lawful p t running here =
     let first = (subst (λ (o : Option ℕ). AllReady w.tasks (line_of o w.queue.ready)) running lawful.line.ready).0 in
-    ap (λ (u : Task). u.condition) (only_one (slice_get w.tasks p) t first.task here first.here) ∙ first.ready
+    ap (λ (u : Task). u.condition) (same_some (slice_get w.tasks p) t first.task here first.here) ∙ first.ready

@@ -3,6 +3,7 @@ use Rattle.std.proofs.Common.{◌≡◌, ◌≢◌, ℕ, ◌+◌, ◌≤◌, ◌
 use Rattle.std.proofs.Common.{refl}
 use Rattle.std.proofs.Common.{sym, ap, ◌∙◌, subst, arith, eqb-true}
 use Rattle.std.specs.Prelude.{slice_get, slice_set}
+use Rattle.small_laws.proofs.Options.{same_some}
 use Rattle.module_format.specs.Contents.{Contents}
 use Rattle.module_format.specs.declared.rows.Direction.TheVariants.{In, Out}
 use Rattle.machine_state.specs.declared.link.InputLink.{InputLink}
@@ -29,7 +30,6 @@ use Rattle.machine_state.specs.Endings.{Moved, receives_first, receives_from, re
 use Rattle.machine_state.specs.Endings.{receives_one}
 use Rattle.machine_state.specs.Endings.{sends_first, sends_to}
 use Rattle.machine_state.proofs.Changes.{channel_there, rouses}
-use Rattle.machine_state.proofs.Claims.{only_one}
 use Rattle.machine_state.proofs.EnabledIsHeld.{word_of}
 use Rattle.machine_state.proofs.Lines.{got_set, got_other}
 use Rattle.machine_state.proofs.MovesLeaveAlone.{rouse_only}
@@ -140,7 +140,7 @@ module _ (m : Contents) (wf : IsWellFormed m) (w : World) (lawful : IsLawful m w
   stepped_silent : (c : Condition) (l : Local) → IsSilent (stepped c l) p (behind c l)
   stepped_silent c l k d q e other there enabled waits_there out =
       let v = lawful.cells k d p there waits_there in
-      let now = ap (λ (u : Task). u.condition) (only_one (slice_get w.tasks p) v.task t v.here r.here) ∙ ready in
+      let now = ap (λ (u : Task). u.condition) (same_some (slice_get w.tasks p) v.task t v.here r.here) ∙ ready in
       elim v.waits [ inl out ↦ let no' = sym out ∙ now in cc | inr in_ ↦ let no' = sym in_ ∙ now in cc ]
 
   -- what memory holds is small
@@ -197,7 +197,7 @@ module _ (m : Contents) (wf : IsWellFormed m) (w : World) (lawful : IsLawful m w
           let word = word_of m w lawful.stands p (record { address = e.channel; direction = In }) c there held_in in
           let it = only_it m wf w lawful h p e.channel held_in q (a_channel word c there enabled) in
           let a = lawful.alternate p (has_channel (cell_of e.channel) c there (enabled ∙ ap Some it)) in
-          plain_beside (ap (λ (u : Task). u.mode) (only_one (slice_get w.tasks p) a.task t a.here r.here)
+          plain_beside (ap (λ (u : Task). u.mode) (same_some (slice_get w.tasks p) a.task t a.here r.here)
           ∙ plain) a.alternates
 
       -- it waits for the first byte, or the second, of a link, or goes on with the last
@@ -302,14 +302,14 @@ module _ (m : Contents) (wf : IsWellFormed m) (w : World) (lawful : IsLawful m w
           silent : IsSilent (counted gone_on) q u.0
           silent k d s x beside there enabled waits_there out =
               let v = lawful.cells k d q there waits_there in
-              let now = ap (λ (y : Task). y.condition) (only_one (slice_get w.tasks q) v.task u.0 v.here u.1) ∙ u.2 in
+              let now = ap (λ (y : Task). y.condition) (same_some (slice_get w.tasks q) v.task u.0 v.here u.1) ∙ u.2 in
               elim v.waits [
                 | inl out ↦
                     let both : Sending v.exchange ≡ Sending sent = sym out ∙ now in
                     let alike : v.exchange ≡ sent = cc in
                     let at_cell : k ≡ cell_of e.channel =
                     sym v.at ∙ (ap (λ (y : Exchange). cell_of y.channel) alike ∙ cell_is) in
-                    let one : Some d ≡ Some c = only_one (slice_get w.channels (cell_of e.channel)) (Some d) (Some c)
+                    let one : Some d ≡ Some c = same_some (slice_get w.channels (cell_of e.channel)) (Some d) (Some c)
                     (subst (λ n. slice_get w.channels n ≡ Some (Some d)) at_cell there)
                     (channel_there w e.channel c at) in
                     let it : d ≡ c = cc in
@@ -507,7 +507,7 @@ module _ (m : Contents) (wf : IsWellFormed m) (w : World) (lawful : IsLawful m w
           no_sender : (s : ℕ) → c.enabled ≡ Some s → ⊥
           no_sender s enabled =
               let v = lawful.senders.at_channels (cell_of e.channel) c s q cell enabled waiting in
-              let one = only_one (slice_get w.tasks q) v.task u.0 v.here u.1 in
+              let one = same_some (slice_get w.tasks q) v.task u.0 v.here u.1 in
               let no' = sym v.sends ∙ (ap (λ (y : Task). y.condition) one ∙ u.2) in
               cc
 

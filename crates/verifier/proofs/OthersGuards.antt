@@ -4,6 +4,7 @@ use Rattle.std.proofs.Common.{◌≡◌, ◌≢◌, ℕ, inl, inr, List, Option,
 use Rattle.std.proofs.Common.{sym, ap, ◌∙◌, subst}
 use Rattle.std.proofs.lemmas.Bool.{cases_eq}
 use Rattle.std.specs.Prelude.{slice_get, slice_set}
+use Rattle.small_laws.proofs.Options.{same_some}
 use Rattle.machine_state.specs.declared.link.InputLink.{InputLink}
 use Rattle.machine_state.specs.declared.process.Channel.{Channel}
 use Rattle.machine_state.specs.declared.process.Condition.TheVariants.{Ready, Sending}
@@ -12,7 +13,6 @@ use Rattle.machine_state.specs.declared.process.Task.{Task}
 use Rattle.machine_state.specs.EnabledLaws.{HasReady, a_sender, a_byte}
 use Rattle.machine_state.specs.Moves.{cell_of}
 use Rattle.machine_state.specs.World.{World}
-use Rattle.machine_state.proofs.Claims.{only_one}
 use Rattle.machine_state.proofs.Lines.{got_set, got_other, set_either}
 use Rattle.certified_worlds.specs.Alternating.{EnablesAt, a_channel, a_link}
 use Rattle.certified_worlds.proofs.Carrying.{SameEnabled}
@@ -97,7 +97,7 @@ channel_set {p} cells k old new there fewer more = record { back = back; on = on
         × ((s : ℕ) → c.waiting ≡ Some s → d.waiting ≡ Some s)
     on n c q other here is = elim (cases_eq k n) [
       | inl it ↦
-          let one : Some old ≡ Some c = only_one (slice_get cells n) (Some old) (Some c)
+          let one : Some old ≡ Some c = same_some (slice_get cells n) (Some old) (Some c)
           (subst (λ i. slice_get cells i ≡ Some (Some old)) it there) here in
           let same : old ≡ c = cc in
           let now = more q other (ap (λ (x : Channel). x.enabled) same ∙ is) in (
@@ -134,7 +134,7 @@ link_set {p} inputs k old new there fewer more = record { back = back; on = on }
         × ((byte : ℕ) → l.kept ≡ Some byte → o.kept ≡ Some byte)
     on n l q other here is = elim (cases_eq k n) [
       | inl it ↦
-          let same = only_one (slice_get inputs n) old l (subst (λ i. slice_get inputs i ≡ Some old) it there) here in
+          let same = same_some (slice_get inputs n) old l (subst (λ i. slice_get inputs i ≡ Some old) it there) here in
           let now = more q other (ap (λ (x : InputLink). x.enabled) same ∙ is) in (
             new,
             subst (λ i. slice_get (slice_set inputs k new) i ≡ Some new) it (got_set inputs k old new there),
@@ -176,7 +176,7 @@ module _ (w after : World) (p : ℕ) (t u : Task) (here : slice_get w.tasks p �
     where
       another : p ≢ s
       another same =
-          let one = only_one (slice_get w.tasks s) t sender (subst (λ n. slice_get w.tasks n ≡ Some t) same here)
+          let one = same_some (slice_get w.tasks s) t sender (subst (λ n. slice_get w.tasks n ≡ Some t) same here)
           stands in
           leaves.silent k c q e other there is (waiting ∙ ap Some (sym same))
           (ap (λ (x : Task). x.condition) one ∙ sends)

@@ -2,6 +2,7 @@
 -- branches that are not over, a process that has one open starts branches or is over, and each process is calm.
 use Rattle.std.proofs.Common.{◌≡◌, ◌≢◌, ◌⊎◌, ℕ, ◌*◌, inl, inr, List, Option, Some, None, refl, sym, ap, ◌∙◌, subst}
 use Rattle.std.specs.Prelude.{slice_get, slice_set}
+use Rattle.small_laws.proofs.Options.{same_some}
 use std.Path.{fun_ext}
 use Rattle.module_format.specs.Contents.{Contents}
 use Rattle.machine_state.specs.declared.process.Channel.{Channel}
@@ -13,7 +14,6 @@ use Rattle.machine_state.specs.Ownership.{Holders, HoldersIn, owner_in}
 use Rattle.machine_state.specs.Roles.{own_in, opener_in, opened_in}
 use Rattle.machine_state.specs.Waiting.{Branches, HasOpened, IsOver, IsStarting, Starters}
 use Rattle.machine_state.specs.World.{World, Role, Join, held}
-use Rattle.machine_state.proofs.Claims.{only_one}
 use Rattle.machine_state.proofs.Lines.{got_other, set_either}
 use Rattle.certified_worlds.proofs.ParsStay.{opened_is}
 use Rattle.verifier.proofs.CalmWorlds.{AllCalm, IsCalm, set_calm}
@@ -56,11 +56,11 @@ none_open {tasks} {roles} openers p t here going unstarted = on (slice_get roles
     none role there (Some join) is =
         absurd (elim (openers p (record { role = role; here = there; join = join; is_open = is })) [
           | inl starting ↦
-              let one = only_one (slice_get tasks p) starting.task t starting.here here in
+              let one = same_some (slice_get tasks p) starting.task t starting.here here in
               unstarted (ap (λ (u : Task). u.mode) (sym one) ∙ starting.starting)
               (ap (λ (u : Task). u.condition) (sym one) ∙ starting.ready)
           | inr over ↦
-              let one = only_one (slice_get tasks p) over.task t over.here here in
+              let one = same_some (slice_get tasks p) over.task t over.here here in
               going (ap (λ (u : Task). u.condition) (sym one) ∙ over.over)
         ])
 
@@ -94,7 +94,7 @@ module _ (tasks : List Task) (roles : List Role) (p : ℕ) (t u : Task) (here : 
   over_still q over = record {
     task = over.task;
     here = got_other tasks p q u (λ same. going (ap (λ (x : Task). x.condition)
-        (only_one (slice_get tasks q) t over.task (subst (λ n. slice_get tasks n ≡ Some t) same here) over.here)
+        (same_some (slice_get tasks q) t over.task (subst (λ n. slice_get tasks n ≡ Some t) same here) over.here)
         ∙ over.over)) ∙ over.here;
     over = over.over;
   }

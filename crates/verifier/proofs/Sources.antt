@@ -5,6 +5,7 @@ use Rattle.std.proofs.Common.{Option, Some, None, refl, sym, ap, ◌∙◌, subs
 use Rattle.std.proofs.lemmas.Bool.Decides.{leb_tells}
 use Rattle.std.proofs.lemmas.Option.{slice_get_within}
 use Rattle.std.specs.Prelude.{slice_get, nat_lt}
+use Rattle.small_laws.proofs.Options.{same_some}
 use Rattle.module_format.specs.Contents.{Contents, link_length}
 use Rattle.module_format.specs.declared.rows.Direction.{Direction}
 use Rattle.module_format.specs.declared.rows.Direction.TheVariants.{In, Out}
@@ -22,7 +23,6 @@ use Rattle.machine_state.specs.Exchanges.{input_link, output_link}
 use Rattle.machine_state.specs.Ownership.{IsWord}
 use Rattle.machine_state.specs.Roles.{own_in, opened_in}
 use Rattle.machine_state.specs.ChannelLaws.{WaitsTo}
-use Rattle.machine_state.proofs.Claims.{only_one}
 use Rattle.rulings.specs.Meaning.{IsWellFormed}
 use Rattle.certified_worlds.specs.Lives.{IsExchanging}
 use Rattle.certified_worlds.specs.Point.{Began}
@@ -180,7 +180,7 @@ module _ (m : Contents) (wf : IsWellFormed m) (w : World) (lawful : IsLawful m w
       on (a_channel c there len word) =
           let told = lawful.recorded q t direction e here waits in
           let one : Some told.channel ≡ Some c =
-          only_one (slice_get w.channels (cell_of e.channel)) (Some told.channel) (Some c) told.here there in
+          same_some (slice_get w.channels (cell_of e.channel)) (Some told.channel) (Some c) told.here there in
           let same : told.channel ≡ c = cc in
           record {
             channel = told.channel;

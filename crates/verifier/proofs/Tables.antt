@@ -6,6 +6,7 @@ use Rattle.std.proofs.lemmas.List.{length-set}
 use Rattle.std.specs.Prelude.{slice_get, slice_set}
 use std.Path.{path_j}
 use Rattle.std.proofs.Math.Path.{subst_refl}
+use Rattle.small_laws.proofs.Options.{same_some}
 use Rattle.module_format.specs.Contents.{Contents, Par}
 use Rattle.machine_state.specs.declared.process.Task.{Task}
 use Rattle.machine_state.specs.declared.process.Condition.{Condition}
@@ -21,7 +22,6 @@ use Rattle.machine_state.specs.Waiting.{IsGone, IsOver}
 use Rattle.machine_state.specs.World.{World, Role, Join, held}
 use Rattle.machine_state.specs.declared.process.Channel.{Channel}
 use Rattle.machine_state.specs.Moves.{picked, dispatch, cell_of}
-use Rattle.machine_state.proofs.Claims.{only_one}
 use Rattle.machine_state.proofs.Lines.{got_set, got_other, set_either}
 use Rattle.rulings.proofs.Words.{bool_cases}
 use Rattle.rulings.proofs.Combining.{readable_byte}
@@ -263,7 +263,7 @@ pub channel_stays : (cells : List (Option Channel)) (k : ℕ) (old new : Channel
     → new.length ≡ old.length → new.opener ≡ old.opener → ChannelsStay cells (slice_set cells k (Some new))
 channel_stays cells k old new there same by n c here = elim (cases_eq k n) [
   | inl it ↦
-      let one : Some old ≡ Some c = only_one (slice_get cells n) (Some old) (Some c)
+      let one : Some old ≡ Some c = same_some (slice_get cells n) (Some old) (Some c)
       (subst (λ i. slice_get cells i ≡ Some (Some old)) it there) here in
       let is : old ≡ c = cc in (
         new,

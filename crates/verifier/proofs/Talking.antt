@@ -4,6 +4,7 @@ use Rattle.std.proofs.Common.{◌≡◌, ◌≢◌, ℕ, suc, ◌+◌, true, fal
 use Rattle.std.proofs.Common.{Option, Some, None, refl, sym, ap, ◌∙◌, subst, arith}
 use Rattle.std.proofs.lemmas.Bool.Decides.{leb_tells, eqb_tells}
 use Rattle.std.specs.Prelude.{slice_get, nat_lt, ◌==◌}
+use Rattle.small_laws.proofs.Options.{same_some}
 use Rattle.module_format.specs.Contents.{Contents, link_length}
 use Rattle.module_format.specs.declared.rows.Direction.{Direction}
 use Rattle.module_format.specs.declared.rows.Direction.TheVariants.{In, Out}
@@ -25,7 +26,6 @@ use Rattle.machine_state.specs.Endings.{Refused, no_code_follows, no_channel, no
 use Rattle.machine_state.specs.Endings.{receives_from_no_sender, receives_other_length, receives_other_than_link}
 use Rattle.machine_state.specs.Endings.{sends_nowhere, sends_to_no_receiver, sends_other_length, sends_other_than_link}
 use Rattle.machine_state.proofs.Changes.{channel_there}
-use Rattle.machine_state.proofs.Claims.{only_one}
 use Rattle.machine_state.proofs.Lines.{got_within}
 use Rattle.machine_state.proofs.Waiting.{link_found, link_low}
 use Rattle.machine_state.proofs.WhoWaitsOnLinks.{one_holds}
@@ -76,7 +76,7 @@ module _ (m : Contents) (wf : IsWellFormed m) (w : World) (lawful : IsLawful m w
   pub another : (q : ℕ) (u : Task) (c : Condition) → slice_get w.tasks q ≡ Some u → u.condition ≡ c → (c ≡ Ready → ⊥)
       → p ≢ q
   another q u c here is waits same =
-      let one = only_one (slice_get w.tasks q) t u (subst (λ n. slice_get w.tasks n ≡ Some t) same r.here) here in
+      let one = same_some (slice_get w.tasks q) t u (subst (λ n. slice_get w.tasks n ≡ Some t) same r.here) here in
       waits (sym is ∙ ap (λ (t : Task). t.condition) (sym one) ∙ ready)
 
   waits_still : (direction : Direction) (c : Condition) (e : Exchange) → WaitsTo direction c e → c ≡ Ready → ⊥
@@ -122,7 +122,7 @@ module _ (m : Contents) (wf : IsWellFormed m) (w : World) (lawful : IsLawful m w
           absurd (no_cell m wf w lawful h (4 + k) e.channel c (omega (arith, few)) (omega (arith, is)) at)
       on (an_output k few is out len) = absurd (no_cell m wf w lawful h k e.channel c (omega (arith, few)) is at)
       on (a_channel d found len word) =
-          let one : Some theirs.channel ≡ Some d = only_one (slice_get w.channels (cell_of e.channel))
+          let one : Some theirs.channel ≡ Some d = same_some (slice_get w.channels (cell_of e.channel))
           (Some theirs.channel) (Some d) (subst (λ n. slice_get w.channels n ≡ Some (Some theirs.channel)) cell
           theirs.here) found in
           let same : theirs.channel ≡ d = cc in
@@ -158,7 +158,7 @@ module _ (m : Contents) (wf : IsWellFormed m) (w : World) (lawful : IsLawful m w
       on : (direction : Direction) → WaitsTo direction u.condition x → WaitsAt w.tasks q (cell_of e.channel)
           → cell_of x.channel ≡ cell_of e.channel
       on In is v =
-          let one = only_one (slice_get w.tasks q) v.task u v.here here in
+          let one = same_some (slice_get w.tasks q) v.task u v.here here in
           let now = ap (λ (t : Task). t.condition) one ∙ is in
           elim v.waits [
             | inl out ↦ let no' : Sending v.exchange ≡ Receiving x = sym out ∙ now in absurd (cc)
@@ -168,7 +168,7 @@ module _ (m : Contents) (wf : IsWellFormed m) (w : World) (lawful : IsLawful m w
                 ap (λ (e : Exchange). cell_of e.channel) (sym same) ∙ v.at
           ]
       on Out is v =
-          let one = only_one (slice_get w.tasks q) v.task u v.here here in
+          let one = same_some (slice_get w.tasks q) v.task u v.here here in
           let now = ap (λ (t : Task). t.condition) one ∙ is in
           elim v.waits [
             | inl out ↦

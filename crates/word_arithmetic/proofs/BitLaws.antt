@@ -5,7 +5,7 @@ use Rattle.std.proofs.Common.{bit_xor, unsigned_abs, mod-eq_of_lt, pow_mono, pow
 use Rattle.std.specs.Int.{w32, cast_signed, cast_unsigned, int_min, int_max, leading_zeros}
 use Rattle.std.proofs.lemmas.Int.{ints, clamps, to_z_pos}
 use Rattle.std.proofs.lemmas.Nat.{and_le_l, and_le_r, or_lt, xor_lt, leading_length, shr_le, mul-le, mod_below}
-use Rattle.std.proofs.lemmas.Bool.{cond_both, le-ltb, cases_lt}
+use Rattle.std.proofs.lemmas.Bool.{cond_both, le-ltb, cases_lt, and_parts}
 use Rattle.std.proofs.lemmas.Bool.Decides.{Decides-int_eq}
 use mir.Val.{sel}
 use Rattle.word_arithmetic.specs.Word.{is_word, word_and, word_or, word_xor, word_not, shifted_left, shifted_right}
@@ -13,7 +13,7 @@ use Rattle.word_arithmetic.specs.Range.{Ends, InRange, IsRange, Holds, is_consta
 use Rattle.word_arithmetic.specs.Range.{zero_to, fitting, bits_range, all_ones, and_range, or_range, xor_range}
 use Rattle.word_arithmetic.specs.Range.{not_range, shift_left_range, shift_right_range}
 use Rattle.word_arithmetic.proofs.WordLaws.{is_word_out}
-use Rattle.word_arithmetic.proofs.EndsLaws.{member_fits, and_out}
+use Rattle.word_arithmetic.proofs.EndsLaws.{member_fits}
 use Rattle.word_arithmetic.proofs.ModularLaws.{in_full}
 
 -- ---- words
@@ -100,11 +100,11 @@ bits_hold : (f : ℤ → ℤ → ℤ) (hi : ℤ) (r s : Ends) → IsRange r → 
 bits_hold f hi r s p q words naturals x y m n =
     cond_both (is_constant r && is_constant s) (constant (f r.lo s.lo))
     (cond (is_not_negative r && is_not_negative s) (zero_to hi) full) (λ t. InRange t (f x y))
-    (λ e. let w = and_out (is_constant r) (is_constant s) e in
+    (λ e. let w = and_parts (is_constant r) (is_constant s) e in
     let same : f r.lo s.lo ≡ f x y = (λ i. f (constant_out r x w.0 m i) (constant_out s y w.1 n i)) in
     record { from_lo = omega (arith, ints, same); to_hi = omega (arith, ints, same) })
     (λ e. cond_both (is_not_negative r && is_not_negative s) (zero_to hi) full (λ t. InRange t (f x y))
-    (λ d. let w = and_out (is_not_negative r) (is_not_negative s) d in
+    (λ d. let w = and_parts (is_not_negative r) (is_not_negative s) d in
     let a = not_negative_out r x w.0 m in
     let b = not_negative_out s y w.1 n in
     subst (λ z. InRange (zero_to hi) (f z y)) (sym a.1) (subst (λ z. InRange (zero_to hi) (f (pos a.0) z)) (sym b.1)
@@ -226,7 +226,7 @@ shift_left_holds r counts p z x k m n =
         → InRange (unwrap_or (fitting e) full) z
     if_fitting e z all inside =
         cond_both (is_word e.lo && is_word e.hi) (Some e) None (λ o. InRange (unwrap_or o full) z)
-        (λ h. inside (is_word_out e.hi (and_out (is_word e.lo) (is_word e.hi) h).1)) (λ h. all)
+        (λ h. inside (is_word_out e.hi (and_parts (is_word e.lo) (is_word e.hi) h).1)) (λ h. all)
 
     shifted_in : (h : ℤ) (a : ℕ) (k c : ℤ) → FitsSigned w32 (h *ℤ pos (2 ^ unsigned_abs c)) → pos a ≤ℤ h → k ≤ℤ c
         → pos 0 ≤ℤ k → InRange (zero_to (h *ℤ pos (2 ^ unsigned_abs c))) (shifted_left (pos a) (unsigned_abs k))

@@ -1,13 +1,15 @@
 -- Laws on ends and the tests on them.
-use Rattle.std.proofs.Common.{T, int_le, int_lt, ◌<ℤ◌, to_z, of_z, ◌≡◌, ◌⊎◌, inl, inr, Bool, true, false, ◌&&◌, cond}
+use Rattle.std.proofs.Common.{int_le, to_z, of_z, ◌≡◌, inl, inr, Bool, true, false, ◌&&◌, cond}
 use Rattle.std.proofs.Common.{Option, Some, None, unwrap_or, refl, sym, ap, ◌∙◌, subst, arith, ℤ, ◌≤ℤ◌, FitsSigned}
 use Rattle.std.specs.Int.{Width, w32, w64}
 use Rattle.std.specs.Option.{option_map}
 use Rattle.std.proofs.lemmas.Int.{ints, clamps, to_z-of_z}
-use Rattle.std.proofs.lemmas.Bool.{and_from}
+use Rattle.std.proofs.lemmas.Bool.{and_from, and_parts, and_cases}
+use Rattle.std.proofs.lemmas.Option.{cond_some}
+use Rattle.small_laws.proofs.Comparisons.{le-int_le}
 use Rattle.word_arithmetic.specs.declared.ranges.Range.{Range}
 use Rattle.word_arithmetic.specs.Word.{is_word}
-use Rattle.word_arithmetic.proofs.WordLaws.{is_word_out, is_word_in, some_out, then_some}
+use Rattle.word_arithmetic.proofs.WordLaws.{is_word_out, is_word_in, then_some}
 use Rattle.word_arithmetic.specs.Range.{Ends, ends_of, InRange, IsRange, IsWithin, Holds, WordsInOrderAreRanges}
 use Rattle.word_arithmetic.specs.Range.{MembersLieBetween, Computes, fitting, hull, in_range, range_between}
 
@@ -25,16 +27,6 @@ unwrap_or_ends o d h p q = ap ends_of h ∙ unwrap_each o d ∙ (λ i. unwrap_or
 
 -- ---- ends that fit
 
--- two tests that both pass
-pub and_out : (a b : Bool) → (a && b) ≡ true → (a ≡ true) × (b ≡ true)
-and_out true b e = (refl, e)
-and_out false b e = cc
-
--- of two tests that do not both pass, one fails
-pub and_failed : (a b : Bool) → (a && b) ≡ false → (a ≡ false) ⊎ (b ≡ false)
-and_failed true b e = inr e
-and_failed false b e = inl refl
-
 pub record Fits (e t : Ends) : Type 0 where
   pub lo : FitsSigned w32 e.lo
   pub hi : FitsSigned w32 e.hi
@@ -43,8 +35,8 @@ pub record Fits (e t : Ends) : Type 0 where
 -- a range that fits is its ends, which are words
 pub fitting_some : (e t : Ends) → fitting e ≡ Some t → Fits e t
 fitting_some e t h =
-    let s = some_out (is_word e.lo && is_word e.hi) e t h in
-    let w = and_out (is_word e.lo) (is_word e.hi) s.0 in
+    let s = cond_some (is_word e.lo && is_word e.hi) e t h in
+    let w = and_parts (is_word e.lo) (is_word e.hi) s.0 in
     record { lo = is_word_out e.lo w.0; hi = is_word_out e.hi w.1; same = s.1 }
 
 -- a number between ends that fit is a word
@@ -72,40 +64,20 @@ hi_in r h = record { from_lo = h; to_hi = omega (arith, ints) }
 
 -- ---- tests
 
-true_from_T : (b : Bool) → T b → b ≡ true
-true_from_T true h = refl
-true_from_T false h = absurd h
-
--- a number up to another passes the test
-pub le_test : (a b : ℤ) → a ≤ℤ b → int_le a b ≡ true
-le_test a b h = true_from_T (int_le a b) h.le
-
--- and one above it fails
-pub le_test_fails : (a b : ℤ) → b <ℤ a → int_le a b ≡ false
-le_test_fails a b h = by (int_le a b) refl
-  where
-    by : (t : Bool) → int_le a b ≡ t → t ≡ false
-    by true e = absurd (omega (arith, ints))
-    by false e = refl
-
--- a number below another passes the test
-pub lt_test : (a b : ℤ) → a <ℤ b → int_lt a b ≡ true
-lt_test a b h = true_from_T (int_lt a b) h.lt
-
 -- a number in the range passes the test
 pub in_range_in : (r : Ends) (v : ℤ) → InRange r v → in_range r v ≡ true
-in_range_in r v m = and_from (int_le r.lo v) (int_le v r.hi) (le_test r.lo v m.from_lo) (le_test v r.hi m.to_hi)
+in_range_in r v m = and_from (int_le r.lo v) (int_le v r.hi) (le-int_le r.lo v m.from_lo) (le-int_le v r.hi m.to_hi)
 
 -- a number that passes the test lies in the range
 pub in_range_out : (r : Ends) (v : ℤ) → in_range r v ≡ true → InRange r v
 in_range_out r v h =
-    let w = and_out (int_le r.lo v) (int_le v r.hi) h in
+    let w = and_parts (int_le r.lo v) (int_le v r.hi) h in
     record { from_lo = omega (arith, ints, w.0); to_hi = omega (arith, ints, w.1) }
 
 -- a number that fails the test does not
 pub not_in_range : (r : Ends) (v : ℤ) → in_range r v ≡ false → InRange r v → ⊥
 not_in_range r v h m =
-    elim (and_failed (int_le r.lo v) (int_le v r.hi) h) [
+    elim (and_cases (int_le r.lo v) (int_le v r.hi) h) [
       | inl p ↦ omega (arith, ints, p, m.from_lo)
       | inr p ↦ omega (arith, ints, p, m.to_hi)
     ]
@@ -159,7 +131,7 @@ hull_least r s t o p h k v m =
 -- a range is that between its ends
 range_is : (r : Ends) → IsRange r → range_between r.lo r.hi ≡ Some r
 range_is r p =
-    (λ i. cond (le_test r.lo r.hi p.ordered i) (fitting r) None)
+    (λ i. cond (le-int_le r.lo r.hi p.ordered i) (fitting r) None)
     ∙ (λ i. cond (is_word_in r.lo p.lo_fits i && is_word_in r.hi p.hi_fits i) (Some r) None)
 
 -- the range between two numbers has them as ends, and they are words in order

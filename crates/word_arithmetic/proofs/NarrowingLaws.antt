@@ -6,13 +6,14 @@ use Rattle.std.specs.Ordering.{int_eq}
 use Rattle.std.proofs.lemmas.Int.{ints, clamps, by_lt_z, to_z-of_z}
 use Rattle.std.proofs.lemmas.Bool.{cond_both, not-true, both_ways}
 use Rattle.std.proofs.lemmas.Bool.Decides.{Decides-int_eq}
+use Rattle.small_laws.proofs.Comparisons.{le-int_le, lt-int_lt}
 use Rattle.word_arithmetic.specs.declared.compare.Comparison.{Comparison}
 use Rattle.word_arithmetic.specs.declared.compare.Comparison.TheVariants.{Equal, NotEqual, Less, LessOrEqual, Greater}
 use Rattle.word_arithmetic.specs.declared.compare.Comparison.TheVariants.{GreaterOrEqual}
 use Rattle.word_arithmetic.specs.Comparison.{compares}
 use Rattle.word_arithmetic.specs.Range.{Ends, InRange, IsRange, IsLeft, Narrows, in_range, inside, outside, at_least}
 use Rattle.word_arithmetic.specs.Range.{at_most, constant, narrowed}
-use Rattle.word_arithmetic.proofs.EndsLaws.{in_range_out, not_in_range, fits_between, lo_in, hi_in, le_test, lt_test}
+use Rattle.word_arithmetic.proofs.EndsLaws.{in_range_out, not_in_range, fits_between, lo_in, hi_in}
 
 -- ---- ranges with the same members are one
 
@@ -215,7 +216,7 @@ module _ (r : Ends) (w : IsRange r) (c : ℤ) where
   from_is : (v : ℤ) → InRange r v → InRange (at_least c) v ↔ IsTrue (int_le c v)
   from_is v m =
       let f = word v m in (
-        (λ p. let a = p.from_lo in le_test c v a),
+        (λ p. let a = p.from_lo in le-int_le c v a),
         (λ h. record { from_lo = omega (arith, ints, h); to_hi = omega (arith, ints) }),
       )
 
@@ -223,21 +224,21 @@ module _ (r : Ends) (w : IsRange r) (c : ℤ) where
   upto_is : (v : ℤ) → InRange r v → InRange (at_most c) v ↔ IsTrue (int_le v c)
   upto_is v m =
       let f = word v m in (
-        (λ p. let a = p.to_hi in le_test v c a),
+        (λ p. let a = p.to_hi in le-int_le v c a),
         (λ h. record { from_lo = omega (arith, ints); to_hi = omega (arith, ints, h) }),
       )
 
   -- to lie outside the words from c on is to be less
   below_is : (v : ℤ) → InRange r v → (InRange (at_least c) v → ⊥) ↔ IsTrue (int_lt v c)
   below_is v m = let f = word v m in (
-    (λ n. by_lt_z v c (λ p. lt_test v c p) (λ p. absurd (n (record { from_lo = p; to_hi = omega (arith, ints) })))),
+    (λ n. by_lt_z v c (λ p. lt-int_lt v c p) (λ p. absurd (n (record { from_lo = p; to_hi = omega (arith, ints) })))),
     (λ h p. let a = p.from_lo in omega (arith, ints, h)),
   )
 
   -- to lie outside the words up to c is to be greater
   beyond_is : (v : ℤ) → InRange r v → (InRange (at_most c) v → ⊥) ↔ IsTrue (int_lt c v)
   beyond_is v m = let f = word v m in (
-    (λ n. by_lt_z c v (λ p. lt_test c v p) (λ p. absurd (n (record { from_lo = omega (arith, ints); to_hi = p })))),
+    (λ n. by_lt_z c v (λ p. lt-int_lt c v p) (λ p. absurd (n (record { from_lo = omega (arith, ints); to_hi = p })))),
     (λ h p. let a = p.to_hi in omega (arith, ints, h)),
   )
 

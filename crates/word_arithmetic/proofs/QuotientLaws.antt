@@ -2,11 +2,11 @@
 use Rattle.std.proofs.Common.{◌≡◌, ◌≢◌, ℕ, zero, suc, ◌/◌, ◌<◌, ◌≤◌, ◌⊎◌, inl, inr, false, refl, sym, arith, None, ℤ}
 use Rattle.std.proofs.Common.{pos, negsuc, ◌≤ℤ◌, ◌<ℤ◌, int_div, int_le, mul-le-mul_left, div-mul-le_self}
 use Rattle.std.proofs.lemmas.Int.{ints}
-use Rattle.std.proofs.lemmas.Bool.{cond_both}
+use Rattle.std.proofs.lemmas.Bool.{cond_both, and_cases}
 use Rattle.std.proofs.lemmas.Nat.{le-div}
 use Rattle.word_arithmetic.specs.Word.{checked, checked_quotient}
 use Rattle.word_arithmetic.specs.Range.{Ends, InRange, BoundsExactly, in_range, corners, fitting, quotient_range}
-use Rattle.word_arithmetic.proofs.EndsLaws.{lo_in, and_failed, in_range_out}
+use Rattle.word_arithmetic.proofs.EndsLaws.{lo_in, in_range_out}
 use Rattle.word_arithmetic.proofs.SumLaws.{fitting_exact}
 use Rattle.word_arithmetic.proofs.CornerLaws.{Between, rising, falling, corners_hold, corners_lo, corners_hi}
 
@@ -73,7 +73,7 @@ along_negative (negsuc a) (negsuc p) (negsuc q) (negsuc y) o h k =
 -- a range without 0 is positive or negative
 pub no_zero : (s : Ends) → in_range s (pos 0) ≡ false → (pos 0 <ℤ s.lo) ⊎ (s.hi <ℤ pos 0)
 no_zero s h =
-    elim (and_failed (int_le s.lo (pos 0)) (int_le (pos 0) s.hi) h) [
+    elim (and_cases (int_le s.lo (pos 0)) (int_le (pos 0) s.hi) h) [
       | inl p ↦ inl (omega (arith, ints))
       | inr p ↦ inr (omega (arith, ints))
     ]

@@ -4,7 +4,7 @@ use Rattle.std.proofs.Common.{ap}
 use Rattle.std.proofs.Common.{ℤ, pos, negsuc, ◌+ℤ◌, ◌-ℤ◌, ◌*ℤ◌, ◌≤ℤ◌, int_le, int_div, FitsSigned, IsSomeAnd, arith}
 use Rattle.std.specs.Int.{w32, int_min, int_max}
 use Rattle.std.proofs.lemmas.Int.{ints, clamps}
-use Rattle.std.proofs.lemmas.Bool.{cond_both}
+use Rattle.std.proofs.lemmas.Bool.{cond_both, and_parts}
 use Rattle.word_arithmetic.specs.Word.{word_and, word_or, word_xor}
 use Rattle.word_arithmetic.specs.Range.{Ends, IsRange, IsWordIn, fitting, full, truths, constant, zero_to, in_range}
 use Rattle.word_arithmetic.specs.Range.{is_constant, is_not_negative, corners}
@@ -16,7 +16,7 @@ use Rattle.word_arithmetic.specs.declared.binary.Binary.{Binary}
 use Rattle.word_arithmetic.specs.declared.binary.Binary.TheVariants as binary
 use Rattle.word_arithmetic.specs.declared.unary.Unary.{Unary}
 use Rattle.word_arithmetic.specs.declared.unary.Unary.TheVariants as unary
-use Rattle.word_arithmetic.proofs.EndsLaws.{fitting_some, lo_in, and_out}
+use Rattle.word_arithmetic.proofs.EndsLaws.{fitting_some, lo_in}
 use Rattle.word_arithmetic.proofs.BitLaws.{and_fits, or_fits, xor_fits, all_ones_is, ones_small}
 use Rattle.word_arithmetic.proofs.BinaryLaws.{binary_holds}
 use Rattle.word_arithmetic.proofs.UnaryLaws.{unary_gives_words, unary_holds}
@@ -93,7 +93,7 @@ bits_words of_constants hi r s f top =
     cond_both (is_constant r && is_constant s) (constant of_constants) rest AreWords
     (λ e. constant_words of_constants f)
     (λ e. cond_both (is_not_negative r && is_not_negative s) (zero_to hi) full AreWords
-    (λ n. let both = and_out (is_not_negative r) (is_not_negative s) n in
+    (λ n. let both = and_parts (is_not_negative r) (is_not_negative s) n in
     zero_words hi (top (omega (arith, ints, both.0)) (omega (arith, ints, both.1))))
     (λ n. full_words))
 

@@ -1,11 +1,11 @@
 -- A remainder has the sign of the dividend, is no larger than it, and is smaller than the divisor.
-use Rattle.std.proofs.Common.{◌≡◌, ◌≢◌, ℕ, zero, suc, ◌/◌, ◌%◌, ◌<◌, ◌≤◌, inl, inr, ⊎_elim, Bool, true, false, ◌&&◌}
-use Rattle.std.proofs.Common.{◌||◌, cond, ap, refl, sym, subst, ◌∙◌, arith, Option, Some, None, IsSomeAnd, is_some, ℤ}
+use Rattle.std.proofs.Common.{◌≡◌, ◌≢◌, ℕ, zero, suc, ◌/◌, ◌%◌, ◌<◌, ◌≤◌, inl, inr, ⊎_elim, true, false, ◌&&◌}
+use Rattle.std.proofs.Common.{cond, ap, refl, sym, subst, ◌∙◌, arith, Option, Some, None, IsSomeAnd, is_some, ℤ}
 use Rattle.std.proofs.Common.{pos, negsuc, ◌-ℤ◌, ◌≤ℤ◌, int_div, int_rem, int_le, unsigned_abs, FitsSigned, div-le_self}
 use Rattle.std.proofs.Common.{max}
 use Rattle.std.specs.Int.{w32, int_min, int_max}
 use Rattle.std.proofs.lemmas.Int.{ints, clamps}
-use Rattle.std.proofs.lemmas.Bool.{or_cases, both_ways, cond_both}
+use Rattle.std.proofs.lemmas.Bool.{or_cases, both_ways, cond_both, and_parts, and_cases, or_parts}
 use Rattle.std.proofs.lemmas.Nat.{mod_below}
 use Rattle.std.proofs.Math.Nat.{mod-le}
 use Rattle.word_arithmetic.specs.Word.{checked_remainder, least_word}
@@ -13,7 +13,7 @@ use Rattle.word_arithmetic.specs.Range.{Ends, InRange, IsRange, BoundsResults, i
 use Rattle.word_arithmetic.specs.Range.{greatest_size, lowest_remainder, highest_remainder, remainder_ends}
 use Rattle.word_arithmetic.specs.Range.{remainder_range}
 use Rattle.word_arithmetic.proofs.WordLaws.{checked_fits}
-use Rattle.word_arithmetic.proofs.EndsLaws.{lo_in, and_failed, and_out, fits_between, in_range_in, in_range_out}
+use Rattle.word_arithmetic.proofs.EndsLaws.{lo_in, fits_between, in_range_in, in_range_out}
 use Rattle.word_arithmetic.proofs.QuotientLaws.{divided_by_more, not_zero, quotient_is}
 
 -- ---- the quotient of a word fits, but for MostNeg by -1
@@ -45,18 +45,13 @@ record IsSafe (r s : Ends) : Type 0 where
   -- no members are MostNeg and -1
   no_overflow : (in_range r least_word && in_range s (negsuc 0)) ≡ false
 
--- two tests that both fail
-or_out : (a b : Bool) → (a || b) ≡ false → (a ≡ false) × (b ≡ false)
-or_out true b e = cc
-or_out false b e = (refl, e)
-
 -- where the rule has a range, all members have a quotient
 safe_out : (r s : Ends) → (can_fail_to_divide r s) ≡ false → IsSafe r s
-safe_out r s h = let w = or_out _ _ h in record { no_zero = w.0; no_overflow = w.1 }
+safe_out r s h = let w = or_parts _ _ h in record { no_zero = w.0; no_overflow = w.1 }
 
 no_overflow : (r s : Ends) (x y : ℤ) → IsSafe r s → InRange r x → InRange s y → x ≡ least_word → y ≢ negsuc 0
 no_overflow r s x y h p q e k =
-    elim (and_failed _ _ h.no_overflow) [
+    elim (and_cases _ _ h.no_overflow) [
       | inl a ↦ both_ways _ a (subst (λ v. in_range r v ≡ true) e (in_range_in r x p))
       | inr b ↦ both_ways _ b (subst (λ v. in_range s v ≡ true) k (in_range_in s y q))
     ]
@@ -133,7 +128,7 @@ remainder_bounds r s g =
             y_in = in_range_out s (pos 0) zero;
             is = refl;
           })
-          (λ both. let w = and_out _ _ both in record {
+          (λ both. let w = and_parts _ _ both in record {
             x = least_word;
             y = negsuc 0;
             x_in = in_range_out r least_word w.0;

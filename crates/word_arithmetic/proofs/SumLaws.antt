@@ -3,12 +3,12 @@ use Rattle.std.proofs.Common.{◌≡◌, inl, inr, Option, Some, None, arith, �
 use Rattle.std.proofs.Common.{◌&&◌, IsSomeAnd, FitsSigned}
 use Rattle.std.specs.Int.{w32}
 use Rattle.std.proofs.lemmas.Int.{ints}
-use Rattle.std.proofs.lemmas.Bool.{cond_both}
+use Rattle.std.proofs.lemmas.Bool.{cond_both, and_parts, and_cases}
 use Rattle.word_arithmetic.specs.Word.{is_word, checked, checked_sum, checked_difference}
 use Rattle.word_arithmetic.specs.Range.{Ends, InRange, Holds, HoldsChecked, Reaches, BoundsResults, BoundsExactly}
 use Rattle.word_arithmetic.specs.Range.{fitting, sum_range, difference_range}
 use Rattle.word_arithmetic.proofs.WordLaws.{is_word_out, checked_fits, not_checked}
-use Rattle.word_arithmetic.proofs.EndsLaws.{and_out, and_failed, fits_between, lo_in, hi_in}
+use Rattle.word_arithmetic.proofs.EndsLaws.{fits_between, lo_in, hi_in}
 
 -- ---- what is said of a range that may not be there
 
@@ -43,7 +43,7 @@ pub fitting_exact : (g : ℤ → ℤ → Option ℤ) (f : ℤ → ℤ → ℤ) (
     → Holds f r s e → AtMembers f r s e.lo → AtMembers f r s e.hi → BoundsExactly g r s (fitting e)
 fitting_exact g f r s e is members lo hi =
     cond_both (is_word e.lo && is_word e.hi) (Some e) None (BoundsExactly g r s)
-    (λ h. let w = and_out (is_word e.lo) (is_word e.hi) h in
+    (λ h. let w = and_parts (is_word e.lo) (is_word e.hi) h in
     let p = is_word_out e.lo w.0 in
     let q = is_word_out e.hi w.1 in
     record {
@@ -56,7 +56,7 @@ fitting_exact g f r s e is members lo hi =
     (λ h. record {
       bounds = record {
         members = tt;
-        none = elim (and_failed (is_word e.lo) (is_word e.hi) h) [
+        none = elim (and_cases (is_word e.lo) (is_word e.hi) h) [
           | inl p ↦ reaches e.lo None lo (not_checked e.lo p)
           | inr q ↦ reaches e.hi None hi (not_checked e.hi q)
         ];

@@ -4,6 +4,8 @@ use Rattle.std.proofs.Common.{ℤ, pos, ◌+ℤ◌, ◌-ℤ◌, ◌≤ℤ◌, �
 use Rattle.std.proofs.Common.{int_le}
 use Rattle.std.specs.Int.{w32, int_min, int_max}
 use Rattle.std.proofs.lemmas.Int.{ints, clamps, by_lt_z}
+use Rattle.std.proofs.lemmas.Bool.{false_from_ne_true}
+use Rattle.small_laws.proofs.Comparisons.{le-int_le, lt-int_le}
 use Rattle.word_arithmetic.specs.declared.compare.Comparison.{Comparison}
 use Rattle.word_arithmetic.specs.declared.compare.Comparison.TheVariants.{Equal, NotEqual, Less, LessOrEqual, Greater}
 use Rattle.word_arithmetic.specs.declared.compare.Comparison.TheVariants.{GreaterOrEqual}
@@ -12,14 +14,10 @@ use Rattle.word_arithmetic.specs.Range.{Ends, InRange, IsRange, Narrows, in_rang
 use Rattle.word_arithmetic.specs.Range.{at_least, at_most, words_above, words_below, left_by_test}
 use Rattle.word_arithmetic.specs.Range.{as_test, narrowed, ComparisonsAreTests}
 use Rattle.word_arithmetic.proofs.EndsLaws.{in_range_in, in_range_out, not_in_range, words_in_order_are_ranges}
-use Rattle.word_arithmetic.proofs.EndsLaws.{cond_true, cond_false, le_test, le_test_fails, is_range}
+use Rattle.word_arithmetic.proofs.EndsLaws.{cond_true, cond_false, is_range}
 use Rattle.word_arithmetic.proofs.NarrowingLaws.{inside_narrows, outside_narrows, same_narrows, outside_at}
 
 -- ---- what is left by a test
-
-false_from : (b : Bool) → (b ≡ true → ⊥) → b ≡ false
-false_from true n = absurd (n refl)
-false_from false n = refl
 
 pub left_narrows : (is_inside : Bool) (r other : Ends) → r.lo ≤ℤ r.hi
     → Narrows (λ v. in_range other v ≡ is_inside) r (left_by is_inside r other)
@@ -28,7 +26,7 @@ left_narrows true r other ordered =
     (λ v m. (in_range_in other v, in_range_out other v)) (inside_narrows r other)
 left_narrows false r other ordered =
     same_narrows (λ v. InRange other v → ⊥) (λ v. in_range other v ≡ false) r (outside r other)
-    (λ v m. ((λ n. false_from (in_range other v) (λ h. n (in_range_out other v h))), not_in_range other v))
+    (λ v m. ((λ n. false_from_ne_true (in_range other v) (λ h. n (in_range_out other v h))), not_in_range other v))
     (outside_narrows r other ordered)
 
 -- what follows the rule keeps what a test leaves
@@ -45,24 +43,25 @@ module _ (r : Ends) (ordered : r.lo ≤ℤ r.hi) where
       → inside r k ≡ part
   inside_part k part low high in_order =
       let both : Ends = record { lo = int_max r.lo k.lo; hi = int_min r.hi k.hi } in
-      sym (cond_true (int_le both.lo both.hi) both r part (le_test both.lo both.hi (omega (arith, ints, low, high)))
+      sym (cond_true (int_le both.lo both.hi) both r part (le-int_le both.lo both.hi (omega (arith, ints, low, high)))
       (λ i. record { lo = sym low i; hi = sym high i }))
 
   -- a range that meets this one nowhere leaves it as it is
   inside_none : (k : Ends) → int_min r.hi k.hi <ℤ int_max r.lo k.lo → inside r k ≡ r
   inside_none k meets =
       let both : Ends = record { lo = int_max r.lo k.lo; hi = int_min r.hi k.hi } in
-      sym (cond_false (int_le both.lo both.hi) both r r (le_test_fails both.lo both.hi meets) refl)
+      sym (cond_false (int_le both.lo both.hi) both r r (lt-int_le both.lo both.hi meets) refl)
 
   holds : (k : Ends) (v : ℤ) → k.lo ≤ℤ v → v ≤ℤ k.hi → in_range k v ≡ true
   holds k v low high = in_range_in k v (record { from_lo = low; to_hi = high })
 
   ends_before : (k : Ends) (v : ℤ) → k.hi <ℤ v → in_range k v ≡ false
-  ends_before k v after = false_from (in_range k v) (λ h. let m = (in_range_out k v h).to_hi in omega (arith, ints))
+  ends_before k v after =
+      false_from_ne_true (in_range k v) (λ h. let m = (in_range_out k v h).to_hi in omega (arith, ints))
 
   begins_behind : (k : Ends) (v : ℤ) → v <ℤ k.lo → in_range k v ≡ false
   begins_behind k v before =
-      false_from (in_range k v) (λ h. let m = (in_range_out k v h).from_lo in omega (arith, ints))
+      false_from_ne_true (in_range k v) (λ h. let m = (in_range_out k v h).from_lo in omega (arith, ints))
 
   -- nothing is left outside a range with all of this one
   outside_all : (k : Ends) → k.lo ≤ℤ r.lo → r.hi ≤ℤ k.hi → outside r k ≡ r
@@ -112,7 +111,7 @@ module _ (v : ℤ) (fits : FitsSigned w32 v) (A : Option Ends → Type 0) where
       (record { lo = v +ℤ pos 1; hi = greatest_word })).1
       (is_range (omega (arith, ints)) (omega (arith, ints)) (omega (arith, ints)), refl, refl))) (some below))
       (λ reaches. subst A (cond_false (int_le (v +ℤ pos 1) greatest_word) _ None None
-      (le_test_fails (v +ℤ pos 1) greatest_word (omega (arith, ints))) refl) (none reaches))
+      (lt-int_le (v +ℤ pos 1) greatest_word (omega (arith, ints))) refl) (none reaches))
 
   below_is : (least_word <ℤ v → A (Some (record { lo = least_word; hi = v -ℤ pos 1 })))
       → (v ≤ℤ least_word → A None) → A (words_below v)
@@ -121,7 +120,7 @@ module _ (v : ℤ) (fits : FitsSigned w32 v) (A : Option Ends → Type 0) where
       (record { lo = least_word; hi = v -ℤ pos 1 })).1
       (is_range (omega (arith, ints)) (omega (arith, ints)) (omega (arith, ints)), refl, refl))) (some above))
       (λ reaches. subst A (cond_false (int_le least_word (v -ℤ pos 1)) _ None None
-      (le_test_fails least_word (v -ℤ pos 1) (omega (arith, ints))) refl) (none reaches))
+      (lt-int_le least_word (v -ℤ pos 1) (omega (arith, ints))) refl) (none reaches))
 
 module _ (v : ℤ) (r : Ends) (fits : FitsSigned w32 v) (is : IsRange r) where
   low : least_word ≤ℤ r.lo

@@ -4,18 +4,10 @@ use Rattle.std.proofs.Common.{FitsSigned}
 use Rattle.std.specs.Int.{w32}
 use Rattle.std.proofs.lemmas.Int.{ints}
 use Rattle.std.proofs.lemmas.Bool.{ltb-true, lt-ltb}
+use Rattle.std.proofs.lemmas.Option.{cond_some}
 use Rattle.word_arithmetic.specs.Word.{is_word, checked, WordsFit, WordsLieBetween, CheckedGivesWords}
 
 -- ---- options
-
--- what a test says of the option that it decides
-pub some_out : {X : Type 0} (b : Bool) (x y : X) → cond b (Some x) None ≡ Some y → (b ≡ true) × (x ≡ y)
-some_out true x y e = (refl, cc)
-some_out false x y e = cc
-
--- two options that are there are one only with one value
-pub some_same : {X : Type 0} (x y : X) → Some x ≡ Some y → x ≡ y
-some_same x y e = cc
 
 -- what a test says of the option that it lets through
 pub then_some : {X : Type 0} (b : Bool) (o : Option X) (t : X) → cond b o None ≡ Some t → (b ≡ true) × (o ≡ Some t)
@@ -58,6 +50,6 @@ words_lie_between z = (
 -- a checked result is the number itself, and a word
 pub checked_gives_words : CheckedGivesWords
 checked_gives_words z v = (
-  (λ e. let s = some_out (is_word z) z v e in (is_word_out z s.0, s.1)),
+  (λ e. let s = cond_some (is_word z) z v e in (is_word_out z s.0, s.1)),
   (λ p. checked_fits z p.0 ∙ ap Some p.1),
 )

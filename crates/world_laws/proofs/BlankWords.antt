@@ -1,11 +1,10 @@
 -- What is undefined once words were taken, and stays so.
 use Rattle.std.proofs.Common.{◌≡◌, ◌≢◌, ℕ, zero, suc, ◌+◌, ◌<◌, ◌⊎◌, inl, inr, true, None, length, ap, ◌∙◌, arith}
-use Rattle.std.proofs.lemmas.Bool.{cases_eq, cases_lt}
+use Rattle.std.proofs.lemmas.Bool.{cases_eq, cases_lt, and_parts}
 use Rattle.std.proofs.lemmas.List.{get_or_past}
 use Rattle.machine_state.specs.Holding.{Holding, may_write, may_write_word}
 use Rattle.machine_state.specs.LocalStep.{holds_scheduling_words, without_scheduling_words}
 use Rattle.machine_state.specs.Memory.{Memory, place_of, scheduling_word, byte_at, with_byte, with_word}
-use Rattle.machine_state.proofs.Combining.{and_true}
 use Rattle.machine_state.proofs.Reading.{length-with_byte, byte_at-with_byte, byte_at-with_byte_other}
 use Rattle.world_laws.specs.Parked.{InWord, IsSchedulingPlace, HasWords, HasSelection}
 
@@ -92,9 +91,9 @@ blank_scheduled m workspace x either =
 pub word_own : (h : Holding) (place x : ℕ) → may_write_word h place ≡ true → InWord place x → may_write h x ≡ true
 unfolding may_write_word
 word_own h place x own inside =
-    let p = and_true _ _ own in
-    let q = and_true _ _ p.0 in
-    let r = and_true _ _ q.0 in
+    let p = and_parts _ _ own in
+    let q = and_parts _ _ p.0 in
+    let r = and_parts _ _ q.0 in
     elim (cases_eq x (place + 3)) [
       | inl last ↦ ap (may_write h) last ∙ p.1
       | inr no_last ↦ elim (cases_eq x (place + 2)) [
@@ -111,9 +110,9 @@ scheduling_own : (h : Holding) (workspace x : ℕ) → holds_scheduling_words h 
 scheduling_own h workspace x own there = at there.0 there.1 there.2
   where
     at : (k : ℕ) → k < 3 → InWord (place_of (scheduling_word workspace k)) x → may_write h x ≡ true
-    at zero low inside = word_own h _ x (and_true _ _ (and_true _ _ own).0).0 inside
-    at (suc zero) low inside = word_own h _ x (and_true _ _ (and_true _ _ own).0).1 inside
-    at (suc (suc zero)) low inside = word_own h _ x (and_true _ _ own).1 inside
+    at zero low inside = word_own h _ x (and_parts _ _ (and_parts _ _ own).0).0 inside
+    at (suc zero) low inside = word_own h _ x (and_parts _ _ (and_parts _ _ own).0).1 inside
+    at (suc (suc zero)) low inside = word_own h _ x (and_parts _ _ own).1 inside
     at (suc (suc (suc k))) low inside = absurd (omega (arith, low))
 
 -- once scheduling has taken them

@@ -3,6 +3,7 @@ use Rattle.std.proofs.Common.{◌≡◌, ℕ, zero, suc, ◌+◌, ◌*◌, Bool,
 use Rattle.std.proofs.Common.{Option, Some, None, Result, Ok, Err, refl, sym, ap, ◌∙◌, subst, slice_get, arith}
 use Rattle.std.proofs.lemmas.List.{length-append, length-replicate, length-map}
 use Rattle.std.specs.Prelude.{slice_set}
+use Rattle.std.proofs.lemmas.Bool.{or_cases}
 use Rattle.module_format.specs.Contents.{Contents, Par}
 use Rattle.machine_state.specs.declared.event.Event.{Event}
 use Rattle.machine_state.specs.declared.event.Event.TheVariants.{Step, Arrive, Acknowledge}
@@ -31,7 +32,7 @@ use Rattle.machine_state.proofs.MovesLeaveAlone.{on_task_only, wake_only, rouse_
 use Rattle.machine_state.proofs.MovesLeaveAlone.{with_opened}
 use Rattle.machine_state.proofs.MovesLeaveAlone.{without, member_gone}
 use Rattle.machine_state.proofs.Roles.{told_of}
-use Rattle.machine_state.proofs.SpanLaws.{among, or_true, runs_tell, covers_tells}
+use Rattle.machine_state.proofs.SpanLaws.{among, runs_tell, covers_tells}
 use Rattle.machine_state.proofs.Turns.{turn_happens}
 use Rattle.machine_state.proofs.Writing.{steps_write_own, arrivals_write_one, acknowledgements_write_nothing}
 use Rattle.world_laws.specs.InsideMemory.{LiesIn, HoldingsLieInMemory}
@@ -57,7 +58,7 @@ nothing_lies n x read = absurd (cc)
 
 -- spans of the first n places
 runs_lie : (n : ℕ) (h : Holding) (f g : ℕ → Bool) → h.writes ≡ runs f 0 n → h.reads ≡ runs g 0 n → LiesIn n h
-runs_lie n h f g writes reads x read = elim (or_true (may_write h x) _ read) [
+runs_lie n h f g writes reads x read = elim (or_cases (may_write h x) _ read) [
   | inl written ↦
       let low = (runs_tell f 0 n x (subst (λ spans. among spans x ≡ true) writes written)).below in
       omega (arith, low)
@@ -228,12 +229,12 @@ root_lies m = record { own = own; rest = λ j is. absurd (cc) }
     constants = record { start = constants_start m; end = constants_start m + length m.constants }
 
     own : LiesIn (length (loaded_memory m)) (root_holding m)
-    own x read = elim (or_true (may_write (root_holding m) x) _ read) [
-      | inl written ↦ elim (or_true (covers (record { start = 0; end = 4 * m.data_words }) x) false written) [
+    own x read = elim (or_cases (may_write (root_holding m) x) _ read) [
+      | inl written ↦ elim (or_cases (covers (record { start = 0; end = 4 * m.data_words }) x) false written) [
         | inl here ↦ let inside = (covers_tells _ x here).1 in omega (arith, size, inside)
         | inr none ↦ absurd (cc)
       ]
-      | inr only ↦ elim (or_true (covers constants x) false only) [
+      | inr only ↦ elim (or_cases (covers constants x) false only) [
         | inl here ↦ let inside = (covers_tells _ x here).1 in omega (arith, size, inside)
         | inr none ↦ absurd (cc)
       ]

@@ -5,6 +5,8 @@ use Rattle.std.proofs.Common.{if◌then◌else◌, cond, is_some}
 use Rattle.std.proofs.lemmas.List.{length-append, length-set}
 use Rattle.std.proofs.lemmas.Option.{slice_get_within}
 use Rattle.std.specs.Prelude.{◌==◌, not, slice_set}
+use Rattle.std.proofs.lemmas.Bool.{and_parts}
+use Rattle.small_laws.proofs.Options.{same_some}
 use Rattle.module_format.specs.Contents.{Contents, Par, Branch}
 use Rattle.machine_state.specs.declared.event.Event.{Event}
 use Rattle.machine_state.specs.Endings.{Moved, Ends, Happened, plan_of}
@@ -22,8 +24,6 @@ use Rattle.machine_state.specs.Turn.{Here, Turn, at_here}
 use Rattle.machine_state.specs.Waiting.{AllDiffer, IsAbsent}
 use Rattle.machine_state.specs.World.{World, Role, Join, holding_at, loaded}
 use Rattle.machine_state.proofs.Among.{among_left, among_more, filtered, filter_keeps}
-use Rattle.machine_state.proofs.Claims.{only_one}
-use Rattle.machine_state.proofs.Combining.{and_true}
 use Rattle.machine_state.proofs.EndedApart.{is_not}
 use Rattle.machine_state.proofs.EveryWorld.{every_world}
 use Rattle.machine_state.proofs.MovesLeaveAlone.{on_task_only, wake_only, rouse_only, chooses, joined_either}
@@ -222,11 +222,11 @@ module _ (m : Contents) where
   }
     where
       number : found.number ≡ plan.started
-      number = eqb-true found.number plan.started (and_true _ _ may.next).0
+      number = eqb-true found.number plan.started (and_parts _ _ may.next).0
 
       is_low : (par : Par) → slice_get m.pars plan.row ≡ Some par → found.number < length par.branches
       is_low par here = subst (λ (par : Par). found.number < length par.branches)
-          (only_one (slice_get m.pars found.row) found.par par (found_row m target found is)
+          (same_some (slice_get m.pars found.row) found.par par (found_row m target found is)
           (subst (λ k. slice_get m.pars k ≡ Some par) row here))
           (found_number target 0 m.pars found is)
 
@@ -273,9 +273,9 @@ module _ (h : Here) (w : World) (there : slice_get w.tasks h.process ≡ Some h.
       (λ q among. let low = has.processes q among in omega (arith, low, size)) has.most has.all_started)
   moved o v (turns.joins_own block l j par is row whole) =
       joins_have h.contents h h.process j par (ended h l w) is (λ other here none.
-      let it = only_one (slice_get h.contents.pars j.row) par other row here in
+      let it = same_some (slice_get h.contents.pars j.row) par other row here in
       subst (λ (par : Par). j.started ≡ length par.branches) it
-      (eqb-true j.started (length par.branches) (and_true _ _ whole).1)) before
+      (eqb-true j.started (length par.branches) (and_parts _ _ whole).1)) before
   moved o v (turns.joins_opener block l opener j par none by is row same) =
       let f : Role → Role = λ role. record role { own = nothing } in
       let there = ended h l w in

@@ -2,8 +2,9 @@
 use Rattle.std.proofs.Common.{◌≡◌, ℕ, zero, suc, ◌+◌, ◌/◌, ◌<◌, ◌≤◌, true, false, ◌⊎◌, inl, inr, pos, List, [], ◌∷◌}
 use Rattle.std.proofs.Common.{◌++◌, length, Option, Some, None, is_some, refl, sym, ap, ◌∙◌, subst, slice_get, arith}
 use Rattle.std.proofs.Common.{eqb-true}
-use Rattle.std.proofs.lemmas.Bool.{cases_lt}
+use Rattle.std.proofs.lemmas.Bool.{cases_lt, and_parts}
 use Rattle.std.specs.Prelude.{◌%◌, slice_set}
+use Rattle.small_laws.proofs.Options.{same_some}
 use Rattle.module_format.specs.Contents.{Contents, Par}
 use Rattle.module_format.specs.Keeping.{Keeps}
 use Rattle.module_format.specs.declared.rows.ChannelRow.{ChannelRow}
@@ -34,8 +35,7 @@ use Rattle.machine_state.specs.World.{World, Role, Join, holding_at, loaded}
 use Rattle.machine_state.proofs.ApartLaws.{all_stand, format_is_small, AllEven}
 use Rattle.machine_state.proofs.Changes.{channel_there}
 use Rattle.machine_state.proofs.ChannelWaiters.{same_channel, channels_have_their_waiters}
-use Rattle.machine_state.proofs.Claims.{only_one, written_is_read}
-use Rattle.machine_state.proofs.Combining.{and_true}
+use Rattle.machine_state.proofs.Claims.{written_is_read}
 use Rattle.machine_state.proofs.EvenWords.{even_local, even_base, even_place, next_place, in_word}
 use Rattle.machine_state.proofs.EveryWorld.{every_world}
 use Rattle.machine_state.proofs.Holders.{kept_is_free}
@@ -337,8 +337,8 @@ module _ (h : Here) (w : World) where
     moved o v (turns.starts_first target workspace l found is none tests) p x k =
         let plan = plan_of h w found in
         let may = (first_tests h.contents w.memory hold plan found workspace tests).1 in
-        let words = and_true _ _ may.held in
-        let first = and_true _ _ words.0 in
+        let words = and_parts _ _ may.held in
+        let first = and_parts _ _ words.0 in
         starts_first plan found workspace (opened h plan l w).0 _ plan.base plan.par.channels refl
         (λ y inside. block_blank plan.base plan.par l.memory first.0 y inside.0 inside.1)
         (λ y made. channel_blank plan.base plan.par l.memory
@@ -346,7 +346,7 @@ module _ (h : Here) (w : World) where
     moved o v (turns.starts_later target workspace l found j is is_open same tests) p x k =
         let at = holders.places h.process j is_open in
         let number : found.row ≡ j.row = eqb-true found.row j.row same in
-        let par = only_one (slice_get h.contents.pars j.row) found.par at.par
+        let par = same_some (slice_get h.contents.pars j.row) found.par at.par
         (subst (λ n. slice_get h.contents.pars n ≡ Some found.par) number (found_row h.contents target found is))
         at.row in
         starts_later (later_plan h.contents j found.par) found workspace l w.channels j is_open

@@ -2,6 +2,7 @@
 use Rattle.std.proofs.Common.{◌≡◌, ◌≢◌, ℕ, zero, suc, ◌+◌, Bool, true, false, if◌then◌else◌, inl, inr, List, Option}
 use Rattle.std.proofs.Common.{Some, None, refl, sym, ap, ◌∙◌, subst, slice_get, arith, [], ◌∷◌}
 use Rattle.std.specs.Prelude.{⊤, ◌%◌, ◌^◌, ◌==◌, slice_set}
+use Rattle.small_laws.proofs.Options.{same_some}
 use Rattle.prefix_decoder.specs.Functions.{nibble}
 use Rattle.prefix_decoder.specs.Operand.{with_nibble}
 use Rattle.module_format.specs.Contents.{Contents}
@@ -31,7 +32,6 @@ use Rattle.machine_state.specs.World.{output_word}
 use Rattle.machine_state.proofs.ApartLaws.{all_stand, format_is_small, holdings_stay_apart}
 use Rattle.machine_state.proofs.Changes.{Passed, passes, running_is_ready}
 use Rattle.machine_state.proofs.Changes as change
-use Rattle.machine_state.proofs.Claims.{only_one}
 use Rattle.machine_state.proofs.EveryWorld.{every_world}
 use Rattle.machine_state.proofs.Modes.{steps_fit}
 use Rattle.machine_state.proofs.OthersHold.{others_hold}
@@ -124,7 +124,7 @@ filled_in_order h memory aside t e done is order = record {
 waiter_is_live : (w : World) (p word : ℕ) → WaitsOn w.tasks p word → (t : Task) → slice_get w.tasks p ≡ Some t
     → IsLive t.condition
 waiter_is_live w p word x t at =
-    let same = only_one (slice_get w.tasks p) x.task t x.here at in
+    let same = same_some (slice_get w.tasks p) x.task t x.here at in
     subst IsLive (sym (ap (λ (y : Task). y.condition) (sym same) ∙ x.waits)) tt
 
 -- ---- every event
@@ -138,7 +138,7 @@ module _ (m : Contents) (w : World) (g : Ground w) where
       → holding_at rs q ≡ holding_at w.roles q
   hold_on ts rs cs ls (change.it_runs n pick task also here x) p runs q t at differ alive =
       (others_hold (at_here m n task pick) w g.keeps ts rs cs ls x).others q t at
-      (λ same. differ (only_one w.queue.running p n runs also ∙ same)) alive
+      (λ same. differ (same_some w.queue.running p n runs also ∙ same)) alive
   hold_on ts rs cs ls change.nothing_happens p runs q t at differ alive = refl
   hold_on ts rs cs ls (change.fills_last n k link here waiting x) p runs q t at differ alive = refl
   hold_on ts rs cs ls (change.fills_more n k x) p runs q t at differ alive = refl
@@ -177,7 +177,7 @@ module _ (m : Contents) (w : World) (g : Ground w) where
           dispatched w (on_task p f with_it) 0 (on_task_running p f with_it)
           (all_on_task (Aside w) p f with_it (λ t at order.
           filled_in_order (holding_at w.roles p) with_it.memory (Aside w p) t x.exchange x.done
-          (ap (λ (y : Task). y.condition) (only_one (slice_get w.tasks p) t x.task at x.here) ∙ x.waits) order)
+          (ap (λ (y : Task). y.condition) (same_some (slice_get w.tasks p) t x.task at x.here) ∙ x.waits) order)
           all_with)
 
   abbrev Still : Event → Turn → Type 0
@@ -279,7 +279,7 @@ who_is_ready_is_parked m es p among = on w.queue.running refl (reached m es).lin
         → AllDiffer (line_of o w.queue.ready) → (task : Task) × IsParked w p task
     on None runs all once = parked all (λ also. let z : None ≡ Some p = sym runs ∙ also in cc)
     on (Some q) runs all once = parked all.1 (λ also. among_absent p w.queue.ready among
-        (subst (λ n. IsAbsent n w.queue.ready) (only_one w.queue.running q p runs also) once.0))
+        (subst (λ n. IsAbsent n w.queue.ready) (same_some w.queue.running q p runs also) once.0))
 
 pub who_waits_is_parked : WhoWaitsIsParked
 who_waits_is_parked m es p task here live waits =

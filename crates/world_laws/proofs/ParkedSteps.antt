@@ -1,10 +1,11 @@
 -- An instruction of the running process leaves every process in order.
 use Rattle.std.proofs.Common.{◌≡◌, ◌≢◌, ℕ, zero, suc, ◌+◌, ◌<◌, Bool, true, false, ◌⊎◌, inl, inr, ℤ, pos, List}
 use Rattle.std.proofs.Common.{length, Option, Some, None, refl, sym, ap, ◌∙◌, subst, slice_get, arith}
-use Rattle.std.proofs.lemmas.Bool.{cases_eq}
+use Rattle.std.proofs.lemmas.Bool.{cases_eq, and_parts}
 use Rattle.std.proofs.lemmas.List.{length-set}
 use Rattle.std.specs.List.{list_all}
 use Rattle.std.specs.Prelude.{⊤, ◌%◌, ◌^◌, ◌&&◌, if◌then◌else◌, slice_set}
+use Rattle.small_laws.proofs.Options.{same_some}
 use Rattle.module_format.specs.Contents.{Par}
 use Rattle.machine_state.specs.declared.process.Channel.{Channel}
 use Rattle.machine_state.specs.declared.process.Condition.{Condition}
@@ -40,8 +41,7 @@ use Rattle.machine_state.specs.Turn.{Here, Turn, between, continued}
 use Rattle.machine_state.specs.World.{World, Role, Join, Queue, holding_at, input_word, output_word}
 use Rattle.machine_state.specs.World as parts
 use Rattle.machine_state.proofs.Changes.{running_is_ready}
-use Rattle.machine_state.proofs.Claims.{only_one, written_is_read}
-use Rattle.machine_state.proofs.Combining.{and_true}
+use Rattle.machine_state.proofs.Claims.{written_is_read}
 use Rattle.machine_state.proofs.Lines.{set_either, got_either}
 use Rattle.machine_state.proofs.Modes.{Fits}
 use Rattle.machine_state.proofs.MovesLeaveAlone.{wake_only, rouse_only, on_role_only, joined_either, member_gone}
@@ -125,7 +125,7 @@ module _ (w : World) (g : Ground w) where
       let inside = arrives_inside x a in
       elim (cases_eq a.process q) [
         | inl same ↦
-            let one = only_one (slice_get w.tasks q) a.waits.task t
+            let one = same_some (slice_get w.tasks q) a.waits.task t
             (subst (λ n. slice_get w.tasks n ≡ Some a.waits.task) same a.waits.here) at in
             elsewhere (
               a.waits.exchange,
@@ -188,9 +188,9 @@ still_enables mode b enables disables =
 -- bytes of a word that pass
 word_byte : (test : ℕ → Bool) (place x : ℕ) → word_passes test place ≡ true → InWord place x → test x ≡ true
 word_byte test place x passes inside =
-    let a = and_true _ _ passes in
-    let b = and_true _ _ a.0 in
-    let c = and_true _ _ b.0 in
+    let a = and_parts _ _ passes in
+    let b = and_parts _ _ a.0 in
+    let c = and_parts _ _ b.0 in
     elim (cases_eq x (place + 3)) [
       | inl last ↦ ap test last ∙ a.1
       | inr no_last ↦ elim (cases_eq x (place + 2)) [
@@ -207,10 +207,10 @@ scheduling_byte : (test : ℕ → Bool) (workspace x : ℕ)
 scheduling_byte test workspace x passes there = at there.0 there.1 there.2
   where
     at : (k : ℕ) → k < 3 → InWord (place_of (scheduling_word workspace k)) x → test x ≡ true
-    at zero low inside = word_byte test _ x (and_true _ _ passes).0 inside
-    at (suc zero) low inside = word_byte test _ x (and_true _ _ (and_true _ _ passes).1).0 inside
+    at zero low inside = word_byte test _ x (and_parts _ _ passes).0 inside
+    at (suc zero) low inside = word_byte test _ x (and_parts _ _ (and_parts _ _ passes).1).0 inside
     at (suc (suc zero)) low inside =
-        word_byte test _ x (and_true _ _ (and_true _ _ (and_true _ _ passes).1).1).0 inside
+        word_byte test _ x (and_parts _ _ (and_parts _ _ (and_parts _ _ passes).1).1).0 inside
     at (suc (suc (suc k))) low inside = absurd (omega (arith, low))
 
 module _ (h : Here) (w : World) (runs : w.queue.running ≡ Some h.process)
@@ -236,12 +236,12 @@ module _ (h : Here) (w : World) (runs : w.queue.running ≡ Some h.process)
   unreached : (q : ℕ) (t : Task) (x : ℕ) → h.process ≢ q → slice_get w.tasks q ≡ Some t
       → may_write (holding_at w.roles q) x ≡ true → (InOwn t x → ⊥) → Reaches w x → ⊥
   unreached q t x differ at own elsewhere (by_runner p also reached) =
-      let same = only_one w.queue.running h.process p runs also in
+      let same = same_some w.queue.running h.process p runs also in
       apart_at w.roles w.channels g.apart h.process q x differ
       (subst (λ n. may_write (holding_at w.roles n) x ≡ true) (sym same) reached) own
   unreached q t x differ at own elsewhere (by_message p task e here is inside) = elim (cases_eq p q) [
     | inl same ↦
-        let one = only_one (slice_get w.tasks q) task t (subst (λ n. slice_get w.tasks n ≡ Some task) same here) at in
+        let one = same_some (slice_get w.tasks q) task t (subst (λ n. slice_get w.tasks n ≡ Some task) same here) at in
         elsewhere (e, on_channel (ap (λ (y : Task). y.condition) (sym one) ∙ is), inside)
     | inr other ↦ apart_at w.roles w.channels g.apart p q x other
         ((g.all p task here).buffer.writable e x (on_channel is) inside) own
@@ -264,7 +264,7 @@ module _ (h : Here) (w : World) (runs : w.queue.running ≡ Some h.process)
     where
       before : IsInOrder (holding_at w.roles q) w.memory ⊤ t
       before = weaker (holding_at w.roles q) w.memory (Aside w q) ⊤ t
-          (λ any also. differ (only_one w.queue.running h.process q runs also)) (g.all q t at)
+          (λ any also. differ (same_some w.queue.running h.process q runs also)) (g.all q t at)
 
   set : (aside : ℕ → Type 0) (u : Task) (roles : List Role) (memory : Memory) → HoldOn roles → Steady memory
       → IsInOrder (holding_at roles h.process) memory (aside h.process) u
@@ -427,8 +427,9 @@ module _ (h : Here) (w : World) (runs : w.queue.running ≡ Some h.process)
 
       words : HasWords given after workspace
       words x at =
-          let both = and_true _ _ (scheduling_byte (λ place. may_write plan.rest place
-          && writes_place (share_by plan found.branch) place) workspace x (and_true _ _ (and_true _ _ share).0).0 at) in
+          let both = and_parts _ _ (scheduling_byte (λ place. may_write plan.rest place
+          && writes_place (share_by plan found.branch) place) workspace x
+          (and_parts _ _ (and_parts _ _ share).0).0 at) in
           let low = lies x (written_is_read plan.rest x both.0) in
           record {
             own = runs_have (writes_place (share_by plan found.branch)) 0 (length w.memory) x

@@ -1,7 +1,7 @@
 -- What is so of every process, whether it runs or not, in every world.
 use Rattle.std.proofs.Common.{◌≡◌, ◌≢◌, ℕ, zero, suc, ◌+◌, ◌-◌, ◌<◌, ◌≤◌, Bool, true, false, ◌⊎◌, inl, inr, List}
 use Rattle.std.proofs.Common.{Option, Some, None, refl, sym, ap, ◌∙◌, subst, slice_get, arith}
-use Rattle.std.proofs.lemmas.Bool.{lt-ltb}
+use Rattle.std.proofs.lemmas.Bool.{lt-ltb, and_from}
 use Rattle.std.specs.Prelude.{not, slice_set}
 use Rattle.machine_state.specs.declared.process.Condition.{Condition}
 use Rattle.machine_state.specs.declared.process.Condition.TheVariants.{Ready, Alternating}
@@ -20,7 +20,6 @@ use Rattle.machine_state.proofs.Changes.{Roused, rouses}
 use Rattle.machine_state.proofs.Changes as change
 use Rattle.machine_state.proofs.Lines.{set_either}
 use Rattle.machine_state.proofs.MovesLeaveAlone.{rouse_only}
-use Rattle.machine_state.proofs.SpanLaws.{both_true}
 use Rattle.machine_state.proofs.Writing.{all_at}
 use Rattle.world_laws.specs.Parked.{IsLive, IsInside, IsSchedulingPlace, HasWords, HasSelection, IsAtRest, message_of}
 use Rattle.world_laws.specs.Parked.{IsReceiving, on_channel, on_link, InBuffer, HasBuffer}
@@ -270,7 +269,7 @@ module _ (h : Holding) (data_alone : IsData h) (test : ℕ → Bool) (l : Local)
       let low = inside.0 in
       let high = inside.1 in
       let met : meet (place_of e.address) e.length lowest 12 ≡ true =
-      both_true _ _ (lt-ltb (place_of e.address) (lowest + 12) (omega (arith, b, d, low)))
+      and_from _ _ (lt-ltb (place_of e.address) (lowest + 12) (omega (arith, b, d, low)))
       (lt-ltb lowest (place_of e.address + e.length) (omega (arith, a, c, high))) in
       let z : false ≡ true = sym (ap not met) ∙ x.apart in cc
 

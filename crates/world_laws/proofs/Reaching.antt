@@ -1,7 +1,7 @@
 -- A byte stays that neither the running process may write nor any process waits to receive.
 use Rattle.std.proofs.Common.{◌≡◌, ℕ, ◌+◌, ◌<◌, Bool, true, false, List, Option, Some, None, refl, sym, ap, ◌∙◌}
 use Rattle.std.proofs.Common.{subst, slice_get}
-use Rattle.std.proofs.lemmas.Bool.{leb-true, ltb-true, eqb-true}
+use Rattle.std.proofs.lemmas.Bool.{leb-true, ltb-true, eqb-true, and_parts, false_from_ne_true}
 use Rattle.std.specs.Prelude.{◌%◌, ◌^◌, ◌==◌, ⊤}
 use Rattle.module_format.specs.Contents.{Contents}
 use Rattle.machine_state.specs.declared.event.Event.{Event}
@@ -24,8 +24,6 @@ use Rattle.machine_state.specs.Waiting.{WaitsOn}
 use Rattle.machine_state.specs.World.{World, holding_at, input_word}
 use Rattle.machine_state.specs.Writing.{Delivery, delivered_to, of_waiting, delivery_on, delivery_by, delivery}
 use Rattle.machine_state.specs.Writing.{is_delivered, is_own, StepWrites}
-use Rattle.machine_state.proofs.Claims.{not_true}
-use Rattle.machine_state.proofs.Combining.{and_true}
 use Rattle.machine_state.proofs.Turns.{turn_happens}
 use Rattle.machine_state.proofs.Waiting.{arrivals_fill_buffers}
 use Rattle.machine_state.proofs.Writing.{of_waiting_is, outcome_is, steps_write_own, arrivals_write_one}
@@ -48,7 +46,7 @@ pub data Reaches (w : World) (x : ℕ) : Type 0 where
 
 module _ (m : Contents) (w : World) (x : ℕ) (never : Reaches w x → ⊥) where
   not_own : is_own w x ≡ false
-  not_own = not_true (is_own w x) (on w.queue.running refl)
+  not_own = false_from_ne_true (is_own w x) (on w.queue.running refl)
     where
       on : (o : Option ℕ) → w.queue.running ≡ o
           → elim o as (λ o. Bool) [ None ↦ false | Some p ↦ may_write (holding_at w.roles p) x ] ≡ true → ⊥
@@ -63,7 +61,7 @@ module _ (m : Contents) (w : World) (x : ℕ) (never : Reaches w x → ⊥) wher
     where
       inside : InBuffer wanted x
       inside =
-          let both = and_true _ _ there in (
+          let both = and_parts _ _ there in (
             leb-true (place_of wanted.address) x both.0,
             subst (λ n. x < place_of wanted.address + n) (sym (eqb-true wanted.length e.length same))
                 (ltb-true x (place_of wanted.address + e.length) both.1),
@@ -93,10 +91,10 @@ module _ (m : Contents) (w : World) (x : ℕ) (never : Reaches w x → ⊥) wher
         → byte_at t.world.memory x ≡ byte_at w.memory x
     ended_stays o t (turns.at_fault refused) is writes = refl
     ended_stays o t (turns.has_run {after = v} moved) is writes =
-        writes.others x not_own (not_true _ (λ there. moved_tells o v moved
+        writes.others x not_own (false_from_ne_true _ (λ there. moved_tells o v moved
         (subst (λ (d : Option Delivery). is_delivered d x ≡ true) is there)))
     ended_stays o t (turns.has_emitted e l k on same) is writes =
-        writes.others x not_own (not_true _ (λ there.
+        writes.others x not_own (false_from_ne_true _ (λ there.
         let none = delivered_on None e (ap (λ (k : Option ℕ). of_waiting k w e (delivered_to e)) on)
         (subst (λ (d : Option Delivery). is_delivered d x ≡ true) is there) in cc))
 

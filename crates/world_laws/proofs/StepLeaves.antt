@@ -1,6 +1,7 @@
 -- What one instruction leaves of the words below the workspace, of the registers and of a message, by its outcome.
 use Rattle.std.proofs.Common.{◌≡◌, ℕ, ◌≤◌, ℤ, pos, Bool, true, inl, inr, Option, Some, None, refl, sym, ◌∙◌, cond}
 use Rattle.std.specs.Prelude.{⊤, ◌==◌, not}
+use Rattle.std.proofs.lemmas.Bool.{and_parts}
 use Rattle.prefix_decoder.specs.declared.function.Fun.{Fun}
 use Rattle.module_format.specs.Stack.{of_empty}
 use Rattle.module_format.specs.declared.limits.TheConstants.{MAX_MESSAGE}
@@ -24,7 +25,6 @@ use Rattle.machine_state.specs.Site.{Site, Local, Outcome, goes, jumps, lands, s
 use Rattle.machine_state.specs.Site.{joins, begins, enables_channel, enables_skip, waits, disables_channel}
 use Rattle.machine_state.specs.Site.{disables_skip, ends_alternation}
 use Rattle.machine_state.specs.Spans.{all_places}
-use Rattle.machine_state.proofs.Combining.{and_true}
 use Rattle.machine_state.proofs.Combining as each
 use Rattle.machine_state.proofs.Scheduling.{schedules-is}
 use Rattle.world_laws.specs.Parked.{IsInside, HasWords, HasSelection}
@@ -212,12 +212,12 @@ module _ (s : Site) (before : Local) where
 
   receives_into : Asked (step.receives_into s)
   receives_into e some l gives = test _ NotOwn _ (λ own.
-      let both = and_true _ _ own in
+      let both = and_parts _ _ own in
       record { gives = gives; some = some; bytes = both.0; apart = both.1 })
 
   sends_from : Asked (step.sends_from s)
   sends_from e some l gives = test _ NotOwn _ (λ own.
-      let both = and_true _ _ own in
+      let both = and_parts _ _ own in
       test _ Undefined _ (λ defined. record { gives = gives; some = some; bytes = both.0; apart = both.1 }))
 
   -- ---- the instructions

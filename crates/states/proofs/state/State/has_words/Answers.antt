@@ -1,8 +1,8 @@
 use Rattle.std.proofs.Common.{◌∙◌, ◌-ℤ◌, pos, sym, ap, arith, Option, to_z, of_z}
 use Rattle.std.specs.Int.{w64}
 use Rattle.std.proofs.lemmas.Int.{ints}
+use Rattle.small_laws.proofs.Comparisons.{int_le-false}
 use Rattle.module_format.specs.declared.contexts.Context.{Context}
-use Rattle.module_format.proofs.FieldLaws.{int_le-false}
 use Rattle.certificate.specs.Rights.{has_word}
 use Rattle.states.proofs.OwnWords.{not-before, not-behind}
 use Rattle.states.proofs.state.State.has_words.Goals as goal
