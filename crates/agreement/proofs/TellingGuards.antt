@@ -3,6 +3,7 @@ use Rattle.std.proofs.Common.{◌≡◌, ℕ, ◌+◌, ◌*◌, ◌^◌, ◌<◌
 use Rattle.std.proofs.Common.{Option, Some, None, refl, ap, ◌∙◌, sym, subst, slice_get}
 use Rattle.std.specs.Prelude.{slice_set}
 use Rattle.std.specs.Option.{option_map}
+use Rattle.std.proofs.lemmas.Bool.{false_from_ne_true}
 use Rattle.module_format.specs.Contents.{Contents}
 use Rattle.module_format.specs.Keeping.{Keeps}
 use Rattle.machine_state.specs.declared.event.Event.{Event}
@@ -23,7 +24,7 @@ use Rattle.world_laws.proofs.KeptWords.{channel_words_are_blank}
 use Rattle.agreement.specs.Agrees as agree
 use Rattle.agreement.specs.Agrees.{PlainMachine, PlainInput, Agrees, arrival_of, workspace_in}
 use Rattle.agreement.proofs.ChannelWords.{channel_is_kept, channel_is_set, nobody_writes, owns_then}
-use Rattle.agreement.proofs.Elsewhere.{Laws, Owns, laws_of, owns_of, refuted}
+use Rattle.agreement.proofs.Elsewhere.{Laws, Owns, laws_of, owns_of}
 use Rattle.agreement.proofs.Links.{input_is}
 use Rattle.agreement.proofs.Names.{word_by}
 use Rattle.agreement.proofs.Naming.{channel_lies}
@@ -104,5 +105,5 @@ module _ (m : Contents) (es : List Event) (p : ℕ) (task : Task) (format : Keep
     channel_is_named a low word waits = channel_is_set m v owns after agrees k c now there a low
         (ap (λ (o : Option ℕ). word_by tasks o who) waits ∙ word)
         (subst (λ (n : ℕ). 4 * k + 4 ≤ n) (sym (agrees.memory.size ∙ frame.size)) (channel_lies m es k c format there))
-        (λ x at. frame.others x (refuted (may_write hold x) (nobody_writes w laws.apart k c there p x at))
+        (λ x at. frame.others x (false_from_ne_true (may_write hold x) (nobody_writes w laws.apart k c there p x at))
         ∙ (channel_words_are_blank m es k c x format there at).undefined)

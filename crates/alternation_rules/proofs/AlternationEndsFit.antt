@@ -2,10 +2,10 @@
 use Rattle.std.proofs.Common.{◌≡◌, ℕ, zero, suc, ◌+◌, ◌≤◌, ◌==◌, ℤ, Bool, true, false, inl, inr, List, []}
 use Rattle.std.proofs.Common.{◌∷◌}
 use Rattle.std.proofs.Common.{length, Option, Some, None, Result, Ok, Err, refl, sym, ap, ◌∙◌, subst, arith}
-use Rattle.std.proofs.lemmas.Bool.{and_parts}
 use Rattle.std.proofs.lemmas.Bool.Decides.{eqb_tells}
 use Rattle.std.specs.List.{list_all}
 use Rattle.std.specs.Prelude.{slice_get}
+use Rattle.small_laws.proofs.Lookups.{list_all_at}
 use Rattle.module_format.specs.Contents.{Label, label_at}
 use Rattle.machine_state.specs.declared.op.Op.TheVariants as operations
 use Rattle.machine_state.specs.declared.process.Mode as machine
@@ -34,14 +34,6 @@ use Rattle.alternation_rules.specs.Guards.{leads_to_label, leads_forward}
 use Rattle.alternation_rules.specs.AlternationRules as alternation
 use Rattle.alternation_rules.specs.AlternationRules.{in_mode}
 use Rattle.alternation_rules.proofs.AlternationsFit.{in_disabling_rule}
-
--- a test of all holds of each
-each_passes : {A : Type 0} (test : A → Bool) (xs : List A) (i : ℕ) (y : A) → list_all test xs ≡ true
-    → slice_get xs i ≡ Some y → test y ≡ true
-each_passes test [] i y all at = absurd (cc)
-each_passes test (x ∷ xs) zero y all at =
-    let it : x ≡ y = cc in ap test (sym it) ∙ (and_parts (test x) (list_all test xs) all).0
-each_passes test (x ∷ xs) (suc i) y all at = each_passes test xs i y (and_parts (test x) (list_all test xs) all).1 at
 
 -- where the machine has gone on is one of the exits
 exit_among : (site : rule.Site) (guards : List Guard) (i : ℕ) (g : Guard) (distance : ℤ) → slice_get guards i ≡ Some g
@@ -114,7 +106,7 @@ module _ (x : Here) (wf : IsWellFormed x.m) (s : State) (l : Local) (a : Within 
         let t : State = record (in_mode Plain s) { number = number } in
         on_rule_test x (list_all (is_below_exit (rule_site x) t) s.guards) _ _ _ (λ each.
         let b = leads_below (rule_site x) t selected.guard selected.distance selected.exit
-        (each_passes (is_below_exit (rule_site x) t) s.guards selected.number selected.guard each selected.here) in
+        (list_all_at (is_below_exit (rule_site x) t) s.guards selected.number selected.guard each selected.here) in
         let g = below_tells t b.label b.cost b.is_below in
         let less = label_owed t b.label b.cost x.act (wf.pairs _ b.label b.there) b.is_below in
         λ next. it_selects (label_turns t.frame b.label.entries x.act.turns)

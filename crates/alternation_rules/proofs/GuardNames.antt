@@ -8,6 +8,7 @@ use Rattle.std.proofs.lemmas.Bool.Decides.{eqb_tells}
 use Rattle.std.proofs.lemmas.Int.{ints}
 use Rattle.std.specs.Int.{w32}
 use Rattle.std.specs.Prelude.{int_le, int_lt}
+use Rattle.small_laws.proofs.Comparisons.{int_le-true, int_lt-true}
 use Rattle.module_format.specs.Rows.{Fact}
 use Rattle.module_format.specs.declared.fact.Fact.TheVariants.{Unknown, Number, Pointer, CodeAddress, Loop}
 use Rattle.module_format.specs.declared.fact.Fact.TheVariants.{ReturnAddress}
@@ -30,7 +31,6 @@ use Rattle.rulings.specs.Fitting.{Here}
 use Rattle.rulings.proofs.Within.{Modes}
 use Rattle.rulings.proofs.Words.{same_word_by, word_elsewhere}
 use Rattle.rulings.proofs.Combining.{Scheduled, scheduled}
-use Rattle.states.proofs.RowFacts.{le-from, lt-from}
 use Rattle.alternation_rules.specs.Guards.{name_of, source_name, is_off_scheduling}
 
 -- ---- the value of a name
@@ -100,8 +100,8 @@ off_is_not_below depth word t below = on (int_lt word (depth -ℤ pos 3)) refl t
   where
     on : (b : Bool) → int_lt word (depth -ℤ pos 3) ≡ b → (b || int_le depth word) ≡ true → ⊥
     on true e t =
-        let low = lt-from word (depth -ℤ pos 3) e in let from = below.0 in absurd (omega (arith, ints, low, from))
-    on false e t = let high = le-from depth word t in let to = below.1 in absurd (omega (arith, ints, high, to))
+        let low = int_lt-true word (depth -ℤ pos 3) e in let from = below.0 in absurd (omega (arith, ints, low, from))
+    on false e t = let high = int_le-true depth word t in let to = below.1 in absurd (omega (arith, ints, high, to))
 
 -- scheduling leaves each word that is none of those that it takes
 pub scheduled_elsewhere : {x : Here} {E : Modes} {s : State} {l : Local} → Scheduled x E s l → (word : ℤ)

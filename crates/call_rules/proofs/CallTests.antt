@@ -5,7 +5,7 @@ use Rattle.std.proofs.Common.{length, Option, Some, None, FitsSigned, refl, sym,
 use Rattle.std.specs.Int.{w32, cast_signed}
 use Rattle.std.specs.Prelude.{⊤, slice_get, int_le, ◌==◌, find, unwrap_or}
 use Rattle.std.specs.List.{list_all}
-use Rattle.std.proofs.lemmas.Bool.{cases_eq, eqb-true, eq-eqb}
+use Rattle.std.proofs.lemmas.Bool.{cases_eq, eqb-true, eq-eqb, and_parts}
 use Rattle.std.proofs.lemmas.Bool.Decides.{eqb_tells}
 use Rattle.std.proofs.lemmas.Int.{ints, clamps, SFits-int_wrap}
 use Rattle.module_format.specs.Rows.{Fact}
@@ -29,7 +29,6 @@ use Rattle.states.specs.declared.known.WordFact.{WordFact}
 use Rattle.states.specs.declared.known.WordFact.TheVariants.{Alone, Index, Count}
 use Rattle.states.specs.State.{State, Facts, is_alone, plain}
 use Rattle.states.specs.Below.{lies_within}
-use Rattle.states.proofs.RowFacts.{and-parts, le-from}
 use Rattle.rulings.specs.Meaning.{Layout, Activation, Means, MeansWord, is_number, is_pointer, is_fact, word_of}
 use Rattle.rulings.specs.Meaning.{region_start, place_in, IsWellFormed}
 use Rattle.rulings.specs.Regions.{HasConstants}
@@ -39,6 +38,8 @@ use Rattle.rulings.specs.Reach.{word_of_byte, readable_size, constant_range, lie
 use Rattle.word_arithmetic.specs.Range.{Ends, full}
 use Rattle.module_format.specs.declared.rows.TableRow.{TableRow}
 use Rattle.std.specs.Option.{option_map}
+use Rattle.small_laws.proofs.Comparisons.{int_le-true}
+use Rattle.small_laws.proofs.Lookups.{list_all_at}
 use Rattle.rulings.proofs.Constants.{word_in, row_word}
 use Rattle.rulings.specs.Pointers.{is_near}
 use Rattle.call_rules.specs.CallRules as rule
@@ -58,10 +59,6 @@ other b x y e h = sym (ap (λ (c : Bool). cond c x y) e) ∙ h
 -- one of two numbers is the other, or is not
 pub number_test : (m n : ℕ) → (((m == n) ≡ true) × (m ≡ n)) ⊎ (((m == n) ≡ false) × (m ≡ n → ⊥))
 number_test m n = elim (eqb_tells m n) [ inl e ↦ inl (e.0, e.1) | inr e ↦ inr (e.0, e.1) ]
-
--- two numbers that differ
-pub differs : (m n : ℕ) → (m ≡ n → ⊥) → (m == n) ≡ false
-differs m n h = elim (number_test m n) [ inl e ↦ absurd (h e.1) | inr e ↦ e.0 ]
 
 -- a natural offset that is a multiple of four
 pub stepped_natural : (z : ℤ) (n : ℕ) → z ≡ pos n → is_stepped z ≡ true → n ≡ 4 * (n / 4)
@@ -125,14 +122,6 @@ LinkedBy (WrittenRegion size lo hi) fact region first = lent_from size lo hi tru
     ≡ Some (record { region = region; first = first; size = size; lo = lo; hi = hi; is_written = true })
 LinkedBy (Channels count len ends) fact region first = ⊤
 
--- each of a list passes the test that all pass
-pub list_all_at : {A : Type 0} (test : A → Bool) (xs : List A) (j : ℕ) (x : A) → list_all test xs ≡ true
-    → slice_get xs j ≡ Some x → test x ≡ true
-list_all_at test [] j x all h = absurd (cc)
-list_all_at {A} test (y ∷ ys) zero x all h =
-    let same : y ≡ x = cc in subst (λ (z : A). test z ≡ true) same (and-parts (test y) (list_all test ys) all).0
-list_all_at test (y ∷ ys) (suc j) x all h = list_all_at test ys j x (and-parts (test y) (list_all test ys) all).1 h
-
 -- each two of a list pass the test that all pass
 pub each_two_at : (test : Parameter → Parameter → Bool) (ps : List Parameter) (i j : ℕ) (p q : Parameter) → i < j
     → slice_get ps i ≡ Some p → slice_get ps j ≡ Some q → each_two test ps ≡ true → test p q ≡ true
@@ -141,9 +130,9 @@ each_two_at test (r ∷ ps) i zero p q low a b all = absurd (omega arith)
 each_two_at test (r ∷ ps) zero (suc j) p q low a b all =
     let same : r ≡ p = cc in
     subst (λ (x : Parameter). test x q ≡ true) same
-    (list_all_at (test r) ps j q (and-parts (list_all (test r) ps) (each_two test ps) all).0 b)
+    (list_all_at (test r) ps j q (and_parts (list_all (test r) ps) (each_two test ps) all).0 b)
 each_two_at test (r ∷ ps) (suc i) (suc j) p q low a b all =
-    each_two_at test ps i j p q (omega arith) a b (and-parts (list_all (test r) ps) (each_two test ps) all).1
+    each_two_at test ps i j p q (omega arith) a b (and_parts (list_all (test r) ps) (each_two test ps) all).1
 
 -- ---- the constants
 
@@ -200,14 +189,14 @@ constant_known m wf act memory has first start end lo hi place i at even low hig
         (joined (byte_at memory place) (byte_at memory (place + 1)) (byte_at memory (place + 2))
         (byte_at memory (place + 3)))
     on_row None e h =
-        let both = and-parts (int_le lo full.lo) (int_le full.hi hi) h in
-        let from = le-from lo full.lo both.0 in
-        let to = le-from full.hi hi both.1 in
+        let both = and_parts (int_le lo full.lo) (int_le full.hi hi) h in
+        let from = int_le-true lo full.lo both.0 in
+        let to = int_le-true full.hi hi both.1 in
         of_word (omega (arith, ints, from, fits)) (omega (arith, ints, to, fits))
     on_row (Some row) e h =
-        let both = and-parts (int_le lo row.lo) (int_le row.hi hi) h in
-        let from = le-from lo row.lo both.0 in
-        let to = le-from row.hi hi both.1 in
+        let both = and_parts (int_le lo row.lo) (int_le row.hi hi) h in
+        let from = int_le-true lo row.lo both.0 in
+        let to = int_le-true row.hi hi both.1 in
         let within = row_word m.constants m.table_rows first end row i wf.tables e even low high in
         let l = within.low in
         let u = within.high in
@@ -297,16 +286,16 @@ pub lend_parts : (c : Calling) (l : Lent) → may_lend c l ≡ true
     → (rule.may_use c l ≡ true) × ((if is_frame l.region then words_fit c l else true) ≡ true)
 unfolding may_lend
 lend_parts c l h =
-    let both = and-parts (is_near l.first && rule.may_use c l) (if is_frame l.region then words_fit c l else true) h in
-    ((and-parts (is_near l.first) (rule.may_use c l) both.0).1, both.1)
+    let both = and_parts (is_near l.first && rule.may_use c l) (if is_frame l.region then words_fit c l else true) h in
+    ((and_parts (is_near l.first) (rule.may_use c l) both.0).1, both.1)
 
 pub words_parts : (c : Calling) (l : Lent) → words_fit c l ≡ true
     → ((lent_words c l).are_numbers ≡ true) × (is_off_callee c (word_of_byte l.first) (l.size / 4) ≡ true)
 unfolding words_fit
 words_parts c l h =
-    let both = and-parts ((lent_words c l).are_numbers && (not l.is_written || (lent_words c l).are_alone))
+    let both = and_parts ((lent_words c l).are_numbers && (not l.is_written || (lent_words c l).are_alone))
     (is_off_callee c (word_of_byte l.first) (l.size / 4)) h in
-    ((and-parts (lent_words c l).are_numbers (not l.is_written || (lent_words c l).are_alone) both.0).0, both.1)
+    ((and_parts (lent_words c l).are_numbers (not l.is_written || (lent_words c l).are_alone) both.0).0, both.1)
 
 -- ---- what is known of a word
 

@@ -8,9 +8,9 @@ use Rattle.std.specs.Prelude.{nat_lt, nat_abs, slice_get}
 use Rattle.std.specs.List.{list_all}
 use Rattle.std.proofs.lemmas.Bool.Decides.{leb_tells}
 use Rattle.std.proofs.lemmas.Int.{ints, SFits-int_wrap}
-use Rattle.states.proofs.RowFacts.{and-parts, and-both, le-yes, lt-yes}
 use Rattle.states.proofs.Procedures.{procedure-at}
-use Rattle.std.proofs.lemmas.Bool.{le-leb}
+use Rattle.std.proofs.lemmas.Bool.{le-leb, and_parts, and_from}
+use Rattle.small_laws.proofs.Comparisons.{lt-int_lt, le-int_le, pos_from}
 use Rattle.module_format.specs.Places.{branches_of}
 use Rattle.states.specs.declared.known.Mode.TheVariants as states_modes
 use Rattle.module_format.specs.Rows.{Fact}
@@ -58,7 +58,6 @@ use Rattle.rulings.proofs.Lending.{lift_named}
 use Rattle.call_rules.proofs.OneName.{EndsPass}
 use Rattle.call_rules.proofs.Resuming.{lent_span, resumes_words}
 use Rattle.call_rules.proofs.Passing as passing_of
-use Rattle.rulings.proofs.Reaching.{natural}
 use Rattle.call_rules.proofs.Touching.{passing_rest}
 use Rattle.call_rules.proofs.CallTests.{HasPassed, found_row}
 use Rattle.rulings.proofs.Offsets.{address_of_word, all_words_at}
@@ -138,8 +137,8 @@ own_below : (m : Contents) (s : State) (p : Procedure) (low : p.lo ≤ℤ pos 0)
 unfolding frame_is_own
 own_below m s p low high e own above below =
     let place = passing_rest m s in
-    let n = natural (p.hi -ℤ p.lo) (omega (arith, ints, low, high)) in
-    let i = natural (e -ℤ negsuc 3 -ℤ p.lo) (omega (arith, ints, low, above)) in
+    let n = pos_from (p.hi -ℤ p.lo) (omega (arith, ints, low, high)) in
+    let i = pos_from (e -ℤ negsuc 3 -ℤ p.lo) (omega (arith, ints, low, above)) in
     let size : frame_size p ≡ n.0 = ap nat_abs n.1 in
     let at = all_words_at (rights.may_write_word m (passing m s).context) (callee_word (passing m s) p.lo)
     (frame_size p) i.0 own
@@ -473,7 +472,7 @@ module _ (x : Here) where
           let t3 = own_below x.m s f.procedure row.lo_high row.hi_low (negsuc 3) own (omega (arith, ints))
           (omega (arith, ints)) in
           settled (passing x.m s) (passing_is x.m s t0 t1 t2 t3) own numbers pointers beside
-          (record { held = (and-parts _ _ held).0; once = (and-parts _ _ held).1; lengths = lengths })
+          (record { held = (and_parts _ _ held).0; once = (and_parts _ _ held).1; lengths = lengths })
           t0 t1 t2 t3)))))))))
         where
           settled : (z : State) → z ≡ all_passed s → frame_is_own (call_in to f some is found entry z) ≡ true
@@ -533,10 +532,10 @@ module _ (x : Here) where
 
     returning : may_return x.m s ≡ true → Returning
     returning h =
-        let p = and-parts (nat_lt 0 s.context && nat_lt s.context (first_branch x.m) && is_word s.depth (pos 0))
+        let p = and_parts (nat_lt 0 s.context && nat_lt s.context (first_branch x.m) && is_word s.depth (pos 0))
         (rule.is_return_address (s.frame (pos 0))) h in
-        let q = and-parts (nat_lt 0 s.context && nat_lt s.context (first_branch x.m)) (is_word s.depth (pos 0)) p.0 in
-        let r = and-parts (nat_lt 0 s.context) (nat_lt s.context (first_branch x.m)) q.0 in
+        let q = and_parts (nat_lt 0 s.context && nat_lt s.context (first_branch x.m)) (is_word s.depth (pos 0)) p.0 in
+        let r = and_parts (nat_lt 0 s.context) (nat_lt s.context (first_branch x.m)) q.0 in
         let some : 1 ≤ s.context = less 0 s.context r.0 in
         let few : s.context ≤ length x.m.procedures = let u = less s.context (first_branch x.m) r.1 in omega arith in
         let row = procedure_row x.m.procedures (s.context - 1) (omega arith) in
@@ -572,8 +571,8 @@ module _ (x : Here) where
             let high = row.hi_low in
             let has : rights.has_word (context_at x.m s.context) (pos 0) ≡ true =
             ap (λ c. rights.has_word c (pos 0)) (procedure-at x.m s.context p some is)
-            ∙ and-both _ _ (le-yes p.lo (pos 0) low) (lt-yes (pos 0) p.hi (omega (arith, ints, high))) in
-            and-both _ _ has (ap (λ (o : Option (Par × Branch)). elim o as (λ o. Bool) [
+            ∙ and_from _ _ (le-int_le p.lo (pos 0) low) (lt-int_lt (pos 0) p.hi (omega (arith, ints, high))) in
+            and_from _ _ has (ap (λ (o : Option (Par × Branch)). elim o as (λ o. Bool) [
               | None ↦ true
               | Some found ↦ rights.is_among found.1.writes (pos 0) || rights.is_among found.1.reads (pos 0)
             ]) (ap (λ (b : Bool). if b then None else slice_get (branches_of x.m.pars) (s.context - first_branch x.m))

@@ -1,13 +1,12 @@
 -- Runs of ends that are passed to a procedure.
 use Rattle.std.proofs.Common.{◌≡◌, ℕ, zero, suc, ◌<◌, Bool, true, false, ◌||◌, not, inl, inr, refl, sym, ◌∙◌}
 use Rattle.std.proofs.Common.{subst, arith}
-use Rattle.std.proofs.lemmas.Bool.{cases_Bool, cases_eq}
+use Rattle.std.proofs.lemmas.Bool.{cases_Bool, cases_eq, and_parts, and_from}
 use Rattle.module_format.specs.declared.rows.EndKind.{EndKind}
 use Rattle.module_format.specs.declared.rows.Direction.{Direction}
 use Rattle.module_format.specs.declared.rows.Direction.TheVariants.{In, Out}
 use Rattle.module_format.specs.Contents.{Contents}
 use Rattle.certificate.specs.Rights.{has_end}
-use Rattle.states.proofs.RowFacts.{and-parts, and-both}
 use Rattle.call_rules.specs.CallRules.{all_below, holds_ends}
 use Rattle.rulings.specs.Channels.{further, has_direction}
 
@@ -16,15 +15,15 @@ pub all_below_at : (count i : ℕ) (test : ℕ → Bool) → all_below count tes
 unfolding all_below
 all_below_at zero i test all low = absurd (omega arith)
 all_below_at (suc more) i test all low = elim (cases_eq i more) [
-  | inl e ↦ subst (λ (n : ℕ). test n ≡ true) (sym e) (and-parts _ _ all).0
-  | inr e ↦ all_below_at more i test (and-parts _ _ all).1 (omega arith)
+  | inl e ↦ subst (λ (n : ℕ). test n ≡ true) (sym e) (and_parts _ _ all).0
+  | inr e ↦ all_below_at more i test (and_parts _ _ all).1 (omega arith)
 ]
 
 pub all_from : (count : ℕ) (test : ℕ → Bool) → ((i : ℕ) → i < count → test i ≡ true) → all_below count test ≡ true
 unfolding all_below
 all_from zero test each = refl
 all_from (suc more) test each =
-    and-both _ _ (each more (omega arith)) (all_from more test (λ i low. each i (omega arith)))
+    and_from _ _ (each more (omega arith)) (all_from more test (λ i low. each i (omega arith)))
 
 pub one_fails : (count i : ℕ) (test : ℕ → Bool) → i < count → test i ≡ false → false ≡ all_below count test
 one_fails count i test low fails = elim (cases_Bool (all_below count test)) [
@@ -41,6 +40,6 @@ pub end_held : (m : Contents) (context : ℕ) (first : EndKind) (count ends i : 
     → holds_ends m context first count ends ≡ true → has_direction ends direction ≡ true → i < count
     → has_end m context (record { kind = further first i; direction = direction }) ≡ true
 end_held m context first count ends i In all wants low =
-    all_below_at count i _ (told (has_direction ends In) _ wants (and-parts _ _ all).0) low
+    all_below_at count i _ (told (has_direction ends In) _ wants (and_parts _ _ all).0) low
 end_held m context first count ends i Out all wants low =
-    all_below_at count i _ (told (has_direction ends Out) _ wants (and-parts _ _ all).1) low
+    all_below_at count i _ (told (has_direction ends Out) _ wants (and_parts _ _ all).1) low

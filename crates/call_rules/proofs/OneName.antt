@@ -3,13 +3,13 @@ use Rattle.std.proofs.Common.{◌≡◌, ℕ, zero, suc, ◌+◌, ◌≤◌, ◌
 use Rattle.std.proofs.Common.{None, refl, ap, arith}
 use Rattle.std.specs.Prelude.{◌==◌, bit_and}
 use Rattle.std.specs.List.{list_all}
-use Rattle.std.proofs.lemmas.Bool.{eqb-true}
+use Rattle.std.proofs.lemmas.Bool.{eqb-true, and_from}
 use Rattle.std.proofs.lemmas.Int.{ints}
+use Rattle.small_laws.proofs.Comparisons.{lt-int_lt, le-int_le}
 use Rattle.module_format.specs.declared.rows.EndKind.{EndKind}
 use Rattle.module_format.specs.declared.rows.EndKind.TheVariants.{FrameWord, Link, Parameter as Element}
 use Rattle.module_format.specs.declared.rows.Direction.{Direction}
 use Rattle.module_format.specs.declared.rows.Direction.TheVariants.{In, Out}
-use Rattle.states.proofs.RowFacts.{and-both, le-yes, lt-yes}
 use Rattle.call_rules.specs.CallRules as rule
 use Rattle.call_rules.specs.CallRules.{Calling, each_two}
 use Rattle.rulings.specs.Channels.{further, has_direction, channels_meet, is_length}
@@ -35,25 +35,25 @@ pub further_meet : (f g : EndKind) (i j count more : ℕ) → further f i ≡ fu
     → channels_meet f count g more ≡ true
 further_meet (FrameWord word) (FrameWord other) i j count more e low less =
     let same : word +ℤ pos i ≡ other +ℤ pos j = cc in
-    and-both _ _ (lt-yes word (other +ℤ pos more) (omega (arith, ints, same, low, less)))
-    (lt-yes other (word +ℤ pos count) (omega (arith, ints, same, low, less)))
+    and_from _ _ (lt-int_lt word (other +ℤ pos more) (omega (arith, ints, same, low, less)))
+    (lt-int_lt other (word +ℤ pos count) (omega (arith, ints, same, low, less)))
 further_meet (FrameWord word) (Element number element) i j count more e low less = absurd (cc)
 further_meet (FrameWord word) (Link link) i j count more e low less = absurd (cc)
 further_meet (Element number element) (FrameWord word) i j count more e low less = absurd (cc)
 further_meet (Element number element) (Element other place) i j count more e low less =
     let same_number : number ≡ other = cc in
     let same : element + i ≡ place + j = cc in
-    and-both _ _ (and-both _ _ (le-yes number other (omega (arith, ints, same_number)))
-    (le-yes other number (omega (arith, ints, same_number))))
-    (and-both _ _ (lt-yes (pos element) (pos place +ℤ pos more) (omega (arith, ints, same, low, less)))
-    (lt-yes (pos place) (pos element +ℤ pos count) (omega (arith, ints, same, low, less))))
+    and_from _ _ (and_from _ _ (le-int_le number other (omega (arith, ints, same_number)))
+    (le-int_le other number (omega (arith, ints, same_number))))
+    (and_from _ _ (lt-int_lt (pos element) (pos place +ℤ pos more) (omega (arith, ints, same, low, less)))
+    (lt-int_lt (pos place) (pos element +ℤ pos count) (omega (arith, ints, same, low, less))))
 further_meet (Element number element) (Link link) i j count more e low less = absurd (cc)
 further_meet (Link link) (FrameWord word) i j count more e low less = absurd (cc)
 further_meet (Link link) (Element number element) i j count more e low less = absurd (cc)
 further_meet (Link link) (Link other) i j count more e low less =
     let same : link + i ≡ other + j = cc in
-    and-both _ _ (lt-yes (pos link) (pos other +ℤ pos more) (omega (arith, ints, same, low, less)))
-    (lt-yes (pos other) (pos link +ℤ pos count) (omega (arith, ints, same, low, less)))
+    and_from _ _ (lt-int_lt (pos link) (pos other +ℤ pos more) (omega (arith, ints, same, low, less)))
+    (lt-int_lt (pos other) (pos link +ℤ pos count) (omega (arith, ints, same, low, less)))
 
 -- two sets of ends, each with one of this direction
 pub share_direction : (a b : ℕ) (d : Direction) → a ≤ 3 → b ≤ 3 → has_direction a d ≡ true → has_direction b d ≡ true

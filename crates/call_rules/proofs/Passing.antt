@@ -5,7 +5,7 @@ use Rattle.std.proofs.Common.{Option, Some, None, FitsSigned, refl, sym, ap, ◌
 use Rattle.std.specs.Int.{w32, cast_unsigned}
 use Rattle.std.specs.Prelude.{slice_get, int_le, int_lt, nat_abs, ◌==◌, option_map, bit_and, ◌⊎◌, nat_lt, IsTrue}
 use Rattle.std.specs.List.{list_all, list_any}
-use Rattle.std.proofs.lemmas.Bool.{cases_lt, cases_eq, eqb-true, eq-eqb, le-leb}
+use Rattle.std.proofs.lemmas.Bool.{cases_lt, cases_eq, eqb-true, eq-eqb, le-leb, and_parts, ne_eqb, and_from}
 use Rattle.std.proofs.lemmas.Bool.Decides.{leb_tells}
 use Rattle.std.proofs.lemmas.Int.{ints}
 use Rattle.module_format.specs.Rows.{Fact}
@@ -35,7 +35,6 @@ use Rattle.states.specs.declared.known.WordFact.{WordFact}
 use Rattle.states.specs.declared.known.WordFact.TheVariants.{Alone}
 use Rattle.states.specs.State.{State, is_word, plain, parameter_fact, parameter_facts, procedure_facts}
 use Rattle.states.specs.Below.{lies_within}
-use Rattle.states.proofs.RowFacts.{and-parts, and-both, le-from, lt-from, lt-yes}
 use Rattle.states.proofs.Procedures.{procedure-at}
 use Rattle.rulings.specs.Meaning.{Layout, Activation, Means, MeansWord, is_pointer, is_fact, is_return_address}
 use Rattle.rulings.specs.Meaning.{word_of, region_start, code_address, place_in, frame_word, word_at_place}
@@ -65,22 +64,25 @@ use Rattle.module_format.specs.declared.rows.EndKind.TheVariants as end_kinds
 use Rattle.module_format.specs.declared.rows.Direction.{Direction}
 use Rattle.module_format.specs.declared.rows.Ends.{Ends as EndSet}
 use Rattle.std.proofs.lemmas.Option.{slice_get_within}
-use Rattle.rulings.proofs.Words.{word_test, bool_cases, means_same, plain_means, frame_word_is}
+use Rattle.std.proofs.lemmas.Bool.{cases_Bool}
+use Rattle.small_laws.proofs.Comparisons.{lt-int_lt, int_le-true, int_lt-true, pos_from}
+use Rattle.small_laws.proofs.Lookups.{list_all_at}
+use Rattle.rulings.proofs.Words.{word_test, means_same, plain_means, frame_word_is}
 use Rattle.rulings.proofs.Entering.{implies_means}
 use Rattle.rulings.proofs.Combining.{readable_byte, written_readable}
 use Rattle.rulings.proofs.Offsets.{address_of_word, place_of_address, place_behind, word_of_address, defined_inside}
 use Rattle.rulings.proofs.Offsets.{offset_of_word, words_of_region, all_words_at}
 use Rattle.rulings.proofs.Lending.{byte_index, number_means, wider_means, same_word, run_byte, named_at}
 use Rattle.rulings.specs.Lends.{IsRegionKind, IsPart, of_frame, of_constants, of_parameter, PartOf, Part, Lends}
-use Rattle.call_rules.proofs.CallTests.{other, differs, stepped_natural, no_region, read_kind, same_as_equal}
-use Rattle.call_rules.proofs.CallTests.{write_kind, readable_kind, LinkedBy, list_all_at, each_two_at, constant_known}
+use Rattle.call_rules.proofs.CallTests.{other, stepped_natural, no_region, read_kind, same_as_equal}
+use Rattle.call_rules.proofs.CallTests.{write_kind, readable_kind, LinkedBy, each_two_at, constant_known}
 use Rattle.call_rules.proofs.CallTests.{stepped_further, whole_words, more_words, even_place, constants_aligned}
 use Rattle.call_rules.proofs.CallTests.{constants_near, of_kind, lend_parts, words_parts, HoldsPointer, pointer_held}
 use Rattle.call_rules.proofs.CallTests.{lent_fact, together_means, HasPassed, given_is}
 use Rattle.rulings.proofs.EndNumbers.{parameter_keeps}
 use Rattle.rulings.proofs.Words.{same_word_by}
 use Rattle.rulings.proofs.Regions.{bytes_read, bytes_written}
-use Rattle.rulings.proofs.Reaching.{natural, lies_inside}
+use Rattle.rulings.proofs.Reaching.{lies_inside}
 use Rattle.rulings.proofs.ReadThrough.{Usable, readable_found, writable_usable}
 use Rattle.rulings.proofs.WriteThrough.{writable_kind}
 
@@ -163,9 +165,9 @@ module _ (m : Contents) (h : Holding) (mode : machine.Mode) (act : Activation) (
   -- it has the words of its row
   pub callee_word_inside : (k : ℤ) → callee.words.reads k ≡ true → (p.lo ≤ℤ k) × (k <ℤ p.hi)
   callee_word_inside k t =
-      let has = subst (λ c. rights.has_word c k ≡ true) callee_context (and-parts _ _ t).0 in
-      let both = and-parts (int_le p.lo k) (int_lt k p.hi) has in
-      (le-from p.lo k both.0, lt-from k p.hi both.1)
+      let has = subst (λ c. rights.has_word c k ≡ true) callee_context (and_parts _ _ t).0 in
+      let both = and_parts (int_le p.lo k) (int_lt k p.hi) has in
+      (int_le-true p.lo k both.0, int_lt-true k p.hi both.1)
 
   pub callee_reads : (k : ℤ) → callee.words.writes k ≡ true → callee.words.reads k ≡ true
   callee_reads k t = written_readable m context k t
@@ -174,8 +176,8 @@ module _ (m : Contents) (h : Holding) (mode : machine.Mode) (act : Activation) (
   pub own_word : (k : ℤ) → p.lo ≤ℤ k → k <ℤ p.hi → caller.words.writes (base +ℤ k) ≡ true
   unfolding frame_is_own
   own_word k low high =
-      let i = natural (k -ℤ p.lo) (omega (arith, ints)) in
-      let n = natural (p.hi -ℤ p.lo) (omega (arith, ints)) in
+      let i = pos_from (k -ℤ p.lo) (omega (arith, ints)) in
+      let n = pos_from (p.hi -ℤ p.lo) (omega (arith, ints)) in
       let size : frame_size p ≡ n.0 = ap nat_abs n.1 in
       subst (λ (z : ℤ). caller.words.writes z ≡ true) (omega (arith, ints, i.1))
       (all_words_at caller.words.writes (callee_word s p.lo) (frame_size p) i.0 own
@@ -257,13 +259,13 @@ module _ (m : Contents) (h : Holding) (mode : machine.Mode) (act : Activation) (
     apart_from : (i : ℕ) (k : ℤ) → i < count → callee.words.reads k ≡ true → word +ℤ pos i ≡ base +ℤ k → ⊥
     apart_from i k low t e =
         let inside = callee_word_inside k t in
-        elim (bool_cases (int_le (word +ℤ pos count) (callee_word s p.lo))) [
-          | inl before ↦ let b = le-from (word +ℤ pos count) (callee_word s p.lo) before in
+        elim (cases_Bool (int_le (word +ℤ pos count) (callee_word s p.lo))) [
+          | inl before ↦ let b = int_le-true (word +ℤ pos count) (callee_word s p.lo) before in
               omega (arith, ints, b, e, inside.0, inside.1, low)
           | inr not_before ↦
               let behind : int_le (callee_word s p.hi) word ≡ true =
               sym (ap (λ (b : Bool). b || int_le (callee_word s p.hi) word) not_before) ∙ off in
-              let b = le-from (callee_word s p.hi) word behind in omega (arith, ints, b, e, inside.0, inside.1, low)
+              let b = int_le-true (callee_word s p.hi) word behind in omega (arith, ints, b, e, inside.0, inside.1, low)
         ]
 
     first_place : IsReadableWord h (length l.memory) act.layout.origin (word +ℤ pos 0)
@@ -308,13 +310,13 @@ module _ (m : Contents) (h : Holding) (mode : machine.Mode) (act : Activation) (
             (record { low = omega (arith, ints, b.low); high = omega (arith, ints, b.high) }));
         numbers = λ i fits.
             let low : i < count = omega (arith, whole) in
-            let both = and-parts (int_le lo (together s.frame word count).lo)
+            let both = and_parts (int_le lo (together s.frame word count).lo)
             (int_le (together s.frame word count).hi hi) suit in
             let means = together_means {act = act} s.frame word count i
             (frame_word l.memory act.layout.origin (word +ℤ pos i))
             low numbers (a.knows.words (word +ℤ pos i) (reads i low)) in
             let within : Means m act.layout (Number lo hi) (frame_word l.memory act.layout.origin (word +ℤ pos i)) =
-            wider_means (le-from lo _ both.0) (le-from _ hi both.1) means in
+            wider_means (int_le-true lo _ both.0) (int_le-true _ hi both.1) means in
             number_means (subst (λ (v : Option ℤ). Means m act.layout (Number lo hi) v)
             (frame_word_is l.memory act.layout.origin (word +ℤ pos i) (first_place.place + 4 * i)
             (omega (arith, ints, place_is))) within);
@@ -397,7 +399,7 @@ module _ (m : Contents) (h : Holding) (mode : machine.Mode) (act : Activation) (
             let inside = callee_word_inside k t in
             let w = a.frame.own (base +ℤ k) (own_word k inside.0 inside.1) in
             let is = w.is in
-            let j = natural (pos (constants_start m + n + i) -ℤ pos w.place) (omega (arith, ints, is, b.low)) in
+            let j = pos_from (pos (constants_start m + n + i) -ℤ pos w.place) (omega (arith, ints, is, b.low)) in
             let low' = a.named.constants.behind (w.place + j.0)
             (bytes_written h w.place w.mine j.0 (omega (arith, ints, is, b.high, j.1))) in
             omega (arith, ints, j.1, low');
@@ -493,13 +495,13 @@ module _ (m : Contents) (h : Holding) (mode : machine.Mode) (act : Activation) (
   ranges_of : (region : Region) (first : ℤ) (size : ℕ) (lo hi low high : ℤ) (w : Bool)
       → suits (a_lent region first size lo hi w) low high ≡ true → Ranges lo hi low high w
   ranges_of region first size lo hi low high true h =
-      let both = and-parts (is_word low lo) (is_word high hi) h in
+      let both = and_parts (is_word low lo) (is_word high hi) h in
       let l : low ≡ lo = same_word_by low lo both.0 in
       let u : high ≡ hi = same_word_by high hi both.1 in
       record { below = omega (arith, ints, l); above = omega (arith, ints, u); same = λ e. (l, u) }
   ranges_of region first size lo hi low high false h =
-      let both = and-parts (int_le lo low) (int_le high hi) h in
-      record { below = le-from lo low both.0; above = le-from high hi both.1; same = λ e. absurd (cc) }
+      let both = and_parts (int_le lo low) (int_le high hi) h in
+      record { below = int_le-true lo low both.0; above = int_le-true high hi both.1; same = λ e. absurd (cc) }
 
   module _ (j : ℕ) (q : Parameter) (found : slice_get p.parameters j ≡ Some q) (size count : ℕ)
       (whole : size ≡ 4 * count)
@@ -517,7 +519,7 @@ module _ (m : Contents) (h : Holding) (mode : machine.Mode) (act : Activation) (
     of_own k first lends =
         let used = (lend_parts call (a_lent (regions.Parameter k) first size lo hi w) lends.may).0 in
         let u = uses_bytes w k first (end_of (a_lent (regions.Parameter k) first size lo hi w)) (on_use w used) in
-        let n = natural first u.from in
+        let n = pos_from first u.from in
         let ranges = ranges_of (regions.Parameter k) first size lo hi u.low u.high w
         (of_kind (a_lent (regions.Parameter k) first size lo hi w) u.r u.total u.low u.high u.kind
         (sym (suits_used (a_lent (regions.Parameter k) first size lo hi w) u.was u.r u.is_used)
@@ -638,11 +640,12 @@ module _ (m : Contents) (h : Holding) (mode : machine.Mode) (act : Activation) (
             → IsPassed size lo hi w regions.Constants first (layout.starts j)
         on_written true e suit used = let no' : true ≡ false = sym e ∙ not_written lo hi w used in absurd (cc)
         on_written false e suit used =
-            let both = and-parts (int_le (pos 0) first)
+            let both = and_parts (int_le (pos 0) first)
             (int_le (end_of (a_lent regions.Constants first size lo hi w)) (pos (length m.constants)))
             (inside lo hi w e used) in
-            let n = natural first (le-from (pos 0) first both.0) in
-            let to = le-from (end_of (a_lent regions.Constants first size lo hi w)) (pos (length m.constants)) both.1 in
+            let n = pos_from first (int_le-true (pos 0) first both.0) in
+            let to =
+            int_le-true (end_of (a_lent regions.Constants first size lo hi w)) (pos (length m.constants)) both.1 in
             let fits : n.0 + 4 * count ≤ length m.constants = omega (arith, ints, to, n.1, whole) in
             let start : pos (data_start + constants_start m) +ℤ first ≡ pos (data_start + (constants_start m + n.0)) =
             let f = n.1 in omega (arith, ints, f) in
@@ -815,7 +818,7 @@ module _ (m : Contents) (h : Holding) (mode : machine.Mode) (act : Activation) (
       ∙ ap (own_parameters m) (owner_below (first_branch m) m.pars context row_inside)
       ∙ ap (λ (b : Bool). if b then [] else
       (elim (slice_get m.procedures (context - 1)) as (λ o. List Parameter) [ None ↦ [] | Some p ↦ p.parameters ]))
-      (differs context 0 (λ e. omega (arith, e)))
+      (ne_eqb context 0 (λ e. omega (arith, e)))
       ∙ ap (λ (o : Option Procedure). elim o as (λ o. List Parameter) [ None ↦ [] | Some p ↦ p.parameters ]) is
 
   pub no_branch : numbered_branch m context ≡ None
@@ -1012,9 +1015,9 @@ module _ (m : Contents) (h : Holding) (mode : machine.Mode) (act : Activation) (
     no_clash : (o u : Option Lent) (l k : Lent) → o ≡ Some l → u ≡ Some k → are_apart o u ≡ true
         → (l.is_written || k.is_written) ≡ true → l.region ≡ k.region → l.first <ℤ end_of k → k.first <ℤ end_of l → ⊥
     no_clash o u l k e f apart written same before behind =
-        let yes : clash l k ≡ true = and-both _ _ (and-both _ _ (and-both _ _ written
-        (same_as_equal l.region k.region same)) (lt-yes l.first (end_of k) before))
-        (lt-yes k.first (end_of l) behind) in
+        let yes : clash l k ≡ true = and_from _ _ (and_from _ _ (and_from _ _ written
+        (same_as_equal l.region k.region same)) (lt-int_lt l.first (end_of k) before))
+        (lt-int_lt k.first (end_of l) behind) in
         let no' : false ≡ true = sym (ap not yes) ∙ sym (ap (λ (x : Option Lent). are_apart x (Some k)) e
         ∙ refl) ∙ ap (λ (x : Option Lent). are_apart o x) (sym f) ∙ apart in
         (cc)
@@ -1147,13 +1150,13 @@ module _ (m : Contents) (h : Holding) (mode : machine.Mode) (act : Activation) (
     end_of_caller : (kind : EndKind) (d : Direction) → callee.ends kind d ≡ true → IsEndOf kind d
     end_of_caller kind d t =
         on_kind kind (subst (λ (ps : List Parameter). rights.gives_parameter ps kind d ≡ true) parameters_are
-        (other (context == 0) _ _ (differs context 0 (λ e. omega (arith, e)))
+        (other (context == 0) _ _ (ne_eqb context 0 (λ e. omega (arith, e)))
         (sym (ap (λ (o : Option (Par × Branch)). elim o as (λ o. Bool) [
           | Some found ↦ list_any (λ other. rights.is_same_end (key_of other)
               (key_of (record { kind = kind; direction = d }))) found.1.ends
           | None ↦ if context == 0 then rights.gives_link m.lengths kind d else rights.gives_parameter
               (parameters_at m context) kind d
-        ]) no_branch) ∙ (and-parts _ _ t).1)))
+        ]) no_branch) ∙ (and_parts _ _ t).1)))
       where
         on_element : (j word el : ℕ) (kind : ParameterKind)
             → slice_get p.parameters j ≡ Some (record { word = word; kind = kind })
@@ -1164,7 +1167,7 @@ module _ (m : Contents) (h : Holding) (mode : machine.Mode) (act : Activation) (
         on_element j word el (WrittenRegion size lo hi) found gives holds = absurd (cc)
         on_element j word el (Channels count len ends) found gives holds =
             element_of j word el count len ends d found
-            (and-parts (nat_lt el count) (has_direction ends.0 d) gives) holds
+            (and_parts (nat_lt el count) (has_direction ends.0 d) gives) holds
 
         on_parameter : (j el : ℕ) (o : Option Parameter) → slice_get p.parameters j ≡ o
             → (elim o as (λ o. Bool) [ None ↦ false | Some q ↦ rights.gives_element q.kind el d ]) ≡ true

@@ -4,6 +4,8 @@ use Rattle.std.proofs.Common.{Bool, true, false, cond, ◌&&◌, ◌⊎◌, inl,
 use Rattle.std.proofs.Common.{refl, sym, ap, ◌∙◌, subst, arith}
 use Rattle.std.specs.Prelude.{slice_get, int_le, int_lt, nat_abs}
 use Rattle.std.proofs.lemmas.Int.{ints}
+use Rattle.std.proofs.lemmas.Bool.{and_parts, and_from, cases_Bool}
+use Rattle.small_laws.proofs.Comparisons.{lt-int_lt, le-int_le, int_le-true, int_lt-true, pos_from}
 use Rattle.module_format.specs.declared.fact.Fact.TheVariants.{Number}
 use Rattle.module_format.specs.declared.fact.Region.{Region}
 use Rattle.module_format.specs.declared.fact.Region.TheVariants as regions
@@ -16,7 +18,6 @@ use Rattle.machine_state.specs.Memory.{Memory, word_at, place_of}
 use Rattle.machine_state.specs.Holding.{Holding, may_write, may_read}
 use Rattle.states.specs.declared.known.WordFact.TheVariants.{Alone}
 use Rattle.states.specs.State.{State, Facts, Change, by_itself, is_parted, changed}
-use Rattle.states.proofs.RowFacts.{and-parts, and-both, le-from, lt-from, le-yes, lt-yes}
 use Rattle.rulings.specs.Meaning.{Layout, Activation, Means, says_nothing, MeansWord, is_fact, place_in, frame_word}
 use Rattle.rulings.specs.Meaning.{IsReadableWord}
 use Rattle.rulings.specs.Regions.{IsByteOf, Scope, scope_of, IsRegion, IsNamed, HoldsNamed, MayChange, in_frame}
@@ -27,13 +28,12 @@ use Rattle.rulings.specs.Reach.{word_of_byte}
 use Rattle.call_rules.specs.declared.lent.Lent.{Lent}
 use Rattle.call_rules.specs.CallRules.{Calling, callee_word, given, lent_to, lent, with_lent, with_all_lent}
 use Rattle.call_rules.specs.CallRules.{callee_span, frame_size}
-use Rattle.rulings.proofs.Words.{bool_cases, means_same, itself_means, frame_word_is}
+use Rattle.rulings.proofs.Words.{means_same, itself_means, frame_word_is}
 use Rattle.rulings.proofs.Offsets.{word_of_offset}
 use Rattle.rulings.specs.Lends.{IsPart, of_frame, of_constants, of_parameter, PartOf, Lends}
 use Rattle.rulings.proofs.Lending.{number_means, same_word, run_byte, WritesIn, writes_in, writes_of, word_kept}
 use Rattle.rulings.proofs.Lending.{frame_byte}
 use Rattle.call_rules.proofs.CallTests.{lent_fact, frame_is}
-use Rattle.rulings.proofs.Reaching.{natural}
 use Rattle.rulings.proofs.Regions.{bytes_read}
 
 -- ---- one change of what is known
@@ -43,11 +43,11 @@ changed_means : (m : Contents) (act : Activation) (change : Change) (facts : Fac
     → MeansWord m act k (facts k) v
     → (change.touches k ≡ true → Means m act.layout (change.leaves k (by_itself (facts k))) v)
     → MeansWord m act k (changed change facts k) v
-changed_means m act change facts k v means touched = elim (bool_cases (change.touches k)) [
+changed_means m act change facts k v means touched = elim (cases_Bool (change.touches k)) [
   | inl e ↦ means_same (is_fact (touched e))
       (sym (ap (λ (b : Bool). cond b (Alone (change.leaves k (by_itself (facts k))))
       (cond (is_parted change.touches k (facts k)) (Alone (by_itself (facts k))) (facts k))) e)) refl
-  | inr e ↦ elim (bool_cases (is_parted change.touches k (facts k))) [
+  | inr e ↦ elim (cases_Bool (is_parted change.touches k (facts k))) [
     | inl parted ↦ means_same (is_fact (itself_means m act k (facts k) v means))
         (sym (ap (λ (b : Bool). cond b (Alone (change.leaves k (by_itself (facts k))))
         (cond (is_parted change.touches k (facts k)) (Alone (by_itself (facts k))) (facts k))) e
@@ -101,7 +101,7 @@ module _ (m : Contents) (act : Activation) (c : Calling) (k : ℤ) (v : Option �
   one_lent : (o : Option Lent) (facts : Facts) → Holds o → MeansWord m act k (facts k) v
       → MeansWord m act k (with_lent o facts k) v
   one_lent None facts holds means = means
-  one_lent (Some l) facts holds means = elim (bool_cases (to_write l)) [
+  one_lent (Some l) facts holds means = elim (cases_Bool (to_write l)) [
     | inl e ↦ subst (λ (b : Bool). MeansWord m act k ((cond b (changed (lent_span l) facts) facts) k) v) (sym e)
         (changed_means m act (lent_span l) facts k v means (λ t. holds l refl e t))
     | inr e ↦ subst (λ (b : Bool). MeansWord m act k ((cond b (changed (lent_span l) facts) facts) k) v) (sym e) means
@@ -151,11 +151,11 @@ module _ (m : Contents) (act : Activation) (c : Calling) (k : ℤ) (v : Option �
 
       on_head : (o : Option Lent) → lent c p ≡ o → Uncovered ps → Covered (p ∷ ps) ⊎ Uncovered (p ∷ ps)
       on_head None e none = inr (later none (λ l is writes. let no' : None ≡ Some l = sym e ∙ is in absurd (cc)))
-      on_head (Some l) e none = elim (bool_cases (to_write l)) [
+      on_head (Some l) e none = elim (cases_Bool (to_write l)) [
         | inr not_written ↦ inr (later none (λ l' is writes.
             let same : l ≡ l' = let e : Some l ≡ Some l' = sym e ∙ is in cc in
             let no' : false ≡ true = sym not_written ∙ ap to_write same ∙ writes in absurd (cc)))
-        | inl writes ↦ elim (bool_cases ((lent_span l).touches k)) [
+        | inl writes ↦ elim (cases_Bool ((lent_span l).touches k)) [
           | inl touches ↦ inl (record { j = 0; q = p; found = refl; l = l; is = e; writes = writes; touches = touches })
           | inr misses ↦ inr (later none (λ l' is writes.
               let same : l ≡ l' = let e : Some l ≡ Some l' = sym e ∙ is in cc in
@@ -210,11 +210,11 @@ module _ (m : Contents) (h : Holding) (act : Activation) (s : State) (p : Proced
         let first_is : l.first ≡ first = ap (λ (x : Lent). x.first) is in
         let size_is : l.size ≡ size = ap (λ (x : Lent). x.size) is in
         let word_is : word_of_byte l.first ≡ word = ap word_of_byte (first_is ∙ f) ∙ word_of_offset word in
-        let both = and-parts (int_le (word_of_byte l.first) k)
+        let both = and_parts (int_le (word_of_byte l.first) k)
         (int_lt k (word_of_byte l.first +ℤ pos (l.size / 4))) touches in
-        let low = le-from (word_of_byte l.first) k both.0 in
-        let high = lt-from k (word_of_byte l.first +ℤ pos (l.size / 4)) both.1 in
-        let i = natural (k -ℤ word) (omega (arith, ints, low, word_is)) in
+        let low = int_le-true (word_of_byte l.first) k both.0 in
+        let high = int_lt-true k (word_of_byte l.first +ℤ pos (l.size / 4)) both.1 in
+        let i = pos_from (k -ℤ word) (omega (arith, ints, low, word_is)) in
         let at : pos (place_of start + 4 * i.0) ≡ place_in act.layout.origin k = omega (arith, ints, place, i.1) in
         subst (λ (v : Option ℤ). Means m act.layout (Number l.lo l.hi) v)
         (sym (frame_word_is later act.layout.origin k (place_of start + 4 * i.0) at))
@@ -238,7 +238,7 @@ module _ (m : Contents) (h : Holding) (act : Activation) (s : State) (p : Proced
         there = parameters_are j ∙ found
 
         both : (l.is_written ≡ true) × (is_frame l.region ≡ true)
-        both = and-parts l.is_written (is_frame l.region) writes
+        both = and_parts l.is_written (is_frame l.region) writes
 
         region_is : l.region ≡ regions.Frame
         region_is = frame_is l.region both.1
@@ -272,11 +272,11 @@ module _ (m : Contents) (h : Holding) (act : Activation) (s : State) (p : Proced
           (record { low = omega (arith, ints, is); high = omega (arith, ints, is) })
           (frame_byte m caller callee base lends j at b) in
           let bounds = inside j (lends.callee_reads j w) in
-          let n = natural (p.hi -ℤ p.lo) (omega (arith, ints, bounds.0, bounds.1)) in
+          let n = pos_from (p.hi -ℤ p.lo) (omega (arith, ints, bounds.0, bounds.1)) in
           let size : frame_size p ≡ n.0 = ap nat_abs n.1 in
           let yes : (callee_span c).touches k ≡ true =
-          and-both _ _ (le-yes (callee_word s p.lo) k (omega (arith, ints, there, bounds.0)))
-          (lt-yes k (callee_word s p.lo +ℤ pos (frame_size p)) (omega (arith, ints, there, bounds.1, n.1, size))) in
+          and_from _ _ (le-int_le (callee_word s p.lo) k (omega (arith, ints, there, bounds.0)))
+          (lt-int_lt k (callee_word s p.lo +ℤ pos (frame_size p)) (omega (arith, ints, there, bounds.1, n.1, size))) in
           let no' : false ≡ true = sym outside ∙ yes in (cc)
       untouched place at is low high (in_region j q found changes) =
           on_writes (writes_of m caller callee base lends j q at found changes)
@@ -298,8 +298,9 @@ module _ (m : Contents) (h : Holding) (act : Activation) (s : State) (p : Proced
               let none = uncovered j q (sym (parameters_are j) ∙ found) l
               (linked j q found size lo hi kind) (ap is_frame (r ∙ at_frame)) in
               let yes : (lent_span l).touches k ≡ true =
-              and-both _ _ (le-yes (word_of_byte l.first) k (omega (arith, ints, same, word_is)))
-              (lt-yes k (word_of_byte l.first +ℤ pos (size / 4)) (omega (arith, ints, same, word_is, whole, less))) in
+              and_from _ _ (le-int_le (word_of_byte l.first) k (omega (arith, ints, same, word_is)))
+              (lt-int_lt k (word_of_byte l.first +ℤ pos (size / 4))
+              (omega (arith, ints, same, word_is, whole, less))) in
               let no' : false ≡ true = sym none ∙ yes in (cc)
           on_part j q size lo hi region first count i found r f kind whole there less
               (of_constants n e g no' start fits) =
@@ -340,7 +341,7 @@ module _ (m : Contents) (h : Holding) (act : Activation) (s : State) (p : Proced
           (all_hold k) at.j at.q at.l at.found at.is at.writes at.touches
       | inr none ↦ all_lent m act c k (frame_word later act.layout.origin k) p.parameters
           (changed (callee_span c) s.frame)
-          (all_hold k) (elim (bool_cases ((callee_span c).touches k)) [
+          (all_hold k) (elim (cases_Bool ((callee_span c).touches k)) [
             | inl touches ↦ touched_means m act (callee_span c) s.frame k
                 (frame_word later act.layout.origin k) touches says_nothing
             | inr outside ↦ changed_means m act (callee_span c) s.frame k (frame_word later act.layout.origin k)

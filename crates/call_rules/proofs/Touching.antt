@@ -4,6 +4,7 @@ use Rattle.std.proofs.Common.{◌∷◌, length, map, Option, Some, None, refl, 
 use Rattle.std.specs.Prelude.{slice_get, ◌||◌, int_le, IfSome}
 use Rattle.std.specs.List.{list_all, AllByRecursion}
 use Rattle.std.proofs.lemmas.Int.{ints}
+use Rattle.std.proofs.lemmas.Bool.{and_parts, and_from}
 use Rattle.module_format.specs.declared.rows.Parameter.{Parameter}
 use Rattle.module_format.specs.declared.rows.ParameterKind.{ParameterKind}
 use Rattle.module_format.specs.declared.rows.ParameterKind.TheVariants.{Value, ReadRegion, WrittenRegion, Channels}
@@ -30,7 +31,6 @@ use Rattle.certificate.specs.Words.{all_words}
 use Rattle.states.specs.Spans.{on_span, after_change}
 use Rattle.states.specs.declared.state.State.{State as InMemory}
 use Rattle.states.specs.Views.{BelongsTo, CanWriteSpan}
-use Rattle.states.proofs.RowFacts.{and-parts, and-both}
 use Rattle.states.proofs.SpanFacts.{all-fail}
 use Rattle.states.proofs.Procedures.{at-row}
 use Rattle.states.proofs.OwnWords.{written-own}
@@ -118,7 +118,7 @@ pub all_owned : (c : Calling) (hi : ℤ) (low : ℕ) (ps : List Parameter)
     → AllByRecursion (OwnsLent c.contents c.state.context) (map (lent c) ps)
 all_owned c hi low [] keeps may = tt
 all_owned c hi low (p ∷ ps) keeps may =
-    let both = and-parts _ _ may in (
+    let both = and_parts _ _ may in (
       parameter_owned c p.word p.kind keeps.0.kind both.0,
       all_owned c hi p.word ps keeps.1 both.1,
     )
@@ -254,7 +254,7 @@ lent_told l o s t w count leaving o_is writes at_frame w_is count_is leaving_is 
     ∙ sym
     (ap (λ (b : Bool). cond b (changed
     (on_span (word_of_byte l.first) (l.size / 4) (Become (Number l.lo l.hi))) s.frame)
-    s.frame) (and-both _ _ writes (ap is_frame at_frame)))
+    s.frame) (and_from _ _ writes (ap is_frame at_frame)))
     ∙ sym (ap (λ (x : Option Lent). rule.with_lent x s.frame) o_is))
 
 pub after_context : (change : Change) (s t : State) → t ≡ after_change change s → t.context ≡ s.context

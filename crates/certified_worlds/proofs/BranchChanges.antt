@@ -2,6 +2,7 @@
 use Rattle.std.proofs.Common.{◌≡◌, ◌≢◌, ◌⊎◌, ℕ, ◌+◌, ◌<◌, true, false, Bool, inl, inr, List, length, Option, Some}
 use Rattle.std.proofs.Common.{None, ℤ, refl, sym, ap, ◌∙◌, subst, arith}
 use Rattle.std.specs.Prelude.{slice_get}
+use Rattle.std.proofs.lemmas.Bool.{and_parts, cases_Bool}
 use Rattle.module_format.specs.Contents.{Contents, Par, Branch}
 use Rattle.certificate.specs.Branches.{numbered_branch}
 use Rattle.certificate.specs.Rights.{may_write_word, is_among}
@@ -12,7 +13,6 @@ use Rattle.machine_state.specs.Memory.{Memory, byte_at}
 use Rattle.machine_state.specs.Waiting.{is_member}
 use Rattle.machine_state.specs.World.{Join}
 use Rattle.machine_state.proofs.Reading.{word_at_same}
-use Rattle.states.proofs.RowFacts.{and-parts}
 use Rattle.rulings.specs.Buffers.{IsByte}
 use Rattle.rulings.specs.Fitting.{Caller}
 use Rattle.rulings.specs.Meaning.{Layout, words_in, frame_word, word_at_place}
@@ -21,7 +21,7 @@ use Rattle.rulings.proofs.Agreeing.{agree_keeps}
 use Rattle.rulings.proofs.Combining.{same_frame}
 use Rattle.rulings.proofs.Regions.{bytes_read}
 use Rattle.rulings.proofs.Within.{is_starting, scope_still}
-use Rattle.rulings.proofs.Words.{bool_cases, means_same, frame_word_is}
+use Rattle.rulings.proofs.Words.{means_same, frame_word_is}
 use Rattle.share_laws.specs.Climbing.{ChangesWithin, IsRung}
 use Rattle.share_laws.proofs.Climbing.{changes_climb, other_words_stay}
 use Rattle.certified_worlds.specs.Point.{Began, Behind}
@@ -75,7 +75,7 @@ module _ {m : Contents} {h : Holding} {began : Began} {memory : Memory} {t : Tas
       → ChangesWithin m h (scope_began m began) memory new
   filled_within new size others come = step_within new (record {
     size = size;
-    others = λ place other. elim (bool_cases (awaits t.condition place)) [
+    others = λ place other. elim (cases_Bool (awaits t.condition place)) [
       | inl awaited ↦ let no' : false ≡ true = sym other ∙ (l.room place awaited).0 in absurd (cc)
       | inr free ↦ others place free
     ];
@@ -93,7 +93,7 @@ written_is_among : (m : Contents) (context : ℕ) (par : Par) (b : Branch) (k : 
 written_is_among m context par b k is t = sym (ap (λ (o : Option (Par × Branch)). elim o as (λ o. Bool) [
   | None ↦ true
   | Some found ↦ is_among found.1.writes k
-]) is) ∙ (and-parts _ _ t).1
+]) is) ∙ (and_parts _ _ t).1
 
 module _ {m : Contents} {own : Holding} {o : ℕ} {began : Began} {all : List Began} {old : Memory} {j : Join} {due : ℕ}
     {after : AfterPar m j due} (pending : Pending m own o began all old j due after) where
@@ -120,7 +120,7 @@ module _ {m : Contents} {own : Holding} {o : ℕ} {began : Began} {all : List Be
       pending_by new (agree_keeps own old new changes.size same m opener_scope) (λ k reads free. word k reads)
     where
       same : (place : ℕ) → may_read own place ≡ true → byte_at new place ≡ byte_at old place
-      same place e = changes.others place (elim (bool_cases (may_write g place))
+      same place e = changes.others place (elim (cases_Bool (may_write g place))
           [ inl theirs ↦ absurd (apart place theirs e) | inr free ↦ free ])
 
       word : (k : ℤ) → (words_in m after.par.context).reads k ≡ true
@@ -161,7 +161,7 @@ module _ {m : Contents} {own : Holding} {o : ℕ} {began : Began} {all : List Be
         other_words_stay m own mine opener_scope (scope_began m start) old new rung changes k reads (unwritten k free))
       where
         unwritten : (k : ℤ) → (IsOut m o all after.par j k → ⊥) → may_write_word m start.context k ≡ false
-        unwritten k free = elim (bool_cases (may_write_word m start.context k)) [
+        unwritten k free = elim (cases_Bool (may_write_word m start.context k)) [
           | inl writes ↦ absurd (free (record {
             number = member.number;
             branch = member.branch;

@@ -3,7 +3,7 @@ use Rattle.std.proofs.Common.{◌≡◌, ℕ, suc, ◌+◌, ◌*◌, ◌%◌, �
 use Rattle.std.proofs.Common.{negsuc, List, [], ◌∷◌, map, Option, Some, None, refl, sym, ap, ◌∙◌, subst}
 use Rattle.std.specs.Prelude.{slice_get, find, int_le, option_map}
 use Rattle.std.specs.List.{list_any}
-use Rattle.std.proofs.lemmas.Bool.{or_cases}
+use Rattle.std.proofs.lemmas.Bool.{or_cases, and_parts}
 use Rattle.module_format.specs.declared.rows.ChannelRow.{ChannelRow}
 use Rattle.module_format.specs.declared.rows.Direction.{Direction}
 use Rattle.module_format.specs.declared.rows.EndKind.{EndKind}
@@ -20,7 +20,6 @@ use Rattle.machine_state.specs.Moves.{cell_of}
 use Rattle.machine_state.specs.Ownership.{IsAmong}
 use Rattle.machine_state.proofs.Shares.{end_among}
 use Rattle.states.specs.State.{is_word}
-use Rattle.states.proofs.RowFacts.{and-parts}
 use Rattle.rulings.specs.Channels.{message_length}
 use Rattle.rulings.specs.Meaning.{Layout}
 use Rattle.rulings.specs.Regions.{scope_of, channel_address, length_left, HoldsNamed}
@@ -170,4 +169,4 @@ module _ {m : Contents} {found : Found} {layout : Layout} {base : ℕ} {addresse
       let r = among_map (end_at layout) found.branch.ends e given in
       let left = can.left.ends r.0 r.1 in
       subst (λ (e : End). LengthAgrees m cells (began_by m found layout) e) r.2
-      (of_kind r.0.kind r.0.direction (and-parts _ _ left).0 (can.named.lengths r.0.kind r.0.direction left))
+      (of_kind r.0.kind r.0.direction (and_parts _ _ left).0 (can.named.lengths r.0.kind r.0.direction left))

@@ -4,7 +4,7 @@ use Rattle.std.proofs.Common.{◌≡◌, ◌≢◌, ◌⊎◌, ℕ, zero, suc, �
 use Rattle.std.proofs.Common.{inl, inr, ℤ, pos, ◌+ℤ◌, if◌then◌else◌, List, [], ◌∷◌, length, Option, Some, None, refl}
 use Rattle.std.proofs.Common.{sym}
 use Rattle.std.proofs.Common.{ap, ◌∙◌, subst, arith}
-use Rattle.std.proofs.lemmas.Bool.{eqb-true, and_from, or_cases, or_left, or_right}
+use Rattle.std.proofs.lemmas.Bool.{eqb-true, and_from, or_cases, or_left, or_right, and_parts, cases_Bool}
 use Rattle.std.specs.Prelude.{slice_get, filter, take}
 use Rattle.std.specs.List.{list_any}
 use Rattle.module_format.specs.declared.contexts.Context.{Context}
@@ -31,7 +31,6 @@ use Rattle.small_laws.proofs.Options.{same_some}
 use Rattle.states.specs.declared.known.WordFact.{WordFact}
 use Rattle.states.specs.declared.known.WordFact.TheVariants.{Alone, Index, Count}
 use Rattle.states.specs.State.{entry_fact, is_alone, known, label_state}
-use Rattle.states.proofs.RowFacts.{and-parts}
 use Rattle.rulings.specs.Fitting.{After}
 use Rattle.rulings.specs.Meaning.{Layout, Activation, region_start, code_address, word_of, Means, says_nothing}
 use Rattle.rulings.specs.Meaning.{is_number}
@@ -40,7 +39,6 @@ use Rattle.rulings.specs.Meaning.{MeansKnown, frame_word, words_in, HasFrame, bo
 use Rattle.rulings.specs.Regions.{scope_of, HoldsNamed}
 use Rattle.rulings.specs.Remaining.{is_hidden}
 use Rattle.rulings.proofs.Combining.{unknown_means}
-use Rattle.rulings.proofs.Words.{bool_cases}
 use Rattle.share_laws.specs.Climbing.{LieAlike}
 use Rattle.certified_worlds.specs.Point.{Began}
 use Rattle.certified_worlds.specs.ParLabels.{LeavesSaid}
@@ -136,7 +134,7 @@ module _ {m : Contents} {own : Holding} {o : ℕ} {began : Began} {all : List Be
         → may_write_word m start.context k ≡ true
     may_write k reads among = and_from (has_word (context_at m start.context) k) _
         (ap (λ (o : Option Context). has_word o k) member.frame
-        ∙ (and-parts (has_word (context_at m after.par.context) k) _ reads).0)
+        ∙ (and_parts (has_word (context_at m after.par.context) k) _ reads).0)
         (ap (λ (o : Option (Par × Branch)). elim o as (λ o. Bool) [
           | None ↦ true
           | Some found ↦ is_among found.1.writes k
@@ -191,7 +189,7 @@ module _ {m : Contents} {own : Holding} {o : ℕ} {began : Began} {all : List Be
       frame = pending.frame;
       named = pending.named;
       behind = pending.behind;
-      words = λ k reads hides free. elim (bool_cases (is_among member.branch.writes k)) [
+      words = λ k reads hides free. elim (cases_Bool (is_among member.branch.writes k)) [
         | inl among ↦ written_word k reads among
         | inr none ↦ pending.words k reads hides (λ out. free (out_still k none out))
       ];
@@ -262,7 +260,7 @@ module _ {m : Contents} {own : Holding} {o : ℕ} {began : Began} {all : List Be
       where
         word : (k : ℤ) → may_read_word m after.par.context k ≡ true
             → MeansWord m after.act k (entry_fact after.label.entries k) (frame_word memory after.act.layout.origin k)
-        word k reads = elim (bool_cases (is_hidden after.par k)) [
+        word k reads = elim (cases_Bool (is_hidden after.par k)) [
           | inl hides ↦
               subst (λ (f : WordFact). MeansWord m after.act k f (frame_word memory after.act.layout.origin k))
               (sym (after.hidden k hides)) (nothing_known m after.act k (frame_word memory after.act.layout.origin k))

@@ -1,5 +1,7 @@
 -- The states that the tables give, and the starts that they name.
-use Rattle.std.proofs.Common.{◌≡◌, ℕ, Bool, true, false, ◌||◌, is_some, Option, Some, None, refl, ap, ◌∙◌}
+use Rattle.std.proofs.Common.{◌≡◌, ℕ, true, false, is_some, Option, Some, None, refl, ap, ◌∙◌}
+use Rattle.std.proofs.lemmas.Bool.{or_parts}
+use Rattle.small_laws.proofs.Options.{none_from_is_some}
 use Rattle.module_format.specs.Contents.{Contents, Label, label_at}
 use Rattle.certificate.specs.Starts.{Entered, procedure_at, is_start}
 use Rattle.states.specs.State.{State, label_state, procedure_state}
@@ -38,23 +40,10 @@ pub procedure_is_start : (m : Contents) (at : ℕ) (e : Entered) → label_at m 
     → is_start m at ≡ true
 procedure_is_start m at e l p = rw (l, p) refl
 
-none_by : {A : Type 0} (o : Option A) → is_some o ≡ false → o ≡ None
-none_by None h = refl
-none_by (Some x) h = absurd (cc)
-
--- neither part of a test holds that does not
-pub or_left : (a b : Bool) → (a || b) ≡ false → a ≡ false
-or_left true b h = absurd (cc)
-or_left false b h = refl
-
-pub or_right : (a b : Bool) → (a || b) ≡ false → b ≡ false
-or_right true b h = absurd (cc)
-or_right false b h = h
-
 pub start_of_none : (m : Contents) (at : ℕ) → is_start m at ≡ false
     → (label_at m at ≡ None) × (procedure_at m at ≡ None)
 start_of_none m at h =
-    let both = or_left _ _ (or_left _ _ h) in (
-      none_by (label_at m at) (or_left _ _ both),
-      none_by (procedure_at m at) (or_right (is_some (label_at m at)) _ both),
+    let both = (or_parts _ _ (or_parts _ _ h).0).0 in (
+      none_from_is_some (label_at m at) (or_parts _ _ both).0,
+      none_from_is_some (procedure_at m at) (or_parts (is_some (label_at m at)) _ both).1,
     )

@@ -1,7 +1,7 @@
 -- The first start of a PAR makes what its opener goes on with once all branches are joined.
 use Rattle.std.proofs.Common.{◌≡◌, ◌≢◌, ℕ, zero, suc, ◌+◌, ◌&&◌, not, true, false, inl, inr, ℤ, pos}
 use Rattle.std.proofs.Common.{◌+ℤ◌, List, [], ◌∷◌, length, take, Some, refl, sym, ap, ◌∙◌, subst, arith}
-use Rattle.std.proofs.lemmas.Bool.{cases_lt, and_from, or_cases}
+use Rattle.std.proofs.lemmas.Bool.{cases_lt, and_from, or_cases, cases_Bool, not_from_false}
 use Rattle.std.proofs.lemmas.Int.{ints}
 use Rattle.std.specs.Prelude.{slice_get}
 use Rattle.std.specs.List.{list_any}
@@ -26,14 +26,13 @@ use Rattle.rulings.specs.Regions.{scope_of, Keeps}
 use Rattle.rulings.specs.Remaining.{is_hidden, word_given_to_write}
 use Rattle.rulings.proofs.Combining.{same_frame}
 use Rattle.rulings.proofs.Regions.{keeps_more}
-use Rattle.rulings.proofs.Words.{bool_cases, means_same, moved_workspace}
+use Rattle.rulings.proofs.Words.{means_same, moved_workspace}
 use Rattle.share_laws.specs.Opening.{CanOpen, layout_with}
 use Rattle.share_laws.specs.Shares as shares
 use Rattle.share_laws.specs.Shares.{IsLaidOut}
 use Rattle.share_laws.specs.Starts.{IsLeft}
 use Rattle.share_laws.specs.Taking.{IsScheduling, OpenerKeeps, OpeningTakes, after_start, after_opening}
 use Rattle.share_laws.proofs.HiddenWords.{fits_words, hidden_word, block_hides}
-use Rattle.share_laws.proofs.LeftBytes.{not_true}
 use Rattle.share_laws.proofs.OpenerHolds.{none_started}
 use Rattle.share_laws.proofs.ShareBytes.{frame_channel}
 use Rattle.share_laws.proofs.TakenWords.{openings_take_their_words, starts_keep_openers}
@@ -203,8 +202,8 @@ module _ {m : Contents} {own : Holding} {found : Found} {act : Activation} {base
     word_stays k reads hides free =
         opener_keeps.others k (λ scheduled. free (scheduled_out k scheduled))
         ∙ taken.words k (and_from (may_read_word m par.context k && not (is_hidden par k)) _
-        (and_from (may_read_word m par.context k) _ reads (not_true (is_hidden par k) hides))
-        (not_true (word_given_to_write par 0 k) (none_started par (λ b. is_among b.writes k))))
+        (and_from (may_read_word m par.context k) _ reads (not_from_false (is_hidden par k) hides))
+        (not_from_false (word_given_to_write par 0 k) (none_started par (λ b. is_among b.writes k))))
 
     pub opening_makes : (callers : List Caller) → Behind m own began par.context act.layout memory callers
         → (due : ℕ) (paid : due ≡ label.label.number + dues (entry_fact label.label.entries) act.turns
@@ -224,7 +223,7 @@ module _ {m : Contents} {own : Holding} {found : Found} {act : Activation} {base
           };
           named = opening_keeps.named can.named;
           behind = behind_keeps opening_keeps behind;
-          words = λ k reads hides free. elim (bool_cases (word_given_to_write par (length par.branches) k)) [
+          words = λ k reads hides free. elim (cases_Bool (word_given_to_write par (length par.branches) k)) [
             | inl given ↦ absurd (free (given_out k given))
             | inr none ↦ means_same (label.words k reads hides none) refl (sym (word_stays k reads hides free))
           ];

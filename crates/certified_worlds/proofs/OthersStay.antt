@@ -3,6 +3,7 @@
 use Rattle.std.proofs.Common.{◌≡◌, ◌≢◌, ℕ, ◌+◌, ◌<◌, ℤ, true, false, inl, inr, length, Some}
 use Rattle.std.proofs.Common.{refl, sym, ap, ◌∙◌, subst, arith}
 use Rattle.std.specs.Prelude.{slice_get}
+use Rattle.std.proofs.lemmas.Bool.{cases_Bool}
 use Rattle.module_format.specs.Contents.{Contents}
 use Rattle.machine_state.specs.declared.process.Condition.{Condition}
 use Rattle.machine_state.specs.declared.process.Task.{Task}
@@ -25,7 +26,7 @@ use Rattle.rulings.specs.Regions.{Scope, scope_in, Keeps}
 use Rattle.rulings.proofs.Agreeing.{agree_keeps}
 use Rattle.rulings.proofs.Regions.{bytes_read}
 use Rattle.rulings.proofs.Within.{scope_still}
-use Rattle.rulings.proofs.Words.{bool_cases, frame_word_is}
+use Rattle.rulings.proofs.Words.{frame_word_is}
 use Rattle.certified_worlds.specs.Alternating.{AlternatesHere}
 use Rattle.certified_worlds.specs.Invariant.{Holds}
 use Rattle.certified_worlds.specs.Lives.{awaits, Lives, Meets, it_lives, it_stopped, it_ended}
@@ -53,7 +54,7 @@ module _ (m : Contents) (w after : World) (g : Holding) (changes : ChangesOwn g 
 
   module _ {h : Holding} (apart : IsApart g h) where
     same : (place : ℕ) → may_read h place ≡ true → byte_at after.memory place ≡ byte_at w.memory place
-    same place e = changes.others place (elim (bool_cases (may_write g place))
+    same place e = changes.others place (elim (cases_Bool (may_write g place))
         [ inl mine ↦ absurd (apart.written place mine e) | inr free ↦ free ])
 
     -- a word that it may read has its value

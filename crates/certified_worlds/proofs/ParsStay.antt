@@ -2,7 +2,7 @@
 use Rattle.std.proofs.Common.{◌≡◌, ◌≢◌, ◌⊎◌, ℕ, zero, suc, ◌<◌, true, false, inl, inr, List, length, Option, Some, None}
 use Rattle.std.proofs.Common.{refl}
 use Rattle.std.proofs.Common.{sym, ap, ◌∙◌, subst, arith}
-use Rattle.std.proofs.lemmas.Bool.{cases_eq}
+use Rattle.std.proofs.lemmas.Bool.{cases_eq, cases_Bool}
 use Rattle.std.specs.Prelude.{slice_get}
 use Rattle.small_laws.proofs.Options.{same_some}
 use Rattle.module_format.specs.Contents.{Contents}
@@ -19,7 +19,6 @@ use Rattle.machine_state.proofs.Holders.{is_idle, held_write}
 use Rattle.rulings.specs.Buffers.{IsByte}
 use Rattle.rulings.specs.Regions.{scope_of, Keeps, HoldsNamed}
 use Rattle.rulings.proofs.Within.{is_starting}
-use Rattle.rulings.proofs.Words.{bool_cases}
 use Rattle.share_laws.specs.Climbing.{ChangesWithin}
 use Rattle.certified_worlds.specs.Point.{Began}
 use Rattle.certified_worlds.specs.Lives.{awaits, Lives}
@@ -239,7 +238,7 @@ module _ (m : Contents) (w : World) (h : Holds m w) (branches : Branches w.tasks
         within = within_began opener.pending.behind opener.pending.named (record {
           own = record {
             size = changes.size;
-            others = λ place other. changes.others place (unheld place other (bool_cases (may_write j.rest place)));
+            others = λ place other. changes.others place (unheld place other (cases_Bool (may_write j.rest place)));
           };
           keeps = keeps;
         });

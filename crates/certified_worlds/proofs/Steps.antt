@@ -78,16 +78,11 @@ use Rattle.certified_worlds.proofs.GivenStates.{nothing_given, is_given, given_l
 use Rattle.certified_worlds.proofs.GivenStates.{given_procedure}
 use Rattle.certified_worlds.proofs.GivenStates.{procedure_is_start}
 use Rattle.std.proofs.lemmas.Int.{ints}
+use Rattle.small_laws.proofs.Options.{same_some, same_ok}
 use Rattle.module_format.specs.Stack.{of_empty, AreRelated}
 use Rattle.machine_state.specs.declared.process.Mode.TheVariants as machine_modes
 use Rattle.states.specs.declared.known.Mode as states
 use Rattle.states.specs.declared.known.Mode.TheVariants as states_modes
-
-same_ok : {A E : Type 0} (r : Result A E) (x y : A) → r ≡ Ok x → r ≡ Ok y → x ≡ y
-same_ok {A} {E} r x y p q = let e : ◌≡◌ {A = Result A E} (Ok x) (Ok y) = sym p ∙ q in cc
-
-same_some : {A : Type 0} (o : Option A) (x y : A) → o ≡ Some x → o ≡ Some y → x ≡ y
-same_some {A} o x y p q = let e : Some x ≡ Some y = sym p ∙ q in cc
 
 -- ---- modes
 

@@ -1,9 +1,9 @@
 -- The choices of an IF are written one after the other.
 use Rattle.std.proofs.Common.{◌≡◌, ℕ, ◌+◌, ◌<◌, Bool, true, false, ◌&&◌, nat_eq, List, [], ◌∷◌, ◌++◌, length, map, take}
 use Rattle.std.proofs.Common.{get_or, Option, refl, sym, ap, subst, ◌∙◌, arith, Result, Ok, Err, IfOk}
-use Rattle.std.proofs.lemmas.Bool.{eqb-true}
-use Rattle.std.proofs.lemmas.Bool.Decides.{nat_tests}
+use Rattle.std.proofs.lemmas.Bool.{eqb-true, eq-eqb}
 use Rattle.std.proofs.lemmas.List.{append_assoc, take_all}
+use Rattle.small_laws.proofs.Comparisons.{lt-eqb}
 use Rattle.occam_layout.specs.declared.mark.Mark.TheVariants as mark
 use Rattle.occam_parser.specs.Terminals.{Mark}
 use Rattle.occam_parser.specs.Expressions.{Expression}
@@ -74,17 +74,11 @@ choices_more false is_open around end cs c {s} {t} {w} first one =
       frame = one.frame ∙ first.frame;
     }
 
-pub other_number : (a b : ℕ) → a < b → nat_eq a b ≡ false
-other_number a b h = grind (arith, nat_tests)
-
-pub same_number : (a b : ℕ) → a ≡ b → nat_eq a b ≡ true
-same_number a b h = grind (arith, nat_tests)
-
 -- nothing is written yet
 pub choices_start : (around : calling.Surroundings) (end n : ℕ) (is_open : Bool) (part : Part) (s : ProcessWriter)
     → 0 < n → WritesUpTo s s around end (nat_eq 0 n) is_open (all_of {part = part} [])
 choices_start around end n is_open part s h =
-    subst (λ b. WritesUpTo s s around end b is_open (all_of {part = part} [])) (sym (other_number 0 n h))
+    subst (λ b. WritesUpTo s s around end b is_open (all_of {part = part} [])) (sym (lt-eqb 0 n h))
     (writes_none s)
 
 pub both_where : (b one other : Bool) → (b ≡ true → one ≡ other) → (b && one) ≡ (b && other)
@@ -108,7 +102,7 @@ choices_next around end f xs i x is_last is_open {s} {t} {w} h is last opens bef
     both_where is_last ends (passes (f x)) (λ yes. passes_last f xs i x h is (eqb-true _ _ (sym last ∙ yes))) in
     let first = subst (λ b. WritesUpTo s t around end false b done) (ap (λ b. b && ends) (sym last) ∙ same)
     (subst (λ b. WritesUpTo s t around end b (nat_eq (i + 1) (length xs) && ends) done)
-    (other_number i (length xs) h) before) in
+    (lt-eqb i (length xs) h) before) in
     let more = choices_more is_last is_open around end done (f x) first one in
     subst (λ cs. WritesUpTo s w around end (nat_eq (i + 1) (length xs)) (nat_eq (i + 1 + 1) (length xs) && ends) cs)
     (sym (all_push f (take i xs) (take (i + 1) xs) x (taken_one xs i x x h is)))
@@ -122,7 +116,7 @@ pub choices_done : {part : Part} {A : Type 0} (around : calling.Surroundings) (e
     → WritesChoices s t around end (all_of (map f xs))
 choices_done around end f xs i is_open {s} {t} h x =
     let whole = subst (λ b. WritesUpTo s t around end b is_open (all_of (map f (take i xs))))
-    (same_number i (length xs) h) x in
+    (eq-eqb i (length xs) h) x in
     subst (λ ys. WritesChoices s t around end (all_of (map f ys))) (take_all i xs (omega arith)) whole
 
 -- an IF without a choice

@@ -1,26 +1,13 @@
 -- The outermost entries, one by one.
-use Rattle.std.proofs.Common.{◌≡◌, ℕ, ◌+◌, ◌<◌, ◌≤◌, Bool, true, false, cond, nat_eq, nat_lt, List, [], ◌∷◌, length}
+use Rattle.std.proofs.Common.{◌≡◌, ℕ, ◌+◌, ◌≤◌, Bool, true, false, cond, nat_eq, nat_lt, List, [], ◌∷◌, length}
 use Rattle.std.proofs.Common.{Option, Some, None, refl, sym, ap, ◌∙◌, arith}
 use Rattle.std.proofs.lemmas.Bool.Decides.{nat_tests}
+use Rattle.std.proofs.lemmas.Bool.{eqb-true, lt-ltb, le-ltb, ltb-true}
+use Rattle.small_laws.proofs.Comparisons.{lt-eqb}
 use Rattle.scalar_ranges.specs.Entries.{Entry, entry_at}
 use Rattle.scalar_ranges.specs.Moves.{outermost}
 use Rattle.scalar_ranges.proofs.Found.{none_less}
 use Rattle.code_generator.specs.Calls.{with_entry}
-
-are_same : (m n : ℕ) → nat_eq m n ≡ true → m ≡ n
-are_same m n h = grind (arith, nat_tests)
-
-is_less : (m n : ℕ) → m < n → nat_lt m n ≡ true
-is_less m n h = grind (arith, nat_tests)
-
-is_no_less : (m n : ℕ) → n ≤ m → nat_lt m n ≡ false
-is_no_less m n h = grind (arith, nat_tests)
-
-is_other : (m n : ℕ) → m < n → nat_eq m n ≡ false
-is_other m n h = grind (arith, nat_tests)
-
-less_is : (m n : ℕ) → nat_lt m n ≡ true → m < n
-less_is m n h = grind (arith, nat_tests)
 
 greater_is : (m n : ℕ) → nat_eq m n ≡ false → nat_lt m n ≡ false → n + 1 ≤ m
 greater_is m n other below = grind (arith, nat_tests)
@@ -29,7 +16,7 @@ greater_is m n other below = grind (arith, nat_tests)
 entry_above : (i : ℕ) (es : List Entry) → length es ≤ i → entry_at i es ≡ None
 entry_above i [] h = refl
 entry_above i (e ∷ es) h =
-    ap (λ b. cond b (Some e) (entry_at i es)) (is_other (length es) i (omega arith))
+    ap (λ b. cond b (Some e) (entry_at i es)) (lt-eqb (length es) i (omega arith))
     ∙ entry_above i es (omega arith)
 
 one_more : (i : ℕ) (es : List Entry) → outermost (i + 1) es ≡ with_entry (entry_at i es) (outermost i es)
@@ -41,18 +28,18 @@ one_more i (e ∷ es) = by_number (one_more i es) (nat_eq (length es) i) refl (n
         → cond (nat_lt (length es) (i + 1)) (e ∷ es) (outermost (i + 1) es)
         ≡ with_entry (cond same (Some e) (entry_at i es)) (cond below (e ∷ es) (outermost i es))
     by_number rest true same true below =
-        absurd (let n = are_same (length es) i same in let l = less_is (length es) i below in omega (arith, n, l))
+        absurd (let n = eqb-true (length es) i same in let l = ltb-true (length es) i below in omega (arith, n, l))
     by_number rest true same false below =
-        let n = are_same (length es) i same in
-        ap (λ b. cond b (e ∷ es) (outermost (i + 1) es)) (is_less (length es) (i + 1) (omega (arith, n)))
+        let n = eqb-true (length es) i same in
+        ap (λ b. cond b (e ∷ es) (outermost (i + 1) es)) (lt-ltb (length es) (i + 1) (omega (arith, n)))
         ∙ ap (λ xs. e ∷ xs) (sym (none_less i es (omega (arith, n))))
     by_number rest false other true below =
-        let l = less_is (length es) i below in
-        ap (λ b. cond b (e ∷ es) (outermost (i + 1) es)) (is_less (length es) (i + 1) (omega (arith, l)))
+        let l = ltb-true (length es) i below in
+        ap (λ b. cond b (e ∷ es) (outermost (i + 1) es)) (lt-ltb (length es) (i + 1) (omega (arith, l)))
         ∙ ap (λ x. with_entry x (e ∷ es)) (sym (entry_above i es (omega (arith, l))))
     by_number rest false other false below =
         let l = greater_is (length es) i other below in
-        ap (λ b. cond b (e ∷ es) (outermost (i + 1) es)) (is_no_less (length es) (i + 1) l) ∙ rest
+        ap (λ b. cond b (e ∷ es) (outermost (i + 1) es)) (le-ltb (length es) (i + 1) l) ∙ rest
 
 pub next_outermost : (i : ℕ) (es before after : List Entry) (e : Option Entry) → before ≡ outermost i es
     → e ≡ entry_at i es → after ≡ with_entry e before → after ≡ outermost (i + 1) es

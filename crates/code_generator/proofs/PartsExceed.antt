@@ -1,8 +1,9 @@
 -- If a part of a process is too much, so is the process: what `proofs/Exceeding` says, for each construct.
 use Rattle.std.proofs.Common.{◌≡◌, ℕ, suc, ◌+◌, ◌<◌, ◌&&◌, Bool, true, false, nat_eq, List, [], ◌∷◌, ◌++◌}
 use Rattle.std.proofs.Common.{length, map, take, get_or, Option, refl, sym, ap, subst, ◌∙◌, arith, add-one}
-use Rattle.std.proofs.lemmas.Bool.{eqb-true}
+use Rattle.std.proofs.lemmas.Bool.{eqb-true, eq-eqb}
 use Rattle.std.proofs.lemmas.List.{take_all, get_or_default}
+use Rattle.small_laws.proofs.Comparisons.{lt-eqb}
 use Rattle.occam_layout.specs.declared.mark.Mark.TheVariants as mark
 use Rattle.occam_parser.specs.Terminals.{Mark}
 use Rattle.occam_parser.specs.Expressions.{Expression}
@@ -42,7 +43,7 @@ use Rattle.code_generator.specs.Written.{row_code, part_code, chosen_code, if_co
 use Rattle.code_generator.specs.Written.{WritesLine, WritesSeq}
 use Rattle.code_generator.proofs.ActsWritten.{with_row_is}
 use Rattle.code_generator.proofs.ChoicesPassed.{passes_last}
-use Rattle.code_generator.proofs.ChoicesWritten.{upto_code, WritesUpTo, other_number, same_number, both_where}
+use Rattle.code_generator.proofs.ChoicesWritten.{upto_code, WritesUpTo, both_where}
 use Rattle.code_generator.proofs.ChoicesWritten.{ChosenLeft, ChoicesLeft}
 use Rattle.code_generator.proofs.Exceeding.{OneMore, exceeds_before, exceeds_closed, exceeds_behind}
 use Rattle.code_generator.proofs.Exceeding.{exceeds_first, exceeds_second, exceeds_all, much_behind}
@@ -171,7 +172,7 @@ choices_split here end f xs z k x h is =
     (λ i. upto_code here end is_last (nat_eq (number i) n && ends)
     (all_push f (take k xs) (take (k + 1) xs) x (taken_one xs k x x h is) i) z)
     ∙ last_split here end is_last is_open done (f x) z
-    ∙ (λ i. then_code (upto_code here end (sym (other_number k n h) i) (sym same i) done z)
+    ∙ (λ i. then_code (upto_code here end (sym (lt-eqb k n h) i) (sym same i) done z)
     (λ label. part_code here end is_last is_open (f x)
     (at_place (after_components here.around (Mark mark.If) done z.known) label z)))
 
@@ -202,7 +203,7 @@ exceeds_choices l around end f xs i x is_last is_open {s} {t} h is last opens fi
     t.listing t.label first.code here_one) in
     subst (λ ys. Exceeds l s.listing (choices_code here end (all_of (map f ys)) z)) (take_all n xs (omega arith))
     (subst (λ b. Exceeds l s.listing (upto_code here end b (nat_eq (n + 1) n && ends) (all_of (map f (take n xs))) z))
-    (same_number n n refl) (exceeds_all l upto n (i + 1) s.listing steps (omega arith) more))
+    (eq-eqb n n refl) (exceeds_all l upto n (i + 1) s.listing steps (omega arith) more))
 
 -- the last choice, where its condition is TRUE
 pub exceeds_always : (l : Limits) (s : ProcessWriter) (here : Surroundings) (end : ℕ) (is_open : Bool) (line : ℕ)
@@ -332,7 +333,7 @@ turns_split here end name repeats c count z k h =
     ∙ turn_split here end name repeats c (nat_eq (k + 1) count) k z
     ∙ ap (λ b. then_code (upto_turns here end name repeats c b k z)
     (λ label. part_code here end (nat_eq (k + 1) count) false c
-    (turn_site here.around (Mark mark.If) name c repeats z k label))) (sym (other_number k count h))
+    (turn_site here.around (Mark mark.If) name c repeats z k label))) (sym (lt-eqb k count h))
 
 pub exceeds_turns : (l : Limits) (around : calling.Surroundings) (end : ℕ) (name : List ℕ) (repeats : Repeats)
     (c : Component Choices) (count n : ℕ) (m : Meaning) {s t : ProcessWriter} (scope : code_scope.Scope) → n < count
@@ -355,5 +356,5 @@ exceeds_turns l around end name repeats c count n m {s} {t} scope h means enters
     (turn_site a (Mark mark.If) name c repeats z n label)) s.listing t.listing t.label first.code
     (subst (λ (y : Site). Exceeds l t.listing (part_code here end (nat_eq (n + 1) count) false c y))
     (λ i. record { frame = first.frame i; known = known i; label = t.label }) one)) in
-    subst (λ b. Exceeds l s.listing (upto_turns here end name repeats c b count z)) (same_number count count refl)
+    subst (λ b. Exceeds l s.listing (upto_turns here end name repeats c b count z)) (eq-eqb count count refl)
     (exceeds_all l upto count (n + 1) s.listing steps (omega arith) more)

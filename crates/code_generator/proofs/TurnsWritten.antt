@@ -4,6 +4,8 @@ use Rattle.std.proofs.Common.{length, take, Option, None, refl, sym, ap, subst, 
 use Rattle.std.proofs.Math.Seq.{take-append_seam}
 use Rattle.std.proofs.lemmas.List.{length-map}
 use Rattle.std.specs.Global.{Vec}
+use Rattle.std.proofs.lemmas.Bool.{eq-eqb}
+use Rattle.small_laws.proofs.Comparisons.{lt-eqb}
 use Rattle.occam_layout.specs.declared.mark.Mark.TheVariants as mark
 use Rattle.occam_parser.specs.Terminals.{Mark}
 use Rattle.occam_parser.specs.Lines.{Replicator}
@@ -35,7 +37,6 @@ use Rattle.code_generator.specs.Processes.{under_if, construct_code, choice_code
 use Rattle.code_generator.specs.Written.{site_of, Appends, Writes, WritesConstruct, WritesPart, turns_written}
 use Rattle.code_generator.specs.Written.{WritesTurns}
 use Rattle.code_generator.proofs.PartsWritten.{appends_closed, appends_then, writes_none}
-use Rattle.code_generator.proofs.ChoicesWritten.{other_number, same_number}
 use Rattle.code_generator.proofs.LoopsWritten.{ended_block}
 
 -- ---- one turn after the other
@@ -92,7 +93,7 @@ turn_more false around end name repeats c n {s} {t} {w} scope enters first one =
 pub turns_start : (around : calling.Surroundings) (end : ℕ) (name : List ℕ) (repeats : Repeats) (c : Component Choices)
     (count : ℕ) (s : ProcessWriter) → 0 < count → WritesSome s s around end name repeats c (nat_eq 0 count) 0
 turns_start around end name repeats c count s h =
-    subst (λ b. WritesSome s s around end name repeats c b 0) (sym (other_number 0 count h)) (writes_none s)
+    subst (λ b. WritesSome s s around end name repeats c b 0) (sym (lt-eqb 0 count h)) (writes_none s)
 
 pub turns_next : (around : calling.Surroundings) (end : ℕ) (name : List ℕ) (repeats : Repeats) (c : Component Choices)
     (count n : ℕ) (m : Meaning) {s t w : ProcessWriter} (scope : code_scope.Scope) → n < count
@@ -101,7 +102,7 @@ pub turns_next : (around : calling.Surroundings) (end : ℕ) (name : List ℕ) (
     → WritesPart (record t { scope = scope }) w around end (nat_eq (n + 1) count) false c
     → WritesSome s w around end name repeats c (nat_eq (n + 1) count) (n + 1)
 turns_next around end name repeats c count n m {s} {t} {w} scope h means enters before one =
-    let first = subst (λ b. WritesSome s t around end name repeats c b n) (other_number n count h) before in
+    let first = subst (λ b. WritesSome s t around end name repeats c b n) (lt-eqb n count h) before in
     let known = enters ∙ ap (λ m. with_entries (add name m) (known_of t.scope)) means in
     let more = turn_more (nat_eq (n + 1) count) around end name repeats c n scope known first one in
     subst (λ k. WritesSome s w around end name repeats c (nat_eq (n + 1) count) k) (sym (add-one n)) more
@@ -110,7 +111,7 @@ pub turns_done : (around : calling.Surroundings) (end : ℕ) (name : List ℕ) (
     (count n : ℕ) {s t : ProcessWriter} → n ≡ count
     → WritesSome s t around end name repeats c (nat_eq n count) n → WritesTurns s t around end name repeats count c
 turns_done around end name repeats c count n {s} {t} h x =
-    let whole = subst (λ b. WritesSome s t around end name repeats c b n) (same_number n count h) x in
+    let whole = subst (λ b. WritesSome s t around end name repeats c b n) (eq-eqb n count h) x in
     subst (λ k. WritesTurns s t around end name repeats k c) h whole
 
 -- ---- what is known after the turns

@@ -15,9 +15,6 @@ use Rattle.line_pieces.specs.Actions.{Target, NoTarget, OwnWord, KnownElement, O
 use Rattle.code_generator.specs.Instances.{meaning_at, passed_target, unknown_at, unknown_in, with_target, forgotten}
 use Rattle.code_generator.specs.Instances.{all_forgotten}
 
-alike : (m n : ℕ) → nat_eq m n ≡ true → m ≡ n
-alike m n h = grind (arith, nat_tests)
-
 -- one word more, at an entry whose word is that one or is not
 one_more : (w : ℕ) (r : RowEntry) (same here : Bool) → nat_eq r.word w ≡ same
     → (if same || here then is_in r.word 1 full else r) ≡ unknown_at w (if here then is_in r.word 1 full else r)

@@ -7,6 +7,8 @@ use Rattle.std.proofs.lemmas.Bool.{le-ltb}
 use Rattle.std.proofs.lemmas.List.{length-map}
 use Rattle.std.proofs.lemmas.List.Sums.{sum-map}
 use Rattle.std.proofs.lemmas.Option.{slice_get-map}
+use Rattle.std.proofs.lemmas.Simd.{map-map}
+use Rattle.small_laws.proofs.Mapped.{map_same}
 use Rattle.module_format.specs.Contents as contents
 use Rattle.module_format.specs.declared.rows.BranchRow.{BranchRow}
 use Rattle.module_format.specs.declared.rows.ParRow.{ParRow}
@@ -27,10 +29,6 @@ use Rattle.code_pieces.specs.LaidModule.{branch_count, name_number, first_branch
 
 -- ---- lists
 
-pub map_map : {X Y Z : Type 0} (g : Y → Z) (f : X → Y) (xs : List X) → map g (map f xs) ≡ map (λ x. g (f x)) xs
-map_map g f [] = refl
-map_map g f (x ∷ xs) = ap (λ zs. g (f x) ∷ zs) (map_map g f xs)
-
 one_mapped : {X Y : Type 0} (f : X → Y) (o : Option X) (xs : List X)
     → map f (cons_option o xs) ≡ cons_option (option_map f o) (map f xs)
 one_mapped f None xs = refl
@@ -50,14 +48,10 @@ pub both_mapped : {X Y Z : Type 0} (f : X → Z) (g : Y → Z) (order : List (�
 both_mapped f g order xs ys e =
     rows_mapped f order xs ∙ ap (λ zs. rows_in order zs) e ∙ sym (rows_mapped g order ys)
 
-each_mapped : {X Y : Type 0} (f g : X → Y) → ((x : X) → f x ≡ g x) → (xs : List X) → map f xs ≡ map g xs
-each_mapped f g e [] = refl
-each_mapped f g e (x ∷ xs) = λ j. e x j ∷ each_mapped f g e xs j
-
 mapped_sum : {X Y : Type 0} (f : X → Y) (m : Y → ℕ) (n : X → ℕ) → ((x : X) → m (f x) ≡ n x) → (xs : List X)
     → sum_by m (map f xs) ≡ sum_by n xs
 mapped_sum f m n e xs =
-    sym (sum-map m (map f xs)) ∙ ap sum (map_map m f xs ∙ each_mapped (λ x. m (f x)) n e xs) ∙ sum-map n xs
+    sym (sum-map m (map f xs)) ∙ ap sum (map-map m f xs ∙ map_same xs e) ∙ sum-map n xs
 
 -- ---- PAR rows
 
@@ -103,12 +97,12 @@ pub same_entries : (all ps : List Par) (rows : List (ParRow Label ContextName)) 
 unfolding placed laid
 same_entries all ps rows offsets are =
     let first = λ (p : contents.Par). first_of_branches p.branches in
-    each_mapped (first_entry offsets) (λ row. first (placed offsets row))
+    map_same (first_entry offsets) (λ row. first (placed offsets row))
     (λ row. first_placed offsets row.branches.items) rows
-    ∙ sym (map_map first (placed offsets) rows)
+    ∙ sym (map-map first (placed offsets) rows)
     ∙ ap (λ cs. map first cs) (are (λ name. 0) offsets)
-    ∙ map_map first (laid offsets) ps
-    ∙ sym (each_mapped (λ (p : Par). first_branch offsets p.branches) (λ p. first (laid offsets p))
+    ∙ map-map first (laid offsets) ps
+    ∙ sym (map_same (λ (p : Par). first_branch offsets p.branches) (λ p. first (laid offsets p))
     (λ p. first_laid offsets p.branches) ps)
 
 -- ---- numbers

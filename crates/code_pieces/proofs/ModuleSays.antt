@@ -1,6 +1,7 @@
 -- What the module of pieces says, from the draft that they are laid out as.
 use Rattle.std.proofs.Common.{◌≡◌, ℕ, List, [], ◌∷◌, map, Option, refl, sym, ap, subst, ◌∙◌}
 use Rattle.std.specs.List.{slice_get, cons_option}
+use Rattle.std.proofs.lemmas.Simd.{map-map}
 use Rattle.module_format.specs.declared.rows.LabelRow.{LabelRow}
 use Rattle.module_format.specs.declared.rows.ParRow.{ParRow}
 use Rattle.module_format.specs.declared.rows.TableRow.{TableRow}
@@ -30,7 +31,7 @@ use Rattle.code_pieces.specs.DraftedPars.{laid_par, AreRows}
 use Rattle.code_pieces.specs.Laid.{needs_in, IsLaid, IsLaidOut}
 use Rattle.code_pieces.specs.LaidModule.{name_number, context_number, laid_row, first_branch, Arrangement}
 use Rattle.code_pieces.specs.LaidModule.{laid_module, IsArrangement, Says}
-use Rattle.code_pieces.proofs.ContextsNumbered.{map_map, both_mapped, same_entries, numbered_as, renumbered}
+use Rattle.code_pieces.proofs.ContextsNumbered.{both_mapped, same_entries, numbered_as, renumbered}
 
 -- ---- rows
 
@@ -52,19 +53,19 @@ rows_laid : (all : List Par) (number : ContextName → ℕ) (offsets : List (Opt
     ≡ map (laid_row (λ context. number (context_name all context)) offsets) (rows_in order said)
 unfolding file_row
 rows_laid all number offsets order rows said e =
-    sym (map_map (file_row number offsets) shown_row (rows_in order rows))
+    sym (map-map (file_row number offsets) shown_row (rows_in order rows))
     ∙ ap (λ (shown : List ShownRow). map (file_row number offsets) shown)
     (both_mapped shown_row (drafted_row all) order rows said e)
-    ∙ map_map (file_row number offsets) (drafted_row all) (rows_in order said)
+    ∙ map-map (file_row number offsets) (drafted_row all) (rows_in order said)
 
 keys_laid : (all : List Par) (offsets : List (Option ℕ)) (rows : List (LabelRow Label ContextName))
     (said : List SaidRow) → map shown_row rows ≡ map (drafted_row all) said
     → map (λ (row : LabelRow Label ContextName). label_offset offsets row.offset) rows
     ≡ map (λ (row : SaidRow). label_offset offsets (label row.label)) said
 keys_laid all offsets rows said e =
-    sym (map_map (λ (row : ShownRow). label_offset offsets row.offset) shown_row rows)
+    sym (map-map (λ (row : ShownRow). label_offset offsets row.offset) shown_row rows)
     ∙ ap (λ (shown : List ShownRow). map (λ (row : ShownRow). label_offset offsets row.offset) shown) e
-    ∙ map_map (λ (row : ShownRow). label_offset offsets row.offset) (drafted_row all) said
+    ∙ map-map (λ (row : ShownRow). label_offset offsets row.offset) (drafted_row all) said
 
 -- rows in an order, with the numbers of contexts that are there
 labels_numbered : (all ps : List Par) (d : Draft) (a : assembled.Arrangement) (offsets : List (Option ℕ))

@@ -1,12 +1,12 @@
 -- Ends that are looked at one by one.
 use Rattle.std.proofs.Common.{◌≡◌, ℕ, ◌+◌, ◌<◌, ◌&&◌, ◌||◌, not, Bool, true, false, List, [], ◌∷◌, ◌++◌, take, drop}
-use Rattle.std.proofs.Common.{get_or, length, map, cond, refl, sym, ap, ◌∙◌, arith, append_assoc}
+use Rattle.std.proofs.Common.{get_or, length, map, cond, refl, sym, ap, ◌∙◌, append_assoc}
 use Rattle.std.proofs.lemmas.Bool.{and_parts, and_from, and_right, or_left, not_from_true, not_from_false, eqb-true}
 use Rattle.std.proofs.lemmas.Bool.{cond-true, cond-false}
-use Rattle.std.proofs.lemmas.Bool.Decides.{nat_tests}
 use Rattle.std.proofs.lemmas.List.{take_more, drop_more, take-append-drop}
 use Rattle.std.proofs.lemmas.List.Folds.{list_any-append}
 use Rattle.std.specs.Prelude.{◌==◌}
+use Rattle.small_laws.proofs.Comparisons.{eqb_comm}
 use Rattle.module_format.specs.declared.rows.Direction.{Direction}
 use Rattle.module_format.specs.declared.rows.Direction.TheVariants.{In, Out}
 use Rattle.module_format.specs.declared.rows.ChannelRow.{ChannelRow}
@@ -30,13 +30,10 @@ same_direction-true In Out h = absurd (cc)
 same_direction-true Out In h = absurd (cc)
 same_direction-true Out Out h = refl
 
-eqb-sym : (a b : ℕ) → (a == b) ≡ (b == a)
-eqb-sym a b = grind (arith, nat_tests)
-
 -- whether two ends are the same
 is_same_end-sym : (a b : End) → is_same_end a b ≡ is_same_end b a
 is_same_end-sym a b =
-    ap (λ (t : Bool). t && same_direction a.direction b.direction) (eqb-sym a.address b.address)
+    ap (λ (t : Bool). t && same_direction a.direction b.direction) (eqb_comm a.address b.address)
     ∙ ap (λ (t : Bool). (b.address == a.address) && t) (same_direction-sym a.direction b.direction)
 
 is_same_end-true : (a b : End) → is_same_end a b ≡ true → a ≡ b

@@ -5,6 +5,7 @@ use Rattle.std.specs.List.{list_any}
 use Rattle.std.proofs.lemmas.Bool.{lt-ltb}
 use Rattle.std.proofs.lemmas.List.Folds.{list_any-append}
 use Rattle.std.specs.Prelude.{nat_lt, filter}
+use Rattle.small_laws.proofs.Mapped.{list_any-map}
 use Rattle.machine_state.specs.declared.holding.Span.{Span}
 use Rattle.machine_state.specs.declared.holding.End.{End}
 use Rattle.machine_state.specs.Holding.{Holding, covers, may_write, may_read}
@@ -12,7 +13,6 @@ use Rattle.machine_state.specs.Covering.{covered}
 use Rattle.machine_state.specs.declared.spans.Stretch.{Stretch as Kept}
 use Rattle.machine_state.specs.Stretches.{stretch_view}
 use Rattle.machine_state.specs.Spans.{Stretch, stretches_over, Share, runs, less, writes_place, reads_place, is_listed}
-use Rattle.joins.proofs.Mapped.{list_any-map}
 use Rattle.machine_state.proofs.NormalSpans.{same_runs}
 use Rattle.machine_state.proofs.SpanLaws.{runs_cover_the_test}
 

@@ -1,6 +1,6 @@
 -- How many registers the operands of a chain take, one after the other.
-use Rattle.std.proofs.Common.{◌≡◌, Bool, true, false, ◌&&◌, List, [], ◌∷◌, map, refl, sym, ap, ◌∙◌, Vec, Global}
-use Rattle.std.proofs.Math.Bool.{and_assoc}
+use Rattle.std.proofs.Common.{◌≡◌, Bool, ◌&&◌, List, [], ◌∷◌, map, sym, ap, ◌∙◌, Vec, Global}
+use Rattle.std.proofs.Math.Bool.{and_assoc, and-true}
 use Rattle.occam_parser.specs.declared.tree.Operand.{Operand}
 use Rattle.occam_parser.specs.declared.tree.ChainOperator.{ChainOperator}
 use Rattle.occam_parser.specs.declared.tree.Operation.{Chain}
@@ -10,14 +10,10 @@ use Rattle.occam_parser.proofs.Seen.{view-Chain}
 use Rattle.scalar_ranges.specs.Entries.{Entry}
 use Rattle.line_pieces.specs.Expressions.{is_leaf_term, are_leaves, is_small, are_small, is_small_term}
 
-and_nothing : (b : Bool) → (b && true) ≡ b
-and_nothing true = refl
-and_nothing false = refl
-
 -- the further operands are one push each
 further : (es : List Entry) (terms : Terms) (xs : List Term)
     → are_small es (with_others terms xs) ≡ (are_small es terms && are_leaves es xs)
-further es terms [] = sym (and_nothing (are_small es terms))
+further es terms [] = sym (and-true (are_small es terms))
 further es terms (x ∷ xs) =
     further es (Then terms x) xs ∙ and_assoc (are_small es terms) (is_leaf_term es x) (are_leaves es xs)
 

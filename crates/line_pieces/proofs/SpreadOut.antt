@@ -1,24 +1,18 @@
 -- How often what is 0 is moved until all words of an array are.
-use Rattle.std.proofs.Common.{◌≡◌, ℕ, zero, suc, ◌+◌, ◌-◌, ◌≤◌, ◌<◌, min, nat_lt, false, true, List, [], ◌++◌, refl}
+use Rattle.std.proofs.Common.{◌≡◌, ℕ, zero, suc, ◌+◌, ◌-◌, ◌≤◌, ◌<◌, min, nat_lt, List, [], ◌++◌, refl}
 use Rattle.std.proofs.Common.{sym}
 use Rattle.std.proofs.Common.{ap, arith, if◌then◌else◌, ◌∙◌}
-use Rattle.std.proofs.lemmas.Bool.Decides.{nat_tests}
 use Rattle.std.proofs.lemmas.List.{append_assoc}
+use Rattle.std.proofs.lemmas.Bool.{lt-ltb, le-ltb}
 use Rattle.code_pieces.specs.Pieces.{Piece, moves, word_after}
 use Rattle.line_pieces.specs.Declarations.{spread}
-
-not_below : (a b : ℕ) → b ≤ a → nat_lt a b ≡ false
-not_below a b h = grind (arith, nat_tests)
-
-below : (a b : ℕ) → a < b → nat_lt a b ≡ true
-below a b h = grind (arith, nat_tests)
 
 -- all words are 0
 pub spread_done : (f word count done : ℕ) → count ≤ done → spread f word count done ≡ []
 spread_done zero word count done h = refl
 spread_done (suc f) word count done h =
     ap (λ b. if b then moves (min done (count - done)) word (word_after word done)
-    ++ spread f word count (done + min done (count - done)) else []) (not_below done count h)
+    ++ spread f word count (done + min done (count - done)) else []) (le-ltb done count h)
 
 -- Enough moves are enough.
 pub spread_enough : (f g word count done : ℕ) → count ≤ done + f → count ≤ done + g → 1 ≤ done
@@ -42,7 +36,7 @@ spread_more word count done more start before after h some is b e =
     ≡ moves more word (word_after word done) ++ spread f word count (done + more) =
     ap (λ n. spread n word count done) left
     ∙ ap (λ t. if t then moves m word (word_after word done) ++ spread f word count (done + m) else [])
-    (below done count h)
+    (lt-ltb done count h)
     ∙ ap (λ n. moves n word (word_after word done) ++ spread f word count (done + n)) (sym is) in
     let same : spread (count - (done + more)) word count (done + more) ≡ spread f word count (done + more) =
     spread_enough (count - (done + more)) f word count (done + more) (omega arith) (omega arith) (omega arith) in

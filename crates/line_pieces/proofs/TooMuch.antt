@@ -5,6 +5,7 @@ use Rattle.std.proofs.Math.Nat.{mul-le-mul_right}
 use Rattle.std.proofs.lemmas.Bool.Decides.{nat_tests}
 use Rattle.std.proofs.lemmas.List.{length-append}
 use Rattle.std.proofs.lemmas.List.Sums.{sum_by-append}
+use Rattle.std.proofs.Math.Bool.{or-true}
 use Rattle.code_pieces.specs.Pieces.{Piece}
 use Rattle.line_pieces.specs.declared.pieces.TheConstants.{GREATEST_COUNT, GREATEST_ROWS, GREATEST_SAID}
 use Rattle.line_pieces.specs.declared.pieces.TheConstants.{GREATEST_LOOKS}
@@ -13,14 +14,10 @@ use Rattle.line_pieces.specs.Limits.{rows_at, said_at, rows_in, said_in, is_too_
 above_more : (most n m : ℕ) → n ≤ m → nat_lt most n ≡ true → nat_lt most m ≡ true
 above_more most n m h above = grind (arith, nat_tests)
 
-or_true : (b : Bool) → (b || true) ≡ true
-or_true true = refl
-or_true false = refl
-
 -- one of two, each of which leads to another
 either : (a b c d : Bool) → (a ≡ true → c ≡ true) → (b ≡ true → d ≡ true) → (a || b) ≡ true → (c || d) ≡ true
 either true b c d f g h = ap (λ x. x || d) (f refl)
-either false b c d f g h = ap (λ x. c || x) (g h) ∙ or_true c
+either false b c d f g h = ap (λ x. c || x) (g h) ∙ or-true c
 
 pub too_much_stays : (names : ℕ) (ps qs : List Piece) → is_too_much names ps ≡ true
     → is_too_much names (ps ++ qs) ≡ true

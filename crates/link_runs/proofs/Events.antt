@@ -3,6 +3,7 @@ use Rattle.std.proofs.Common.{◌≡◌, ◌≢◌, ℕ, zero, suc, ◌+◌, Boo
 use Rattle.std.proofs.Common.{length, Some, None}
 use Rattle.std.proofs.Common.{Result, Ok, Err, refl, sym, ap, subst, ◌∙◌, append_assoc, append-nil, add-zero, eq-eqb}
 use Rattle.std.proofs.lemmas.List.{length-append}
+use Rattle.std.proofs.lemmas.Option.{same_Some}
 use Rattle.module_format.specs.Contents.{Contents}
 use Rattle.machine_state.specs.declared.event.Event.{Event}
 use Rattle.machine_state.specs.declared.event.Event.TheVariants.{Step, Arrive, Acknowledge}
@@ -22,7 +23,7 @@ use Rattle.link_runs.specs.FirstInFirstOut.{supplied, IsRun}
 use Rattle.link_runs.specs.RunLaws.{arrivals, WasAsked, written_if, HasEvents, RunsAreMadeOfEvents}
 use Rattle.link_runs.proofs.ByLink.{of_same, of_other, Compared, same, other, compared}
 use Rattle.link_runs.proofs.Turns as run_turns
-use Rattle.link_runs.proofs.Turns.{Goes, Before, one_before, some_same}
+use Rattle.link_runs.proofs.Turns.{Goes, Before, one_before}
 
 -- ---- two lists of events, one after the other
 
@@ -384,7 +385,7 @@ module _ (m : Contents) (inputs : ByLink Supply) (writers : ByLink Bool) where
   }
 
   made : (n : ℕ) (s : RunMoment) → IsRun m inputs writers n s → HasEvents m inputs writers s
-  made zero s run = subst (HasEvents m inputs writers) (some_same (beginning m inputs) s run) begins
+  made zero s run = subst (HasEvents m inputs writers) (same_Some (beginning m inputs) s run) begins
   made (suc n) s run =
       let before = one_before m inputs writers n s run in
       turn_made_of_events before.moment s before.goes (made n before.moment before.run)

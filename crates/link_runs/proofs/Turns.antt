@@ -1,14 +1,12 @@
 -- One turn of a run.
 use Rattle.std.proofs.Common.{◌≡◌, ℕ, suc, Bool, true, false, cond, Option, Some, None, refl, ap, subst, ◌∙◌}
+use Rattle.std.proofs.lemmas.Option.{same_Some}
 use Rattle.module_format.specs.Contents.{Contents}
 use Rattle.machine_state.specs.declared.link.Link.{Link}
 use Rattle.link_runs.specs.ByLink.{ByLink, of_link}
 use Rattle.link_runs.specs.Wanting.{is_running}
 use Rattle.link_runs.specs.FirstInFirstOut.{Supply, RunMoment, stepped, asked, supplied, answered_by, next, next_of}
 use Rattle.link_runs.specs.FirstInFirstOut.{moment_after, IsRun}
-
-pub some_same : {A : Type 0} (x y : A) → Some x ≡ Some y → x ≡ y
-some_same x y e = cc
 
 module _ (m : Contents) (writers : ByLink Bool) (s : RunMoment) where
   pub next_running : is_running s.world ≡ true → next m writers s ≡ Some (stepped m writers s)
@@ -36,11 +34,11 @@ module _ (m : Contents) (writers : ByLink Bool) (s t : RunMoment) where
   by_link_asked : (o : Option Link) → asked s ≡ o → is_running s.world ≡ false → answered_by m s o ≡ Some t
       → Goes m writers s t
   by_link_asked None ask idle is = absurd (cc)
-  by_link_asked (Some link) ask idle is = subst (Goes m writers s) (some_same _ t is) (asks link idle ask)
+  by_link_asked (Some link) ask idle is = subst (Goes m writers s) (same_Some _ t is) (asks link idle ask)
 
   by_running : (b : Bool) → is_running s.world ≡ b
       → cond b (Some (stepped m writers s)) (answered_by m s (asked s)) ≡ Some t → Goes m writers s t
-  by_running true runs is = subst (Goes m writers s) (some_same _ t is) (steps runs)
+  by_running true runs is = subst (Goes m writers s) (same_Some _ t is) (steps runs)
   by_running false idle is = by_link_asked (asked s) refl idle is
 
   pub next_goes : next m writers s ≡ Some t → Goes m writers s t

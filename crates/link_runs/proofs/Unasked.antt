@@ -1,6 +1,7 @@
 -- Bytes that are not asked for change nothing.
 use Rattle.std.proofs.Common.{◌≡◌, ◌≢◌, ℕ, zero, suc, ◌+◌, Bool, true, false, is_some, ◌&&◌, List, [], ◌∷◌, ◌++◌}
 use Rattle.std.proofs.Common.{Some, None, Result, Ok, Err, refl, sym, ap, subst, ◌∙◌}
+use Rattle.std.proofs.lemmas.Option.{same_Some, none-some}
 use Rattle.module_format.specs.Contents.{Contents}
 use Rattle.machine_state.specs.declared.event.Event.TheVariants.{Arrive}
 use Rattle.machine_state.specs.declared.fault.Fault.{Fault}
@@ -16,10 +17,7 @@ use Rattle.link_runs.specs.RunLaws.{more_of, more_on, with_more, UnaskedBytesCha
 use Rattle.link_runs.proofs.ByLink.{of_same, of_other, with_twice, with_both, Compared, same, other, compared}
 use Rattle.link_runs.proofs.ByLink.{first_alike}
 use Rattle.link_runs.proofs.Turns as run_turns
-use Rattle.link_runs.proofs.Turns.{Goes, some_same, next_running, next_asked, one_before, one_more}
-
-never : {A : Type 0} (x : A) → None ≡ Some x → ⊥
-never x e = cc
+use Rattle.link_runs.proofs.Turns.{Goes, next_running, next_asked, one_before, one_more}
 
 -- ---- more bytes on a link
 
@@ -124,7 +122,7 @@ module _ (link : Link) (bytes : List ℕ) where
             → of_link (supplied m link (Some rest) s).left link ≡ Some later
             → supplied m link (Some (rest ++ bytes)) (with_more link bytes s)
             ≡ with_more link bytes (supplied m link (Some rest) s)
-        by_rest [] here going = absurd (never later (sym (of_same link None s.left) ∙ going))
+        by_rest [] here going = absurd (none-some later (sym (of_same link None s.left) ∙ going))
         by_rest (byte ∷ rest) here going = ap (λ (left : ByLink Supply). record s {
           world = happens m s.world (Arrive link byte);
           left = left;
@@ -198,7 +196,7 @@ module _ (link : Link) (bytes : List ℕ) where
       → IsRun m inputs writers n s → of_link s.left link ≡ Some later
       → IsRun m (more_on link bytes inputs) writers n (with_more link bytes s)
   unasked m inputs writers zero s later run going =
-      ap (λ (t : RunMoment). Some (with_more link bytes t)) (some_same (beginning m inputs) s run)
+      ap (λ (t : RunMoment). Some (with_more link bytes t)) (same_Some (beginning m inputs) s run)
   unasked m inputs writers (suc n) s later run going =
       let before = one_before m inputs writers n s run in
       let first = open_before m writers before.moment s later before.goes going in

@@ -3,6 +3,7 @@ use Rattle.std.proofs.Common.{◌≡◌, ℕ, ℤ, pos, ◌+ℤ◌, FitsSigned, 
 use Rattle.std.proofs.Common.{sym, ap, ◌∙◌, subst}
 use Rattle.std.specs.Prelude.{IfSome}
 use Rattle.std.specs.Int.{w32}
+use Rattle.std.proofs.lemmas.Bool.{and_parts}
 use Rattle.module_format.specs.Contents.{Contents}
 use Rattle.module_format.specs.Contexts.{context_at}
 use Rattle.certificate.specs.Rights.{may_write_word, has_word}
@@ -11,7 +12,6 @@ use Rattle.states.specs.State.{State}
 use Rattle.local_rules.specs.declared.loops.Block.{Block}
 use Rattle.rulings.specs.Rulings.{Site}
 use Rattle.local_rules.specs.LoopRules.{is_beside_workspace, provided, block_at, loop_block, OwnsBlock}
-use Rattle.states.proofs.RowFacts.{and-parts}
 use Rattle.local_rules.proofs.Turning.{loop_tells}
 
 none-provided : {A : Type 0} (b : Bool) → provided {A = A} b None ≡ None
@@ -62,7 +62,7 @@ all-pass first second beside rest e f g =
 -- a word that may be written is one of the context
 has-written : (m : Contents) (context : ℕ) (k : ℤ) → may_write_word m context k ≡ true
     → has_word (context_at m context) k ≡ true
-has-written m context k e = (and-parts _ _ e).0
+has-written m context k e = (and_parts _ _ e).0
 
 -- the words of a block are words of a context that may write them
 pub owns-by : (m : Contents) (context : ℕ) (k y z : ℤ) (first second : WordFact) (o : Option Block) → y ≡ k

@@ -2,6 +2,7 @@
 -- fault, and what the rule says of the state after it holds.
 use Rattle.std.proofs.Common.{◌≡◌, ◌+◌, ◌≤◌, ◌-◌, ℤ, pos, negsuc, FitsSigned, arith, true, refl}
 use Rattle.std.specs.Int.{w32}
+use Rattle.std.proofs.lemmas.Bool.{and_parts}
 use Rattle.machine_state.specs.declared.op.Op.{Op}
 use Rattle.machine_state.specs.declared.op.Op.TheVariants as operations
 use Rattle.machine_state.specs.declared.instruction.Instruction.{Instruction}
@@ -25,7 +26,6 @@ use Rattle.local_rules.proofs.MemoryFits.{ldnlp_fits, bsub_fits, wsub_fits, ldpi
 use Rattle.local_rules.proofs.WritesFit.{stnl_fits, sb_fits}
 use Rattle.local_rules.proofs.MovesFit.{move_fits}
 use Rattle.local_rules.proofs.LoopsFit.{lend_fits}
-use Rattle.states.proofs.RowFacts.{and-parts}
 use Rattle.rulings.proofs.OtherModes.{IsBusy, breaks_fit, starting_is_busy}
 use Rattle.local_rules.specs.LocalFitting.{LocalRulesFitSteps}
 use Rattle.local_rules.proofs.LocalOtherModes.{operation_breaks, instruction_breaks, mint_breaks, ldl_breaks}
@@ -78,7 +78,7 @@ module _ (x : Here) (wf : IsWellFormed x.m) (s : State) (l : Local) (a : Within 
     operation_fits operations.StoreByte = sb_fits x s l a same changes n
     operation_fits operations.Move = move_fits x wf s l a same changes n
     operation_fits operations.LoopEnd =
-        lend_fits x wf s l a a.named.even (λ k t. wf.frames s.context k (and-parts _ _ t).0) same changes n
+        lend_fits x wf s l a a.named.even (λ k t. wf.frames s.context k (and_parts _ _ t).0) same changes n
     operation_fits _ = λ next. it_breaks
 
     plain_fits : (i : Instruction) (e : ℤ) → FitsSigned w32 e

@@ -2,10 +2,11 @@
 use Rattle.std.proofs.Common.{◌≡◌, ℕ, zero, suc, ◌+◌, ◌-◌, ◌≤◌, ◌<◌, ◌%◌, ◌^◌, ◌==◌, ◌&&◌, ℤ, pos, negsuc, ◌+ℤ◌, ◌-ℤ◌}
 use Rattle.std.proofs.Common.{◌*ℤ◌, ◌≤ℤ◌, ◌<ℤ◌, FitsSigned, Bool, true, false, cond, ◌⊎◌, inl, inr, [], ◌∷◌, length}
 use Rattle.std.proofs.Common.{Option, Some, None, Result, Ok, Err, refl, sym, ap, ◌∙◌, subst, arith, ltb}
-use Rattle.std.proofs.lemmas.Bool.{lt-ltb, eqb-true, eq-eqb}
+use Rattle.std.proofs.lemmas.Bool.{lt-ltb, eqb-true, eq-eqb, and_from}
 use Rattle.std.proofs.lemmas.Int.{ints}
 use Rattle.std.specs.Prelude.{IsTrue, int_lt, neg_ℤ}
 use Rattle.std.specs.Int.{w32, int_wrap}
+use Rattle.small_laws.proofs.Comparisons.{lt-int_lt}
 use Rattle.module_format.specs.Rows.{Fact}
 use Rattle.module_format.specs.declared.fact.Fact.TheVariants.{Unknown, Number, Pointer}
 use Rattle.module_format.specs.declared.fact.Region.TheVariants as regions
@@ -53,7 +54,7 @@ use Rattle.local_rules.proofs.Turning.{address_small, place_here, place_next, on
 use Rattle.local_rules.proofs.Turning.{index_kept, with_facts_commute, with_fact_same}
 use Rattle.rulings.proofs.Combining.{FitsIf, unknown_means, uses_fits, writes_word_fits, writes_fits, on_rule_test}
 use Rattle.rulings.proofs.Combining.{on_step_test, in_plain_rule, beside_plain_rule, in_plain_step, after_stack}
-use Rattle.rulings.proofs.Combining.{pays_fits, same_frame, below_not, and_both, written_readable}
+use Rattle.rulings.proofs.Combining.{pays_fits, same_frame, below_not, written_readable}
 
 -- ---- what a loop's words are
 
@@ -330,9 +331,6 @@ module _ (x : Here) where
       go m3 a3 c3)))
 
 -- ---- lend
-
-more_than_one : (j t : ℤ) → j <ℤ t → int_lt j t ≡ true
-more_than_one j t some = grind (arith, ints)
 
 -- what the step leaves of the block, where the loop turns or ends
 abbrev turned_by : Bool → ℕ → ℤ → ℤ → Local → Local
@@ -656,7 +654,7 @@ module _ (x : Here) (wf : IsWellFormed x.m) (s : State) (l : Local) (a : Within 
       → ((t ≡ 1) × (int_lt (pos 1) (pos t) ≡ false)) ⊎ ((2 ≤ t) × (int_lt (pos 1) (pos t) ≡ true))
   more_turns zero some = absurd (omega arith)
   more_turns (suc zero) some = inl (refl, refl)
-  more_turns (suc (suc t)) some = inr (omega arith, more_than_one (pos 1) (pos (suc (suc t))) (omega (arith, ints)))
+  more_turns (suc (suc t)) some = inr (omega arith, lt-int_lt (pos 1) (pos (suc (suc t))) (omega (arith, ints)))
 
   by_turns : (number : ℕ) (va : ℤ)
       → target (x.at + x.len) (step.word_of ((2 ^ 32 - step.address va) % 2 ^ 32)) ≡ begins.at
@@ -710,7 +708,7 @@ module _ (x : Here) (wf : IsWellFormed x.m) (s : State) (l : Local) (a : Within 
   unfolding tail
   tail_fits number va to left =
       holds_fits x _ NotOwn _ _
-      (and_both _ _ (ap (may_write_word x.h) here ∙ first.mine) (ap (may_write_word x.h) behind ∙ second.mine))
+      (and_from _ _ (ap (may_write_word x.h) here ∙ first.mine) (ap (may_write_word x.h) behind ∙ second.mine))
       (taken_fits x x.act.turns (settled number) l _ _ (after_settled number) same changes each (λ memory b c.
       value_fits x _ index.value _ _
       (ap (word_at l.memory) here

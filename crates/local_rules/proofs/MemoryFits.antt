@@ -24,13 +24,14 @@ use Rattle.machine_state.specs.Memory.{data_start, local_address, place_of, byte
 use Rattle.machine_state.specs.Holding.{may_read}
 use Rattle.machine_state.specs.declared.fault.FaultKind.TheVariants.{NotOwn}
 use Rattle.std.specs.Option.{option_map}
+use Rattle.std.proofs.lemmas.Bool.{and_parts}
+use Rattle.small_laws.proofs.Comparisons.{int_le-true}
 use Rattle.machine_state.specs.World.{padding}
 use Rattle.machine_state.specs.LocalStep as step
 use Rattle.machine_state.specs.Site.{Outcome, fails, Local}
 use Rattle.states.specs.declared.rule.Rule.{Rule}
 use Rattle.states.specs.declared.rule.Rule.TheVariants as rules
 use Rattle.states.specs.State.{State, known, is_word as is_same}
-use Rattle.states.proofs.RowFacts.{and-parts, le-from}
 use Rattle.rulings.specs.declared.pointers.Pointed.{Pointed}
 use Rattle.rulings.specs.declared.pointers.Bounds.{Bounds}
 use Rattle.rulings.specs.Rulings as rule
@@ -87,9 +88,9 @@ module _ (m : Contents) (layout : Layout) where
   unfolding word_fact
   number_added lo hi by v fact e (is_number low high fits) =
       let p = ok_if (is_of_a_word (lo +ℤ by) && is_of_a_word (hi +ℤ by)) (Number (lo +ℤ by) (hi +ℤ by)) fact _ e in
-      let both = and-parts (is_of_a_word (lo +ℤ by)) (is_of_a_word (hi +ℤ by)) p.0 in
-      let least = le-from least_word (lo +ℤ by) (and-parts (int_le least_word (lo +ℤ by)) _ both.0).0 in
-      let most = le-from (hi +ℤ by) greatest_word (and-parts (int_le least_word (hi +ℤ by)) _ both.1).1 in
+      let both = and_parts (is_of_a_word (lo +ℤ by)) (is_of_a_word (hi +ℤ by)) p.0 in
+      let least = int_le-true least_word (lo +ℤ by) (and_parts (int_le least_word (lo +ℤ by)) _ both.0).0 in
+      let most = int_le-true (hi +ℤ by) greatest_word (and_parts (int_le least_word (hi +ℤ by)) _ both.1).1 in
       let there : FitsSigned w32 (v +ℤ by) = between (v +ℤ by) (omega (arith, ints)) (omega (arith, ints)) in
       subst (λ (f : Fact). Means m layout f (Some (int_wrap w32 (v +ℤ by)))) p.1
       (subst (λ (z : ℤ). Means m layout (Number (lo +ℤ by) (hi +ℤ by)) (Some z))
@@ -160,7 +161,7 @@ module _ (m : Contents) (layout : Layout) where
     where
       stays : is_same r.lo r.hi && is_stepped r.lo ≡ true → IsTrue (is_stepped u)
       stays t =
-          let both = and-parts (is_same r.lo r.hi) (is_stepped r.lo) t in
+          let both = and_parts (is_same r.lo r.hi) (is_stepped r.lo) t in
           let low = lies.low in
           let high = lies.high in
           elim (word_test r.lo r.hi) [
@@ -209,7 +210,7 @@ module _ (m : Contents) (layout : Layout) where
       on_constant false t h = absurd (cc)
       on_constant true t h =
           let same : constant ≡ fact = cc in
-          let low : behind ≤ n = reach (and-parts (nat_le behind n) (nat_lt n (behind + length m.constants)) t).0 in
+          let low : behind ≤ n = reach (and_parts (nat_le behind n) (nat_lt n (behind + length m.constants)) t).0 in
           subst (λ (f : Fact). Means m layout f (Some v)) same
           (is_pointer (pos (n - behind)) (omega (arith, ints)) (omega (arith, ints))
           (on_step (is_stepped (pos (n - behind))) refl)

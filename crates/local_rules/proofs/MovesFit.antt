@@ -1,10 +1,11 @@
 -- The instruction that moves bytes: what its rule says fits its step.
 use Rattle.std.proofs.Common.{◌≡◌, ℕ, ◌+◌, ◌-◌, ◌≤◌, ◌<◌, ℤ, pos, ◌+ℤ◌, ◌-ℤ◌, nat_abs, Bool, true, false}
 use Rattle.std.proofs.Common.{not, cond, ◌&&◌, ◌||◌, length, Some, Ok, refl, sym, ap, ◌∙◌, subst, arith}
-use Rattle.std.proofs.Common.{◌⊎◌, inl, inr}
-use Rattle.std.proofs.lemmas.Bool.{cases_lt, eq-eqb}
+use Rattle.std.proofs.Common.{inl, inr}
+use Rattle.std.proofs.lemmas.Bool.{cases_lt, eq-eqb, and_parts, or_cases, and_from, cases_Bool}
 use Rattle.std.proofs.lemmas.Int.{ints}
 use Rattle.std.specs.Prelude.{int_le, nat_lt}
+use Rattle.small_laws.proofs.Comparisons.{int_le-true, pos_from}
 use Rattle.word_arithmetic.specs.Range.{full}
 use Rattle.module_format.specs.Rows.{Fact}
 use Rattle.module_format.specs.declared.fact.Fact.TheVariants.{Unknown, Pointer}
@@ -28,7 +29,6 @@ use Rattle.states.specs.declared.span.Leaving.TheVariants.{Become}
 use Rattle.states.specs.State.{State, unknown, changed, is_word as is_same}
 use Rattle.states.specs.Spans.{on_span, after_change}
 use Rattle.states.proofs.Claimed.{same-region}
-use Rattle.states.proofs.RowFacts.{and-both, and-parts, le-from}
 use Rattle.rulings.specs.declared.pointers.Pointed.{Pointed}
 use Rattle.rulings.specs.Pointers.{constant_of, wanted_range, is_full, byte_read, number_within}
 use Rattle.rulings.specs.Pointers.{stored_byte, leaves_words, exact_pointer, takes_any}
@@ -42,10 +42,10 @@ use Rattle.rulings.specs.Meaning.{Means, is_pointer, owed, region_start, IsWellF
 use Rattle.rulings.specs.Regions.{scope_of, Keeps}
 use Rattle.rulings.specs.Fitting.{Changes, Here, rule_site, step_site, it_breaks}
 use Rattle.rulings.proofs.Within.{Within, ArePlain}
-use Rattle.rulings.proofs.Words.{word_test, bool_cases, same_word_by}
+use Rattle.rulings.proofs.Words.{word_test, same_word_by}
 use Rattle.rulings.proofs.Dues.{changed_dues}
 use Rattle.rulings.proofs.Regions.{keeps_more}
-use Rattle.rulings.proofs.Reaching.{region_place, natural, place_at, region_at}
+use Rattle.rulings.proofs.Reaching.{region_place, place_at, region_at}
 use Rattle.rulings.proofs.Combining.{FitsIf, unknown_means, on_rule_test, uses_fits, in_bounds_fits}
 use Rattle.rulings.proofs.Combining.{holds_fits, goes_on_fits, in_plain_rule, beside_plain_rule, in_plain_step}
 use Rattle.rulings.proofs.Combining.{after_stack, settles_fits, reads_bytes_fits, writes_bytes_fits, counts_fits}
@@ -56,11 +56,6 @@ use Rattle.rulings.proofs.BlocksMove.{written_room, unknown_into_frame, numbers_
 use Rattle.rulings.proofs.PointerFacts.{constant_is, exact_is}
 
 -- ---- what is asked
-
--- one of two tests holds
-either : (a b : Bool) → (a || b) ≡ true → (a ≡ true) ⊎ (b ≡ true)
-either true b t = inl refl
-either false b t = inr t
 
 -- a region is the same as itself
 itself : (r : Region) → is_same_region r r ≡ true
@@ -95,13 +90,13 @@ module _ (x : Here) (wf : IsWellFormed x.m) (s : State) (l : Local) (a : Within 
   none_fits p q =
       holds_fits x (all_places (may_read x.h) p 0 && all_places (may_write x.h) q 0
       && not (step.meet p 0 q 0)) NotOwn _ _
-      (and-both _ _ (and-both _ _ (all_places-none (may_read x.h) p) (all_places-none (may_write x.h) q)) (beside p q))
+      (and_from _ _ (and_from _ _ (all_places-none (may_read x.h) p) (all_places-none (may_write x.h) q)) (beside p q))
       (subst (λ (mem : Memory). FitsIf x (move.clears (rule_site x) s)
       (step.goes_on (step_site x) (step.without_registers (record l { memory = mem }))))
       (sym (copied-none l.memory p q l.memory)) (clears_fits s l.memory a same n changes))
     where
       beside : (p q : ℕ) → not (step.meet p 0 q 0) ≡ true
-      beside p q = elim (bool_cases (step.meet p 0 q 0)) [
+      beside p q = elim (cases_Bool (step.meet p 0 q 0)) [
         | inl t ↦ let tells = meet_tells p 0 q 0 t in absurd (omega (arith, tells.0, tells.1))
         | inr t ↦ ap not t
       ]
@@ -213,10 +208,10 @@ module _ (x : Here) (wf : IsWellFormed x.m) (s : State) (l : Local) (a : Within 
         → may_read_bytes x.m s.context source_region source_lo (source_lo +ℤ pos k) ≡ true
         → may_write_bytes x.m s.context target_region target_lo (target_lo +ℤ pos k) ≡ true
         → not (step.meet p k q k) ≡ true
-    blocks_apart p q apart p_is q_is read write = elim (bool_cases (step.meet p k q k)) [
+    blocks_apart p q apart p_is q_is read write = elim (cases_Bool (step.meet p k q k)) [
       | inr t ↦ ap not t
       | inl t ↦
-          let tells = meet_tells p k q k t in absurd (elim (bool_cases (is_same_region source_region target_region)) [
+          let tells = meet_tells p k q k t in absurd (elim (cases_Bool (is_same_region source_region target_region)) [
             | inl one ↦ in_one one tells.0 tells.1
             | inr differ ↦ elim (cases_lt p q) [
               | inl low ↦ common differ (q - p) 0 q (omega (arith, low, tells.1)) some (omega (arith, ints, p_is, low))
@@ -236,13 +231,13 @@ module _ (x : Here) (wf : IsWellFormed x.m) (s : State) (l : Local) (a : Within 
             (written_at x.m s.context x.act.layout target_region target_lo k j place below there write)
 
         in_one : is_same_region source_region target_region ≡ true → p < q + k → q < p + k → ⊥
-        in_one one low high = elim (either _ (int_le (target_lo +ℤ pos k) source_lo) apart) [
-          | inr behind ↦ let le = le-from (target_lo +ℤ pos k) source_lo behind in
+        in_one one low high = elim (or_cases _ (int_le (target_lo +ℤ pos k) source_lo) apart) [
+          | inr behind ↦ let le = int_le-true (target_lo +ℤ pos k) source_lo behind in
               omega (arith, ints, le, start, p_is, q_is, low, high)
-          | inl other ↦ elim (either (not (is_same_region source_region target_region))
+          | inl other ↦ elim (or_cases (not (is_same_region source_region target_region))
               (int_le (source_lo +ℤ pos k) target_lo) other) [
                 | inr before ↦
-                    let le = le-from (source_lo +ℤ pos k) target_lo before in
+                    let le = int_le-true (source_lo +ℤ pos k) target_lo before in
                     omega (arith, ints, le, start, p_is, q_is, low, high)
                 | inl differ ↦ let no : false ≡ true = sym (ap not one) ∙ differ in absurd (cc)
               ]
@@ -262,8 +257,8 @@ module _ (x : Here) (wf : IsWellFormed x.m) (s : State) (l : Local) (a : Within 
         writes_bytes_fits x s target_region target_lo end _ _ (λ write.
         on_rule_test x
         (are_apart (pos k) from to && (is_frame target_region || filling.are_numbers s from (pos k))) _ _ _
-        (λ t. copies read write (and-parts (are_apart (pos k) from to) _ t).0
-        (and-parts (are_apart (pos k) from to) _ t).1)
+        (λ t. copies read write (and_parts (are_apart (pos k) from to) _ t).0
+        (and_parts (are_apart (pos k) from to) _ t).1)
         (λ t next. it_breaks)))
       where
         copies : may_read_bytes x.m s.context source_region source_lo (source_lo +ℤ pos k) ≡ true
@@ -293,7 +288,7 @@ module _ (x : Here) (wf : IsWellFormed x.m) (s : State) (l : Local) (a : Within 
             (copying source.place q k))
             (sym (address_is to u target_means refl room.place room.is room.small))
             (holds_fits x _ NotOwn _ _
-            (and-both _ _ (and-both _ _ (all_held (may_read x.h) source.place k source.held) own)
+            (and_from _ _ (and_from _ _ (all_held (may_read x.h) source.place k source.held) own)
             (blocks_apart source.place room.place apart source.is room.is read write))
             (clears_fits (filled (filling.are_numbers s from (pos k)) to end s) new target.after (left.0 ∙ same)
             (omega (arith, left.1, n)) (record {
@@ -358,12 +353,12 @@ module _ (x : Here) (wf : IsWellFormed x.m) (s : State) (l : Local) (a : Within 
       → FitsIf x (move.moves_bytes (rule_site x) count from to s)
       (step.counts 0 65536 v (copying (place_of (step.address w)) (place_of (step.address u))))
   moves_fit v u w count to from first second third constant bounds there here =
-      let both = and-parts (is_movable count) _ bounds in
-      let range = and-parts (int_le (pos 0) count) (int_le count (pos 65536)) both.0 in
-      let low = le-from (pos 0) count range.0 in
-      let high = le-from count (pos 65536) range.1 in
+      let both = and_parts (is_movable count) _ bounds in
+      let range = and_parts (int_le (pos 0) count) (int_le count (pos 65536)) both.0 in
+      let low = int_le-true (pos 0) count range.0 in
+      let high = int_le-true count (pos 65536) range.1 in
       let v_is = (constant_is x.m x.act.layout s.stack.a.fact count v constant first).0 in
-      let k = natural count low in
+      let k = pos_from count low in
       let size : nat_abs v ≡ k.0 = ap nat_abs (v_is ∙ k.1) in
       let source = exact_is s.stack.c.fact from here in
       let target = exact_is s.stack.b.fact to there in

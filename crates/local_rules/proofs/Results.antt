@@ -9,7 +9,8 @@ use Rattle.std.specs.Prelude.{int_le, nat_abs, unsigned_abs}
 use Rattle.std.specs.Option.{option_map}
 use Rattle.std.specs.Int.{w32, cast_unsigned, cast_signed}
 use Rattle.std.proofs.lemmas.Option.{cond_some}
-use Rattle.small_laws.proofs.Comparisons.{le-int_le}
+use Rattle.std.proofs.lemmas.Bool.{and_parts}
+use Rattle.small_laws.proofs.Comparisons.{le-int_le, int_le-true}
 use Rattle.word_arithmetic.specs.declared.binary.Binary.{Binary as BinaryOperation}
 use Rattle.word_arithmetic.specs.declared.unary.Unary.{Unary as UnaryOperation}
 use Rattle.word_arithmetic.specs.declared.long.LongResult.{LongResult}
@@ -33,7 +34,6 @@ use Rattle.machine_state.specs.declared.op.Shift.TheVariants as shifts
 use Rattle.machine_state.specs.declared.op.LongOp.{LongOp}
 use Rattle.machine_state.specs.declared.op.LongOp.TheVariants as long
 use Rattle.machine_state.specs.LocalStep.{shifted, long_result}
-use Rattle.states.proofs.RowFacts.{and-parts, le-from}
 use Rattle.rulings.specs.Meaning.{Layout, Means, is_number}
 use Rattle.local_rules.specs.WordRules.{range_of, number_in, fact_of_two, result_fact, unary_result_fact}
 use Rattle.local_rules.specs.WordRules.{are_shift_counts, shift_range, high_range}
@@ -166,9 +166,9 @@ shift_fits shifts.Right x n f =
 counts_pass : (s : Ends) (y : ℤ) → are_shift_counts s ≡ true → InRange s y
     → (pos 0 ≤ℤ s.lo) × ((int_le (pos 0) y && int_le y (pos 31)) ≡ true)
 counts_pass s y e n =
-    let both = and-parts (int_le (pos 0) s.lo) (int_le s.hi (pos 31)) e in
-    let low : pos 0 ≤ℤ s.lo = le-from (pos 0) s.lo both.0 in
-    let high : s.hi ≤ℤ pos 31 = le-from s.hi (pos 31) both.1 in
+    let both = and_parts (int_le (pos 0) s.lo) (int_le s.hi (pos 31)) e in
+    let low : pos 0 ≤ℤ s.lo = int_le-true (pos 0) s.lo both.0 in
+    let high : s.hi ≤ℤ pos 31 = int_le-true s.hi (pos 31) both.1 in
     let from = n.from_lo in
     let to = n.to_hi in (
       low,

@@ -2,10 +2,12 @@
 use Rattle.std.proofs.Common.{◌≡◌, ℕ, suc, ◌+◌, ◌-◌, ◌%◌, ◌^◌, ◌<◌, ◌≤◌, nat_le, ◌&&◌, ◌||◌, ℤ, pos, negsuc}
 use Rattle.std.proofs.Common.{◌+ℤ◌, ◌-ℤ◌, ◌*ℤ◌, ◌≤ℤ◌, ◌<ℤ◌, FitsSigned, Bool, true, false, cond, ◌⊎◌, inl, inr, Option}
 use Rattle.std.proofs.Common.{Some, None, refl, sym, ap, ◌∙◌, subst, arith}
-use Rattle.std.proofs.lemmas.Bool.{eqb-true}
+use Rattle.std.proofs.lemmas.Bool.{eqb-true, and_parts, cases_Bool}
 use Rattle.std.proofs.lemmas.Int.{ints, of_z-to_z, to_z-of_z, wrapping_add_onto, int_wrap_fits}
 use Rattle.std.specs.Prelude.{int_le, int_lt, option_map, option_and_then}
 use Rattle.std.specs.Int.{w32, int_wrap, cast_unsigned}
+use Rattle.std.proofs.lemmas.Option.{same_Some, cond_some}
+use Rattle.small_laws.proofs.Comparisons.{int_le-true, int_lt-true}
 use Rattle.module_format.specs.Rows.{Fact}
 use Rattle.module_format.specs.declared.fact.Fact.TheVariants.{Unknown, Number, Pointer, CodeAddress, Loop}
 use Rattle.module_format.specs.declared.fact.Region.TheVariants as regions
@@ -22,23 +24,15 @@ use Rattle.states.specs.declared.known.WordFact.{WordFact}
 use Rattle.states.specs.declared.known.WordFact.TheVariants.{Alone, Index, Count}
 use Rattle.states.specs.State.{State, Facts, by_itself, is_word, is_at, is_parted, with_fact}
 use Rattle.states.specs.Below.{is_same_loop}
-use Rattle.states.proofs.RowFacts.{and-parts, le-from, lt-from}
 use Rattle.local_rules.specs.declared.loops.Block.{Block}
 use Rattle.rulings.specs.Rulings.{Site}
 use Rattle.local_rules.specs.LoopRules.{word_of_offset, word_pointed, last_index, block_of_loop, loop_block}
 use Rattle.local_rules.specs.LoopRules.{is_beside_workspace, provided, block_at, block_of, Beginning, begins_at}
 use Rattle.local_rules.specs.LoopRules.{beginning_at, beginning}
-use Rattle.rulings.proofs.Words.{word_test, bool_cases, same_word_by}
+use Rattle.rulings.proofs.Words.{word_test, same_word_by}
 use Rattle.rulings.proofs.Reaching.{address_of}
 
 -- ---- tests that passed
-
-same_inside : {A : Type 0} (x y : A) → Some x ≡ Some y → x ≡ y
-same_inside x y e = cc
-
-cond_some : {A : Type 0} (b : Bool) (v w : A) → cond b (Some v) None ≡ Some w → (b ≡ true) × (v ≡ w)
-cond_some true v w e = (refl, same_inside v w e)
-cond_some false v w e = absurd (cc)
 
 provided_some : {A : Type 0} (b : Bool) (o : Option A) (w : A) → provided b o ≡ Some w → (b ≡ true) × (o ≡ Some w)
 unfolding provided
@@ -67,7 +61,7 @@ pointed (Pointer regions.Constants lo hi step) k e = absurd (cc)
 pointed (Pointer (regions.Parameter j) lo hi step) k e = absurd (cc)
 pointed (Pointer regions.Frame lo hi step) k e =
     let found = cond_some (is_word lo hi && is_stepped lo) (word_of_offset lo) k e in
-    let tests = and-parts (is_word lo hi) (is_stepped lo) found.0 in
+    let tests = and_parts (is_word lo hi) (is_stepped lo) found.0 in
     let low : lo ≡ pos 4 *ℤ k = sym (four_times lo tests.1) ∙ ap (λ (z : ℤ). pos 4 *ℤ z) found.1 in
     let high : hi ≡ pos 4 *ℤ k = sym (same_word_by lo hi tests.0) ∙ low in
     record {
@@ -93,7 +87,7 @@ last_tells : (k : ℤ) (loop : CountedLoop) (block : Block) → block_of_loop k 
     → (block.word ≡ k) × (block.turning ≡ loop) × (block.last ≡ loop.base +ℤ pos loop.count -ℤ pos 1)
     × (least_word ≤ℤ block.last) × (block.last ≤ℤ greatest_word)
 unfolding last_index
-last_tells k loop block e = on_test (bool_cases (int_le least_word last && int_le last greatest_word))
+last_tells k loop block e = on_test (cases_Bool (int_le least_word last && int_le last greatest_word))
   where
     last : ℤ
     last = loop.base +ℤ pos loop.count -ℤ pos 1
@@ -103,17 +97,17 @@ last_tells k loop block e = on_test (bool_cases (int_le least_word last && int_l
         → (block.word ≡ k) × (block.turning ≡ loop) × (block.last ≡ last) × (least_word ≤ℤ block.last)
         × (block.last ≤ℤ greatest_word)
     on_test (inl t) =
-        let tests = and-parts (int_le least_word last) (int_le last greatest_word) t in
+        let tests = and_parts (int_le least_word last) (int_le last greatest_word) t in
         let found : Some (block_with k loop last) ≡ Some block =
         sym (ap (λ (b : Bool). option_map (block_with k loop)
         (cond b (Some last) None)) t) ∙ e in
-        let is = same_inside _ _ found in
+        let is = same_Some _ _ found in
         let same : block.last ≡ last = sym (ap (λ (b : Block). b.last) is) in (
           sym (ap (λ (b : Block). b.word) is),
           sym (ap (λ (b : Block). b.turning) is),
           same,
-          subst (λ (z : ℤ). least_word ≤ℤ z) (sym same) (le-from least_word last tests.0),
-          subst (λ (z : ℤ). z ≤ℤ greatest_word) (sym same) (le-from last greatest_word tests.1),
+          subst (λ (z : ℤ). least_word ≤ℤ z) (sym same) (int_le-true least_word last tests.0),
+          subst (λ (z : ℤ). z ≤ℤ greatest_word) (sym same) (int_le-true last greatest_word tests.1),
         )
     on_test (inr t) =
         let none : None ≡ Some block =
@@ -127,7 +121,7 @@ loop_tells k (Alone fact) second block e = absurd (cc)
 loop_tells k (Count loop) second block e = absurd (cc)
 loop_tells k (Index loop) (Alone fact) block e = absurd (cc)
 loop_tells k (Index loop) (Index other) block e = absurd (cc)
-loop_tells k (Index loop) (Count other) block e = on_test (bool_cases (is_same_loop loop other))
+loop_tells k (Index loop) (Count other) block e = on_test (cases_Bool (is_same_loop loop other))
   where
     on_test : (is_same_loop loop other ≡ true) ⊎ (is_same_loop loop other ≡ false)
         → IsBlock k (Index loop) (Count other) block
@@ -180,9 +174,9 @@ finds_block site s fact block e = on_word (word_pointed fact) refl e
 
 -- word k and the next one are none of the three below the workspace
 pub beside_words : (depth k : ℤ) → is_beside_workspace depth k ≡ true → (depth ≤ℤ k) ⊎ ((k +ℤ pos 4) <ℤ depth)
-beside_words depth k e = elim (bool_cases (int_le depth k)) [
-  | inl t ↦ inl (le-from depth k t)
-  | inr t ↦ inr (lt-from (k +ℤ pos 4) depth (sym (ap (λ (b : Bool). b || int_lt (k +ℤ pos 4) depth) t) ∙ e))
+beside_words depth k e = elim (cases_Bool (int_le depth k)) [
+  | inl t ↦ inl (int_le-true depth k t)
+  | inr t ↦ inr (int_lt-true (k +ℤ pos 4) depth (sym (ap (λ (b : Bool). b || int_lt (k +ℤ pos 4) depth) t) ∙ e))
 ]
 
 -- ---- where a turn begins
@@ -205,7 +199,7 @@ beginning_tells site to begins e = on_label (label_at site.contents to) refl (na
     on_label o is false found = absurd (cc)
     on_label None is true found = absurd (cc)
     on_label (Some t) is true found =
-        let same = same_inside _ _ found in
+        let same = same_Some _ _ found in
         let at : begins.at ≡ to = sym (ap (λ (b : Beginning). b.at) same) in (
           at,
           ap (label_at site.contents) at ∙ (is ∙ ap (λ (b : Beginning). Some b.label) same),
@@ -223,7 +217,7 @@ finds_beginning site (Pointer region lo hi step) begins e = absurd (cc)
 finds_beginning site (CodeAddress offset) begins e = absurd (cc)
 finds_beginning site (Loop base count weight) begins e = absurd (cc)
 finds_beginning site ReturnAddress begins e = absurd (cc)
-finds_beginning site (Number lo hi) begins e = on_test (bool_cases (is_word lo hi && int_le (pos 1) lo))
+finds_beginning site (Number lo hi) begins e = on_test (cases_Bool (is_word lo hi && int_le (pos 1) lo))
   where
     to : ℕ
     to = target (site.at + site.length) (pos 0 -ℤ lo)
@@ -231,8 +225,8 @@ finds_beginning site (Number lo hi) begins e = on_test (bool_cases (is_word lo h
     on_test : ((is_word lo hi && int_le (pos 1) lo) ≡ true) ⊎ ((is_word lo hi && int_le (pos 1) lo) ≡ false)
         → FindsBeginning site (Number lo hi) begins
     on_test (inl t) =
-        let tests = and-parts (is_word lo hi) (int_le (pos 1) lo) t in
-        let back = back_of lo (le-from (pos 1) lo tests.1) in
+        let tests = and_parts (is_word lo hi) (int_le (pos 1) lo) t in
+        let back = back_of lo (int_le-true (pos 1) lo tests.1) in
         let high : hi ≡ pos back.0 = sym (same_word_by lo hi tests.0) ∙ back.1 in
         let told = beginning_tells site to begins
         (sym (ap (λ (b : Bool). cond b (beginning_at site to) None) t) ∙ e) in

@@ -2,11 +2,12 @@
 use Rattle.std.proofs.Common.{lit<, ◌≡◌, ◌≢◌, ◌+◌, ◌-◌, ◌≤◌, ℕ, suc, ℤ, pos, negsuc, ◌+ℤ◌, ◌*ℤ◌, ◌≤ℤ◌, ◌<ℤ◌}
 use Rattle.std.proofs.Common.{FitsSigned, Bool, true, false, not, ◌&&◌, if◌then◌else◌, inl, inr, length, Option, Some}
 use Rattle.std.proofs.Common.{None, IsSomeAnd, refl, sym, ap, ◌∙◌, subst, arith, ltb}
-use Rattle.std.proofs.lemmas.Bool.{le-leb}
-use Rattle.std.proofs.lemmas.Bool.Decides.{leb_tells, eqb_tells, nat_tests}
+use Rattle.std.proofs.lemmas.Bool.{le-leb, and_parts, le-ltb}
+use Rattle.std.proofs.lemmas.Bool.Decides.{eqb_tells, nat_tests}
 use Rattle.std.proofs.lemmas.Int.{ints}
 use Rattle.std.specs.Prelude.{int_le, int_lt, nat_abs, ◌==◌}
 use Rattle.std.specs.Int.{w32, cast_unsigned}
+use Rattle.small_laws.proofs.Comparisons.{int_le-true, int_lt-true}
 use Rattle.word_arithmetic.specs.declared.binary.Binary.{Binary as BinaryOperation}
 use Rattle.word_arithmetic.specs.declared.unary.Unary.{Unary as UnaryOperation}
 use Rattle.word_arithmetic.specs.Word.{least_word, is_below_unsigned}
@@ -35,7 +36,6 @@ use Rattle.states.specs.declared.known.WordFact.{WordFact}
 use Rattle.states.specs.declared.known.Source.{Source}
 use Rattle.states.specs.declared.known.Source.TheVariants.{Nowhere}
 use Rattle.states.specs.State.{State, plain, one_word, written, known}
-use Rattle.states.proofs.RowFacts.{and-parts, le-from, lt-from}
 use Rattle.rulings.specs.Rulings as rule
 use Rattle.rulings.specs.Rulings.{Ruling, breaks}
 use Rattle.local_rules.specs.WordRules as word
@@ -85,12 +85,6 @@ subscript_below u v r t p q a b low high =
     let less = unsigned_below u v r t p q a b 1 low (omega (arith, ints)) in
     le-leb (suc (cast_unsigned w32 u)) (cast_unsigned w32 v) (omega (arith, less))
 
-not_above : (a b : ℕ) → a ≤ b → ltb b a ≡ false
-not_above a b h = elim (leb_tells (suc b) a) [
-  | inl p ↦ let low : suc b ≤ a = p.1 in absurd (omega arith)
-  | inr p ↦ p.0
-]
-
 count_within : (u v : ℤ) (r t : Ends) → IsRange r → IsRange t → InRange r u → InRange t v → pos 1 ≤ℤ r.lo
     → r.hi ≤ℤ t.lo → (not (cast_unsigned w32 u == 0) && not (is_below_unsigned v u)) ≡ true
 count_within u v r t p q a b low high =
@@ -100,7 +94,7 @@ count_within u v r t p q a b low high =
     elim (eqb_tells (cast_unsigned w32 u) 0) [
       | inl e ↦ let zero : cast_unsigned w32 u ≡ 0 = e.1 in absurd (omega (arith, ints, f))
       | inr e ↦ ap (λ (x : Bool). not x && not (is_below_unsigned v u)) e.0
-          ∙ ap not (not_above (cast_unsigned w32 u) (cast_unsigned w32 v) (omega (arith, least)))
+          ∙ ap not (le-ltb (cast_unsigned w32 v) (cast_unsigned w32 u) (omega (arith, least)))
     ]
 
 -- what is loaded comes from its word, if it is a number
@@ -258,9 +252,9 @@ module _ (x : Here) (s : State) (l : Local) (a : Within ArePlain x.m x.h x.mode 
           ]) (step.goes_on (step_site x) (step.with_workspace (local_address l.registers.workspace e) l))
       on_context None is = λ next. it_breaks
       on_context (Some context) is = on_rule_test x _ _ _ _ (λ t.
-          let both = and-parts (int_le context.lo (s.depth +ℤ e)) (int_le (s.depth +ℤ e) context.hi) t in
-          let low : context.lo ≤ℤ (s.depth +ℤ e) = le-from context.lo (s.depth +ℤ e) both.0 in
-          let high : (s.depth +ℤ e) ≤ℤ context.hi = le-from (s.depth +ℤ e) context.hi both.1 in
+          let both = and_parts (int_le context.lo (s.depth +ℤ e)) (int_le (s.depth +ℤ e) context.hi) t in
+          let low : context.lo ≤ℤ (s.depth +ℤ e) = int_le-true context.lo (s.depth +ℤ e) both.0 in
+          let high : (s.depth +ℤ e) ≤ℤ context.hi = int_le-true (s.depth +ℤ e) context.hi both.1 in
           let lo : frame_lo x.m s.context ≡ context.lo =
           ap (λ (o : Option Context). elim o as (λ o. ℤ) [ None ↦ pos 0 | Some c ↦ c.lo ]) is in
           let hi : frame_hi x.m s.context ≡ context.hi =
@@ -368,8 +362,8 @@ module _ (x : Here) (s : State) (l : Local) (a : Within ArePlain x.m x.h x.mode 
       uses_fits x s.stack.b l.registers.stack.b _ _ a.knows.registers.b (λ u other.
       uses_fits x s.stack.c l.registers.stack.c _ _ a.knows.registers.c (λ w third.
       in_bounds_fits x (has_range s.stack.a.fact && has_range s.stack.b.fact && has_range s.stack.c.fact) _ _ (λ t.
-      let both = and-parts _ _ t in
-      let first = and-parts (has_range s.stack.a.fact) (has_range s.stack.b.fact) both.0 in
+      let both = and_parts _ _ t in
+      let first = and_parts (has_range s.stack.a.fact) (has_range s.stack.b.fact) both.0 in
       let results = long_holds op u v w (number_of s.stack.b.fact first.1 u other.fact)
       (number_of s.stack.a.fact first.0 v means.fact) (number_of s.stack.c.fact both.1 w third.fact) in
       in_plain_rule x s a.same_mode _ _ (beside_plain_rule x s a.same_mode _ _
@@ -439,18 +433,18 @@ module _ (x : Here) (s : State) (l : Local) (a : Within ArePlain x.m x.h x.mode 
       (step.operation_step (step_site x) operations.CheckSubscript l)
   unfolding table.local_operation_rule step.operation_step
   subscript_fits = check_fits word.is_subscript is_below_unsigned (λ u v p.
-      let both = and-parts (int_le (pos 0) p.left.lo) (int_lt p.left.hi p.right.lo) p.passes in
-      let low : pos 0 ≤ℤ p.left.lo = le-from (pos 0) p.left.lo both.0 in
-      let high : p.left.hi <ℤ p.right.lo = lt-from p.left.hi p.right.lo both.1 in
+      let both = and_parts (int_le (pos 0) p.left.lo) (int_lt p.left.hi p.right.lo) p.passes in
+      let low : pos 0 ≤ℤ p.left.lo = int_le-true (pos 0) p.left.lo both.0 in
+      let high : p.left.hi <ℤ p.right.lo = int_lt-true p.left.hi p.right.lo both.1 in
       subscript_below u v p.left p.right p.first.range p.second.range p.first.member p.second.member low high)
 
   pub count_fits : FitsIf x (table.local_operation_rule (rule_site x) operations.CheckCount s)
       (step.operation_step (step_site x) operations.CheckCount l)
   unfolding table.local_operation_rule step.operation_step
   count_fits = check_fits word.is_count (λ u v. not (step.address u == 0) && not (is_below_unsigned v u)) (λ u v p.
-      let both = and-parts (int_le (pos 1) p.left.lo) (int_le p.left.hi p.right.lo) p.passes in
-      let low : pos 1 ≤ℤ p.left.lo = le-from (pos 1) p.left.lo both.0 in
-      let high : p.left.hi ≤ℤ p.right.lo = le-from p.left.hi p.right.lo both.1 in
+      let both = and_parts (int_le (pos 1) p.left.lo) (int_le p.left.hi p.right.lo) p.passes in
+      let low : pos 1 ≤ℤ p.left.lo = int_le-true (pos 1) p.left.lo both.0 in
+      let high : p.left.hi ≤ℤ p.right.lo = int_le-true p.left.hi p.right.lo both.1 in
       count_within u v p.left p.right p.first.range p.second.range p.first.member p.second.member low high)
 
   -- ---- cj

@@ -2,10 +2,11 @@
 use Rattle.std.proofs.Common.{◌≡◌, ℕ, ◌+◌, ◌*◌, ◌/◌, ◌%◌, ◌≤◌, ◌<◌, ℤ, pos, ◌+ℤ◌, ◌-ℤ◌, ◌*ℤ◌, ◌≤ℤ◌, ◌<ℤ◌}
 use Rattle.std.proofs.Common.{nat_abs, neg_ℤ, FitsSigned, Bool, true, false, cond, ◌&&◌, ◌||◌, length, Option, Some}
 use Rattle.std.proofs.Common.{Ok, refl, sym, ap, ◌∙◌, subst, arith, ◌⊎◌, inl, inr, negsuc}
-use Rattle.std.proofs.lemmas.Bool.{cases_lt, cases_eq, eqb-true}
+use Rattle.std.proofs.lemmas.Bool.{cases_lt, cases_eq, eqb-true, and_parts}
 use Rattle.std.proofs.lemmas.Int.{ints}
 use Rattle.std.specs.Prelude.{IsTrue, int_le, int_lt}
 use Rattle.std.specs.Int.{w32}
+use Rattle.small_laws.proofs.Comparisons.{int_le-true, int_lt-true, pos_from}
 use Rattle.word_arithmetic.specs.Range.{Ends, full}
 use Rattle.module_format.specs.Rows.{Fact}
 use Rattle.module_format.specs.declared.fact.Fact.TheVariants.{Unknown, Number, Pointer, CodeAddress, Loop}
@@ -33,7 +34,6 @@ use Rattle.states.specs.declared.span.Leaving.TheVariants.{Become}
 use Rattle.states.specs.State.{State, is_word as is_same}
 use Rattle.states.specs.Spans.{is_in_span, on_span, after_change}
 use Rattle.states.specs.Below.{lies_within}
-use Rattle.states.proofs.RowFacts.{and-parts, le-from, lt-from}
 use Rattle.rulings.specs.declared.pointers.Pointed.{Pointed}
 use Rattle.rulings.specs.Rulings as rule
 use Rattle.rulings.specs.Rulings.{Ruling}
@@ -55,7 +55,7 @@ use Rattle.rulings.proofs.Regions.{write_keeps, frame_keeps, keeps_more, may_too
 use Rattle.rulings.proofs.Regions.{byte_small}
 use Rattle.rulings.proofs.ReadThrough.{word_writable}
 use Rattle.rulings.proofs.Reaching.{region_place, place_at, region_at, word_place, even_word, word_of_byte_low}
-use Rattle.rulings.proofs.Reaching.{word_of_byte_high, natural}
+use Rattle.rulings.proofs.Reaching.{word_of_byte_high}
 use Rattle.rulings.proofs.ReadThroughPointers.{even_place, inside_some}
 use Rattle.rulings.proofs.Addresses.{stepped_quotient}
 use Rattle.rulings.proofs.WriteThrough.{number_wider, widened_means, widened_by_means, LeavesWell, FrameWord}
@@ -116,8 +116,8 @@ module _ (m : Contents) (layout : Layout) where
       → Means m layout fact v
       → Means m layout (Number range.lo range.hi) v
   stored_number range (Number lo hi) v t means =
-      let both = and-parts (int_le range.lo lo) (int_le hi range.hi) t in
-      number_wider m layout range.lo range.hi v (le-from range.lo lo both.0) (le-from hi range.hi both.1) means
+      let both = and_parts (int_le range.lo lo) (int_le hi range.hi) t in
+      number_wider m layout range.lo range.hi v (int_le-true range.lo lo both.0) (int_le-true hi range.hi both.1) means
   stored_number range Unknown v t means = absurd (cc)
   stored_number range (Pointer region lo hi step) v t means = absurd (cc)
   stored_number range (CodeAddress offset) v t means = absurd (cc)
@@ -244,10 +244,10 @@ module _ {m : Contents} {h : Holding} {mode : machine.Mode} {act : Activation} {
                 let count : words_touched lo (hi +ℤ pos 4) ≡ 1 =
                 ap (λ (z : ℤ). words_touched lo (z +ℤ pos 4)) (sym same) ∙ one.1 in
                 let first = one.0 in
-                let both = and-parts (int_le (word_of_byte lo) j)
+                let both = and_parts (int_le (word_of_byte lo) j)
                 (int_lt j (word_of_byte lo +ℤ pos (words_touched lo (hi +ℤ pos 4)))) inside in
-                let from = le-from (word_of_byte lo) j both.0 in
-                let to = lt-from j (word_of_byte lo +ℤ pos (words_touched lo (hi +ℤ pos 4))) both.1 in
+                let from = int_le-true (word_of_byte lo) j both.0 in
+                let to = int_lt-true j (word_of_byte lo +ℤ pos (words_touched lo (hi +ℤ pos 4))) both.1 in
                 omega (arith, ints)
 
             on : (exact : Bool) → is_same lo hi ≡ exact
@@ -357,7 +357,7 @@ module _ {m : Contents} {h : Holding} {mode : machine.Mode} {act : Activation} {
         let w = frame_written a lo (hi +ℤ pos 1) offset low (omega (arith, ints)) all in
         let k_low = w.low in
         let k_high = w.high in
-        let n = natural (offset +ℤ neg_ℤ (pos 4 *ℤ w.word)) (omega (arith, ints)) in
+        let n = pos_from (offset +ℤ neg_ℤ (pos 4 *ℤ w.word)) (omega (arith, ints)) in
         let n_is = n.1 in
         of_word w n.0 (omega (arith, ints)) (omega (arith, ints))
       where
@@ -450,9 +450,9 @@ module _ {m : Contents} {h : Holding} {mode : machine.Mode} {act : Activation} {
             any : (p : ℕ) → Means m act.layout (Number least_word greatest_word) (word_at new p)
                 → Means m act.layout (Number r.lo r.hi) (word_at new p)
             any p means =
-                let both = and-parts (int_le r.lo least_word) (int_le greatest_word r.hi) wide in
-                number_wider m act.layout r.lo r.hi _ (le-from r.lo least_word both.0)
-                (le-from greatest_word r.hi both.1) means
+                let both = and_parts (int_le r.lo least_word) (int_le greatest_word r.hi) wide in
+                number_wider m act.layout r.lo r.hi _ (int_le-true r.lo least_word both.0)
+                (int_le-true greatest_word r.hi both.1) means
 
             number : (i : ℕ) → 4 * i + 4 ≤ size → Means m act.layout (Number r.lo r.hi) (word_at new (start + 4 * i))
             number i inside = elim (cases_eq i (n / 4)) [
@@ -664,7 +664,7 @@ module _ (x : Here) (s : State) (l : Local) (a : Within ArePlain x.m x.h x.mode 
       → may_store_byte x.m s.context (Pointer q.region q.lo q.hi q.step) b ≡ true
       → is_full (wanted_range x.m s.context q.region) ≡ true
   unfolding may_store_byte
-  stores_any q b t = (and-parts (is_full (wanted_range x.m s.context q.region)) (is_number_in full b) t).0
+  stores_any q b t = (and_parts (is_full (wanted_range x.m s.context q.region)) (is_number_in full b) t).0
 
   sb_byte : (v u : ℤ) (p : Pointed) → Means x.m x.act.layout (Pointer p.region p.lo p.hi p.step) (Some v)
       → may_store_byte x.m s.context (Pointer p.region p.lo p.hi p.step) s.stack.b.fact ≡ true

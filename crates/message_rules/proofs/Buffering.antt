@@ -3,6 +3,8 @@ use Rattle.std.proofs.Common.{◌≡◌, ℕ, ◌+◌, ◌≤◌, ◌<◌, ℤ, 
 use Rattle.std.proofs.Common.{length, Option, Some, refl, sym, ap, ◌∙◌, arith}
 use Rattle.std.proofs.lemmas.Int.{ints}
 use Rattle.std.specs.Prelude.{nat_lt}
+use Rattle.std.proofs.lemmas.Bool.{and_from}
+use Rattle.small_laws.proofs.Comparisons.{le-int_le}
 use Rattle.word_arithmetic.specs.Range.{full}
 use Rattle.machine_state.specs.declared.process.Mode as machine
 use Rattle.machine_state.specs.Memory.{Memory, byte_at}
@@ -15,7 +17,6 @@ use Rattle.module_format.specs.Contents.{Contents}
 use Rattle.states.specs.declared.span.Leaving.TheVariants.{Become}
 use Rattle.states.specs.State.{State, changed, is_word}
 use Rattle.states.specs.Spans.{on_span, after_change}
-use Rattle.states.proofs.RowFacts.{and-both, le-yes}
 use Rattle.rulings.specs.declared.pointers.Pointed.{Pointed}
 use Rattle.rulings.specs.Meaning.{Activation, owed}
 use Rattle.rulings.specs.Pointers.{wanted_range, is_full, number_within, stored_byte, leaves_words}
@@ -80,7 +81,7 @@ narrower size low high first end below above inside =
     let from = f.2 in
     let to = f.3 in
     ap (λ (o : Option ℕ). lie_in o first end) f.1
-    ∙ and-both _ _ (le-yes (pos 0) first (omega (arith, ints))) (le-yes end (pos f.0) (omega (arith, ints)))
+    ∙ and_from _ _ (le-int_le (pos 0) first (omega (arith, ints))) (le-int_le end (pos f.0) (omega (arith, ints)))
 
 module _ {m : Contents} {h : Holding} {mode : machine.Mode} {act : Activation} {s : State} {l : Local}
     (a : Within ArePlain m h mode act s l) (later : Memory) (n : ℕ) (some : 0 < n) (p : Pointed) (offset : ℤ)

@@ -1,9 +1,11 @@
 -- The instructions that take and give messages: what their rules say fits their steps.
 use Rattle.std.proofs.Common.{◌≡◌, ℕ, ◌+◌, ◌-◌, ◌≤◌, ◌<◌, ℤ, pos, ◌+ℤ◌, ◌-ℤ◌, ◌≤ℤ◌}
-use Rattle.std.proofs.Common.{nat_abs, Bool, true, false, not, ◌||◌, length, Option, Some, Ok}
+use Rattle.std.proofs.Common.{nat_abs, true, false, not, ◌||◌, length, Option, Some, Ok}
 use Rattle.std.proofs.Common.{is_some, ltb, refl, sym, ap, ◌∙◌, subst, arith, ◌⊎◌, inl, inr}
 use Rattle.std.proofs.lemmas.Int.{ints}
 use Rattle.std.specs.Prelude.{int_le}
+use Rattle.std.proofs.lemmas.Bool.{and_parts, or_cases, and_from, cases_Bool}
+use Rattle.small_laws.proofs.Comparisons.{int_le-true, int_lt-true, pos_from}
 use Rattle.module_format.specs.declared.fact.Region.{Region}
 use Rattle.module_format.specs.declared.fact.Region.TheVariants as regions
 use Rattle.module_format.specs.Regions.{is_frame}
@@ -24,7 +26,6 @@ use Rattle.machine_state.proofs.Copying.{copied-beside}
 use Rattle.states.specs.declared.known.Mode.{Mode}
 use Rattle.states.specs.declared.known.Mode.TheVariants.{Plain}
 use Rattle.states.specs.State.{State}
-use Rattle.states.proofs.RowFacts.{and-both, and-parts, le-from, lt-from}
 use Rattle.rulings.specs.declared.pointers.Pointed.{Pointed}
 use Rattle.rulings.specs.Rulings as rule
 use Rattle.rulings.specs.Rulings.{Ruling, falls}
@@ -37,9 +38,8 @@ use Rattle.rulings.specs.Buffers.{is_of_message, IsByte, Fills}
 use Rattle.rulings.specs.Fitting.{Changes, After, Here, rule_site, step_site, GoesOver, Exchanges, Asks}
 use Rattle.rulings.specs.Fitting.{to_receive, to_send, it_asks, it_breaks}
 use Rattle.rulings.proofs.Within.{Within, ArePlain, whole_after}
-use Rattle.rulings.proofs.Words.{bool_cases}
 use Rattle.rulings.proofs.Agreeing.{after_agrees}
-use Rattle.rulings.proofs.Reaching.{region_place, natural, place_at, region_at, inside_memory, word_of_byte_low}
+use Rattle.rulings.proofs.Reaching.{region_place, place_at, region_at, inside_memory, word_of_byte_low}
 use Rattle.rulings.proofs.Reaching.{word_of_byte_high}
 use Rattle.rulings.proofs.PointerFacts.{constant_is, pointer_is}
 use Rattle.rulings.proofs.Combining.{FitsIf, unknown_means, on_rule_test, uses_fits, in_bounds_fits, wants_fits}
@@ -59,11 +59,6 @@ use Rattle.message_rules.specs.MessageRules as message
 use Rattle.message_rules.specs.MessageRules.{is_message, ends_before, begins_behind, is_off_scheduling, received}
 use Rattle.message_rules.proofs.Buffering.{IsLeft, received_left, received_into}
 use Rattle.message_rules.proofs.NamedChannels.{IsChannel, is_channel, over_channel_fits}
-
--- one of two tests holds
-either : (a b : Bool) → (a || b) ≡ true → (a ≡ true) ⊎ (b ≡ true)
-either true b t = inl refl
-either false b t = inr t
 
 -- ---- where a buffer lies
 
@@ -92,13 +87,13 @@ module _ (x : Here) (s : State) (l : Local) (a : Within ArePlain x.m x.h x.mode 
   -- by the test of the rule, where it lies in the frame
   off_in_frame : (ends_before s.depth (p.hi +ℤ pos n) || begins_behind s.depth p.lo) ≡ true → (place i : ℕ) → i < n
       → pos place ≡ x.act.layout.origin +ℤ offset → IsOff x.act.layout.origin s.depth (place + i)
-  off_in_frame t place i less is = elim (either (ends_before s.depth (p.hi +ℤ pos n)) _ t) [
+  off_in_frame t place i less is = elim (or_cases (ends_before s.depth (p.hi +ℤ pos n)) _ t) [
     | inl before ↦
-        let word = lt-from (word_of_byte (p.hi +ℤ pos n -ℤ pos 1)) (s.depth -ℤ pos 3) before in
+        let word = int_lt-true (word_of_byte (p.hi +ℤ pos n -ℤ pos 1)) (s.depth -ℤ pos 3) before in
         let byte = word_of_byte_high (p.hi +ℤ pos n -ℤ pos 1) in
         inl (omega (arith, ints, word, byte))
     | inr behind ↦
-        let word = le-from s.depth (word_of_byte p.lo) behind in
+        let word = int_le-true s.depth (word_of_byte p.lo) behind in
         let byte = word_of_byte_low p.lo in
         inr (omega (arith, ints, word, byte))
   ]
@@ -123,8 +118,8 @@ module _ (x : Here) (s : State) (l : Local) (a : Within ArePlain x.m x.h x.mode 
       → (k : ℕ) × (j : ℕ) × (j < k) × (p.hi +ℤ pos n ≡ p.lo +ℤ pos k)
       × (pos (place + i) ≡ region_place x.m x.act.layout p.region +ℤ p.lo +ℤ pos j)
   byte_among place i less is =
-      let k = natural (p.hi +ℤ pos n -ℤ p.lo) (omega (arith, ints)) in
-      let j = natural (offset -ℤ p.lo +ℤ pos i) (omega (arith, ints)) in
+      let k = pos_from (p.hi +ℤ pos n -ℤ p.lo) (omega (arith, ints)) in
+      let j = pos_from (offset -ℤ p.lo +ℤ pos i) (omega (arith, ints)) in
       let k_is = k.1 in
       let j_is = j.1 in
       (k.0, j.0, omega (arith, ints), omega (arith, ints), omega (arith, ints))
@@ -248,7 +243,7 @@ module _ (x : Here) (wf : IsWellFormed x.m) (s : State) (l : Local) (a : Within 
         → FitsIf x (rule.goes_on (rule_site x) (left_after s)) (step.sends_from (step_site x) exchange local_after)
     sent_fits b c d =
         holds_fits x _ NotOwn _ _
-        (and-both _ _ (all_held (may_read x.h) at k b.held) (beside_scheduling d at k some b.off))
+        (and_from _ _ (all_held (may_read x.h) at k b.held) (beside_scheduling d at k some b.off))
         (holds_fits x _ Undefined _ _
         (all_held (λ place. is_some (byte_at (scheduled l) place)) at k (λ i less. ap is_some (there i less).1))
         (asks_fits (left_after s) local_after _ (left_plain s a.same_mode.rule) (unscheduled_context x s ∙ same)
@@ -297,10 +292,10 @@ module _ (x : Here) (wf : IsWellFormed x.m) (s : State) (l : Local) (a : Within 
   -- a count that a message may have
   message_count : (count : ℤ) → is_message count ≡ true → (k : ℕ) × (count ≡ pos k) × (0 < k) × (k ≤ 4096)
   message_count count t =
-      let both = and-parts (int_le (pos 1) count) (int_le count (pos 4096)) t in
-      let low = le-from (pos 1) count both.0 in
-      let high = le-from count (pos 4096) both.1 in
-      let k = natural count (omega (arith, ints)) in
+      let both = and_parts (int_le (pos 1) count) (int_le count (pos 4096)) t in
+      let low = int_le-true (pos 1) count both.0 in
+      let high = int_le-true count (pos 4096) both.1 in
+      let k = pos_from count (omega (arith, ints)) in
       let is = k.1 in
       (k.0, k.1, omega (arith, ints), omega (arith, ints))
 
@@ -457,7 +452,7 @@ module _ (x : Here) (wf : IsWellFormed x.m) (s : State) (l : Local) (a : Within 
       }
         where
           not_true : (q : ℕ) → not (is_of_message taken q) ≡ true → is_of_message taken q ≡ false
-          not_true q t = elim (bool_cases (is_of_message taken q)) [
+          not_true q t = elim (cases_Bool (is_of_message taken q)) [
             | inr e ↦ e
             | inl e ↦ let no : false ≡ true = sym (ap not e) ∙ t in absurd (cc)
           ]
@@ -473,7 +468,7 @@ module _ (x : Here) (wf : IsWellFormed x.m) (s : State) (l : Local) (a : Within 
           ∙ ap (byte_at (scheduled filled_local)) (sym is)))
 
       agrees : (q : ℕ) → may_read x.h q ≡ true → byte_at later q ≡ byte_at (scheduled filled_local) q
-      agrees q held = elim (bool_cases (is_of_message taken q)) [
+      agrees q held = elim (cases_Bool (is_of_message taken q)) [
         | inl t ↦ of_the_message q t
         | inr t ↦
             let agree = unscheduled_agree d (λ q. not (is_of_message taken q)) l.memory filled_memory beside_it in
@@ -497,7 +492,7 @@ module _ (x : Here) (wf : IsWellFormed x.m) (s : State) (l : Local) (a : Within 
         (step.receives_into (step_site x) taken local_after)
     received_fits m c d =
         holds_fits x _ NotOwn _ _
-        (and-both _ _ (all_held (may_write x.h) (place_of taken.address) k (λ i less.
+        (and_from _ _ (all_held (may_write x.h) (place_of taken.address) k (λ i less.
         ap (λ (q : ℕ). may_write x.h (q + i)) there ∙ room.own i less))
         (beside_scheduling d (place_of taken.address) k some (λ i less.
         subst (λ (q : ℕ). IsOff x.act.layout.origin s.depth (q + i)) (sym there) (off (same_words m) i less))))

@@ -2,10 +2,10 @@
 use Rattle.std.proofs.Common.{◌≡◌, ℕ, zero, suc, ◌+◌, ◌-◌, ◌*◌, ◌<◌, ℤ, pos, ◌+ℤ◌, Bool, true, false, ◌&&◌}
 use Rattle.std.proofs.Common.{◌||◌, if◌then◌else◌, eqb, List, [], ◌∷◌, refl, sym, ap, ◌∙◌, arith}
 use Rattle.std.proofs.Common.{inl, inr}
-use Rattle.std.proofs.Math.Bool.{or-true}
+use Rattle.std.proofs.Math.Bool.{or-true, or-false}
 use Rattle.std.specs.Prelude.{sum_by}
 use Rattle.std.specs.List.{list_all}
-use Rattle.std.proofs.lemmas.Bool.{cases_eq}
+use Rattle.std.proofs.lemmas.Bool.{cases_eq, and_parts, and_from}
 use Rattle.std.proofs.lemmas.Bool.Decides.{nat_tests}
 use Rattle.std.proofs.lemmas.Int.{ints, by_lt_z}
 use Rattle.std.proofs.lemmas.List.Sums.{sum_by-cons}
@@ -24,11 +24,10 @@ use Rattle.states.specs.Below.{implies, is_constant, says, words_say, entries_ho
 use Rattle.states.specs.Below.{price}
 use Rattle.states.specs.Rows.{rise_from, AreApart}
 use Rattle.states.specs.Cutting.{AreLoopsApart}
-use Rattle.states.proofs.RowFacts.{and-parts, and-both, rise-parts, unknown-below, entry_fact-within, entry_fact-behind}
+use Rattle.states.proofs.RowFacts.{rise-parts, unknown-below, entry_fact-within, entry_fact-behind}
 use Rattle.states.proofs.Comparisons.{implies-unknown, says-unknown, first-test}
 use Rattle.par_rules.specs.Comparisons.{branch_facts, branch_view}
 use Rattle.par_rules.specs.Costs.{is_readable, IsCostOf}
-use Rattle.par_rules.proofs.WordTests.{or-none}
 
 -- ---- what reading shows of a word
 
@@ -83,9 +82,9 @@ plain-says said (Pointer region lo hi step) is_first other apart h =
 plain-says said (CodeAddress offset) is_first other apart h =
     handed-implies (by_itself said) (CodeAddress offset) other h
 plain-says said (Loop base count weight) true other apart h =
-    plain-index said base count weight (sym (or-none (is_alone said)) ∙ apart) h
+    plain-index said base count weight (sym (or-false (is_alone said)) ∙ apart) h
 plain-says said (Loop base count weight) false other apart h =
-    plain-count said base count weight (sym (or-none (is_alone said)) ∙ apart) h
+    plain-count said base count weight (sym (or-false (is_alone said)) ∙ apart) h
 plain-says said ReturnAddress is_first other apart h = absurd (other refl)
 
 -- ---- an entry of the label
@@ -112,10 +111,10 @@ module _ (m : Contents) (n : ℕ) (workspace : ℤ) (facts : Facts) where
   words-view entry zero other seen apart h = refl
   words-view entry (suc more) other seen apart h =
       let here : (is_seen m n workspace (entry.word +ℤ pos more) ≡ true)
-      × (all_words (is_seen m n workspace) entry.word more ≡ true) = and-parts _ _ seen in
+      × (all_words (is_seen m n workspace) entry.word more ≡ true) = and_parts _ _ seen in
       let said : (says (facts (entry.word +ℤ pos more)) (said_of entry.fact (eqb more 0)) ≡ true)
-      × (words_say facts entry more ≡ true) = and-parts _ _ h in
-      and-both _ _
+      × (words_say facts entry more ≡ true) = and_parts _ _ h in
+      and_from _ _
       (ap (λ (f : WordFact). says f (said_of entry.fact (eqb more 0))) (view-seen (entry.word +ℤ pos more) here.0)
       ∙ plain-says (facts (entry.word +ℤ pos more)) entry.fact (eqb more 0) other (apart more (omega arith)) said.0)
       (words-view entry more other here.1 (λ i low. apart i (omega arith)) said.1)
@@ -124,7 +123,7 @@ module _ (m : Contents) (n : ℕ) (workspace : ℤ) (facts : Facts) where
   words-unknown : (entry : Entry) (count : ℕ) → entry.fact ≡ Unknown → words_say view entry count ≡ true
   words-unknown entry zero is = refl
   words-unknown entry (suc more) is =
-      and-both _ _
+      and_from _ _
       (ap (λ (f : Fact). says (view (entry.word +ℤ pos more)) (said_of f (eqb more 0))) is
       ∙ says-unknown (view (entry.word +ℤ pos more)))
       (words-unknown entry more is)
@@ -158,7 +157,7 @@ module _ (m : Contents) (n : ℕ) (workspace : ℤ) (facts : Facts) where
   seen-at first zero i seen low = absurd (omega arith)
   seen-at first (suc more) i seen low =
       let both : (is_seen m n workspace (first +ℤ pos more) ≡ true)
-      × (all_words (is_seen m n workspace) first more ≡ true) = and-parts _ _ seen in
+      × (all_words (is_seen m n workspace) first more ≡ true) = and_parts _ _ seen in
       elim (cases_eq i more) [
         | inl e ↦ ap (λ (j : ℕ). is_seen m n workspace (first +ℤ pos j)) e ∙ both.0
         | inr e ↦ seen-at first more i both.1 (omega arith)
@@ -171,11 +170,11 @@ module _ (m : Contents) (n : ℕ) (workspace : ℤ) (facts : Facts) where
       let at_zero : entry.word +ℤ pos 0 ≡ entry.word = omega (arith, ints) in
       let first_alone : is_alone (facts entry.word) ≡ true =
       ap (λ (k : ℤ). is_alone (facts k)) (sym at_zero)
-      ∙ (sym (or-none (is_alone (facts (entry.word +ℤ pos 0))))
+      ∙ (sym (or-false (is_alone (facts (entry.word +ℤ pos 0))))
       ∙ (ap (λ (f : Fact). is_alone (facts (entry.word +ℤ pos 0)) || is_alone (said_of f true)) (sym is)
       ∙ apart 0 (omega (arith, span)))) in
       let second_alone : is_alone (facts (entry.word +ℤ pos 1)) ≡ true =
-      sym (or-none (is_alone (facts (entry.word +ℤ pos 1))))
+      sym (or-false (is_alone (facts (entry.word +ℤ pos 1))))
       ∙ (ap (λ (f : Fact). is_alone (facts (entry.word +ℤ pos 1)) || is_alone (said_of f false)) (sym is)
       ∙ apart 1 (omega (arith, span))) in
       let first : holds_constant (view entry.word) base ≡ holds_constant (facts entry.word) base =
@@ -249,14 +248,14 @@ module _ (m : Contents) (n : ℕ) (workspace : ℤ) (facts : Facts) where
   all-agree low (entry ∷ later) rises seen readable apart h =
       let parts = rise-parts low entry later rises in
       let see : (entry_is_seen m n workspace entry ≡ true)
-      × (list_all (entry_is_seen m n workspace) later ≡ true) = and-parts _ _ seen in
-      let read : (is_readable entry ≡ true) × (list_all is_readable later ≡ true) = and-parts _ _ readable in
-      let hold : (words_say facts entry entry.span ≡ true) × (entries_hold facts later ≡ true) = and-parts _ _ h in
+      × (list_all (entry_is_seen m n workspace) later ≡ true) = and_parts _ _ seen in
+      let read : (is_readable entry ≡ true) × (list_all is_readable later ≡ true) = and_parts _ _ readable in
+      let hold : (words_say facts entry entry.span ≡ true) × (entries_hold facts later ≡ true) = and_parts _ _ h in
       let here = entry-agrees-by entry entry.fact refl see.0 read.0 (apart-here entry later apart) hold.0 in
       let rest = all-agree (end_of entry) later parts.1 see.1 read.1 (apart-later entry later parts.1 apart) hold.1 in
       record {
-        hold = and-both _ _ here.words rest.hold;
-        whole = and-both _ _ here.whole rest.whole;
+        hold = and_from _ _ here.words rest.hold;
+        whole = and_from _ _ here.whole rest.whole;
         due = sum_by-cons (price view) entry later
             ∙ (ap (λ (x : ℕ). x + sum_by (price view) later) here.due
             ∙ (ap (λ (x : ℕ). price facts entry + x) rest.due ∙ sym (sum_by-cons (price facts) entry later)));

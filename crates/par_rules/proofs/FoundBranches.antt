@@ -2,9 +2,9 @@
 use Rattle.std.proofs.Common.{◌≡◌, ℕ, zero, suc, ◌+◌, ◌-◌, ◌^◌, ◌<◌, ◌≤◌, true, false, List, [], ◌∷◌, length, take}
 use Rattle.std.proofs.Common.{Option, Some, None, refl, sym, ap, subst, ◌∙◌, arith, slice_get}
 use Rattle.std.specs.Prelude.{nat_lt}
-use Rattle.std.specs.List.{AllByRecursion}
 use Rattle.std.proofs.lemmas.Bool.{lt-ltb, le-ltb}
 use Rattle.std.proofs.lemmas.Option.{slice_get_within}
+use Rattle.small_laws.proofs.Lookups.{AllByRecursion_at}
 use Rattle.module_format.specs.declared.limits.TheConstants.{MAX_BRANCHES}
 use Rattle.module_format.specs.Contents.{Contents, Par, Branch}
 use Rattle.module_format.specs.Contexts.{first_branch, branch_count}
@@ -44,14 +44,6 @@ place-in-row r (p ∷ pars) (suc k) number par is low before e =
 
 -- ---- small numbers
 
-at_place : {X : Type 0} (P : X → Type 0) (xs : List X) (k : ℕ) (x : X) → AllByRecursion P xs → slice_get xs k ≡ Some x
-    → P x
-at_place {X} P [] k x all is = absurd (cc)
-at_place {X} P (y ∷ xs) zero x all is =
-    let same : y ≡ x = ap (λ (o : Option X). elim o as (λ z. X) [ None ↦ x | Some z ↦ z ]) is in
-    subst P same all.0
-at_place {X} P (y ∷ xs) (suc k) x all is = at_place P xs k x all.1 is
-
 abbrev HasFewBranches : Par → Type 0
 HasFewBranches par = length par.branches ≤ MAX_BRANCHES
 
@@ -64,7 +56,8 @@ small m found keeps row branch =
     no_branches m.pars keeps.rows.pars in
     let in_row = slice_get_within found.par.branches found.number found.branch branch in
     let within = slice_get_within m.pars found.row found.par row in
-    let limit : length found.par.branches ≤ MAX_BRANCHES = at_place HasFewBranches m.pars found.row found.par few row in
+    let limit : length found.par.branches ≤ MAX_BRANCHES =
+    AllByRecursion_at HasFewBranches m.pars found.row found.par few row in
     (omega (arith, within, keeps.limits.pars), omega (arith, in_row, limit))
 
 -- ---- by contexts

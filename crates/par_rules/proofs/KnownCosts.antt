@@ -3,6 +3,8 @@ use Rattle.std.proofs.Common.{◌≡◌, ℕ, ◌+◌, ℤ, Bool, true, false, �
 use Rattle.std.proofs.Common.{arith, slice_get}
 use Rattle.std.specs.Prelude.{sum_by}
 use Rattle.std.specs.List.{list_all}
+use Rattle.std.proofs.lemmas.Bool.{and_from}
+use Rattle.std.proofs.Math.Bool.{and-true}
 use Rattle.module_format.specs.declared.rows.Interval.{Interval}
 use Rattle.module_format.specs.Contents.{Contents, Par, Branch, Label, label_at}
 use Rattle.certificate.specs.Branches.{numbered_branch}
@@ -17,7 +19,6 @@ use Rattle.states.specs.Below.{View, agrees, is_whole, price}
 use Rattle.states.specs.Comparing.{stands}
 use Rattle.states.specs.Rows.{AreApart}
 use Rattle.states.specs.Cutting.{SaysOutside}
-use Rattle.states.proofs.RowFacts.{and-both}
 use Rattle.par_rules.specs.Costs.{IsCostOf, IsCostAfter}
 use Rattle.par_rules.specs.ParRules.{label_after}
 use Rattle.par_rules.proofs.WordTests.{written-passes}
@@ -81,13 +82,9 @@ pub cost_is_after : (par : Par) (s : State) (t : Label) (written : List Interval
     → SaysOutside written s.frame (entry_fact t.entries) → list_all (is_whole s.frame) t.entries ≡ true
     → sum_by (price s.frame) t.entries ≡ paid → total ≡ paid + t.number → IsCostAfter par s (Some t) total
 cost_is_after par s t written paid total apart words outside whole due total_is = record {
-  agrees = and-both _ _ (written-passes par s.frame t written apart words outside) whole;
+  agrees = and_from _ _ (written-passes par s.frame t written apart words outside) whole;
   due = omega (arith, due, total_is);
 }
-
-and-true : (b : Bool) → b && true ≡ b
-and-true true = refl
-and-true false = refl
 
 -- where the words of a label are known, a view agrees with it if it is where the label is (stands there)
 pub agrees_standing : (v : View) (t : Label) (price : ℕ) → IsCostOf v t price → stands v t ≡ agrees v t

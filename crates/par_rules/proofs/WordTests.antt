@@ -6,7 +6,7 @@ use Rattle.std.proofs.Common.{◌||◌, not, ◌≤◌}
 use Rattle.std.proofs.Math.Bool.{or-true}
 use Rattle.std.proofs.lemmas.Int.{ints, by_lt_z}
 use Rattle.std.specs.List.{list_all}
-use Rattle.std.proofs.lemmas.Bool.{cases_lt, cases_Bool}
+use Rattle.std.proofs.lemmas.Bool.{cases_lt, cases_Bool, and_parts, and_from}
 use Rattle.module_format.specs.Rows.{Entry}
 use Rattle.module_format.specs.declared.rows.Interval.{Interval}
 use Rattle.module_format.specs.declared.fact.Fact.TheVariants.{Unknown}
@@ -21,7 +21,7 @@ use Rattle.states.specs.State.{Facts, is_alone, said_of, entry_fact}
 use Rattle.states.specs.Below.{says, words_say, entries_hold}
 use Rattle.states.specs.Cutting.{SaysOutside, SaysInside}
 use Rattle.states.specs.Rows.{rise_from, AreApart}
-use Rattle.states.proofs.RowFacts.{and-parts, and-both, rise-parts, unknown-below, entry_fact-within}
+use Rattle.states.proofs.RowFacts.{rise-parts, unknown-below, entry_fact-within}
 use Rattle.states.proofs.RowFacts.{entry_fact-behind}
 use Rattle.states.proofs.Comparisons.{says-unknown, first-test}
 use Rattle.par_rules.specs.Comparisons.{words_pass, label_passes, is_left, is_kept, keeps}
@@ -51,7 +51,7 @@ module _ (test : ℤ → WordFact → Bool) (entry : Entry) where
   words_pass-at zero n h l = absurd (omega arith)
   words_pass-at (suc m) n h l =
       let p : (test (entry.word +ℤ pos m) (said_of entry.fact (eqb m 0)) ≡ true)
-      × (words_pass test entry m ≡ true) = and-parts _ _ h in
+      × (words_pass test entry m ≡ true) = and_parts _ _ h in
       elim (cases_lt n m) [
         | inl low ↦ words_pass-at m n p.1 low
         | inr high ↦
@@ -79,14 +79,10 @@ module _ (test : ℤ → WordFact → Bool) (entry : Entry) where
       → words_pass test entry m ≡ true
   words_pass-more k n m wanted at m_is wanted_is holds earlier =
       ap (words_pass test entry) m_is
-      ∙ and-both _ _
+      ∙ and_from _ _
       (ap (test (entry.word +ℤ pos n)) (sym wanted_is) ∙ (ap (λ (j : ℤ). test j wanted) (sym at) ∙ holds)) earlier
 
 -- ---- all words of which a label says something
-
-pub or-none : (b : Bool) → b || false ≡ b
-or-none true = refl
-or-none false = refl
 
 module _ (test : ℤ → WordFact → Bool) (silent : (k : ℤ) → test k (Alone Unknown) ≡ true) where
   words-pass : (entry : Entry) (later : List Entry) (count : ℕ) → count ≤ entry.span
@@ -94,7 +90,7 @@ module _ (test : ℤ → WordFact → Bool) (silent : (k : ℤ) → test k (Alon
   words-pass entry later zero few each = refl
   words-pass entry later (suc more) few each =
       let k = entry.word +ℤ pos more in
-      and-both _ _
+      and_from _ _
       (ap (λ (b : Bool). test k (said_of entry.fact b)) (sym (first-test entry.word more))
       ∙ (ap (test k) (sym (entry_fact-within k entry later (omega (arith, ints)) (omega (arith, ints, few)))) ∙ each k))
       (words-pass entry later more (omega arith) each)
@@ -105,7 +101,7 @@ module _ (test : ℤ → WordFact → Bool) (silent : (k : ℤ) → test k (Alon
   all-pass low [] rises each = refl
   all-pass low (entry ∷ later) rises each =
       let parts = rise-parts low entry later rises in
-      and-both _ _ (words-pass entry later entry.span (omega arith) each)
+      and_from _ _ (words-pass entry later entry.span (omega arith) each)
       (all-pass (end_of entry) later parts.1 (λ k. by_lt_z k (end_of entry)
       (λ less. ap (test k) (unknown-below (end_of entry) k later parts.1 less) ∙ silent k)
       (λ more. ap (test k) (sym (entry_fact-behind k (end_of entry) entry later (omega (arith, ints)) more)) ∙ each k)))

@@ -5,6 +5,7 @@ use Rattle.std.proofs.lemmas.Int.{ints, clamps}
 use Rattle.std.proofs.lemmas.Bool.Decides.{nat_tests}
 use Rattle.std.specs.Int.{int_min, int_max}
 use Rattle.std.specs.Prelude.{bytes_eq, nat_eq, nat_lt, int_le, option_map, unwrap_or}
+use Rattle.small_laws.proofs.Comparisons.{eqb-self}
 use Rattle.word_arithmetic.specs.Range.{Ends, inside as range_inside, outside, in_range, range_between, narrowed, hull}
 use Rattle.word_arithmetic.specs.Range.{full}
 use Rattle.word_arithmetic.specs.Range.{constant, at_least, at_most}
@@ -223,16 +224,13 @@ ranged_within free range (Channel type) is = inl refl
 ranged_within free range (Channels type size) is = inl refl
 ranged_within free range (Procedure number) is = inl refl
 
-equal_itself : (n : ℕ) → nat_eq n n ≡ true
-equal_itself n = grind (arith, nat_tests)
-
 at_by : (t : Bool) (n : ℕ) (f : Meaning → Meaning) (e : Entry) (es ds : List Entry) → nat_eq (length es) n ≡ t
     → ((b : Bool) (m : Meaning) → b ≡ true → MeaningWithin b (f m) m) → EntriesWithin (n ∷ []) ds es
     → EntriesWithin (n ∷ []) (cond t (with_meaning f e ∷ es) (e ∷ ds)) (e ∷ es)
 at_by true n f e es ds is h g =
     let same : length es ≡ n = grind (arith, nat_tests, is) in
     let one : is_one_of (n ∷ []) (length es) ≡ true =
-    ap (λ k. is_one_of (n ∷ []) k) same ∙ ap (λ t. cond t true false) (equal_itself n) in
+    ap (λ k. is_one_of (n ∷ []) k) same ∙ ap (λ t. cond t true false) (eqb-self n) in
     (refl, h (is_one_of (n ∷ []) (length es)) e.meaning one, within_same (n ∷ []) es)
 at_by false n f e es ds is h g = (refl, inl refl, g)
 

@@ -1,18 +1,16 @@
 -- What a set of uses has after one use more, after several in turn, and after a loop.
-use Rattle.std.proofs.Common.{◌≡◌, ℕ, suc, ◌+◌, ◌<◌, ◌≤◌, Bool, true, false, ◌&&◌, ◌||◌, List, [], ◌∷◌, ◌++◌}
-use Rattle.std.proofs.Common.{length, take, get_or, nat_eq, refl, sym, ap, subst, ◌∙◌, arith, append_assoc}
+use Rattle.std.proofs.Common.{◌≡◌, ℕ, suc, ◌+◌, ◌<◌, ◌≤◌, true, false, ◌&&◌, ◌||◌, List, [], ◌∷◌, ◌++◌}
+use Rattle.std.proofs.Common.{length, take, get_or, refl, sym, ap, subst, ◌∙◌, arith, append_assoc}
 use Rattle.std.proofs.Common.{add-zero}
 use Rattle.std.proofs.lemmas.List.{take_more, take_all, length-take, append-nil}
-use Rattle.std.proofs.lemmas.Bool.Decides.{nat_tests}
+use Rattle.std.proofs.Math.Bool.{or_assoc, or-false}
+use Rattle.small_laws.proofs.Comparisons.{eqb_comm}
 use Rattle.program_uses.specs.declared.uses.Direction.{Direction}
 use Rattle.program_uses.specs.declared.uses.Direction.TheVariants as direction
 use Rattle.program_uses.specs.declared.uses.Use.{Use}
 use Rattle.program_uses.specs.declared.uses.Use.TheVariants as used
 use Rattle.program_uses.specs.declared.uses.Uses.{Uses}
 use Rattle.program_uses.specs.Sets.{is_same_way, is_same, is_among, has, Adds}
-
-flips_number : (a b : ℕ) → nat_eq a b ≡ nat_eq b a
-flips_number a b = grind (arith, nat_tests)
 
 flips_way : (d e : Direction) → is_same_way d e ≡ is_same_way e d
 flips_way direction.Input direction.Input = refl
@@ -21,26 +19,18 @@ flips_way direction.Output direction.Input = refl
 flips_way direction.Output direction.Output = refl
 
 pub flips : (u v : Use) → is_same u v ≡ is_same v u
-flips (used.Read m) (used.Read n) = flips_number m n
+flips (used.Read m) (used.Read n) = eqb_comm m n
 flips (used.Read m) (used.Change n) = refl
 flips (used.Read m) (used.Channel n j e) = refl
 flips (used.Change m) (used.Read n) = refl
-flips (used.Change m) (used.Change n) = flips_number m n
+flips (used.Change m) (used.Change n) = eqb_comm m n
 flips (used.Change m) (used.Channel n j e) = refl
 flips (used.Channel m i d) (used.Read n) = refl
 flips (used.Channel m i d) (used.Change n) = refl
 flips (used.Channel m i d) (used.Channel n j e) =
-    λ k. flips_number m n k && (flips_number i j k && flips_way d e k)
+    λ k. eqb_comm m n k && (eqb_comm i j k && flips_way d e k)
 
 -- ---- tests that are joined
-
-pub or_none : (a : Bool) → a ≡ (a || false)
-or_none true = refl
-or_none false = refl
-
-pub or_assoc : (a b c : Bool) → ((a || b) || c) ≡ (a || (b || c))
-or_assoc true b c = refl
-or_assoc false b c = refl
 
 pub among_both : (us vs : List Use) (u : Use) → is_among (us ++ vs) u ≡ (is_among us u || is_among vs u)
 among_both [] vs u = refl
@@ -50,7 +40,7 @@ among_both (w ∷ us) vs u =
 -- ---- sets
 
 pub adds_none : (s : Uses) → Adds s s []
-adds_none s = record { complete = λ e. e; has = λ e u. or_none (has s u) }
+adds_none s = record { complete = λ e. e; has = λ e u. sym (or-false (has s u)) }
 
 pub adds_both : {s t w : Uses} {us vs : List Use} → Adds s t us → Adds t w vs → Adds s w (us ++ vs)
 adds_both {s = s} {us = us} {vs = vs} a b = record {

@@ -14,6 +14,8 @@ use Rattle.std.proofs.lemmas.Bool.{and_parts}
 use Rattle.std.proofs.lemmas.Bool.Decides.{nat_tests}
 use Rattle.std.proofs.lemmas.Cmp.{nat_cmp_total, on_total, then_total}
 use Rattle.std.proofs.lemmas.Map.Lookups.{CmpEqualImpliesEq, exact_unsigned, exact_pairs, btree_set_from_contains}
+use Rattle.std.proofs.Math.Bool.{and-false, or-false}
+use Rattle.small_laws.proofs.Connectives.{or_swap}
 use Rattle.program_uses.specs.declared.ends.ChannelEnd.{ChannelEnd}
 use Rattle.program_uses.specs.declared.uses.Direction.{Direction}
 use Rattle.program_uses.specs.declared.uses.Direction.TheVariants as direction
@@ -116,15 +118,6 @@ either_again : (a b : Bool) → (a || b) ≡ (a || (a || b))
 either_again true b = refl
 either_again false b = refl
 
-either_turned : (a b c : Bool) → (a || (b || c)) ≡ (b || (a || c))
-either_turned true true c = refl
-either_turned true false c = refl
-either_turned false b c = refl
-
-either_nothing : (a : Bool) → a ≡ (a || false)
-either_nothing true = refl
-either_nothing false = refl
-
 passed_on : (a b c : Bool) → ((a || b) || c) ≡ (b || (a || c))
 passed_on true true c = refl
 passed_on true false c = refl
@@ -143,7 +136,7 @@ has_more q (x ∷ ds) d =
       | Less ↦ λ e. refl
       | Equal ↦ λ e. either_again (at x) (list_any at ds)
           ∙ ap (λ y. at y || (at x || list_any at ds)) (sym (end_exact d x e))
-      | Greater ↦ λ e. ap (λ b. at x || b) (has_more q ds d) ∙ either_turned (at x) (at d) (list_any at ds)
+      | Greater ↦ λ e. ap (λ b. at x || b) (has_more q ds d) ∙ or_swap (at x) (at d) (list_any at ds)
     ]) refl
 
 -- ---- all of them
@@ -159,7 +152,7 @@ rises_all (used.Channel n i d ∷ us) ds up =
 has_all : (q : ChannelEnd) (us : List Use) (ds : List ChannelEnd)
     → list_any (is_at (end_order q)) (fold with_use ds us)
     ≡ (list_any (is_at (end_order q)) ds || is_among us (use_of q))
-has_all q [] ds = either_nothing (list_any (is_at (end_order q)) ds)
+has_all q [] ds = sym (or-false (list_any (is_at (end_order q)) ds))
 has_all q (used.Read n ∷ us) ds = has_all q us ds
 has_all q (used.Change n ∷ us) ds = has_all q us ds
 has_all q (used.Channel n i d ∷ us) ds =
@@ -207,14 +200,10 @@ rises_kept first count (d ∷ ds) up =
     either_kept Rises (is_parameter first count d.channel) d (kept first count ds)
     (all_kept (λ y. end_order d y ≡ Less) first count ds up.0, rest) rest
 
-and_never : (t : Bool) → (t && false) ≡ false
-and_never true = refl
-and_never false = refl
-
 -- two tests that agree where a third one holds
 and_alike : (a t u : Bool) → (a ≡ true → t ≡ u) → (t && a) ≡ (u && a)
 and_alike true t u same = λ i. same refl i && true
-and_alike false t u same = and_never t ∙ sym (and_never u)
+and_alike false t u same = and-false t ∙ sym (and-false u)
 
 or_within : (u a b : Bool) → ((u && a) || (u && b)) ≡ (u && (a || b))
 or_within true a b = refl
@@ -241,7 +230,7 @@ same_channel q d h =
 kept_has : (first count : ℕ) (q : ChannelEnd) (ds : List ChannelEnd)
     → list_any (is_at (end_order q)) (kept first count ds)
     ≡ (is_parameter first count q.channel && list_any (is_at (end_order q)) ds)
-kept_has first count q [] = sym (and_never (is_parameter first count q.channel))
+kept_has first count q [] = sym (and-false (is_parameter first count q.channel))
 kept_has first count q (d ∷ ds) =
     one_kept (is_at (end_order q)) (is_parameter first count d.channel) (is_parameter first count q.channel) d ds
     (kept first count ds)
@@ -251,7 +240,7 @@ kept_has first count q (d ∷ ds) =
 uses_kept : (first count : ℕ) (q : ChannelEnd) (us : List Use)
     → is_among (of_parameters first count us) (use_of q)
     ≡ (is_parameter first count q.channel && is_among us (use_of q))
-uses_kept first count q [] = sym (and_never (is_parameter first count q.channel))
+uses_kept first count q [] = sym (and-false (is_parameter first count q.channel))
 uses_kept first count q (used.Read n ∷ us) = uses_kept first count q us
 uses_kept first count q (used.Change n ∷ us) = uses_kept first count q us
 uses_kept first count q (used.Channel n i d ∷ us) =

@@ -6,6 +6,7 @@ use Rattle.std.specs.List.{list_any}
 use Rattle.std.specs.Ordering.{is_eq, nat_cmp, ordering_then}
 use Rattle.std.specs.declared.cmp.Ordering.{Ordering}
 use Rattle.std.specs.declared.cmp.Ordering.TheVariants.{Less, Equal, Greater}
+use Rattle.std.proofs.Math.Bool.{or_assoc, or-false}
 use Rattle.program_uses.specs.contracts.ends.ChannelEndOrd.TheImpl.{ghosts}
 use Rattle.program_uses.specs.declared.ends.ChannelEnd.{ChannelEnd}
 use Rattle.program_uses.specs.declared.used_ends.UsedEnds.{UsedEnds}
@@ -15,7 +16,7 @@ use Rattle.program_uses.specs.declared.uses.Use.{Use}
 use Rattle.program_uses.specs.declared.uses.Use.TheVariants as used
 use Rattle.program_uses.specs.InCommon.{AreBoth}
 use Rattle.program_uses.specs.Sets.{is_same_way, is_same, is_among, use_of, uses_at}
-use Rattle.program_uses.proofs.Adding.{flips, or_none, or_assoc}
+use Rattle.program_uses.proofs.Adding.{flips}
 use Rattle.program_uses.proofs.EndsInOrder.{is_eq_then, is_eq_number}
 use Rattle.program_uses.proofs.HasByParts.{no_read, no_change}
 
@@ -84,7 +85,7 @@ pub ends_none : (s t other : UsedEnds) (rest : List ChannelEnd) → rest ≡ []
     ≡ (is_among (uses_at s) u || is_among (uses_at other) u))
     → (u : Use) → is_among (uses_at t) u ≡ (is_among (uses_at s) u || is_among (uses_at other) u)
 ends_none s t other rest none all u =
-    or_none (is_among (uses_at t) u) ∙ ap (λ ds. is_among (uses_at t) u || is_among (map use_of ds) u) (sym none)
+    sym (or-false (is_among (uses_at t) u)) ∙ ap (λ ds. is_among (uses_at t) u || is_among (map use_of ds) u) (sym none)
     ∙ all u
 
 -- ---- ends in common

@@ -4,6 +4,7 @@ use Rattle.std.proofs.Common.{◌||◌, List, [], ◌∷◌, ◌++◌, map}
 use Rattle.std.proofs.Common.{filter, nat_eq, nat_lt, refl, sym, ap, ◌∙◌, arith, lt-ltb}
 use Rattle.std.specs.List.{list_any}
 use Rattle.std.proofs.lemmas.Bool.Decides.{nat_tests}
+use Rattle.std.proofs.Math.Bool.{and-true, and-false, or-false}
 use Rattle.program_uses.specs.declared.ends.ChannelEnd.{ChannelEnd}
 use Rattle.program_uses.specs.declared.uses.Use.{Use}
 use Rattle.program_uses.specs.declared.uses.Use.TheVariants as used
@@ -20,18 +21,10 @@ first_or : (t : Bool) (at : ℕ → Bool) (x : ℕ) (xs : List ℕ)
 first_or true at x xs = refl
 first_or false at x xs = refl
 
-and_true : (a : Bool) → (a && true) ≡ a
-and_true true = refl
-and_true false = refl
-
-and_false : (a : Bool) → (a && false) ≡ false
-and_false true = refl
-and_false false = refl
-
 same_test : (p : ℕ → Bool) (n k : ℕ) (t : Bool) → nat_eq n k ≡ t → (p k && t) ≡ (t && p n)
 same_test p n k true e =
-    (let same : n ≡ k = grind (arith, nat_tests) in ap (λ m. p m && true) (sym same)) ∙ and_true (p n)
-same_test p n k false e = and_false (p k)
+    (let same : n ≡ k = grind (arith, nat_tests) in ap (λ m. p m && true) (sym same)) ∙ and-true (p n)
+same_test p n k false e = and-false (p k)
 
 or_same : (a b : Bool) → (a || (b && a)) ≡ a
 or_same true b = refl
@@ -96,10 +89,6 @@ no_change (d ∷ ds) n = no_change ds n
 
 -- ---- all of them
 
-or_none : (a : Bool) → (a || false) ≡ a
-or_none true = refl
-or_none false = refl
-
 abbrev pub holds : Uses → Use → Bool
 holds s (used.Read n) = nat_lt n (2 ^ 64) && has_number s.reads n
 holds s (used.Change n) = nat_lt n (2 ^ 64) && has_number s.changes n
@@ -118,10 +107,10 @@ by_parts s u =
 pub has_is : (s : Uses) (u : Use) → has s u ≡ holds s u
 has_is s (used.Read n) =
     by_parts s (used.Read n) ∙ ap (λ t. list_any (nat_eq n) (numbers_of s.reads) || t) (no_read s.ends.set.keys n)
-    ∙ or_none (list_any (nat_eq n) (numbers_of s.reads)) ∙ has_filtered (has_number s.reads) n (2 ^ 64)
+    ∙ or-false (list_any (nat_eq n) (numbers_of s.reads)) ∙ has_filtered (has_number s.reads) n (2 ^ 64)
 has_is s (used.Change n) =
     by_parts s (used.Change n) ∙ ap (λ t. list_any (nat_eq n) (numbers_of s.changes) || t) (no_change s.ends.set.keys n)
-    ∙ or_none (list_any (nat_eq n) (numbers_of s.changes)) ∙ has_filtered (has_number s.changes) n (2 ^ 64)
+    ∙ or-false (list_any (nat_eq n) (numbers_of s.changes)) ∙ has_filtered (has_number s.changes) n (2 ^ 64)
 has_is s (used.Channel n i d) = by_parts s (used.Channel n i d)
 
 pub has_read : (s : Uses) (n : ℕ) → n < 2 ^ 64 → has s (used.Read n) ≡ has_number s.reads n

@@ -11,21 +11,16 @@ use Rattle.std.specs.Ordering.{nat_cmp}
 use Rattle.std.specs.declared.cmp.Ordering.TheVariants.{Less}
 use Rattle.std.proofs.lemmas.Bool.{or_cases, or_left, or_right, and_parts, ne_eqb}
 use Rattle.std.proofs.lemmas.Bool.Decides.{nat_tests}
+use Rattle.std.proofs.Math.Bool.{or_assoc, or-false}
+use Rattle.small_laws.proofs.Comparisons.{eqb_comm}
 use Rattle.program_uses.specs.declared.numbers.Numbers.{Numbers}
 use Rattle.program_uses.specs.Numbers.{stored, word_at, has_number, Meets}
 use Rattle.program_uses.specs.Words.{has_bit, HasBelow}
 use Rattle.program_uses.proofs.Words.{has_none, has_either, has_both, has_one}
 
-or_none : (a : Bool) → a ≡ (a || false)
-or_none true = refl
-or_none false = refl
-
 more_if : (t : Bool) (a word p : ℕ) → has_bit (cond t (bit_or a word) a) p ≡ (has_bit a p || (t && has_bit word p))
 more_if true a word p = has_either a word p
-more_if false a word p = or_none (has_bit a p)
-
-turned : (m n : ℕ) → nat_eq m n ≡ nat_eq n m
-turned m n = grind (arith, nat_tests)
+more_if false a word p = sym (or-false (has_bit a p))
 
 pub nothing_either : (t : Bool) (p : ℕ) → has_bit (cond t 0 0) p ≡ false
 nothing_either true p = has_none p
@@ -37,7 +32,7 @@ pub has_word : (s t : Numbers) (block word : ℕ)
     → (n : ℕ) → has_number t n ≡ (has_number s n || (nat_eq (n / 64) block && has_bit word (n % 64)))
 has_word s t block word h n =
     ap (λ w. has_bit w (n % 64)) (h (n / 64)) ∙ more_if (nat_eq block (n / 64)) (word_at s (n / 64)) word (n % 64)
-    ∙ ap (λ t. has_number s n || (t && has_bit word (n % 64))) (turned block (n / 64))
+    ∙ ap (λ t. has_number s n || (t && has_bit word (n % 64))) (eqb_comm block (n / 64))
 
 same_place : (m n : ℕ) → (nat_eq (n / 64) (m / 64) && nat_eq (n % 64) (m % 64)) ≡ nat_eq n m
 same_place m n = grind (arith, nat_tests)
@@ -72,7 +67,7 @@ first_or : (t : Bool) (q p : ℕ) (e : ℕ × ℕ) (es : List (ℕ × ℕ)) → 
     → among_words es q p ≡ has_bit (unwrap_or (lookup (is_at (nat_cmp q)) es) 0) p
     → ((t && has_bit e.1 p) || among_words es q p)
     ≡ has_bit (unwrap_or (cond t (Some e.1) (lookup (is_at (nat_cmp q)) es)) 0) p
-first_or true q p e es is none rest = ap (λ b. has_bit e.1 p || b) (none refl) ∙ sym (or_none (has_bit e.1 p))
+first_or true q p e es is none rest = ap (λ b. has_bit e.1 p || b) (none refl) ∙ or-false (has_bit e.1 p)
 first_or false q p e es is none rest = rest
 
 pub by_block : (es : List (ℕ × ℕ)) → IsStrictlySortedBy nat_cmp (keys_of es)
@@ -86,13 +81,9 @@ by_block (e ∷ es) up q p =
 
 -- ---- the numbers of another set more
 
-or_assoc : (a b c : Bool) → ((a || b) || c) ≡ (a || (b || c))
-or_assoc true b c = refl
-or_assoc false b c = refl
-
 in_parts : (t : Bool) (word other p : ℕ) (x : Bool) → x ≡ has_bit other p
     → has_bit (cond t word other) p ≡ ((t && has_bit word p) || (not t && x))
-in_parts true word other p x is = or_none (has_bit word p)
+in_parts true word other p x is = sym (or-false (has_bit word p))
 in_parts false word other p x is = sym is
 
 -- the word that was added to last, and the others
@@ -129,7 +120,7 @@ left_first s t other rest one all up = record {
       let others = λ (es : List (ℕ × ℕ)). not (nat_eq other.block (n / 64)) && among_words es (n / 64) (n % 64) in
       ap (λ b. b || others rest) (one n)
       ∙ or_assoc (has_number s n) (nat_eq (n / 64) other.block && has_bit other.word (n % 64)) (others rest)
-      ∙ ap (λ t. has_number s n || ((t && has_bit other.word (n % 64)) || others rest)) (turned (n / 64) other.block)
+      ∙ ap (λ t. has_number s n || ((t && has_bit other.word (n % 64)) || others rest)) (eqb_comm (n / 64) other.block)
       ∙ ap (λ es. has_number s n || ((nat_eq other.block (n / 64) && has_bit other.word (n % 64)) || others es)) all
       ∙ ap (λ b. has_number s n || b) (sym (by_words other up n));
 }
@@ -202,7 +193,7 @@ meets_first count beside s t rest found none all up = record {
   found = λ n h has others.
       let x = not_here (nat_eq s.block (n / 64)) s.word (stored s (n / 64)) (n % 64)
       (λ one. none (in_common count n s.block s.word beside t found h others
-      (ap (λ b. b && has_bit s.word (n % 64)) (turned (n / 64) s.block) ∙ one))) has in
+      (ap (λ b. b && has_bit s.word (n % 64)) (eqb_comm (n / 64) s.block) ∙ one))) has in
       (x.0, ap (λ es. among_words es (n / 64) (n % 64)) all ∙ by_block s.words.entries up (n / 64) (n % 64) ∙ x.1);
   there = λ q p ne h. elsewhere (nat_eq s.block q) s.word (stored s q) p (ne_eqb s.block q ne)
       (sym (by_block s.words.entries up q p) ∙ ap (λ es. among_words es q p) (sym all) ∙ h);

@@ -5,6 +5,7 @@ use Rattle.std.specs.Result.{is_ok, is_err, OnOk}
 use Rattle.std.specs.declared.result.Result.{Result}
 use Rattle.std.proofs.lemmas.Bool.{and_parts, or_cases, or_right, not-false}
 use Rattle.std.proofs.lemmas.Bool.Decides.{nat_tests}
+use Rattle.std.proofs.Math.Bool.{and-false, or-false}
 use Rattle.program_uses.specs.declared.ends.ChannelEnd.{ChannelEnd}
 use Rattle.program_uses.specs.declared.faults.TheConstants.{SHARED_VARIABLE, CHANNEL_USE}
 use Rattle.program_uses.specs.declared.uses.Use.{Use}
@@ -19,10 +20,6 @@ use Rattle.program_uses.proofs.HasByParts.{holds, has_is, has_read, has_change}
 use Rattle.program_uses.proofs.LowestOfBoth.{lowest_test, lowest_of, lowest_as}
 
 -- ---- one use more
-
-or_none : (a : Bool) → a ≡ (a || false)
-or_none true = refl
-or_none false = refl
 
 below_more : (m n limit : ℕ) (a : Bool) → m < limit
     → (nat_lt n limit && (a || nat_eq n m)) ≡ ((nat_lt n limit && a) || (nat_eq n m || false))
@@ -43,9 +40,9 @@ read_more : (old new : Uses) (m : ℕ) → m < 2 ^ 64 → new.changes ≡ old.ch
 read_more old new m h changes ends more e (used.Read n) =
     ap (λ t. nat_lt n (2 ^ 64) && t) (more e n) ∙ below_more m n (2 ^ 64) (has_number old.reads n) h
 read_more old new m h changes ends more e (used.Change n) =
-    ap (λ s. nat_lt n (2 ^ 64) && has_number s n) changes ∙ or_none (holds old (used.Change n))
+    ap (λ s. nat_lt n (2 ^ 64) && has_number s n) changes ∙ sym (or-false (holds old (used.Change n)))
 read_more old new m h changes ends more e (used.Channel n i d) =
-    ap (λ s. is_among (uses_at s) (used.Channel n i d)) ends ∙ or_none (holds old (used.Channel n i d))
+    ap (λ s. is_among (uses_at s) (used.Channel n i d)) ends ∙ sym (or-false (holds old (used.Channel n i d)))
 
 pub adds_read : (old new : Uses) (m : ℕ) → m < 2 ^ 64 → (new.complete ≡ true → old.complete ≡ true)
     → new.changes ≡ old.changes → new.ends ≡ old.ends
@@ -58,11 +55,11 @@ change_more : (old new : Uses) (m : ℕ) → m < 2 ^ 64 → new.reads ≡ old.re
     → (new.complete ≡ true → (n : ℕ) → has_number new.changes n ≡ (has_number old.changes n || nat_eq n m))
     → new.complete ≡ true → (u : Use) → holds new u ≡ (holds old u || (is_same u (used.Change m) || false))
 change_more old new m h reads ends more e (used.Read n) =
-    ap (λ s. nat_lt n (2 ^ 64) && has_number s n) reads ∙ or_none (holds old (used.Read n))
+    ap (λ s. nat_lt n (2 ^ 64) && has_number s n) reads ∙ sym (or-false (holds old (used.Read n)))
 change_more old new m h reads ends more e (used.Change n) =
     ap (λ t. nat_lt n (2 ^ 64) && t) (more e n) ∙ below_more m n (2 ^ 64) (has_number old.changes n) h
 change_more old new m h reads ends more e (used.Channel n i d) =
-    ap (λ s. is_among (uses_at s) (used.Channel n i d)) ends ∙ or_none (holds old (used.Channel n i d))
+    ap (λ s. is_among (uses_at s) (used.Channel n i d)) ends ∙ sym (or-false (holds old (used.Channel n i d)))
 
 pub adds_change : (old new : Uses) (m : ℕ) → m < 2 ^ 64 → (new.complete ≡ true → old.complete ≡ true)
     → new.reads ≡ old.reads → new.ends ≡ old.ends
@@ -76,12 +73,12 @@ end_more : (old new : Uses) (x : ChannelEnd) → new.reads ≡ old.reads → new
     ≡ (is_among (uses_at old.ends) u || is_same u (use_of x)))
     → new.complete ≡ true → (u : Use) → holds new u ≡ (holds old u || (is_same u (use_of x) || false))
 end_more old new x reads changes more e (used.Read n) =
-    ap (λ s. nat_lt n (2 ^ 64) && has_number s n) reads ∙ or_none (holds old (used.Read n))
+    ap (λ s. nat_lt n (2 ^ 64) && has_number s n) reads ∙ sym (or-false (holds old (used.Read n)))
 end_more old new x reads changes more e (used.Change n) =
-    ap (λ s. nat_lt n (2 ^ 64) && has_number s n) changes ∙ or_none (holds old (used.Change n))
+    ap (λ s. nat_lt n (2 ^ 64) && has_number s n) changes ∙ sym (or-false (holds old (used.Change n)))
 end_more old new x reads changes more e (used.Channel n i d) =
     more e (used.Channel n i d)
-    ∙ ap (λ t. holds old (used.Channel n i d) || t) (or_none (is_same (used.Channel n i d) (use_of x)))
+    ∙ ap (λ t. holds old (used.Channel n i d) || t) (sym (or-false (is_same (used.Channel n i d) (use_of x))))
 
 pub adds_end : (old new : Uses) (x : ChannelEnd) → (new.complete ≡ true → old.complete ≡ true)
     → new.reads ≡ old.reads → new.changes ≡ old.changes
@@ -241,16 +238,12 @@ all_done s o a b c e =
 
 -- ---- nothing
 
-never : (t : Bool) → (t && false) ≡ false
-never true = refl
-never false = refl
-
 holds_nothing : (s : Uses) → ((n : ℕ) → has_number s.reads n ≡ false) → ((n : ℕ) → has_number s.changes n ≡ false)
     → ((u : Use) → is_among (uses_at s.ends) u ≡ false) → (u : Use) → holds s u ≡ false
 holds_nothing s reads changes ends (used.Read n) =
-    ap (λ t. nat_lt n (2 ^ 64) && t) (reads n) ∙ never (nat_lt n (2 ^ 64))
+    ap (λ t. nat_lt n (2 ^ 64) && t) (reads n) ∙ and-false (nat_lt n (2 ^ 64))
 holds_nothing s reads changes ends (used.Change n) =
-    ap (λ t. nat_lt n (2 ^ 64) && t) (changes n) ∙ never (nat_lt n (2 ^ 64))
+    ap (λ t. nat_lt n (2 ^ 64) && t) (changes n) ∙ and-false (nat_lt n (2 ^ 64))
 holds_nothing s reads changes ends (used.Channel n i d) = ends (used.Channel n i d)
 
 pub has_nothing : (s : Uses) → ((n : ℕ) → has_number s.reads n ≡ false) → ((n : ℕ) → has_number s.changes n ≡ false)

@@ -1,34 +1,22 @@
 -- Lists that contain the same numbers.
-use Rattle.std.proofs.Common.{◌≡◌, ℕ, zero, suc, ◌<◌, Bool, true, false, cond, List, [], ◌∷◌, length, get_or, refl, sym}
+use Rattle.std.proofs.Common.{◌≡◌, ℕ, zero, suc, ◌<◌, Bool, true, false, cond, List, [], ◌∷◌, length, get_or, refl}
 use Rattle.std.proofs.Common.{ap, arith, ◌∙◌, nat_eq, eqb}
 use Rattle.std.specs.List.{Contains, dedup}
 use Rattle.std.specs.List.Sorted.{IsPermutation}
-use Rattle.std.proofs.lemmas.Bool.Decides.{nat_tests}
 use Rattle.std.proofs.lemmas.List.Kept.{Contains-dedup_nat, Contains-from_dedup}
 use Rattle.std.proofs.lemmas.List.Sorted.{Contains-permutation, IsPermutation-sym}
+use Rattle.std.proofs.lemmas.Bool.{eqb-true}
+use Rattle.small_laws.proofs.Comparisons.{eqb-self}
+use Rattle.small_laws.proofs.Connectives.{same_tests, cond_true-second, cond_true-first}
 use Rattle.scalar_ranges.specs.Moves.{is_one_of}
 use Rattle.program_uses.specs.Listing.{SameNumbers}
-
-itself : (n : ℕ) → nat_eq n n ≡ true
-itself n = grind (arith, nat_tests)
-
-alike : (m n : ℕ) → nat_eq m n ≡ true → m ≡ n
-alike m n h = grind (arith, nat_tests)
-
-found_first : (t : Bool) (rest : Bool) → t ≡ true → cond t true rest ≡ true
-found_first true rest h = refl
-found_first false rest h = absurd (cc)
-
-found_later : (t : Bool) (rest : Bool) → rest ≡ true → cond t true rest ≡ true
-found_later true rest h = refl
-found_later false rest h = h
 
 one_at : (ns : List ℕ) (n k : ℕ) → k < length ns → get_or ns k n ≡ n → is_one_of ns n ≡ true
 one_at [] n k less is = absurd (omega arith)
 one_at (m ∷ ns) n zero less is =
-    found_first (nat_eq m n) (is_one_of ns n) (ap (λ j. nat_eq j n) is ∙ itself n)
+    cond_true-first (nat_eq m n) (is_one_of ns n) (ap (λ j. nat_eq j n) is ∙ eqb-self n)
 one_at (m ∷ ns) n (suc k) less is =
-    found_later (nat_eq m n) (is_one_of ns n) (one_at ns n k (omega arith) is)
+    cond_true-second (nat_eq m n) (is_one_of ns n) (one_at ns n k (omega arith) is)
 
 one_of_these : (ns : List ℕ) (n : ℕ) → Contains ns n → is_one_of ns n ≡ true
 one_of_these ns n c = one_at ns n c.0 c.1 c.2
@@ -43,18 +31,13 @@ contains_by false m ns n same others h = further m ns n (others h)
 
 contains_one : (ns : List ℕ) (n : ℕ) → is_one_of ns n ≡ true → Contains ns n
 contains_one [] n h = absurd (cc)
-contains_one (m ∷ ns) n h = contains_by (nat_eq m n) m ns n (alike m n) (contains_one ns n) h
-
-both_or_none : (a b : Bool) → (a ≡ true → b ≡ true) → (b ≡ true → a ≡ true) → a ≡ b
-both_or_none true b there back = sym (there refl)
-both_or_none false true there back = back refl
-both_or_none false false there back = refl
+contains_one (m ∷ ns) n h = contains_by (nat_eq m n) m ns n (eqb-true m n) (contains_one ns n) h
 
 -- lists of which each contains what the other does
 same_from : (ms ns : List ℕ) → ((n : ℕ) → Contains ms n → Contains ns n) → ((n : ℕ) → Contains ns n → Contains ms n)
     → SameNumbers ms ns
 same_from ms ns there back = λ n.
-    both_or_none (is_one_of ms n) (is_one_of ns n) (λ h. one_of_these ns n (there n (contains_one ms n h)))
+    same_tests (is_one_of ms n) (is_one_of ns n) (λ h. one_of_these ns n (there n (contains_one ms n h)))
     (λ h. one_of_these ms n (back n (contains_one ns n h)))
 
 -- sorted, and each number once

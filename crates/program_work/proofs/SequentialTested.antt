@@ -1,5 +1,6 @@
 -- What is sequential by the meaning of programs is so by the test.
-use Rattle.std.proofs.Common.{◌≡◌, Bool, true, ◌&&◌, List, [], ◌∷◌, Some, refl}
+use Rattle.std.proofs.Common.{◌≡◌, true, List, [], ◌∷◌, Some, refl}
+use Rattle.std.proofs.lemmas.Bool.{and_from}
 use Rattle.occam_layout.specs.declared.mark.Mark.TheVariants as mark
 use Rattle.occam_parser.specs.Terminals.{Terminal, Mark}
 use Rattle.occam_parser.specs.Lines.{Action, Skip, Stop, Assign, Input, Output, Instance, block_word}
@@ -13,9 +14,6 @@ use Rattle.program_work.specs.Processes.{is_sequential, is_sequential_action, is
 use Rattle.program_work.specs.Processes.{is_sequential_body, are_sequential, is_sequential_component}
 use Rattle.program_work.specs.Processes.{is_sequential_word}
 use Rattle.program_work.specs.Programs.{main_of, SequentialIsTested}
-
-and_true : (a b : Bool) → a ≡ true → b ≡ true → (a && b) ≡ true
-and_true a b ha hb = λ i. ha i && hb i
 
 action_tested : (a : Action) → IsSequentialAction a → is_sequential_action a ≡ true
 action_tested (Instance name actuals) h = absurd h
@@ -45,20 +43,20 @@ mutual
   construct_tested : (c : Construct) → IsSequentialConstruct c → is_sequential_construct c ≡ true
   construct_tested (Act a) h = action_tested a h
   construct_tested (Block kind cs) h =
-      and_true (is_sequential_word (block_word kind)) (are_sequential cs) (word_tested (block_word kind) h.0)
+      and_from (is_sequential_word (block_word kind)) (are_sequential cs) (word_tested (block_word kind) h.0)
       (components_tested (block_word kind) cs h.1)
   construct_tested (Replicated r b) h = body_tested b h
 
   body_tested : (b : Body) → IsSequentialBody b → is_sequential_body b ≡ true
   body_tested (One kind c) h =
-      and_true (is_sequential_word (block_word kind)) (is_sequential_component c)
+      and_from (is_sequential_word (block_word kind)) (is_sequential_component c)
       (component_word (block_word kind) c h) (component_tested (block_word kind) c h)
 
   components_tested : {part : Part} (word : Terminal) (cs : Components part) → AreSequential word cs
       → are_sequential cs ≡ true
   components_tested word NoComponent h = refl
   components_tested word (Further cs c) h =
-      and_true (are_sequential cs) (is_sequential_component c) (components_tested word cs h.0)
+      and_from (are_sequential cs) (is_sequential_component c) (components_tested word cs h.0)
       (component_tested word c h.1)
 
   component_tested : {part : Part} (word : Terminal) (c : Component part) → IsSequentialComponent word c

@@ -5,7 +5,7 @@ use Rattle.std.proofs.lemmas.Bool.{eqb-true, eq-eqb}
 use Rattle.std.proofs.lemmas.Int.{ints, to_z-of_z, int_wrap-add_left, int_wrap-add_right, wrapping_add-bits}
 use Rattle.std.proofs.lemmas.Int.{wrapping_add_onto, wrapping_mul_onto}
 use Rattle.std.specs.Prelude.{IsTrue}
-use Rattle.std.specs.Int.{w32, int_wrap, cast_unsigned, cast_signed}
+use Rattle.std.specs.Int.{w32, int_wrap, cast_signed}
 use Rattle.module_format.specs.declared.fact.Fact.TheVariants.{Pointer}
 use Rattle.module_format.specs.declared.fact.Region.{Region}
 use Rattle.module_format.specs.declared.fact.Step.{Step}
@@ -15,11 +15,9 @@ use Rattle.module_format.specs.Contents.{Contents}
 use Rattle.machine_state.specs.Memory.{local_address}
 use Rattle.machine_state.specs.LocalStep as step
 use Rattle.rulings.specs.Meaning.{Layout, Means, is_pointer, IsOffset, region_start}
+use Rattle.word_arithmetic.proofs.BitLaws.{bits_below}
 
 -- ---- addresses
-
-unsigned_below : (v : ℤ) → FitsSigned w32 v → cast_unsigned w32 v < 2 ^ 32
-unsigned_below v fits = omega (arith, ints)
 
 -- a word that is added to an address
 pub address_added : (n : ℕ) (b : ℤ) → n < 2 ^ 32 → FitsSigned w32 b
@@ -29,7 +27,7 @@ address_added n b low fits = wrapping_add_onto w32 n b low fits
 pub words_added : (a b : ℤ) → FitsSigned w32 a → FitsSigned w32 b
     → step.word_of ((step.address a + step.address b) % 2 ^ 32) ≡ int_wrap w32 (a +ℤ b)
 words_added a b fits other =
-    address_added (step.address a) b (unsigned_below a fits) other
+    address_added (step.address a) b (bits_below a fits) other
     ∙ ap (λ (z : ℤ). int_wrap w32 (z +ℤ b)) (to_z-of_z w32 a fits)
 
 sum_of_rest : (n k : ℕ) → (n + k) % 4294967296 ≡ (n + k % 4294967296) % 4294967296
@@ -44,7 +42,7 @@ pub local_word : (a e : ℤ) → FitsSigned w32 a → FitsSigned w32 e
 unfolding local_address
 local_word a e fits other =
     ap step.word_of (sum_of_rest (step.address a) (4 * step.address e))
-    ∙ (wrapping_add-bits w32 (step.address a) ((4 * step.address e) % 4294967296) (unsigned_below a fits)
+    ∙ (wrapping_add-bits w32 (step.address a) ((4 * step.address e) % 4294967296) (bits_below a fits)
     (rest_below (4 * step.address e))
     ∙ (ap (λ (z : ℤ). int_wrap w32 (z +ℤ cast_signed w32 ((4 * step.address e) % 4294967296))) (to_z-of_z w32 a fits)
     ∙ (ap (λ (z : ℤ). int_wrap w32 (a +ℤ z)) (wrapping_mul_onto w32 4 e (omega arith) other)

@@ -2,7 +2,8 @@
 use Rattle.std.proofs.Common.{◌≡◌, ℕ, ◌+◌, ℤ, pos, ◌-ℤ◌, nat_abs, ◌+ℤ◌, Bool, true, false, cond, ◌≤ℤ◌, negsuc, sym, ap}
 use Rattle.std.proofs.Common.{◌∙◌}
 use Rattle.std.specs.Prelude.{int_le}
-use Rattle.states.proofs.RowFacts.{and-parts, le-from}
+use Rattle.std.proofs.lemmas.Bool.{and_parts}
+use Rattle.small_laws.proofs.Comparisons.{int_le-true}
 use Rattle.word_arithmetic.specs.Range.{Ends, full}
 use Rattle.module_format.specs.Rows.{Fact}
 use Rattle.module_format.specs.declared.fact.Region.{Region}
@@ -91,9 +92,9 @@ region_told m s region lo hi first end range r outside first_is end_is range_is 
 
 pub near_end : (lo hi : ℤ) → are_near lo hi ≡ true → (negsuc 16777215 ≤ℤ hi) × (hi ≤ℤ pos 16777216)
 near_end lo hi h =
-    let high = (and-parts (is_near lo) (is_near hi) h).1 in
-    let both = and-parts (int_le (negsuc 16777215) hi) (int_le hi (pos 16777216)) high in
-    (le-from (negsuc 16777215) hi both.0, le-from hi (pos 16777216) both.1)
+    let high = (and_parts (is_near lo) (is_near hi) h).1 in
+    let both = and_parts (int_le (negsuc 16777215) hi) (int_le hi (pos 16777216)) high in
+    (int_le-true (negsuc 16777215) hi both.0, int_le-true hi (pos 16777216) both.1)
 
 -- ---- bytes that are moved
 

@@ -2,11 +2,12 @@
 use Rattle.std.proofs.Common.{◌≡◌, ℕ, zero, suc, ◌+◌, ◌-◌, ◌*◌, ◌/◌, ◌%◌, ◌≤◌, ◌<◌, ℤ, pos, negsuc, ◌+ℤ◌, ◌-ℤ◌}
 use Rattle.std.proofs.Common.{◌*ℤ◌, ◌≤ℤ◌, ◌<ℤ◌, Bool, true, false, cond, length, Option, Some, None, refl, sym, ap}
 use Rattle.std.proofs.Common.{◌∙◌, subst, arith, ◌⊎◌, inl, inr}
-use Rattle.std.proofs.lemmas.Bool.{cases_lt, eqb-true}
+use Rattle.std.proofs.lemmas.Bool.{cases_lt, eqb-true, and_parts, and_from}
 use Rattle.std.proofs.lemmas.Bool.Decides.{nat_tests}
 use Rattle.std.proofs.lemmas.Int.{ints}
 use Rattle.std.specs.Prelude.{int_le, int_lt, nat_lt}
 use Rattle.std.specs.Option.{option_map}
+use Rattle.small_laws.proofs.Comparisons.{int_le-true, int_lt-true, pos_from}
 use Rattle.module_format.specs.Rows.{Fact}
 use Rattle.module_format.specs.declared.fact.Fact.TheVariants.{Unknown, Number, Pointer, CodeAddress, Loop}
 use Rattle.module_format.specs.declared.fact.Fact.TheVariants.{ReturnAddress}
@@ -31,7 +32,6 @@ use Rattle.states.specs.declared.span.Leaving.TheVariants.{Become}
 use Rattle.states.specs.State.{State}
 use Rattle.states.specs.Spans.{is_in_span, on_span, after_change}
 use Rattle.states.specs.Below.{lies_within}
-use Rattle.states.proofs.RowFacts.{and-both, and-parts, le-from, lt-from}
 use Rattle.states.proofs.SpanFacts.{in-span}
 use Rattle.rulings.specs.Meaning.{Layout, Activation, Means, says_nothing, place_in, frame_word, words_in, IsOwnWord}
 use Rattle.rulings.specs.Meaning.{IsWellFormed}
@@ -46,7 +46,7 @@ use Rattle.rulings.proofs.Within.{Within, ArePlain}
 use Rattle.rulings.proofs.Words.{frame_word_is, Follows}
 use Rattle.rulings.proofs.Regions.{frame_keeps, keeps_all, keeps_more, may_too, byte_of_own, bytes_read}
 use Rattle.rulings.proofs.ReadThrough.{readable_found}
-use Rattle.rulings.proofs.Reaching.{region_place, natural, word_of_byte_low, word_of_byte_high}
+use Rattle.rulings.proofs.Reaching.{region_place, word_of_byte_low, word_of_byte_high}
 use Rattle.rulings.proofs.Reaching.{touched_span, touched_passes, lies_inside}
 use Rattle.rulings.proofs.ReadThroughPointers.{ByteThrough, byte_through}
 use Rattle.rulings.proofs.WriteThrough.{byte_left, number_wider, FrameWord, frame_written, after_followed}
@@ -62,7 +62,7 @@ pub all_held : (test : ℕ → Bool) (place n : ℕ) → ((i : ℕ) → i < n �
 unfolding all_places
 all_held test place zero each = refl
 all_held test place (suc n) each =
-    and-both (test place) (all_places test (place + 1) n)
+    and_from (test place) (all_places test (place + 1) n)
     (ap test (let e : place ≡ place + 0 = omega arith in e) ∙ each 0 (omega arith))
     (all_held test (place + 1) n (λ i less.
     ap test (let e : place + 1 + i ≡ place + suc i = omega arith in e) ∙ each (suc i) (omega arith)))
@@ -96,7 +96,7 @@ copied-inside from source to (suc n) m (suc i) less inside =
 -- two blocks that meet have a place in common
 pub meet_tells : (p n q k : ℕ) → meet p n q k ≡ true → (p < q + k) × (q < p + n)
 meet_tells p n q k t =
-    let both = and-parts (nat_lt p (q + k)) (nat_lt q (p + n)) t in
+    let both = and_parts (nat_lt p (q + k)) (nat_lt q (p + n)) t in
     (less p (q + k) both.0, less q (p + n) both.1)
   where
     less : (a b : ℕ) → nat_lt a b ≡ true → a < b
@@ -210,7 +210,7 @@ module _ (m : Contents) (context : ℕ) (layout : Layout) where
       let same : length m.constants ≡ inside.0 = cc in
       let from = inside.2 in
       let to = inside.3 in
-      let q = natural (lo +ℤ pos i) (omega (arith, ints)) in
+      let q = pos_from (lo +ℤ pos i) (omega (arith, ints)) in
       let q_is = q.1 in
       read_in_constants q.0 (omega (arith, ints)) (omega (arith, ints))
   read_at (regions.Parameter j) lo n i place less is may =
@@ -380,7 +380,7 @@ module _ {m : Contents} {h : Holding} {mode : machine.Mode} {act : Activation} {
       let is = own.is in
       let from = w.low in
       let to = w.high in
-      let q = natural (lo -ℤ pos 4 *ℤ w.word) (omega (arith, ints)) in
+      let q = pos_from (lo -ℤ pos 4 *ℤ w.word) (omega (arith, ints)) in
       let q_is = q.1 in
       let q_low : q.0 < 4 = omega (arith, ints) in
       let last = word (n - 1) (omega arith) in
@@ -416,7 +416,7 @@ module _ {m : Contents} {h : Holding} {mode : machine.Mode} {act : Activation} {
       let f = lies_inside (writable_bytes m s.context j) low high inside in
       let from = f.2 in
       let to = f.3 in
-      let q = natural lo (omega (arith, ints)) in
+      let q = pos_from lo (omega (arith, ints)) in
       let is = q.1 in
       of_region f.0 (writable_found m s.context j f.0 f.1) q.0 is (omega (arith, ints))
     where
@@ -653,10 +653,10 @@ module _ {m : Contents} {h : Holding} {mode : machine.Mode} {act : Activation} {
           (on_span (word_behind low) (words_within low high) (Become (Number least_word greatest_word))) after_it
           (record {
             touched = λ k said counts e means.
-                let both = and-parts (int_le (word_behind low) k)
+                let both = and_parts (int_le (word_behind low) k)
                 (int_lt k (word_behind low +ℤ pos (words_within low high))) e in
-                whole (exact refl) k counts (le-from (word_behind low) k both.0)
-                (lt-from k (word_behind low +ℤ pos (words_within low high)) both.1);
+                whole (exact refl) k counts (int_le-true (word_behind low) k both.0)
+                (int_lt-true k (word_behind low +ℤ pos (words_within low high)) both.1);
             kept = λ k counts e. refl;
           }) keeps_all)
 
@@ -700,8 +700,9 @@ module _ {m : Contents} {h : Holding} {mode : machine.Mode} {act : Activation} {
 
         number : (i : ℕ) → 4 * i + 4 ≤ size → Means m act.layout (Number r.lo r.hi) (word_at moved (start + 4 * i))
         number i within =
-            let both = and-parts (int_le r.lo least_word) (int_le greatest_word r.hi) wide in
-            number_wider m act.layout r.lo r.hi _ (le-from r.lo least_word both.0) (le-from greatest_word r.hi both.1)
+            let both = and_parts (int_le r.lo least_word) (int_le greatest_word r.hi) wide in
+            number_wider m act.layout r.lo r.hi _
+            (int_le-true r.lo least_word both.0) (int_le-true greatest_word r.hi both.1)
             (word_comes room.place room.fits defined (start + 4 * i) (λ k less out.
             let byte = number_byte l.memory (start + 4 * i) k less (region.numbers i within) in (
               byte.0,
@@ -736,6 +737,6 @@ module _ {m : Contents} {h : Holding} {mode : machine.Mode} {act : Activation} {
         let f = lies_inside (writable_bytes m s.context j) lo (lo +ℤ pos n) inside in
         let low = f.2 in
         let high = f.3 in
-        let q = natural lo (omega (arith, ints)) in
+        let q = pos_from lo (omega (arith, ints)) in
         let is = q.1 in
         of_region f.0 (writable_found m s.context j f.0 f.1) q.0 is (omega (arith, ints)) t

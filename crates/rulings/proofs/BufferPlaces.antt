@@ -1,7 +1,7 @@
 -- Where the bytes of a message lie, and that they lie beside the words that scheduling takes.
 use Rattle.std.proofs.Common.{◌≡◌, ℕ, zero, suc, ◌+◌, ◌-◌, ◌≤◌, ◌<◌, ◌==◌, ℤ, pos, negsuc, ◌+ℤ◌, ◌≤ℤ◌}
 use Rattle.std.proofs.Common.{◌<ℤ◌, Bool, true, false, not, ◌||◌, None, refl, sym, ap, ◌∙◌, arith, ◌⊎◌, inl, inr}
-use Rattle.std.proofs.lemmas.Bool.{cases_lt, eq-eqb}
+use Rattle.std.proofs.lemmas.Bool.{cases_lt, eq-eqb, or_right, cases_Bool}
 use Rattle.std.proofs.lemmas.Bool.Decides.{eqb_tells}
 use Rattle.std.proofs.lemmas.Int.{ints}
 use Rattle.machine_state.specs.declared.process.Mode as machine
@@ -22,16 +22,12 @@ use Rattle.rulings.specs.Regions.{IsByteOf}
 use Rattle.rulings.specs.Fitting.{Here}
 use Rattle.rulings.specs.Buffers.{message_place, is_filled, is_of_message}
 use Rattle.rulings.proofs.Within.{Modes, Within, ArePlain}
-use Rattle.rulings.proofs.Words.{int_le_tells, bool_cases}
+use Rattle.rulings.proofs.Words.{int_le_tells}
 use Rattle.rulings.proofs.Offsets.{place_behind}
 use Rattle.rulings.proofs.Combining.{MaySchedule, Scheduled}
 use Rattle.rulings.proofs.BlocksMove.{IsReadAt, written_in_frame, regions_apart, meet_tells}
 
 -- ---- the places of a message
-
-or_later : (a b : Bool) → b ≡ true → (a || b) ≡ true
-or_later true b e = refl
-or_later false b e = e
 
 module _ (e : Exchange) (small : place_of e.address + e.length < 4294967296) where
   pub message_place_is : (j : ℕ) → j < e.length → message_place e j ≡ place_of e.address + j
@@ -65,7 +61,7 @@ module _ (e : Exchange) (small : place_of e.address + e.length < 4294967296) whe
       (eq-eqb (place_of e.address + (j + 0)) (message_place e j)
       (let at = message_place_is j (omega arith) in omega arith))
   filled_at j (suc more) (suc i) less few =
-      or_later (place_of e.address + (j + suc i) == message_place e j) _
+      or_right (place_of e.address + (j + suc i) == message_place e j) _
       (ap (is_filled e (j + 1) more)
       (let is : place_of e.address + (j + suc i) ≡ place_of e.address + (j + 1 + i) = omega arith in is)
       ∙ filled_at (j + 1) more i (omega arith) (omega arith))
@@ -171,7 +167,7 @@ module _ {E : Modes} {x : Here} {s : State} {l : Local} (d : Scheduled x E s l) 
       → not (step.meet place n (place_of (scheduling_word l.registers.workspace 2)) 12) ≡ true
   beside_scheduling place n some off =
       let third = place_of (scheduling_word l.registers.workspace 2) in
-      elim (bool_cases (step.meet place n third 12)) [
+      elim (cases_Bool (step.meet place n third 12)) [
         | inr t ↦ ap not t
         | inl t ↦
             let tells = meet_tells place n third 12 t in

@@ -7,6 +7,8 @@ use Rattle.std.proofs.lemmas.Bool.Decides.{leb_tells}
 use Rattle.std.proofs.lemmas.Int.{ints}
 use Rattle.std.specs.Int.{w32}
 use Rattle.std.specs.List.{list_any}
+use Rattle.std.proofs.lemmas.Bool.{and_parts, and_from, or_left}
+use Rattle.small_laws.proofs.Comparisons.{le-int_le}
 use Rattle.module_format.specs.Rows.{Fact}
 use Rattle.module_format.specs.declared.fact.Fact.TheVariants.{Unknown, Number, Pointer, CodeAddress, Loop}
 use Rattle.module_format.specs.declared.fact.Fact.TheVariants.{ReturnAddress}
@@ -35,7 +37,6 @@ use Rattle.states.specs.declared.rule.Rule.{Rule}
 use Rattle.states.specs.declared.rule.Rule.TheVariants as rules
 use Rattle.states.specs.State.{State, unknown, one_word, written}
 use Rattle.states.specs.Below.{below}
-use Rattle.states.proofs.RowFacts.{and-parts, le-yes}
 use Rattle.rulings.specs.Regions.{Scope, scope_of, Keeps}
 use Rattle.rulings.proofs.Regions.{keeps_more, write_keeps}
 use Rattle.rulings.specs.Rulings as rule
@@ -55,15 +56,6 @@ use Rattle.rulings.specs.Pointers.{reads_bytes, writes_bytes}
 abbrev pub FitsIf : Here → Ruling → Outcome → Type 0
 FitsIf x r o = HasNext x r → Fits x r o
 
-or_true : (a b : Bool) → a ≡ true → (a || b) ≡ true
-or_true true b h = refl
-or_true false b h = absurd (cc)
-
-pub and_both : (a b : Bool) → a ≡ true → b ≡ true → (a && b) ≡ true
-and_both true true h g = refl
-and_both true false h g = absurd (cc)
-and_both false b h g = absurd (cc)
-
 wider : (a b c d p q r t : Bool) → (a && b && c && d) ≡ true → ((a || p) && (b || q) && (c || r) && (d || t)) ≡ true
 wider true true true true p q r t h = refl
 wider true true true false p q r t h = absurd (cc)
@@ -72,7 +64,7 @@ wider true false c d p q r t h = absurd (cc)
 wider false b c d p q r t h = absurd (cc)
 
 pub readable_byte : (h : Holding) (place : ℕ) → may_write h place ≡ true → may_read h place ≡ true
-readable_byte h place mine = or_true (may_write h place) (list_any (λ span. covers span place) h.reads) mine
+readable_byte h place mine = or_left (may_write h place) (list_any (λ span. covers span place) h.reads) mine
 
 pub readable : (h : Holding) (place : ℕ) → may_write_word h place ≡ true → may_read_word h place ≡ true
 unfolding may_write_word may_read_word
@@ -85,8 +77,8 @@ readable h place mine =
 pub written_readable : (m : Contents) (n : ℕ) (k : ℤ) → rights.may_write_word m n k ≡ true
     → rights.may_read_word m n k ≡ true
 written_readable m n k h =
-    let both = and-parts _ _ h in
-    and_both _ _ both.0 (of_branch (numbered_branch m n) both.1)
+    let both = and_parts _ _ h in
+    and_from _ _ both.0 (of_branch (numbered_branch m n) both.1)
   where
     of_branch : (o : Option (Par × Branch))
         → (elim o as (λ o. Bool) [ None ↦ true | Some found ↦ rights.is_among found.1.writes k ]) ≡ true
@@ -96,7 +88,7 @@ written_readable m n k h =
               || rights.is_among found.1.reads k
         ]) ≡ true
     of_branch None h = refl
-    of_branch (Some found) h = or_true (rights.is_among found.1.writes k) (rights.is_among found.1.reads k) h
+    of_branch (Some found) h = or_left (rights.is_among found.1.writes k) (rights.is_among found.1.reads k) h
 
 pub same_frame : {h : Holding} {old new : ℕ} {words : Words} {origin depth : ℤ} {workspace : ℕ} → old ≡ new
     → HasFrame h old words origin depth workspace → HasFrame h new words origin depth workspace
@@ -296,7 +288,7 @@ module _ (x : Here) where
   counts_fits least most v r o low high go =
       on_step_test (int_le (pos least) v && int_le v (pos most)) _ _ _ (λ t. go)
       (λ t.
-      let no : true ≡ false = sym (and_both _ _ (le-yes (pos least) v low) (le-yes v (pos most) high)) ∙ t in
+      let no : true ≡ false = sym (and_from _ _ (le-int_le (pos least) v low) (le-int_le v (pos most) high)) ∙ t in
       absurd (cc))
 
   -- the frame's word at depth + e, which is written
@@ -448,7 +440,7 @@ module _ (x : Here) where
       let place : (n : ℕ) → n < 3 → pos (place_of (scheduling_word workspace n))
       ≡ place_in x.act.layout.origin (s.depth +ℤ negsuc n) = places one.at two.at three.at in
       record {
-        may = and_both _ _ (and_both _ _ one.mine two.mine) three.mine;
+        may = and_from _ _ (and_from _ _ one.mine two.mine) three.mine;
         places = place;
         after = three.after;
         own = changes_more x.h l.memory m2 (scheduled l)

@@ -2,15 +2,15 @@
 use Rattle.std.proofs.Common.{◌≡◌, ℕ, zero, suc, ◌+◌, ◌-◌, ◌*◌, ◌/◌, ◌%◌, ◌≤◌, ◌<◌, ℤ, pos, ◌≤ℤ◌, Bool, true, false}
 use Rattle.std.proofs.Common.{cond, length, get_or, take, drop, Some, refl, sym, ap, ◌∙◌, subst, arith, List, [], ◌∷◌}
 use Rattle.std.proofs.lemmas.List.{get_or-drop, get_or-take, length-drop, length-take-le}
-use Rattle.std.proofs.lemmas.Bool.{eqb-true}
+use Rattle.std.proofs.lemmas.Bool.{eqb-true, and_parts}
 use Rattle.std.proofs.lemmas.Int.{ints}
 use Rattle.std.specs.Prelude.{find, int_le}
 use Rattle.std.specs.List.{AllByRecursion}
 use Rattle.std.specs.Int.{w32, cast_signed}
+use Rattle.small_laws.proofs.Comparisons.{int_le-true}
 use Rattle.module_format.specs.declared.rows.TableRow.{TableRow}
 use Rattle.module_format.specs.Order.{InOrder}
 use Rattle.module_format.specs.Procedures.{words_of, IsBetween, TableKeeps, behind_table}
-use Rattle.states.proofs.RowFacts.{and-parts, le-from}
 use Rattle.rulings.specs.Reach.{lie_in_row}
 
 -- the word that four bytes make, of which this is the first
@@ -68,9 +68,9 @@ pub row_word : (constants : List ℕ) (rows : List TableRow) (first end : ℤ) (
 row_word constants rows first end row n all found even low high =
     let f = row_found constants (lie_in_row first end) 0 rows row all found in
     let k = f.1 in
-    let both = and-parts (int_le (pos row.start) first) (int_le end (pos row.end)) f.2 in
-    let from = le-from (pos row.start) first both.0 in
-    let to = le-from end (pos row.end) both.1 in
+    let both = and_parts (int_le (pos row.start) first) (int_le end (pos row.end)) f.2 in
+    let from = int_le-true (pos row.start) first both.0 in
+    let to = int_le-true end (pos row.end) both.1 in
     let start_even : row.start % 4 ≡ 0 = eqb-true (row.start % 4) 0 k.start_aligned in
     let inside = k.inside in
     let starts : row.start ≤ n = omega (arith, ints) in

@@ -6,6 +6,7 @@ use Rattle.std.specs.List.{list_all}
 use Rattle.std.proofs.lemmas.Int.{ints}
 use Rattle.std.proofs.lemmas.List.Sums.{sum_by-cons}
 use Rattle.std.proofs.Math.Nat.{mul-suc}
+use Rattle.std.proofs.lemmas.Bool.{and_parts, cases_Bool}
 use Rattle.module_format.specs.Rows.{Fact, Entry}
 use Rattle.module_format.specs.declared.fact.Fact.TheVariants.{Loop}
 use Rattle.module_format.specs.Contents.{Label}
@@ -15,11 +16,10 @@ use Rattle.states.specs.declared.known.WordFact.TheVariants.{Alone, Index, Count
 use Rattle.states.specs.State.{State, Facts, Change, one_word, no_facts, by_itself, is_alone, is_parted, changed}
 use Rattle.states.specs.State.{is_word, is_about, said_of, entry_fact, written, label_state}
 use Rattle.states.specs.Below.{below, says, words_say, entries_hold, are_alike, is_whole, price}
-use Rattle.states.proofs.RowFacts.{and-parts}
 use Rattle.states.proofs.Prices.{price-due}
 use Rattle.rulings.specs.Meaning.{Activation, ArePairs, IsSpan, loop_due, dues_from, farthest_word, dues, owed}
 use Rattle.rulings.specs.Meaning.{turns_from, label_turns, at_label}
-use Rattle.rulings.proofs.Words.{bool_cases, word_test, int_le_tells}
+use Rattle.rulings.proofs.Words.{word_test, int_le_tells}
 use Rattle.rulings.proofs.Entering.{same_loop, entries_said, entry_here, entry_later, below_tells}
 
 -- ---- a change adds nothing
@@ -148,12 +148,12 @@ loop_price facts entry base count weight is pair said whole =
     both = ap (words_say facts entry) (sym two) ∙ said
 
     count_said : says (facts (entry.word +ℤ pos 1)) (said_of entry.fact false) ≡ true
-    count_said = (and-parts (says (facts (entry.word +ℤ pos 1)) (said_of entry.fact false)) (words_say facts entry 1)
+    count_said = (and_parts (says (facts (entry.word +ℤ pos 1)) (said_of entry.fact false)) (words_say facts entry 1)
         both).0
 
     index_said : says (facts (entry.word +ℤ pos 0)) (said_of entry.fact true) ≡ true
-    index_said = (and-parts (says (facts (entry.word +ℤ pos 0)) (said_of entry.fact true)) true
-        (and-parts (says (facts (entry.word +ℤ pos 1)) (said_of entry.fact false)) (words_say facts entry 1) both).1).0
+    index_said = (and_parts (says (facts (entry.word +ℤ pos 0)) (said_of entry.fact true)) true
+        (and_parts (says (facts (entry.word +ℤ pos 1)) (said_of entry.fact false)) (words_say facts entry 1) both).1).0
 
     first_word : entry.word ≡ entry.word +ℤ pos 0
     first_word = omega (arith, ints)
@@ -202,7 +202,7 @@ entered_here : (facts : Facts) (entry : Entry) (entries : List Entry) (k : ℤ) 
     → words_say facts entry entry.span ≡ true → is_whole facts entry ≡ true
     → entered (is_alone (facts k)) (entry_fact (entry ∷ entries) k)
     ≤ once entry.word (price facts entry) k + entered (is_alone (facts k)) (entry_fact entries k)
-entered_here facts entry entries k pair said whole = elim (bool_cases (is_about entry k)) [
+entered_here facts entry entries k pair said whole = elim (cases_Bool (is_about entry k)) [
   | inr e ↦
       let is = ap (entered (is_alone (facts k))) (entry_later entry entries k e) in
       omega (arith, is)
@@ -266,8 +266,8 @@ entered_entries : (facts : Facts) (entries : List Entry) (word : ℤ) (more : �
     → entered_from facts (entry_fact entries) word more ≤ sum_by (price facts) entries
 entered_entries facts [] word more pairs hold whole = let none = none_entered facts word more in omega (arith, none)
 entered_entries facts (entry ∷ entries) word more pairs hold whole =
-    let held = and-parts (words_say facts entry entry.span) (entries_hold facts entries) hold in
-    let both = and-parts (is_whole facts entry) (list_all (is_whole facts) entries) whole in
+    let held = and_parts (words_say facts entry entry.span) (entries_hold facts entries) hold in
+    let both = and_parts (is_whole facts entry) (list_all (is_whole facts) entries) whole in
     let here = entered_more facts entry entries word more pairs.0 held.0 both.0 in
     let enough = once_is_enough entry.word (price facts entry) word more in
     let rest = entered_entries facts entries word more pairs.1 held.1 both.1 in

@@ -5,8 +5,8 @@ use Rattle.std.proofs.Common.{get_or, Option, Some, None, rules, refl, sym, ap, 
 use Rattle.std.specs.Int.{w32}
 use Rattle.std.specs.Prelude.{int_le, nat_lt, slice_get, is_some, ◌==◌, bit_and, SomeIff}
 use Rattle.std.specs.List.{list_any}
-use Rattle.std.proofs.lemmas.Bool.{cases_Bool, cases_lt}
-use Rattle.std.proofs.lemmas.Bool.Decides.{eqb_tells, leb_tells}
+use Rattle.std.proofs.lemmas.Bool.{cases_Bool, cases_lt, and_parts, lt-ltb, ltb-true, and_from}
+use Rattle.std.proofs.lemmas.Bool.Decides.{eqb_tells}
 use Rattle.std.proofs.lemmas.Int.{ints, by_lt_z}
 use Rattle.module_format.specs.declared.rows.Parameter.{Parameter}
 use Rattle.module_format.specs.declared.rows.ParameterKind.{ParameterKind}
@@ -29,22 +29,12 @@ use Rattle.certificate.specs.Branches.{numbered_branch}
 use Rattle.certificate.specs.Rights.{has_end, gives_link, gives_element, gives_parameter, is_same_end, listed_length}
 use Rattle.certificate.specs.Rights.{length_around, channel_length}
 use Rattle.certificate.proofs.RightLaws.{found_kept}
-use Rattle.states.proofs.RowFacts.{and-parts, and-both}
 use Rattle.states.proofs.Procedures.{at-row}
 use Rattle.rulings.specs.Channels.{message_length, IsNumbered}
 use Rattle.rulings.proofs.Words.{same_word_by}
 
 abbrev end : EndKind → Direction → EndRow
 end kind direction = record { kind = kind; direction = direction }
-
-below : (m n : ℕ) → nat_lt m n ≡ true → m < n
-below m n h = elim (leb_tells (suc m) n) [
-  | inl e ↦ omega (arith, e.1)
-  | inr e ↦ let no' : false ≡ true = sym e.0 ∙ h in absurd (cc)
-]
-
-is_less : (m n : ℕ) → m < n → nat_lt m n ≡ true
-is_less m n h = elim (leb_tells (suc m) n) [ inl e ↦ e.0 | inr e ↦ absurd (omega (arith, e.1)) ]
 
 -- each parameter is valid
 pub parameter_keeps : (hi : ℤ) (low : ℕ) (ps : List Parameter) (j : ℕ) (q : Parameter)
@@ -79,9 +69,9 @@ numbered_by (ends.Link l) (ends.Parameter i b) keeps kind number element = absur
 same_end : (e : EndKind) (d : Direction) (other : EndRow) → EndKindKeeps other.kind
     → is_same_end (key_of other) (key_of (end e d)) ≡ true → IsNumbered e
 same_end e d other keeps h =
-    let three = (and-parts _ _ h).0 in
-    let two = and-parts _ _ three in
-    let one = and-parts _ _ two.0 in
+    let three = (and_parts _ _ h).0 in
+    let two = and_parts _ _ three in
+    let one = and_parts _ _ two.0 in
     numbered_by e other.kind keeps one.0 one.1 two.1
 
 listed : (e : EndKind) (d : Direction) (before : EndKey) (others : List EndRow)
@@ -106,7 +96,7 @@ link_below lengths link eight h = elim (cases_lt link 8) [
   | inl low ↦ low
   | inr high ↦
       let none = none_above lengths link (omega arith) in
-      let no' : 0 < 0 = subst (λ (n : ℕ). 0 < n) none (below 0 (get_or lengths link 0) h) in
+      let no' : 0 < 0 = subst (λ (n : ℕ). 0 < n) none (ltb-true 0 (get_or lengths link 0) h) in
       absurd (omega arith)
 ]
 
@@ -115,9 +105,9 @@ of_links : (lengths : List ℕ) (e : EndKind) (d : Direction) → length lengths
 of_links lengths (ends.FrameWord w) d eight h = absurd (cc)
 of_links lengths (ends.Parameter j a) d eight h = absurd (cc)
 of_links lengths (ends.Link l) In eight h =
-    let low = link_below lengths l eight (and-parts (nat_lt 3 l) (nat_lt 0 (get_or lengths l 0)) h).1 in omega arith
+    let low = link_below lengths l eight (and_parts (nat_lt 3 l) (nat_lt 0 (get_or lengths l 0)) h).1 in omega arith
 of_links lengths (ends.Link l) Out eight h =
-    let low = link_below lengths l eight (and-parts (nat_lt l 4) (nat_lt 0 (get_or lengths l 0)) h).1 in omega arith
+    let low = link_below lengths l eight (and_parts (nat_lt l 4) (nat_lt 0 (get_or lengths l 0)) h).1 in omega arith
 
 -- ---- parameters
 
@@ -161,7 +151,7 @@ of_element m (Value lo hi) a d keeps h = absurd (cc)
 of_element m (ReadRegion size lo hi) a d keeps h = absurd (cc)
 of_element m (WrittenRegion size lo hi) a d keeps h = absurd (cc)
 of_element m (Channels count len ends) a d keeps h =
-    let low = below a count (and-parts _ _ h).0 in let few = keeps.count_fits in omega (arith, low, few)
+    let low = ltb-true a count (and_parts _ _ h).0 in let few = keeps.count_fits in omega (arith, low, few)
 
 of_parameters : (m : Contents) (n : ℕ) (e : EndKind) (d : Direction) → Keeps m
     → gives_parameter (parameters_at m n) e d ≡ true → IsNumbered e
@@ -197,10 +187,10 @@ end_numbered m keeps n e d h = on (numbered_branch m n) refl h
 
     on : (found : Option (Par × Branch)) → numbered_branch m n ≡ found → tells_end m n (end e d) found ≡ true
         → IsNumbered e
-    on None is g = own (n == 0) (and-parts (is_some (context_at m n)) (cond (n == 0) (gives_link m.lengths e d)
+    on None is g = own (n == 0) (and_parts (is_some (context_at m n)) (cond (n == 0) (gives_link m.lengths e d)
         (gives_parameter (parameters_at m n) e d)) g).1
     on (Some x) is g = listed e d first_key x.1.ends (found_kept m n x keeps is).0.ends
-        (and-parts (is_some (context_at m n))
+        (and_parts (is_some (context_at m n))
         (list_any (λ other. is_same_end (key_of other) (key_of (end e d))) x.1.ends) g).1
 
 -- ---- ends of a procedure's own parameters
@@ -211,9 +201,9 @@ element_before (Value lo hi) a b d low h = h
 element_before (ReadRegion size lo hi) a b d low h = h
 element_before (WrittenRegion size lo hi) a b d low h = h
 element_before (Channels count len ends) a b d low h =
-    let both = and-parts (nat_lt a count) (not (bit_and ends.0 (direction_number d) == 0)) h in
-    let less = below a count both.0 in
-    and-both _ _ (is_less b count (omega arith)) both.1
+    let both = and_parts (nat_lt a count) (not (bit_and ends.0 (direction_number d) == 0)) h in
+    let less = ltb-true a count both.0 in
+    and_from _ _ (lt-ltb b count (omega arith)) both.1
 
 parameter_before : (ps : List Parameter) (j : ℤ) (a b : ℕ) (d : Direction) → b ≤ a
     → gives_parameter ps (ends.Parameter j a) d ≡ true → gives_parameter ps (ends.Parameter j b) d ≡ true
@@ -232,9 +222,9 @@ pub elements_before : (m : Contents) (n : ℕ) (j : ℤ) (element : ℕ) → num
 elements_before m n j element none more i d low h =
     let at = ap (tells_end m n (end (ends.Parameter j (element + more)) d)) none in
     let here = ap (tells_end m n (end (ends.Parameter j (element + i)) d)) none in
-    let both = and-parts (is_some (context_at m n)) (cond (n == 0) false
+    let both = and_parts (is_some (context_at m n)) (cond (n == 0) false
     (gives_parameter (parameters_at m n) (ends.Parameter j (element + more)) d)) (sym at ∙ h) in
-    here ∙ and-both _ _ both.0 (on (n == 0) both.1)
+    here ∙ and_from _ _ both.0 (on (n == 0) both.1)
   where
     on : (b : Bool) → (cond b false (gives_parameter (parameters_at m n) (ends.Parameter j (element + more)) d)) ≡ true
         → (cond b false (gives_parameter (parameters_at m n) (ends.Parameter j (element + i)) d)) ≡ true

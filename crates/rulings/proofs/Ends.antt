@@ -6,6 +6,7 @@ use Rattle.std.specs.Int.{w32, int_wrap, cast_unsigned, cast_signed}
 use Rattle.std.specs.Prelude.{unsigned_abs, ◌==◌, nat_lt}
 use Rattle.std.proofs.lemmas.Bool.Decides.{eqb_tells, leb_tells}
 use Rattle.std.proofs.lemmas.Int.{ints, of_z-to_z, int_rem_euclid_is, SFits-int_wrap}
+use Rattle.std.proofs.lemmas.Bool.{and_parts}
 use Rattle.module_format.specs.declared.fact.Fact.TheVariants.{Unknown, Number, Pointer, CodeAddress, Loop}
 use Rattle.module_format.specs.declared.fact.Fact.TheVariants.{ReturnAddress}
 use Rattle.module_format.specs.declared.fact.Region.{Region}
@@ -20,7 +21,6 @@ use Rattle.machine_state.specs.Memory.{data_start}
 use Rattle.machine_state.specs.World.{link_words}
 use Rattle.states.specs.declared.known.WordFact.{WordFact}
 use Rattle.states.specs.declared.known.WordFact.TheVariants.{Alone, Index, Count}
-use Rattle.states.proofs.RowFacts.{and-parts}
 use Rattle.rulings.specs.Meaning.{Layout, Activation, MeansWord, is_fact, is_number, is_pointer, word_of, region_start}
 use Rattle.rulings.specs.Regions.{channel_address}
 use Rattle.rulings.specs.Reach.{word_of_byte}
@@ -89,11 +89,11 @@ module _ (m : Contents) (act : Activation) (k : ℤ) where
               let is : Link (n / 4) ≡ first = cc in
               let whole : n % 4 ≡ 0 = elim (eqb_tells (n % 4) 0) [
                 | inl p ↦ p.1
-                | inr p ↦ let no' : false ≡ true = sym p.0 ∙ (and-parts _ _ t).0 in absurd (cc)
+                | inr p ↦ let no' : false ≡ true = sym p.0 ∙ (and_parts _ _ t).0 in absurd (cc)
               ] in
               let low : n < 32 = elim (leb_tells (suc n) 32) [
                 | inl p ↦ omega (arith, p.1)
-                | inr p ↦ let no' : false ≡ true = sym p.0 ∙ (and-parts _ _ t).1 in absurd (cc)
+                | inr p ↦ let no' : false ≡ true = sym p.0 ∙ (and_parts _ _ t).1 in absurd (cc)
               ] in
               record {
                 x = x;

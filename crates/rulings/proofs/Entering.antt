@@ -3,11 +3,13 @@
 use Rattle.std.proofs.Common.{FitsSigned, ◌≡◌, ℕ, zero, suc, ◌≤◌, ◌<◌, ◌<ℤ◌, ℤ, pos, ◌+ℤ◌, ◌-ℤ◌, ◌≤ℤ◌, Bool, true}
 use Rattle.std.proofs.Common.{false, cond, if◌then◌else◌, inl, inr, List, [], ◌∷◌, length, Option, Some, None, Result}
 use Rattle.std.proofs.Common.{Ok, Err, refl, sym, ap, ◌∙◌, subst, arith, ltb, eqb}
-use Rattle.std.proofs.lemmas.Bool.Decides.{leb_tells, eqb_tells, nat_tests}
+use Rattle.std.proofs.lemmas.Bool.Decides.{leb_tells, nat_tests}
 use Rattle.std.proofs.lemmas.Int.{ints}
 use Rattle.std.specs.Prelude.{int_le, int_lt, ◌==◌}
 use Rattle.std.specs.List.{list_all}
 use Rattle.std.specs.Int.{w32}
+use Rattle.std.proofs.lemmas.Bool.{eqb-true, and_parts, cases_Bool}
+use Rattle.small_laws.proofs.Comparisons.{int_le-true, int_lt-true}
 use Rattle.module_format.specs.Rows.{Fact, Entry}
 use Rattle.module_format.specs.declared.fact.Fact.TheVariants.{Unknown, Number, Pointer, CodeAddress, Loop}
 use Rattle.module_format.specs.declared.fact.Fact.TheVariants.{ReturnAddress}
@@ -38,15 +40,12 @@ use Rattle.rulings.specs.Meaning.{is_code_address, word_of, region_start, code_a
 use Rattle.rulings.specs.Meaning.{is_index, is_count, frame_word, Words, words_in, HasFrame, from_nowhere, MeansKnown}
 use Rattle.rulings.specs.Meaning.{both_enabling, both_disabling, both_starting, SameMode, both_plain, turns_from}
 use Rattle.rulings.specs.Meaning.{label_turns, at_label, IsSpan, ArePairs, IsWellFormed}
-use Rattle.states.proofs.RowFacts.{and-parts, le-from, lt-from, rise-parts, about-within, about-behind}
+use Rattle.states.proofs.RowFacts.{rise-parts, about-within, about-behind}
 use Rattle.states.proofs.Claimed.{same-region}
 use Rattle.rulings.specs.Regions.{scope_of, HoldsNamed}
 use Rattle.rulings.proofs.Within.{Within, AreStill, is_starting, within}
 use Rattle.rulings.specs.Fitting.{After}
-use Rattle.rulings.proofs.Words.{bool_cases, means_same, word_test, int_le_tells, itself_means}
-
-same_number : (m n : ℕ) → eqb m n ≡ true → m ≡ n
-same_number m n h = elim (eqb_tells m n) [ inl p ↦ p.1 | inr p ↦ let no' : true ≡ false = sym h ∙ p.0 in absurd (cc) ]
+use Rattle.rulings.proofs.Words.{means_same, word_test, int_le_tells, itself_means}
 
 same_word : (j k : ℤ) → is_word j k ≡ true → j ≡ k
 same_word j k h = elim (word_test j k) [ inl p ↦ p.1 | inr p ↦ let no' : true ≡ false = sym h ∙ p.0 in absurd (cc) ]
@@ -65,20 +64,21 @@ module _ (m : Contents) (layout : Layout) where
   implies_means f Unknown v t means = says_nothing
   implies_means (Number lo hi) (Number low high) None t means = elim means [ ]
   implies_means (Number lo hi) (Number low high) (Some a) t (is_number p q fits) =
-      let both = and-parts (int_le low lo) (int_le hi high) t in
-      is_number (omega (arith, ints, le-from low lo both.0)) (omega (arith, ints, le-from hi high both.1)) fits
+      let both = and_parts (int_le low lo) (int_le hi high) t in
+      is_number (omega (arith, ints, int_le-true low lo both.0)) (omega (arith, ints, int_le-true hi high both.1)) fits
   implies_means (Pointer region lo hi step) (Pointer other low high stride) None t means = elim means [ ]
   implies_means (Pointer region lo hi step) (Pointer other low high stride) (Some a) t
       (is_pointer offset p q stepped is) =
-      let all = and-parts _ _ t in
-      let first = and-parts _ _ all.0 in
-      let range = and-parts (int_le low lo) (int_le hi high) first.1 in
-      is_pointer offset (omega (arith, ints, le-from low lo range.0)) (omega (arith, ints, le-from hi high range.1))
+      let all = and_parts _ _ t in
+      let first = and_parts _ _ all.0 in
+      let range = and_parts (int_le low lo) (int_le hi high) first.1 in
+      is_pointer offset (omega (arith, ints, int_le-true low lo range.0))
+      (omega (arith, ints, int_le-true hi high range.1))
       (step_means step stride offset all.1 stepped)
       (is ∙ ap (λ (r : Region). word_of (region_start m layout r +ℤ offset)) (same-region region other first.0))
   implies_means (CodeAddress offset) (CodeAddress other) None t means = elim means [ ]
   implies_means (CodeAddress offset) (CodeAddress other) (Some a) t (is_code_address is) =
-      is_code_address (is ∙ ap (λ (o : ℕ). word_of (pos (code_address m o))) (same_number offset other t))
+      is_code_address (is ∙ ap (λ (o : ℕ). word_of (pos (code_address m o))) (eqb-true offset other t))
   implies_means ReturnAddress ReturnAddress v t means = means
   implies_means f g v t means = absurd (cc)
 
@@ -87,11 +87,11 @@ module _ (m : Contents) (layout : Layout) where
 pub same_loop : (loop other : CountedLoop) → is_same_loop loop other ≡ true
     → (loop.base ≡ other.base) × (loop.count ≡ other.count) × (loop.weight ≡ other.weight)
 same_loop loop other t =
-    let all = and-parts _ _ t in
-    let first = and-parts _ _ all.0 in (
+    let all = and_parts _ _ t in
+    let first = and_parts _ _ all.0 in (
       same_word loop.base other.base first.0,
-      same_number loop.count other.count first.1,
-      same_number loop.weight other.weight all.1,
+      eqb-true loop.count other.count first.1,
+      eqb-true loop.weight other.weight all.1,
     )
 
 -- a number that is exactly this one
@@ -100,7 +100,7 @@ pub constant_means : (m : Contents) (layout : Layout) (f : Fact) (v : Option ℤ
     → Means m layout f v → (FitsSigned w32 number) × (v ≡ Some number)
 constant_means m layout (Number lo hi) None number t means = elim means [ ]
 constant_means m layout (Number lo hi) (Some x) number t (is_number low high fits) =
-    let both = and-parts (is_word lo number) (is_word hi number) t in
+    let both = and_parts (is_word lo number) (is_word hi number) t in
     let first = same_word lo number both.0 in
     let last = same_word hi number both.1 in
     let is : x ≡ number = omega (arith, ints) in
@@ -176,7 +176,7 @@ words_said : (facts : Facts) (entry : Entry) (k : ℤ) (span : ℕ) → words_sa
     → k <ℤ (entry.word +ℤ pos span) → says (facts k) (said_of entry.fact (is_word entry.word k)) ≡ true
 words_said facts entry k zero t low high = absurd (omega (arith, ints))
 words_said facts entry k (suc more) t low high =
-    let both = and-parts _ _ t in
+    let both = and_parts _ _ t in
     elim (word_test k (entry.word +ℤ pos more)) [
       | inl e ↦
           ap (λ (j : ℤ). says (facts j) (said_of entry.fact (is_word entry.word k))) e.1
@@ -200,13 +200,13 @@ pub entries_said : (facts : Facts) (entries : List Entry) (k : ℤ) → entries_
     → says (facts k) (entry_fact entries k) ≡ true
 entries_said facts [] k t = refl
 entries_said facts (entry ∷ entries) k t =
-    let both = and-parts (words_say facts entry entry.span) (entries_hold facts entries) t in
-    elim (bool_cases (is_about entry k)) [
+    let both = and_parts (words_say facts entry entry.span) (entries_hold facts entries) t in
+    elim (cases_Bool (is_about entry k)) [
       | inl e ↦
-          let place = and-parts _ _ e in
+          let place = and_parts _ _ e in
           ap (says (facts k)) (entry_here entry entries k e)
-          ∙ words_said facts entry k entry.span both.0 (le-from entry.word k place.0)
-          (lt-from k (entry.word +ℤ pos entry.span) place.1)
+          ∙ words_said facts entry k entry.span both.0 (int_le-true entry.word k place.0)
+          (int_lt-true k (entry.word +ℤ pos entry.span) place.1)
       | inr e ↦ ap (says (facts k)) (entry_later entry entries k e) ∙ entries_said facts entries k both.1
     ]
 
@@ -217,10 +217,10 @@ index_behind low [] k loop rise h = absurd (cc)
 index_behind low (entry ∷ entries) k loop rise h =
     let parts = rise-parts low entry entries rise in
     let below : low ≤ℤ entry.word = parts.0 in
-    elim (bool_cases (is_about entry k)) [
+    elim (cases_Bool (is_about entry k)) [
       | inl e ↦
-          let place = and-parts (int_le entry.word k) (int_lt k (entry.word +ℤ pos entry.span)) e in
-          let here : entry.word ≤ℤ k = le-from entry.word k place.0 in
+          let place = and_parts (int_le entry.word k) (int_lt k (entry.word +ℤ pos entry.span)) e in
+          let here : entry.word ≤ℤ k = int_le-true entry.word k place.0 in
           omega (arith, ints)
       | inr e ↦
           let behind : end_of entry ≤ℤ k =
@@ -249,9 +249,9 @@ count_behind_index : (facts : Facts) (low : ℤ) (entries : List Entry) (k : ℤ
     → entry_fact entries k ≡ Count loop → HasIndex facts entries k loop
 count_behind_index facts low [] k loop rise pairs whole h = absurd (cc)
 count_behind_index facts low (entry ∷ entries) k loop rise pairs whole h =
-    let both = and-parts (is_whole facts entry) (list_all (is_whole facts) entries) whole in
+    let both = and_parts (is_whole facts entry) (list_all (is_whole facts) entries) whole in
     let parts = rise-parts low entry entries rise in
-    elim (bool_cases (is_about entry k)) [
+    elim (cases_Bool (is_about entry k)) [
       | inl e ↦ here e (count_of entry.fact (is_word entry.word k) loop (sym (entry_here entry entries k e) ∙ h)) both.0
       | inr e ↦
           let later = count_behind_index facts (end_of entry) entries k loop parts.1 pairs.1 both.1
@@ -269,9 +269,9 @@ count_behind_index facts low (entry ∷ entries) k loop rise pairs whole h =
         × (is_word entry.word k ≡ false)
         → is_whole facts entry ≡ true → HasIndex facts (entry ∷ entries) k loop
     here e known alike =
-        let place = and-parts (int_le entry.word k) (int_lt k (entry.word +ℤ pos entry.span)) e in
-        let low' : entry.word ≤ℤ k = le-from entry.word k place.0 in
-        let high : k <ℤ (entry.word +ℤ pos entry.span) = lt-from k (entry.word +ℤ pos entry.span) place.1 in
+        let place = and_parts (int_le entry.word k) (int_lt k (entry.word +ℤ pos entry.span)) e in
+        let low' : entry.word ≤ℤ k = int_le-true entry.word k place.0 in
+        let high : k <ℤ (entry.word +ℤ pos entry.span) = int_lt-true k (entry.word +ℤ pos entry.span) place.1 in
         let two : entry.span ≡ 2 = subst (λ (f : Fact). IsSpan entry.span f) known.0 pairs.0 in
         elim (word_test entry.word k) [
           | inl p ↦ let no' : true ≡ false = sym p.0 ∙ known.1 in absurd (cc)
@@ -351,18 +351,18 @@ pub record IsBelow (s : State) (t : Label) : Type 0 where
 
 agrees_tells : (s : State) (t : Label) → agrees (view s) t ≡ true → IsBelow s t
 agrees_tells s t e =
-    let p = and-parts _ _ e in
-    let q = and-parts _ _ p.0 in
-    let r = and-parts _ _ q.0 in
-    let u = and-parts _ _ r.0 in
-    let v = and-parts _ _ u.0 in
-    let w = and-parts _ _ v.0 in
-    let x = and-parts _ _ w.0 in
+    let p = and_parts _ _ e in
+    let q = and_parts _ _ p.0 in
+    let r = and_parts _ _ q.0 in
+    let u = and_parts _ _ r.0 in
+    let v = and_parts _ _ u.0 in
+    let w = and_parts _ _ v.0 in
+    let x = and_parts _ _ w.0 in
     record {
       a = v.1;
       b = u.1;
       c = r.1;
-      context = same_number s.context t.context x.0;
+      context = eqb-true s.context t.context x.0;
       depth = same_word s.depth t.depth x.1;
       entries = q.1;
       plain = w.1;

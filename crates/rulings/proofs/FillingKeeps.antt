@@ -1,9 +1,10 @@
 -- Filling a buffer that a context may write keeps what its activation has, whatever bytes come and however many.
 use Rattle.std.proofs.Common.{◌≡◌, ℕ, ◌+◌, ◌-◌, ◌*◌, ◌≤◌, ◌<◌, ℤ, pos, ◌+ℤ◌, ◌≤ℤ◌, Bool, true}
 use Rattle.std.proofs.Common.{length, Some, sym, ap, ◌∙◌, subst, arith, ◌⊎◌, inl, inr}
-use Rattle.std.proofs.lemmas.Bool.{cases_eq}
+use Rattle.std.proofs.lemmas.Bool.{cases_eq, and_parts, cases_Bool}
 use Rattle.std.proofs.lemmas.Int.{ints}
 use Rattle.std.specs.Prelude.{int_le}
+use Rattle.small_laws.proofs.Comparisons.{int_le-true}
 use Rattle.module_format.specs.declared.fact.Region.{Region}
 use Rattle.module_format.specs.declared.fact.Region.TheVariants as regions
 use Rattle.module_format.specs.declared.rows.Parameter.{Parameter}
@@ -18,7 +19,6 @@ use Rattle.machine_state.specs.Holding.{Holding, may_read, may_write}
 use Rattle.machine_state.specs.Site.{Local}
 use Rattle.states.specs.State.{State}
 use Rattle.states.specs.Below.{lies_within}
-use Rattle.states.proofs.RowFacts.{and-parts, le-from}
 use Rattle.rulings.specs.Meaning.{Activation}
 use Rattle.rulings.specs.Regions.{Scope, scope_of, IsByteOf, IsRegion, IsNamed, IsWrittenAt, HoldsNamed, MayChange}
 use Rattle.rulings.specs.Regions.{in_frame, in_region, Keeps}
@@ -26,7 +26,6 @@ use Rattle.rulings.specs.Reach.{all_touched, lie_in, may_write_bytes, writable_b
 use Rattle.rulings.specs.Pointers.{is_full, wanted_range}
 use Rattle.rulings.specs.Buffers.{IsByte, Fills}
 use Rattle.rulings.proofs.Within.{Within, ArePlain}
-use Rattle.rulings.proofs.Words.{bool_cases}
 use Rattle.rulings.proofs.Regions.{Alters, IsBeside, named_left, may_too}
 use Rattle.rulings.proofs.Reaching.{region_place, lies_inside}
 use Rattle.rulings.proofs.WriteThrough.{number_wider, frame_written, writable_found, number_byte}
@@ -39,12 +38,12 @@ module _ (m : Contents) (h : Holding) (scope : Scope) (awaited : ℕ → Bool)
     (fills : Fills h awaited old new) where
   fills_alter : Alters h old new (λ place. awaited place ≡ true)
   fills_alter = record {
-    bytes = λ place held. elim (bool_cases (awaited place)) [
+    bytes = λ place held. elim (cases_Bool (awaited place)) [
       | inl t ↦ inr t
       | inr t ↦ inl (fills.others place held t)
     ];
     own = own;
-    small = λ place b held found. elim (bool_cases (awaited place)) [
+    small = λ place b held found. elim (cases_Bool (awaited place)) [
       | inr t ↦ inr (sym (fills.others place held t) ∙ found)
       | inl t ↦ elim (fills.come place held t) [
         | inl same ↦ inr (sym same ∙ found)
@@ -63,7 +62,7 @@ module _ (m : Contents) (h : Holding) (scope : Scope) (awaited : ℕ → Bool)
   -- the buffer is part of what the activation may change
   changes_bytes : ((place : ℕ) → awaited place ≡ true → MayChange scope place) → (place : ℕ)
       → may_read h place ≡ true → (byte_at new place ≡ byte_at old place) ⊎ MayChange scope place
-  changes_bytes may place held = elim (bool_cases (awaited place)) [
+  changes_bytes may place held = elim (cases_Bool (awaited place)) [
     | inl t ↦ inr (may place t)
     | inr t ↦ inl (fills.others place held t)
   ]
@@ -101,7 +100,7 @@ module _ (m : Contents) (h : Holding) (scope : Scope) (awaited : ℕ → Bool)
     byte_there has place b held before =
         let stays : byte_at new place ≡ byte_at old place → IsByte (byte_at new place) =
         λ same. (b, same ∙ before, has.bytes.each place b held before) in
-        elim (bool_cases (awaited place)) [
+        elim (cases_Bool (awaited place)) [
           | inr t ↦ stays (fills.others place held t)
           | inl t ↦ elim (fills.come place held t) [ inl same ↦ stays same | inr byte ↦ byte ]
         ]
@@ -114,8 +113,8 @@ module _ (m : Contents) (h : Holding) (scope : Scope) (awaited : ℕ → Bool)
       held = region.held;
       beside = region.beside;
       numbers = λ i within.
-          let both = and-parts (int_le lo least_word) (int_le greatest_word hi) wide in
-          number_wider m scope.layout lo hi _ (le-from lo least_word both.0) (le-from greatest_word hi both.1)
+          let both = and_parts (int_le lo least_word) (int_le greatest_word hi) wide in
+          number_wider m scope.layout lo hi _ (int_le-true lo least_word both.0) (int_le-true greatest_word hi both.1)
           (number_of_bytes new (start + 4 * i) (λ k less.
           let byte = number_byte old (start + 4 * i) k less (region.numbers i within) in
           byte_there has (start + 4 * i + k) byte.0 (may_too h (start + 4 * i + k)

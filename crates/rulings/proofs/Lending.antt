@@ -5,6 +5,7 @@ use Rattle.std.proofs.Common.{◌≡◌, ℕ, ◌+◌, ◌-◌, ◌*◌, ◌/◌
 use Rattle.std.proofs.Common.{inr, Option, Some, None, refl, sym, ap, ◌∙◌, subst, arith}
 use Rattle.std.proofs.lemmas.Bool.{cases_eq}
 use Rattle.std.proofs.lemmas.Int.{ints}
+use Rattle.small_laws.proofs.Options.{same_some}
 use Rattle.module_format.specs.declared.fact.Fact.TheVariants.{Number}
 use Rattle.module_format.specs.declared.fact.Region.{Region}
 use Rattle.module_format.specs.declared.rows.Parameter.{Parameter}
@@ -113,9 +114,6 @@ module _ (m : Contents) (caller callee : Scope) (base : ℤ) (lends : Lends m ca
   ]
 
 -- ---- what is left of memory
-
-same_some : {A : Type 0} (o : Option A) (x y : A) → o ≡ Some x → o ≡ Some y → x ≡ y
-same_some {A} o x y p q = let e : Some x ≡ Some y = sym p ∙ q in cc
 
 -- one of the four bytes of a word is one that may change
 pub record Touched (scope : Scope) (place : ℕ) : Type 0 where

@@ -4,13 +4,12 @@ use Rattle.std.proofs.Common.{◌<ℤ◌, FitsSigned, Bool, true, false, inl, in
 use Rattle.std.proofs.Common.{subst, arith}
 use Rattle.std.specs.Int.{w32, int_wrap, cast_unsigned, cast_signed}
 use Rattle.std.specs.Prelude.{nat_abs}
-use Rattle.std.proofs.lemmas.Bool.{cases_lt, cases_eq}
+use Rattle.std.proofs.lemmas.Bool.{cases_lt, cases_eq, and_parts}
 use Rattle.std.proofs.lemmas.Bool.Decides.{eqb_tells}
 use Rattle.std.proofs.lemmas.List.{get_or_past}
 use Rattle.std.proofs.lemmas.Int.{ints, of_z-to_z, to_z-of_z}
 use Rattle.module_format.specs.Order.{is_stepped}
 use Rattle.machine_state.specs.Memory.{Memory, place_of, data_start, byte_at, word_at, joined}
-use Rattle.states.proofs.RowFacts.{and-parts}
 use Rattle.rulings.specs.Meaning.{word_of}
 use Rattle.certificate.specs.Words.{all_words}
 use Rattle.rulings.specs.Reach.{word_of_byte, words_touched}
@@ -109,6 +108,6 @@ pub all_words_at : (test : ℤ → Bool) (first : ℤ) (count i : ℕ) → all_w
     → test (first +ℤ pos i) ≡ true
 all_words_at test first zero i all low = absurd (omega arith)
 all_words_at test first (suc more) i all low = elim (cases_eq i more) [
-  | inl e ↦ subst (λ (n : ℕ). test (first +ℤ pos n) ≡ true) (sym e) (and-parts _ _ all).0
-  | inr e ↦ all_words_at test first more i (and-parts _ _ all).1 (omega arith)
+  | inl e ↦ subst (λ (n : ℕ). test (first +ℤ pos n) ≡ true) (sym e) (and_parts _ _ all).0
+  | inr e ↦ all_words_at test first more i (and_parts _ _ all).1 (omega arith)
 ]

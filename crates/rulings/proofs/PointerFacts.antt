@@ -3,13 +3,13 @@ use Rattle.std.proofs.Common.{◌≡◌, ℤ, FitsSigned, Bool, true, false, con
 use Rattle.std.proofs.Common.{arith}
 use Rattle.std.proofs.lemmas.Int.{ints}
 use Rattle.std.specs.Int.{w32}
+use Rattle.std.proofs.lemmas.Bool.{and_parts}
 use Rattle.module_format.specs.Rows.{Fact}
 use Rattle.module_format.specs.declared.fact.Fact.TheVariants.{Unknown, Number, Pointer, CodeAddress, Loop}
 use Rattle.module_format.specs.declared.fact.Fact.TheVariants.{ReturnAddress}
 use Rattle.module_format.specs.Contents.{Contents}
 use Rattle.states.specs.declared.rule.Rule.{Rule}
 use Rattle.states.specs.State.{is_word as is_same}
-use Rattle.states.proofs.RowFacts.{and-parts}
 use Rattle.rulings.specs.declared.pointers.Pointed.{Pointed}
 use Rattle.rulings.specs.Pointers.{are_near, pointer_of, constant_of, exact_pointer}
 use Rattle.rulings.specs.Meaning.{Layout, Means, is_number}
@@ -29,7 +29,7 @@ exact_is (Pointer region lo hi steps) p e =
     (record { region = region; lo = lo; hi = hi; step = steps }) p _ e in
     subst (λ (r : Pointed). (◌≡◌ {A = Fact} (Pointer region lo hi steps) (Pointer r.region r.lo r.hi r.step))
     × (r.lo ≡ r.hi))
-    q.1 (refl, same_word_by lo hi (and-parts (are_near lo hi) (is_same lo hi) q.0).1)
+    q.1 (refl, same_word_by lo hi (and_parts (are_near lo hi) (is_same lo hi) q.0).1)
 exact_is Unknown p e = absurd (cc)
 exact_is (Number lo hi) p e = absurd (cc)
 exact_is (CodeAddress offset) p e = absurd (cc)

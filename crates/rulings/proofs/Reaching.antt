@@ -2,11 +2,12 @@
 use Rattle.std.proofs.Common.{◌≡◌, ℕ, ◌+◌, ◌-◌, ◌/◌, ◌%◌, ◌<◌, ◌==◌, ℤ, pos, negsuc, ◌+ℤ◌, ◌-ℤ◌, ◌*ℤ◌, ◌≤ℤ◌, ◌<ℤ◌}
 use Rattle.std.proofs.Common.{nat_abs, FitsSigned, Bool, true, length, Option, Some, None}
 use Rattle.std.proofs.Common.{refl, sym, ap, ◌∙◌, subst, arith, inl, inr}
-use Rattle.std.proofs.lemmas.Bool.{eq-eqb, cases_lt}
+use Rattle.std.proofs.lemmas.Bool.{eq-eqb, cases_lt, and_parts}
 use Rattle.std.proofs.lemmas.List.{get_or_past}
 use Rattle.std.proofs.lemmas.Int.{ints, of_z-to_z, int_wrap-add_left, SFits-int_wrap}
 use Rattle.std.specs.Prelude.{unsigned_abs, int_le}
 use Rattle.std.specs.Int.{w32, int_wrap, int_rem_euclid}
+use Rattle.small_laws.proofs.Comparisons.{int_le-true}
 use Rattle.module_format.specs.declared.fact.Region.{Region}
 use Rattle.module_format.specs.declared.fact.Region.TheVariants as regions
 use Rattle.module_format.specs.Contents.{Contents}
@@ -14,16 +15,11 @@ use Rattle.machine_state.specs.Memory.{Memory, byte_at, place_of, local_address,
 use Rattle.machine_state.specs.World.{constants_start}
 use Rattle.machine_state.specs.LocalStep as step
 use Rattle.states.proofs.SpanFacts.{all-there}
-use Rattle.states.proofs.RowFacts.{and-parts, le-from}
 use Rattle.rulings.specs.Meaning.{Layout, region_start}
 use Rattle.rulings.specs.Reach.{word_of_byte, words_touched, all_touched, lie_in}
 use Rattle.rulings.proofs.Addresses.{local_word}
 
 -- ---- addresses and places
-
-pub natural : (z : ℤ) → pos 0 ≤ℤ z → (n : ℕ) × (z ≡ pos n)
-natural (pos n) h = (n, refl)
-natural (negsuc n) h = absurd (omega (arith, ints))
 
 -- the place where a region starts
 abbrev pub region_place : Contents → Layout → Region → ℤ
@@ -132,8 +128,8 @@ pub lies_inside : (size : Option ℕ) (first end : ℤ) → lie_in size first en
     → (n : ℕ) × (size ≡ Some n) × (pos 0 ≤ℤ first) × (end ≤ℤ pos n)
 lies_inside None first end h = absurd (cc)
 lies_inside (Some n) first end h =
-    let both = and-parts (int_le (pos 0) first) (int_le end (pos n)) h in
-    (n, refl, le-from (pos 0) first both.0, le-from end (pos n) both.1)
+    let both = and_parts (int_le (pos 0) first) (int_le end (pos n)) h in
+    (n, refl, int_le-true (pos 0) first both.0, int_le-true end (pos n) both.1)
 
 -- a byte that is defined is one of memory
 pub inside_memory : (memory : Memory) (place b : ℕ) → byte_at memory place ≡ Some b → place < length memory

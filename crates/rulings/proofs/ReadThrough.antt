@@ -2,7 +2,7 @@
 use Rattle.std.proofs.Common.{◌≡◌, ℕ, zero, suc, ◌+◌, ◌*◌, ◌<◌, ◌==◌, ℤ, pos, ◌+ℤ◌, ◌≤ℤ◌, ◌<ℤ◌, FitsSigned, Bool, true}
 use Rattle.std.proofs.Common.{false, cond, ◌&&◌, length, Option, Some, None, refl, ap, ◌∙◌, subst, arith, rules, inl}
 use Rattle.std.proofs.Common.{inr, sym}
-use Rattle.std.proofs.lemmas.Bool.{cases_lt, eqb-true}
+use Rattle.std.proofs.lemmas.Bool.{cases_lt, eqb-true, and_from}
 use Rattle.std.proofs.lemmas.List.{get_or_past}
 use Rattle.std.proofs.lemmas.Int.{ints, clamps, by_lt_z}
 use Rattle.std.specs.Prelude.{slice_get, option_map, if◌then◌else◌, ◌⊎◌}
@@ -21,7 +21,6 @@ use Rattle.machine_state.specs.Holding.{Holding, may_read, may_write, may_read_w
 use Rattle.states.specs.declared.span.Together.{Together}
 use Rattle.states.specs.State.{Facts, plain, is_alone}
 use Rattle.states.specs.Spans.{with_plain, together}
-use Rattle.states.proofs.RowFacts.{and-both}
 use Rattle.rulings.specs.Meaning.{Layout, Activation, Means, is_number, says_nothing, MeansWord}
 use Rattle.rulings.specs.Regions.{Scope, IsRegion, IsNamed, kind_used, parameter_used}
 use Rattle.rulings.specs.Remaining.{only_read, not_used}
@@ -116,7 +115,7 @@ frame_means m act facts first count k v low high means = on_one (count == 1) ref
 each_byte : (may : ℕ → Bool) (place : ℕ) → ((n : ℕ) → n < 4 → may (place + n) ≡ true)
     → (may place && may (place + 1) && may (place + 2) && may (place + 3)) ≡ true
 each_byte may place each =
-    and-both _ _ (and-both _ _ (and-both _ _
+    and_from _ _ (and_from _ _ (and_from _ _
     (ap may (let e : place ≡ place + 0 = omega arith in e) ∙ each 0 (omega arith)) (each 1 (omega arith)))
     (each 2 (omega arith))) (each 3 (omega arith))
 

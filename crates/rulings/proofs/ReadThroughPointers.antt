@@ -7,6 +7,7 @@ use Rattle.std.proofs.lemmas.Int.{ints}
 use Rattle.std.specs.Prelude.{IsTrue, find, unwrap_or}
 use Rattle.std.specs.Option.{option_map}
 use Rattle.std.specs.Int.{w32}
+use Rattle.small_laws.proofs.Comparisons.{pos_from}
 use Rattle.word_arithmetic.specs.Range.{Ends, full}
 use Rattle.module_format.specs.Rows.{Fact}
 use Rattle.module_format.specs.declared.fact.Fact.TheVariants.{Unknown, Number}
@@ -33,7 +34,7 @@ use Rattle.rulings.proofs.Words.{plain_means, means_same, frame_word_is}
 use Rattle.rulings.proofs.Regions.{bytes_read}
 use Rattle.rulings.proofs.Addresses.{stepped_quotient}
 use Rattle.rulings.proofs.Reaching.{region_place, word_of_byte_low, word_of_byte_high, touched_span, touched_passes}
-use Rattle.rulings.proofs.Reaching.{lies_inside, natural}
+use Rattle.rulings.proofs.Reaching.{lies_inside}
 use Rattle.rulings.proofs.Constants.{word_in, row_word}
 use Rattle.rulings.proofs.ReadThrough.{frame_means, word_readable, number_inside, readable_found, readable_region}
 use Rattle.rulings.proofs.ReadThrough.{word_of_bytes, word_fits, no_byte, number_among}
@@ -59,7 +60,7 @@ inside_some size width lo hi offset low high inside =
     let f = lies_inside size lo (hi +ℤ pos width) inside in
     let from = f.2 in
     let to = f.3 in
-    let n = natural offset (omega (arith, ints)) in
+    let n = pos_from offset (omega (arith, ints)) in
     let is = n.1 in
     (f.0, f.1, n.0, n.1, omega (arith, ints))
 
@@ -197,7 +198,7 @@ module _ {m : Contents} {h : Holding} {mode : machine.Mode} {act : Activation} {
           → pos 0 ≤ℤ lo → (hi +ℤ pos 4) ≤ℤ pos size
           → WordThrough m h act.layout l.memory (pos start) offset (Number least most)
       of_region start size least most region from to =
-          let n = natural offset (omega (arith, ints)) in
+          let n = pos_from offset (omega (arith, ints)) in
           let is : offset ≡ pos n.0 = n.1 in
           let q = stepped_quotient offset aligned in
           let q_is = q.1 in
@@ -278,7 +279,7 @@ module _ {m : Contents} {h : Holding} {mode : machine.Mode} {act : Activation} {
       let is = w.is in
       let inside = w.inside in
       let small = a.frame.small in
-      let n = natural (offset +ℤ neg_ℤ (pos 4 *ℤ word_of_byte offset)) (omega (arith, ints)) in
+      let n = pos_from (offset +ℤ neg_ℤ (pos 4 *ℤ word_of_byte offset)) (omega (arith, ints)) in
       let n_is = n.1 in
       let less : n.0 < 4 = omega (arith, ints) in
       let held = bytes_read h w.place w.readable n.0 less in
@@ -337,7 +338,7 @@ module _ {m : Contents} {h : Holding} {mode : machine.Mode} {act : Activation} {
           → pos 0 ≤ℤ lo → (hi +ℤ pos 1) ≤ℤ pos size
           → ByteThrough m h act.layout l.memory (pos start) offset (Number (pos 0) (pos 255))
       of_region start size least most region from to =
-          let n = natural offset (omega (arith, ints)) in
+          let n = pos_from offset (omega (arith, ints)) in
           let is : offset ≡ pos n.0 = n.1 in
           let whole : size % 4 ≡ 0 = eqb-true (size % 4) 0 region.whole in
           let within : n.0 < size = omega (arith, ints) in

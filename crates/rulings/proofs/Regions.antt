@@ -1,9 +1,9 @@
 -- What a change of memory leaves of what an activation holds: of what its parameters name, of the constants, and of
 -- bytes.
-use Rattle.std.proofs.Common.{◌≡◌, ℕ, ◌+◌, ◌*◌, ◌≤◌, ◌<◌, ℤ, Bool, true, false, ◌&&◌, ◌⊎◌, inl, inr, length, ◌-◌, ◌||◌}
+use Rattle.std.proofs.Common.{◌≡◌, ℕ, ◌+◌, ◌*◌, ◌≤◌, ◌<◌, ℤ, Bool, true, ◌&&◌, ◌⊎◌, inl, inr, length, ◌-◌}
 use Rattle.std.proofs.Common.{zero, suc, Option, Some, None, refl, sym, ap, ◌∙◌, subst, arith}
 use Rattle.std.specs.List.{list_any}
-use Rattle.std.proofs.lemmas.Bool.{cases_lt, cases_eq}
+use Rattle.std.proofs.lemmas.Bool.{cases_lt, cases_eq, and_parts, or_left}
 use Rattle.std.proofs.lemmas.List.{get_or_past}
 use Rattle.std.proofs.lemmas.Int.{ints}
 use Rattle.std.specs.Option.{option_map}
@@ -17,7 +17,6 @@ use Rattle.machine_state.specs.World.{constants_start}
 use Rattle.machine_state.specs.Holding.{Holding, covers, may_read, may_write, may_read_word, may_write_word}
 use Rattle.machine_state.proofs.Reading.{length-with_word, length-with_byte, byte_at-with_byte}
 use Rattle.machine_state.proofs.Reading.{byte_at-with_byte_other, byte_at-with_word_other, word_at_same}
-use Rattle.states.proofs.RowFacts.{and-parts}
 use Rattle.rulings.specs.Meaning.{Means, IsOwnWord}
 use Rattle.rulings.specs.Regions.{Scope, IsByteOf, IsRegion, IsNamed, IsNamedAt, HasConstants, HasBytes, HoldsNamed}
 use Rattle.rulings.specs.Regions.{MayChange, in_frame, Keeps}
@@ -42,13 +41,9 @@ keeps_more {m} {h} {scope} {old} {new} {later} first second = record {
 
 -- ---- bytes that may be used
 
-or_true : (a b : Bool) → a ≡ true → (a || b) ≡ true
-or_true true b h = refl
-or_true false b h = absurd (cc)
-
 -- what may be written may be read
 pub may_too : (h : Holding) (place : ℕ) → may_write h place ≡ true → may_read h place ≡ true
-may_too h place mine = or_true (may_write h place) (list_any (λ span. covers span place) h.reads) mine
+may_too h place mine = or_left (may_write h place) (list_any (λ span. covers span place) h.reads) mine
 
 -- each byte of a word
 pub bytes_of_word : (may : ℕ → Bool) (place : ℕ)
@@ -57,19 +52,19 @@ pub bytes_of_word : (may : ℕ → Bool) (place : ℕ)
 bytes_of_word may place h n low = on n low
   where
     three : (may place && may (place + 1) && may (place + 2)) ≡ true
-    three = (and-parts (may place && may (place + 1) && may (place + 2)) (may (place + 3)) h).0
+    three = (and_parts (may place && may (place + 1) && may (place + 2)) (may (place + 3)) h).0
 
     two : (may place && may (place + 1)) ≡ true
-    two = (and-parts (may place && may (place + 1)) (may (place + 2)) three).0
+    two = (and_parts (may place && may (place + 1)) (may (place + 2)) three).0
 
     on : (n : ℕ) → n < 4 → may (place + n) ≡ true
     on zero low =
         ap may (let e : place + 0 ≡ place = omega arith in e)
-        ∙ (and-parts (may place) (may (place + 1)) two).0
-    on (suc zero) low = (and-parts (may place) (may (place + 1)) two).1
-    on (suc (suc zero)) low = (and-parts (may place && may (place + 1)) (may (place + 2)) three).1
+        ∙ (and_parts (may place) (may (place + 1)) two).0
+    on (suc zero) low = (and_parts (may place) (may (place + 1)) two).1
+    on (suc (suc zero)) low = (and_parts (may place && may (place + 1)) (may (place + 2)) three).1
     on (suc (suc (suc zero))) low =
-        (and-parts (may place && may (place + 1) && may (place + 2)) (may (place + 3)) h).1
+        (and_parts (may place && may (place + 1) && may (place + 2)) (may (place + 3)) h).1
     on (suc (suc (suc (suc n)))) low = absurd (omega arith)
 
 pub bytes_written : (h : Holding) (place : ℕ) → may_write_word h place ≡ true → (n : ℕ) → n < 4

@@ -5,6 +5,7 @@ use Rattle.std.proofs.Common.{◌∙◌, subst, lit<, arith}
 use Rattle.std.specs.Prelude.{int_le, unsigned_abs}
 use Rattle.std.proofs.lemmas.Int.{ints, SFits-int_wrap, int_rem_euclid_is}
 use Rattle.std.specs.Int.{w32, cast_signed, cast_unsigned, int_wrap}
+use Rattle.std.proofs.lemmas.Bool.{cases_Bool}
 use Rattle.module_format.specs.Rows.{Fact}
 use Rattle.module_format.specs.declared.fact.Fact.TheVariants.{Unknown, Number, Pointer, CodeAddress, Loop}
 use Rattle.module_format.specs.declared.fact.Fact.TheVariants.{ReturnAddress}
@@ -87,10 +88,6 @@ pub moved_workspace : (workspace : ℕ) (origin depth e : ℤ) → FitsSigned w3
 unfolding local_address
 moved_workspace workspace origin depth e fits is low high = omega (arith, ints, fits, is, low, high)
 
-pub bool_cases : (b : Bool) → (b ≡ true) ⊎ (b ≡ false)
-bool_cases true = inl refl
-bool_cases false = inr refl
-
 -- ---- facts
 
 -- what a fact says of a value, it says of its equal
@@ -169,7 +166,7 @@ words_apart origin j k place other is other_is differ = elim (int_le_tells j k) 
 -- what is left of a loop whose other word is touched is true by itself
 left_means : (m : Contents) (act : Activation) (touches : ℤ → Bool) (k : ℤ) (f : WordFact) (v : Option ℤ)
     → MeansWord m act k f v → MeansWord m act k (cond (is_parted touches k f) (Alone (by_itself f)) f) v
-left_means m act touches k f v means = elim (bool_cases (is_parted touches k f)) [
+left_means m act touches k f v means = elim (cases_Bool (is_parted touches k f)) [
   | inl e ↦ means_same (is_fact (itself_means m act k f v means))
       (sym (ap (λ (b : Bool). cond b (Alone (by_itself f)) f) e)) refl
   | inr e ↦ means_same means (sym (ap (λ (b : Bool). cond b (Alone (by_itself f)) f) e)) refl
@@ -191,14 +188,14 @@ source_means : {counts : ℤ → Bool} {old new : Memory} {origin : ℤ} (touche
     → ComesFrom counts new origin (without_source touches source) v
 source_means touches kept Nowhere v comes = from_nowhere
 source_means {counts} {old} {new} {origin} touches kept (From word) v (from_word inside is) =
-    elim (bool_cases (touches word)) [
+    elim (cases_Bool (touches word)) [
       | inl e ↦ subst (λ (s : Source). ComesFrom counts new origin s v)
           (sym (ap (λ (b : Bool). cond b Nowhere (From word)) e)) from_nowhere
       | inr e ↦ subst (λ (s : Source). ComesFrom counts new origin s v)
           (sym (ap (λ (b : Bool). cond b Nowhere (From word)) e)) (from_word inside (is ∙ sym (kept word inside e)))
     ]
 source_means {counts} {old} {new} {origin} touches kept (Test word lo hi within) v (from_test x inside is tested) =
-    elim (bool_cases (touches word)) [
+    elim (cases_Bool (touches word)) [
       | inl e ↦ subst (λ (s : Source). ComesFrom counts new origin s v)
           (sym (ap (λ (b : Bool). cond b Nowhere (Test word lo hi within)) e)) from_nowhere
       | inr e ↦ subst (λ (s : Source). ComesFrom counts new origin s v)
@@ -211,7 +208,7 @@ pub words_changed : (m : Contents) (counts : ℤ → Bool) (act : Activation) (f
     (change : Change) → Follows m counts act.layout change old new
     → ((k : ℤ) → counts k ≡ true → MeansWord m act k (facts k) (frame_word old act.layout.origin k))
     → (k : ℤ) → counts k ≡ true → MeansWord m act k (changed change facts k) (frame_word new act.layout.origin k)
-words_changed m counts act facts old new change follows words k inside = elim (bool_cases (change.touches k)) [
+words_changed m counts act facts old new change follows words k inside = elim (cases_Bool (change.touches k)) [
   | inl e ↦ means_same
       (is_fact (follows.touched k (by_itself (facts k)) inside e
       (itself_means m act k (facts k) _ (words k inside))))

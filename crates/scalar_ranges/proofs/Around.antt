@@ -3,7 +3,8 @@ use Rattle.std.proofs.Common.{◌≡◌, ℕ, suc, ◌+◌, ◌<◌, ◌≤◌, 
 use Rattle.std.proofs.Common.{zero, reverse, take, Option, Some, None, option_map, refl, sym, ap, subst, arith, ◌∙◌}
 use Rattle.std.proofs.Common.{nat_eq, ◌⊎◌, inl, inr, ◌++◌, vec_capacity, drop, set, get_or}
 use Rattle.std.proofs.lemmas.List.{length-take, length-drop, map-append, reverse-append}
-use Rattle.std.proofs.lemmas.Bool.Decides.{nat_tests}
+use Rattle.std.proofs.lemmas.Bool.{eq-eqb, cases_lt}
+use Rattle.small_laws.proofs.Comparisons.{lt-eqb}
 use Rattle.scalar_ranges.specs.declared.slots.Slot as code_slot
 use Rattle.scalar_ranges.specs.declared.slots.Branching as code_branching
 use Rattle.scalar_ranges.specs.Entries.{Meaning, Entry}
@@ -19,10 +20,9 @@ use Rattle.scalar_ranges.specs.Changes.{listing_if, touching_if, noted_slots, no
 use Rattle.scalar_ranges.specs.Changes.{IsOutside, AreOutside, Follows, changed_to, changed_around, known_around}
 use Rattle.scalar_ranges.specs.Changes.{KeepsMarks, put_by, with_ends, changed_ends, ends_around}
 use Rattle.scalar_ranges.specs.ChangeViews.{slots_from, branching_of, branchings_from, tracked_from, BelongTogether}
-use Rattle.scalar_ranges.proofs.Rows.{same_number}
 use Rattle.scalar_ranges.proofs.Counting.{without_same}
 use Rattle.scalar_ranges.proofs.Numbered.{modify_long, take_modify, map_modify, reverse_modify, items_modified}
-use Rattle.scalar_ranges.proofs.Numbered.{unmodified, modify_swap, item_modified, item_taken, other_item, which}
+use Rattle.scalar_ranges.proofs.Numbered.{unmodified, modify_swap, item_modified, item_taken, other_item}
 use Rattle.scalar_ranges.proofs.Tracking.{first_not, second_not, new_within}
 use Rattle.scalar_ranges.proofs.Components.{ends_within, ends_follow}
 use Rattle.scalar_ranges.proofs.Deferring.{not_changed}
@@ -83,7 +83,7 @@ module _ (n : ℕ) (ss : List Slot) (o : Branching) (bs : List Branching) (s : S
   open_marked =
       ap (λ ks. is_open_in d (item_at n ks)) (take_modify (marked d) o.count n ss)
       ∙ ap (is_open_in d) (item_modified (marked d) n (take o.count ss) s is)
-      ∙ ap (λ t. cond t true false) (same_number d d refl)
+      ∙ ap (λ t. cond t true false) (eq-eqb d d refl)
 
   noted_by : (t u : Bool) → nat_eq s.mark d ≡ t → s.recent ≡ u → noted n ss (o ∷ bs) ≡ both
   noted_by true true test recent =
@@ -139,7 +139,7 @@ item_cut_by k n xs ys same (inr least) =
     item_beyond n (take k xs) (omega arith) ∙ sym (item_beyond n (take k ys) (omega arith))
 
 item_cut : (k n : ℕ) (xs ys : List Slot) → item_at n xs ≡ item_at n ys → item_at n (take k xs) ≡ item_at n (take k ys)
-item_cut k n xs ys same = item_cut_by k n xs ys same (which n k)
+item_cut k n xs ys same = item_cut_by k n xs ys same (cases_lt n k)
 
 -- ---- an entry that a block does not have in its list
 
@@ -167,9 +167,6 @@ pub record Renews (h : Meaning → Meaning) (d : ℕ) (g : Slot → Slot) : Type
   pub apart : (s : Slot) → nat_eq s.mark d ≡ false → nat_eq (g s).mark d ≡ false
   pub low : (s : Slot) → s.mark ≤ d → (g s).mark ≤ d
 
-lower_number : (d e : ℕ) → d < e → nat_eq d e ≡ false
-lower_number d e less = grind (arith, nat_tests)
-
 noted_name : (t : Bool) (d : ℕ) (s : Slot) → (cond t s (marked d s)).name ≡ s.name
 noted_name true d s = refl
 noted_name false d s = refl
@@ -177,7 +174,7 @@ noted_name false d s = refl
 noted_apart : (t : Bool) (d e : ℕ) (s : Slot) → d < e → nat_eq s.mark e ≡ false
     → nat_eq (cond t s (marked d s)).mark e ≡ false
 noted_apart true d e s less apart = apart
-noted_apart false d e s less apart = lower_number d e less
+noted_apart false d e s less apart = lt-eqb d e less
 
 noted_low : (t : Bool) (d e : ℕ) (s : Slot) → d < e → s.mark ≤ e → (cond t s (marked d s)).mark ≤ e
 noted_low true d e s less low = low

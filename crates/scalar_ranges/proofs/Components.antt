@@ -1,8 +1,9 @@
 -- A component that ends, and a condition that is excluded, by the lists of changes.
-use Rattle.std.proofs.Common.{◌≡◌, ℕ, suc, ◌<◌, ◌≤◌, Bool, true, false, cond, List, [], ◌∷◌, length, map}
+use Rattle.std.proofs.Common.{◌≡◌, ℕ, suc, ◌≤◌, Bool, true, false, cond, List, [], ◌∷◌, length, map}
 use Rattle.std.proofs.Common.{reverse, take, Some, refl, sym, ap, subst, arith, ◌∙◌, nat_eq, option_map}
-use Rattle.std.proofs.lemmas.Bool.Decides.{nat_tests}
 use Rattle.std.proofs.lemmas.List.{take_all, length-take, length-map}
+use Rattle.std.proofs.lemmas.Bool.{eqb-true, eq-eqb}
+use Rattle.small_laws.proofs.Comparisons.{gt-eqb, eqb_comm}
 use Rattle.scalar_ranges.specs.Entries.{Meaning, Entry}
 use Rattle.scalar_ranges.specs.Environments.{item_at}
 use Rattle.scalar_ranges.specs.Moves.{at_number, with_meaning, is_one_of, of_both, taken, end_of}
@@ -12,10 +13,8 @@ use Rattle.scalar_ranges.specs.Changes.{ends_seen, block_in, blocks_in, known_in
 use Rattle.scalar_ranges.specs.Changes.{AreMarked, AreSettled, AreTracked, KeepsMarks, noted, with_start, with_end}
 use Rattle.scalar_ranges.specs.Changes.{put_start, restarted, each, took, component_slots, component_block}
 use Rattle.scalar_ranges.specs.Changes.{component_in, Follows, changed_start, with_ends, put_ends, changed_ends}
-use Rattle.scalar_ranges.proofs.Rows.{same_number}
 use Rattle.scalar_ranges.proofs.Numbered.{modify_long, take_modify, map_modify, map_unmodified, reverse_modify}
-use Rattle.scalar_ranges.proofs.Numbered.{each_maps, map_again, numbers_alike, items_modified}
-use Rattle.scalar_ranges.proofs.Widening.{same_test}
+use Rattle.scalar_ranges.proofs.Numbered.{each_maps, map_again, items_modified}
 use Rattle.scalar_ranges.proofs.Tracking.{IsNoted, IsInside, before_same}
 use Rattle.scalar_ranges.proofs.Touching.{notes_well, put_tracked}
 use Rattle.scalar_ranges.proofs.Following.{restarted_by, start_by, end_by, restarted_mark, restarted_not, restarted_if}
@@ -163,16 +162,13 @@ higher_by : (t : Bool) (ns : List ℕ) (k : ℕ) → t ≡ false → cond t true
 higher_by true ns k h = absurd (cc)
 higher_by false ns k h = refl
 
-not_that : (n k : ℕ) → k < n → nat_eq n k ≡ false
-not_that n k h = grind (arith, nat_tests)
-
 -- a number that no item has
 taken_high : {A : Type 0} (ns : List ℕ) (n : ℕ) (xs ys : List A) → length xs ≤ n
     → taken ns xs ys ≡ taken (n ∷ ns) xs ys
 taken_high ns n [] ys h = refl
 taken_high ns n (x ∷ xs) [] h = refl
 taken_high ns n (x ∷ xs) (y ∷ ys) h =
-    λ i. of_both (sym (higher_by (nat_eq n (length xs)) ns (length xs) (not_that n (length xs) (omega arith))) i) x y
+    λ i. of_both (sym (higher_by (nat_eq n (length xs)) ns (length xs) (gt-eqb n (length xs) (omega arith))) i) x y
     ∷ taken_high ns n xs ys (omega arith) i
 
 long_by : {A : Type 0} (t : Bool) (f : A → A) (n : ℕ) (x : A) (xs : List A) → length (at_number f n xs) ≡ length xs
@@ -201,8 +197,8 @@ module _ (d : ℕ) (ns : List ℕ) (n : ℕ) where
       ≡ taken (n ∷ ns) (ends (s ∷ ss)) (entries (s ∷ ss))
   ends_by true s ss test further =
       let long = length-map ss (end_in d) in
-      let is = numbers_alike (length ss) n test in
-      let here = same_number n (length (ends ss)) (omega arith) in
+      let is = eqb-true (length ss) n test in
+      let here = eq-eqb n (length (ends ss)) (omega arith) in
       let low : length (ends ss) ≤ n = omega arith in
       (λ i. of_both (is_one_of ns (length (ends ss))) (end_taken d s i) (entry_in s) ∷ taken ns (ends ss) (entries ss))
       ∙ (λ i. both_same (is_one_of ns (length (ends ss))) (entry_in s) i ∷ taken_high ns n (ends ss) (entries ss) low i)
@@ -213,7 +209,7 @@ module _ (d : ℕ) (ns : List ℕ) (n : ℕ) where
       let changed = length-map (at_number (took d) n ss) (end_in d) in
       let same = changed_long (took d) n ss in
       let alike : length (ends (at_number (took d) n ss)) ≡ length (ends ss) = omega arith in
-      let apart = ap (nat_eq n) long ∙ same_test n (length ss) ∙ test in
+      let apart = ap (nat_eq n) long ∙ eqb_comm n (length ss) ∙ test in
       (λ i. of_both (is_one_of ns (alike i)) (end_in d s) (entry_in s) ∷ further i)
       ∙ (λ i. of_both (sym (higher_by (nat_eq n (length (ends ss))) ns (length (ends ss)) apart) i) (end_in d s)
       (entry_in s) ∷ taken (n ∷ ns) (ends ss) (entries ss))

@@ -3,6 +3,7 @@ use Rattle.std.proofs.Common.{◌≡◌, ℕ, zero, suc, ◌+◌, ◌<◌, ◌�
 use Rattle.std.proofs.Common.{reverse, take, cond, nat_eq, Some, refl, sym, ap, subst, arith, ◌∙◌}
 use Rattle.std.proofs.lemmas.List.{take-append-le, take-take, take-map, length-take-le, length-map, length-reverse}
 use Rattle.std.proofs.lemmas.List.{map-append, reverse-append}
+use Rattle.std.proofs.lemmas.Bool.{eq-eqb}
 use Rattle.scalar_ranges.specs.Entries.{Entry}
 use Rattle.scalar_ranges.specs.Environments.{item_at}
 use Rattle.scalar_ranges.specs.Moves.{outermost, begun_with}
@@ -11,7 +12,7 @@ use Rattle.scalar_ranges.specs.Changes.{blocks_in, known_in, numbers_of, AreList
 use Rattle.scalar_ranges.specs.Changes.{AreSettled, AreTracked, marked, touched}
 use Rattle.scalar_ranges.specs.Changes.{fresh, declared, cut, Follows, ListsHold}
 use Rattle.scalar_ranges.proofs.Numbered.{reverse_take, item_taken}
-use Rattle.scalar_ranges.proofs.Rows.{same_number, one_longer}
+use Rattle.scalar_ranges.proofs.Rows.{one_longer}
 use Rattle.scalar_ranges.proofs.Counting.{fewer}
 use Rattle.scalar_ranges.proofs.Following.{put_follows, begun_follows, next_follows, left_tracked}
 use Rattle.scalar_ranges.proofs.Ending.{end_follows}
@@ -93,7 +94,7 @@ pub list_room : (n : ℕ) (s : Slot) (ss : List Slot) (b : Branching) (bs : List
     → item_at n (take b.count ss) ≡ Some s → nat_eq s.mark (suc (length bs)) ≡ false → length b.changes < b.count
 list_room n s ss b bs tracked is test =
     let d = suc (length bs) in
-    let less = fewer (is_marked d) (marked d) n (take b.count ss) s is test (same_number d d refl) in
+    let less = fewer (is_marked d) (marked d) n (take b.count ss) s is test (eq-eqb d d refl) in
     let room = tracked.0.3 in
     omega arith
 
@@ -102,7 +103,7 @@ pub branch_room : (n : ℕ) (s : Slot) (ss : List Slot) (b : Branching) (bs : Li
 branch_room n s ss b bs tracked is test =
     let d = suc (length bs) in
     let less = fewer (is_recent d) (λ k. touched (marked d k)) n (take b.count ss) s is test
-    (ap (λ t. cond t true false) (same_number d d refl)) in
+    (ap (λ t. cond t true false) (eq-eqb d d refl)) in
     let room = tracked.2 in
     omega arith
 

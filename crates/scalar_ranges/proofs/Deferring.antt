@@ -2,6 +2,8 @@
 use Rattle.std.proofs.Common.{◌≡◌, ℕ, suc, ◌<◌, Bool, true, false, cond, List, [], ◌∷◌, length, refl, sym, ap}
 use Rattle.std.proofs.Common.{Option, Some, None, ◌⊎◌, inl, inr, subst, arith, ◌∙◌, nat_eq, nat_lt, option_map}
 use Rattle.std.proofs.lemmas.Int.{ints, clamps}
+use Rattle.std.proofs.lemmas.Bool.{eqb-true}
+use Rattle.small_laws.proofs.Comparisons.{gt-eqb, eqb_comm}
 use Rattle.word_arithmetic.specs.Range.{Ends, hull}
 use Rattle.scalar_ranges.specs.declared.slots.Form.{Form}
 use Rattle.scalar_ranges.specs.declared.slots.Form.TheVariants as forms
@@ -11,9 +13,6 @@ use Rattle.scalar_ranges.specs.Moves.{hull_meaning, hulls}
 use Rattle.scalar_ranges.specs.MoveLaws.{meaning_at}
 use Rattle.scalar_ranges.specs.Changes.{changed_to}
 use Rattle.scalar_ranges.specs.Deferring.{of_form, entry_left, entries_left, further, AreAlike}
-use Rattle.scalar_ranges.proofs.Rows.{lower_number}
-use Rattle.scalar_ranges.proofs.Numbered.{numbers_alike}
-use Rattle.scalar_ranges.proofs.Widening.{same_test}
 use Rattle.scalar_ranges.proofs.Hulls.{meaning_again, meaning_itself}
 
 pub left_long : (f : Form) (p : ℕ → Option Meaning) (es : List Entry) → length (entries_left f p es) ≡ length es
@@ -52,11 +51,11 @@ module _ (f : Form) (p q : ℕ → Option Meaning) (h g : Entry → Entry) (n : 
       ≡ cond t (g (entry_left f (p (length es)) e) ∷ entries_left f p es)
       (entry_left f (p (length es)) e ∷ at_number g n (entries_left f p es))
   at_by true e es test further =
-      let same = numbers_alike (length es) n test in
+      let same = eqb-true (length es) n test in
       let first = subst (λ k. entry_left f (q k) (h e) ≡ g (entry_left f (p k) e)) (sym same) (here e) in
-      λ i. first i ∷ same_below f p q es (λ k less. others k (lower_number n k (omega arith))) i
+      λ i. first i ∷ same_below f p q es (λ k less. others k (gt-eqb n k (omega arith))) i
   at_by false e es test further =
-      let first = ap q (changed_long h n es) ∙ others (length es) (same_test n (length es) ∙ test) in
+      let first = ap q (changed_long h n es) ∙ others (length es) (eqb_comm n (length es) ∙ test) in
       λ i. entry_left f (first i) e ∷ further i
 
   pub at_left : (es : List Entry) → entries_left f q (at_number h n es) ≡ at_number g n (entries_left f p es)
@@ -123,7 +122,7 @@ found_by : (t : Bool) (f : Form) (p : ℕ → Option Meaning) (n : ℕ) (e : Ent
     → cond t (Some (entry_left f (p (length es)) e)) o
     ≡ option_map (λ (k : Entry). record { name = k.name; meaning = joined f (p n) k.meaning }) (cond t (Some e) u)
 found_by true f p n e es o u test further =
-    let same = numbers_alike (length es) n test in
+    let same = eqb-true (length es) n test in
     ap (λ k. Some (entry_left f (p k) e)) same ∙ ap Some (entry_joined f (p n) e)
 found_by false f p n e es o u test further = further
 
@@ -141,7 +140,7 @@ meant_by : (t : Bool) (f : Form) (p : ℕ → Option Meaning) (n : ℕ) (e : Ent
     → cond t (Some (entry_left f (p (length es)) e).meaning) o
     ≡ option_map (joined f (p n)) (cond t (Some e.meaning) u)
 meant_by true f p n e es o u test further =
-    let same = numbers_alike (length es) n test in
+    let same = eqb-true (length es) n test in
     ap (λ k. Some (entry_left f (p k) e).meaning) same ∙ ap (λ (k : Entry). Some k.meaning) (entry_joined f (p n) e)
 meant_by false f p n e es o u test further = further
 

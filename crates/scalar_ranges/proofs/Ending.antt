@@ -3,6 +3,7 @@ use Rattle.std.proofs.Common.{◌≡◌, ℕ, zero, suc, Bool, true, false, cond
 use Rattle.std.proofs.Common.{reverse, take, Option, Some, None, refl, sym, ap, subst, arith, ◌∙◌, nat_eq, option_map}
 use Rattle.std.specs.Prelude.{unwrap_or}
 use Rattle.std.proofs.lemmas.List.{length-map}
+use Rattle.std.proofs.lemmas.Bool.{eqb-true}
 use Rattle.scalar_ranges.specs.Entries.{Meaning, Entry}
 use Rattle.scalar_ranges.specs.Environments.{item_at}
 use Rattle.scalar_ranges.specs.Moves.{is_one_of, end}
@@ -10,7 +11,7 @@ use Rattle.scalar_ranges.specs.Changes.{Slot, Change, Branching, Tracked, modify
 use Rattle.scalar_ranges.specs.Changes.{undone, before, seen, ends_seen, blocks_in, numbers_of}
 use Rattle.scalar_ranges.specs.Changes.{AreTracked, noted, with_new, meaning_after, put_if, puts, ended_in, Follows}
 use Rattle.scalar_ranges.proofs.Numbered.{modify_long, map_modify, map_unmodified}
-use Rattle.scalar_ranges.proofs.Numbered.{other_item, same_items, numbers_alike, map_again, item_mapped}
+use Rattle.scalar_ranges.proofs.Numbered.{other_item, same_items, map_again, item_mapped}
 use Rattle.scalar_ranges.proofs.Tracking.{first_not, second_not}
 use Rattle.scalar_ranges.proofs.Touching.{notes_well}
 use Rattle.scalar_ranges.proofs.Following.{put_follows}
@@ -81,7 +82,7 @@ set_by : {A : Type 0} (t : Bool) (ns : List ℕ) (n i : ℕ) (xs ys : List A) �
     → ((k : ℕ) → is_one_of (n ∷ ns) k ≡ false → item_at k xs ≡ item_at k ys) → is_one_of ns i ≡ false
     → item_at i (set_to (item_at n ys) n xs) ≡ item_at i ys
 set_by true ns n i xs ys test long same others =
-    let is = numbers_alike n i test in
+    let is = eqb-true n i test in
     subst (λ k. item_at k (set_to (item_at n ys) n xs) ≡ item_at k ys) is
     (set_here (item_at n ys) n xs ys long refl)
 set_by false ns n i xs ys test long same others =

@@ -1,6 +1,8 @@
 -- What is known where further choices begin is met where a condition does not hold.
 use Rattle.std.proofs.Common.{◌≡◌, ℕ, suc, ℤ, ◌<◌, Bool, true, false, cond, List, [], ◌∷◌, length, Option, Some, None}
 use Rattle.std.proofs.Common.{refl, sym, ap, subst, arith, ◌∙◌, nat_eq, nat_lt, bytes_eq}
+use Rattle.std.proofs.lemmas.Bool.{eqb-true}
+use Rattle.small_laws.proofs.Comparisons.{gt-eqb}
 use Rattle.word_arithmetic.specs.Range.{Ends, InRange}
 use Rattle.word_arithmetic.specs.Comparison.{compares}
 use Rattle.scalar_ranges.specs.Entries.{Entry, number_in}
@@ -8,8 +10,6 @@ use Rattle.scalar_ranges.specs.Environments.{Held, Nothing, One, Binding, Enviro
 use Rattle.scalar_ranges.specs.Narrowing.{Tested, test_of, opposite, left_of, with_range, by_test}
 use Rattle.scalar_ranges.specs.Moves.{outermost, at_number, with_meaning, excluded_at, excluded_by}
 use Rattle.scalar_ranges.specs.MoveLaws.{ExcludingHolds}
-use Rattle.scalar_ranges.proofs.Rows.{lower_number}
-use Rattle.scalar_ranges.proofs.Numbered.{numbers_alike}
 use Rattle.scalar_ranges.proofs.Named.{by_number, left_by, changed_at, unchanged}
 use Rattle.scalar_ranges.proofs.MoveLaws.{as_long}
 use Rattle.scalar_ranges.proofs.NarrowingLaws.{with_range_held, left_holds, IsTrueOf, test_holds}
@@ -31,7 +31,7 @@ held_found name n (e ∷ es) (b ∷ bs) meets is =
 
 below_by : (t : Bool) (n : ℕ) (b : Binding) (bs : Environment) (v : ℤ) → nat_eq (length bs) n ≡ t
     → cond t b.held (held_at n bs) ≡ One v → (held_at n bs ≡ One v → n < length bs) → n < suc (length bs)
-below_by true n b bs v test is further = let same = numbers_alike (length bs) n test in omega arith
+below_by true n b bs v test is further = let same = eqb-true (length bs) n test in omega arith
 below_by false n b bs v test is further = let less = further is in omega arith
 
 held_below : (n : ℕ) (env : Environment) (v : ℤ) → held_at n env ≡ One v → n < length env
@@ -44,7 +44,7 @@ outer_by : (t : Bool) (n count : ℕ) (b : Binding) (bs : Environment) (v : ℤ)
     → (held_at n (outermost count bs) ≡ One v → held_at n bs ≡ One v) → held_at n (b ∷ bs) ≡ One v
 outer_by true n count b bs v is further = is
 outer_by false n count b bs v is further =
-    ap (λ t. cond t b.held (held_at n bs)) (lower_number (length bs) n (held_below n bs v (further is))) ∙ further is
+    ap (λ t. cond t b.held (held_at n bs)) (gt-eqb (length bs) n (held_below n bs v (further is))) ∙ further is
 
 held_outer : (n count : ℕ) (env : Environment) (v : ℤ) → held_at n (outermost count env) ≡ One v
     → held_at n env ≡ One v

@@ -1,12 +1,12 @@
 -- What is found of names when a spelling gets its number, one declaration more is made, or the innermost one is left.
 use Rattle.std.proofs.Common.{◌≡◌, ℕ, ◌<◌, ◌≤◌, Bool, true, false, cond, List, [], ◌∷◌, ◌++◌, length, map, reverse}
-use Rattle.std.proofs.Common.{Option, Some, None, set, refl, sym, ap, ◌∙◌, arith, nat_lt}
-use Rattle.std.proofs.lemmas.Bool.Decides.{nat_tests}
+use Rattle.std.proofs.Common.{Option, Some, None, set, refl, sym, ap, ◌∙◌, arith}
 use Rattle.std.proofs.lemmas.List.{reverse-append, map-append, length-reverse, length-map, length-append}
 use Rattle.std.proofs.lemmas.List.{get_or-set_same, get_or-set_other, get_or_append_left}
 use Rattle.std.proofs.Math.Seq.{get_or-append_seam}
 use Rattle.std.proofs.lemmas.Slice.Eq.{bytes_eq-Decides}
 use Rattle.std.specs.Str.{bytes_eq}
+use Rattle.std.proofs.lemmas.Bool.{lt-ltb}
 use Rattle.scalar_ranges.specs.declared.names.Row.{Row}
 use Rattle.scalar_ranges.specs.declared.names.Names.{Names}
 use Rattle.scalar_ranges.specs.Naming.{number_of, hidden_by, names_from, hides_from, spellings_from, spelling_of}
@@ -189,10 +189,7 @@ before number all rows r is spelled hides =
 
 -- ---- declarations that are left, one by one
 
-lt_some : (a b : ℕ) → a < b → nat_lt a b ≡ true
-lt_some a b h = grind (arith, nat_tests)
-
 pub none_less : {A : Type 0} (count : ℕ) (xs : List A) → length xs ≤ count → outermost count xs ≡ xs
 none_less count [] h = refl
 none_less count (x ∷ xs) h =
-    ap (λ t. cond t (x ∷ xs) (outermost count xs)) (lt_some (length xs) count (omega arith))
+    ap (λ t. cond t (x ∷ xs) (outermost count xs)) (lt-ltb (length xs) count (omega arith))

@@ -3,14 +3,15 @@ use Rattle.std.proofs.Common.{◌≡◌, ℕ, zero, suc, ◌+◌, ◌<◌, ◌�
 use Rattle.std.proofs.Common.{reverse, take, Some, refl, sym, ap, subst, arith, ◌∙◌, nat_eq}
 use Rattle.std.proofs.lemmas.Bool.Decides.{nat_tests}
 use Rattle.std.proofs.lemmas.List.{length-take-le, length-map}
+use Rattle.std.proofs.lemmas.Bool.{eqb-true, false_from_ne_true, eq-eqb}
+use Rattle.small_laws.proofs.Connectives.{cond_true-second}
 use Rattle.scalar_ranges.specs.Environments.{item_at}
 use Rattle.scalar_ranges.specs.Moves.{is_one_of, with_meaning, end}
 use Rattle.scalar_ranges.specs.Changes.{Slot, Change, Branching, modify, entry_in, start_in, end_in, restored, undone}
 use Rattle.scalar_ranges.specs.Changes.{before, seen, ends_seen, blocks_in, numbers_of, without, is_marked}
 use Rattle.scalar_ranges.specs.Changes.{is_recent, AreMarked, AreSettled, AreTracked, meaning_after, Follows}
 use Rattle.scalar_ranges.specs.Changes.{handed_slot, handed, handed_block, handed_over, AreForeign}
-use Rattle.scalar_ranges.proofs.Rows.{same_number}
-use Rattle.scalar_ranges.proofs.Numbered.{modify_long, take_modify, map_modify, map_unmodified, numbers_alike}
+use Rattle.scalar_ranges.proofs.Numbered.{modify_long, take_modify, map_modify, map_unmodified}
 use Rattle.scalar_ranges.proofs.Numbered.{items_modified, item_taken}
 use Rattle.scalar_ranges.proofs.Tracking.{undone_listed}
 use Rattle.scalar_ranges.proofs.Following.{map_alike, not_yet}
@@ -30,15 +31,11 @@ counted_beyond : (p : Bool) (l t : ℕ) → p ≡ false → l ≤ t → suc l �
 counted_beyond true l t none less = absurd (cc)
 counted_beyond false l t none less = omega arith
 
-not_true : (p : Bool) → (p ≡ true → ⊥) → p ≡ false
-not_true true none = absurd (none refl)
-not_true false none = refl
-
 none_counted : (test : Slot → Bool) (ss : List Slot)
     → ((i : ℕ) (s : Slot) → item_at i ss ≡ Some s → test s ≡ true → ⊥) → length ss ≤ without test ss
 none_counted test [] none = omega arith
 none_counted test (s ∷ ss) none =
-    counted_beyond (test s) (length ss) (without test ss) (not_true (test s) (λ h. none 0 s refl h))
+    counted_beyond (test s) (length ss) (without test ss) (false_from_ne_true (test s) (λ h. none 0 s refl h))
     (none_counted test ss (λ i k is h. none (suc i) k is h))
 
 -- a slot for which a test holds is among the first k
@@ -80,7 +77,7 @@ handed_item inner d ended (c ∷ cs) ss i s is =
     (λ k x apart there. subst (λ t. IsHanded (cond t true (is_one_of (numbers_of cs) k)) d k ss x) (sym apart)
     (handed_item inner d ended cs ss k x there))
     (λ x there. subst (λ t. IsHanded (cond t true (is_one_of (numbers_of cs) c.number)) d c.number ss
-    (handed_slot inner d ended c.before.meaning x)) (sym (same_number c.number c.number refl)) (refl, refl))
+    (handed_slot inner d ended c.before.meaning x)) (sym (eq-eqb c.number c.number refl)) (refl, refl))
     i s is
 
 -- an entry that the list does not have, as it was where the block began
@@ -138,7 +135,7 @@ starts_handed inner count d ended (c ∷ cs) ss foreign =
     let h = with_meaning (λ k. m) in
     map_modify (start_in d) (handed_slot inner d ended m) h c.number (handed inner d ended cs ss)
     (λ s is. ap (λ t. record { name = s.name; meaning = cond t m (meaning_after inner ended s) })
-    (same_number d d refl))
+    (eq-eqb d d refl))
     ∙ ap (modify h c.number) (starts_handed inner count d ended cs ss foreign.2)
     ∙ sym (map_modify (start_in d) (restored c.before) h c.number (undone cs ss)
     (λ s is. ap (λ t. record { name = s.name; meaning = cond t c.before.start m }) foreign.1))
@@ -151,14 +148,10 @@ ends_handed inner count d ended (c ∷ cs) ss foreign =
     let h = with_meaning (λ k. m) in
     map_modify (end_in d) (handed_slot inner d ended m) h c.number (handed inner d ended cs ss)
     (λ s is. ap (λ t. record { name = s.name; meaning = cond t m (meaning_after inner ended s) })
-    (same_number d d refl))
+    (eq-eqb d d refl))
     ∙ ap (modify h c.number) (ends_handed inner count d ended cs ss foreign.2)
     ∙ sym (map_modify (end_in d) (restored c.before) h c.number (undone cs ss)
     (λ s is. ap (λ t. record { name = s.name; meaning = cond t c.before.ends m }) foreign.1))
-
-later : (t u : Bool) → u ≡ true → cond t true u ≡ true
-later true u h = refl
-later false u h = h
 
 -- the changes can be taken back as before
 undone_handed : (inner d : ℕ) (ended : Bool) (cs ds : List Change) (ss : List Slot)
@@ -167,16 +160,16 @@ undone_handed : (inner d : ℕ) (ended : Bool) (cs ds : List Change) (ss : List 
 undone_handed inner d ended cs [] ss within = refl
 undone_handed inner d ended cs (e ∷ ds) ss within =
     undone_listed cs (handed_slot inner d ended e.before.meaning) e.number (handed inner d ended ds ss)
-    (within e.number (ap (λ t. cond t true (is_one_of (numbers_of ds) e.number)) (same_number e.number e.number refl)))
+    (within e.number (ap (λ t. cond t true (is_one_of (numbers_of ds) e.number)) (eq-eqb e.number e.number refl)))
     (λ s. refl)
     ∙ undone_handed inner d ended cs ds ss
-    (λ i h. within i (later (nat_eq e.number i) (is_one_of (numbers_of ds) i) h))
+    (λ i h. within i (cond_true-second (nat_eq e.number i) (is_one_of (numbers_of ds) i) h))
 
 -- ---- what belongs together
 
 low_by : (t : Bool) (c : Change) (cs : List Change) (count i : ℕ) → nat_eq c.number i ≡ t → c.number < count
     → cond t true (is_one_of (numbers_of cs) i) ≡ true → (is_one_of (numbers_of cs) i ≡ true → i < count) → i < count
-low_by true c cs count i test low listed others = subst (λ n. n < count) (numbers_alike c.number i test) low
+low_by true c cs count i test low listed others = subst (λ n. n < count) (eqb-true c.number i test) low
 low_by false c cs count i test low listed others = others listed
 
 -- the block around began with the entries in the list
@@ -202,7 +195,7 @@ listed_by false u others marked = absurd (cc (others refl, marked))
 
 recent_is : (d : ℕ) (s : Slot) → s.mark ≡ d → s.recent ≡ true → is_recent d s ≡ true
 recent_is d s mark recent = (λ i. cond (nat_eq (mark i) d) s.recent false)
-    ∙ ap (λ t. cond t s.recent false) (same_number d d refl) ∙ recent
+    ∙ ap (λ t. cond t s.recent false) (eq-eqb d d refl) ∙ recent
 
 module _ (ss : List Slot) (b o : Branching) (bs : List Branching) (tracked : AreTracked ss (b ∷ o ∷ bs))
     (none : o.changes ≡ []) (still : o.recent ≡ []) (foreign : AreForeign o.count (suc (length bs)) b.changes) where
@@ -296,7 +289,7 @@ module _ (ss : List Slot) (b o : Branching) (bs : List Branching) (tracked : Are
         omega arith,
         marks_low,
         λ i s is others. tracked.3.0.2 i s (unlisted i s is others) (ap (λ cs. is_one_of (numbers_of cs) i) none),
-        room (is_marked d) (λ s mark recent. same_number s.mark d mark),
+        room (is_marked d) (λ s mark recent. eq-eqb s.mark d mark),
       )
 
   now_settled : AreSettled d around (take o.count slots)

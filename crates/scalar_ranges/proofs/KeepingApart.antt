@@ -2,6 +2,7 @@
 use Rattle.std.proofs.Common.{◌≡◌, ℕ, zero, suc, ◌<◌, ◌≤◌, ◌-◌, Bool, true, false, cond, List, [], ◌∷◌, length, refl}
 use Rattle.std.proofs.Common.{sym, ap, subst, arith, ◌∙◌, nat_eq, Option, Some, None, option_map, ◌⊎◌, inl, inr}
 use Rattle.std.proofs.Common.{take, map}
+use Rattle.std.proofs.lemmas.Bool.{eqb-true, cases_lt}
 use Rattle.scalar_ranges.specs.declared.changes.Tracked as code_tracked
 use Rattle.scalar_ranges.specs.declared.deferred.Left as code_left
 use Rattle.scalar_ranges.specs.declared.deferred.Stage.{Stage}
@@ -17,7 +18,7 @@ use Rattle.scalar_ranges.specs.Changes.{IsOutside, AreOutside}
 use Rattle.scalar_ranges.specs.TrackedViews.{tracked_of, known_by}
 use Rattle.scalar_ranges.specs.Deferring.{AreNone, AreApart, StayApart, is_inside}
 use Rattle.scalar_ranges.specs.Lefts.{left_at, with_mark, IsKeptApart, turned_stage, ended_stage, begun_stage}
-use Rattle.scalar_ranges.proofs.Numbered.{numbers_alike, which, reverse_meaning, item_mapped}
+use Rattle.scalar_ranges.proofs.Numbered.{reverse_meaning, item_mapped}
 use Rattle.scalar_ranges.proofs.SlotLoops.{item_within, meaning_seen}
 use Rattle.scalar_ranges.proofs.Around.{undone_item}
 use Rattle.scalar_ranges.proofs.Fitting.{some_of}
@@ -135,7 +136,7 @@ outside_of p n w a [] left apart = absurd apart
 outside_of p n w zero (b ∷ bs) left apart = tt
 outside_of p n w (suc a) (b ∷ bs) left apart = (
   (
-    below_by p n b.count w left apart.0.1 (which n b.count),
+    below_by p n b.count w left apart.0.1 (cases_lt n b.count),
     free_by (is_one_of (numbers_of b.changes) n) p n w b.changes refl left apart.0.0,
   ),
   outside_of p n w a bs left apart.1,
@@ -144,7 +145,7 @@ outside_of p n w (suc a) (b ∷ bs) left apart = (
 none_dead_by : (t : Bool) (mark n i : ℕ) (ls : List code_left.Left) → 0 < mark → nat_eq n i ≡ t
     → left_at mark ls i ≡ None → left_at mark (modify (with_mark 0) n ls) i ≡ None
 none_dead_by true mark n i ls some test none =
-    let same = numbers_alike n i test in
+    let same = eqb-true n i test in
     subst (λ k. left_at mark (modify (with_mark 0) n ls) k ≡ None) same (left_dead mark n ls some)
 none_dead_by false mark n i ls some test none = left_other mark (with_mark 0) n i ls test ∙ none
 

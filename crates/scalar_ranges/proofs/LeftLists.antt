@@ -4,6 +4,8 @@ use Rattle.std.proofs.Common.{Option, Some, None, refl, sym, ap, subst, arith, �
 use Rattle.std.proofs.Common.{set, get_or, drop, Result, Ok, Err, OnErr, ◌⊎◌, inl, inr}
 use Rattle.std.proofs.lemmas.List.{drop_more, drop_all, length-take, take_more, take_all}
 use Rattle.std.proofs.lemmas.Bool.Decides.{nat_tests}
+use Rattle.std.proofs.lemmas.Bool.{eqb-true, eq-eqb, cases_lt}
+use Rattle.small_laws.proofs.Connectives.{cond_true-second, cond_true-first}
 use Rattle.scalar_ranges.specs.declared.deferred.Left as code_left
 use Rattle.scalar_ranges.specs.declared.deferred.Stage.TheVariants as stages
 use Rattle.scalar_ranges.specs.declared.slots.Form.TheVariants as forms
@@ -18,9 +20,8 @@ use Rattle.scalar_ranges.specs.ChangeViews.{known_afters}
 use Rattle.scalar_ranges.specs.Lefts.{left_if, left_at, known_left, with_mark, moved_mark, set_if, set_all, AreBelow}
 use Rattle.scalar_ranges.specs.Lefts.{numbers_in, IsKept}
 use Rattle.scalar_ranges.proofs.Widening.{one_more}
-use Rattle.scalar_ranges.proofs.Rows.{same_number}
 use Rattle.scalar_ranges.proofs.Numbered.{modify_long, item_modified, other_item, items_modified}
-use Rattle.scalar_ranges.proofs.Numbered.{numbers_alike, item_taken, which}
+use Rattle.scalar_ranges.proofs.Numbered.{item_taken}
 use Rattle.scalar_ranges.proofs.SlotLoops.{item_beyond, item_within}
 use Rattle.scalar_ranges.specs.declared.deferred.Stage.{Stage}
 use Rattle.scalar_ranges.specs.declared.slots.Form.{Form}
@@ -54,7 +55,7 @@ each_by : {A : Type 0} (t : Bool) (f : A → A) (n i : ℕ) (u : Bool) (xs : Lis
     → cond u (option_map f (item_at i (modify f n xs))) (item_at i (modify f n xs))
     ≡ cond (cond t true u) (option_map f (item_at i xs)) (item_at i xs)
 each_by true f n i u xs test twice =
-    let same = numbers_alike n i test in
+    let same = eqb-true n i test in
     let here = subst (λ k. item_at k (modify f n xs) ≡ option_map f (item_at k xs)) same (item_mapped f n xs) in
     (λ j. cond u (option_map f (here j)) (here j))
     ∙ either_is u (option_map f (option_map f (item_at i xs))) (option_map f (item_at i xs))
@@ -141,7 +142,7 @@ move_twice from to l = moved_twice (nat_eq l.mark from) from to l refl
 
 taken_by : (t : Bool) (from to : ℕ) (l : code_left.Left) → nat_eq l.mark from ≡ t → nat_eq l.mark to ≡ false
     → left_if to (Some (cond t (with_mark to l) l)) ≡ cond t (Some (meaning_of l.meaning)) None
-taken_by true from to l test apart = ap (λ t. cond t (Some (meaning_of l.meaning)) None) (same_number to to refl)
+taken_by true from to l test apart = ap (λ t. cond t (Some (meaning_of l.meaning)) None) (eq-eqb to to refl)
 taken_by false from to l test apart = ap (λ t. cond t (Some (meaning_of l.meaning)) None) apart
 
 taken_or : (u : Bool) (from to : ℕ) (o : Option code_left.Left)
@@ -219,7 +220,7 @@ IsTaken mark to cs i l = (l.mark ≤ to) × (mark ≤ l.mark → is_one_of (numb
 taken_one : (t : Bool) (mark to i : ℕ) (cs : List code_change.Change) (l : code_left.Left) → nat_eq l.mark mark ≡ t
     → IsTaken mark to cs i l → IsTaken mark to cs i (cond t (with_mark to l) l)
 taken_one true mark to i cs l test is =
-    let same = numbers_alike l.mark mark test in (omega arith, λ h. is.1 (omega arith))
+    let same = eqb-true l.mark mark test in (omega arith, λ h. is.1 (omega arith))
 taken_one false mark to i cs l test is = is
 
 as_high : (m mark : ℕ) → m ≤ mark → mark ≤ m → nat_eq m mark ≡ true
@@ -237,7 +238,7 @@ kept_taken mark to ns ls cs kept less =
       omega arith,
       λ i l is. let one = all i l is in (
         one.0,
-        λ same. let here = numbers_alike l.mark to same in one.1 (omega arith),
+        λ same. let here = eqb-true l.mark to same in one.1 (omega arith),
       ),
     )
 
@@ -253,7 +254,7 @@ left_set : (mark n : ℕ) (m : code_meaning.Meaning) (ls : List code_left.Left) 
 left_set mark n m ls less =
     let it = item_there n ls less in
     ap (left_if mark) (item_modified (λ l. record { mark = mark; meaning = m }) n ls it.0 it.1)
-    ∙ ap (λ t. cond t (Some (meaning_of m)) None) (same_number mark mark refl)
+    ∙ ap (λ t. cond t (Some (meaning_of m)) None) (eq-eqb mark mark refl)
 
 set_known : (o : Option code_meaning.Meaning) (mark n : ℕ) (ls : List code_left.Left) (k : Known) → n < length ls
     → known_left (stages.Going forms.Whole) (left_at mark (set_if mark n o ls)) k
@@ -288,14 +289,6 @@ set_one (Some m) mark n ls cs listed all =
     items_modified (IsOne mark cs) (λ l. record { mark = mark; meaning = m }) n ls (λ k l apart is. all k l is)
     (λ l is. (omega arith, λ h. listed))
 
-later : (t u : Bool) → u ≡ true → cond t true u ≡ true
-later true u h = refl
-later false u h = h
-
-first_of_both : (t u : Bool) → t ≡ true → cond t true u ≡ true
-first_of_both true u h = refl
-first_of_both false u h = absurd (cc)
-
 set_are : (mark : ℕ) (cs ds : List code_change.Change) (ls : List code_left.Left)
     → ((i : ℕ) → is_one_of (numbers_in ds) i ≡ true → is_one_of (numbers_in cs) i ≡ true)
     → ((i : ℕ) (l : code_left.Left) → item_at i ls ≡ Some l → IsOne mark cs i l)
@@ -303,10 +296,10 @@ set_are : (mark : ℕ) (cs ds : List code_change.Change) (ls : List code_left.Le
 set_are mark cs [] ls within all = all
 set_are mark cs (d ∷ ds) ls within all =
     set_are mark cs ds (set_if mark d.number d.after ls)
-    (λ i h. within i (later (nat_eq d.number i) (is_one_of (numbers_in ds) i) h))
+    (λ i h. within i (cond_true-second (nat_eq d.number i) (is_one_of (numbers_in ds) i) h))
     (set_one d.after mark d.number ls cs
-    (within d.number (first_of_both (nat_eq d.number d.number) (is_one_of (numbers_in ds) d.number)
-    (same_number d.number d.number refl))) all)
+    (within d.number (cond_true-first (nat_eq d.number d.number) (is_one_of (numbers_in ds) d.number)
+    (eq-eqb d.number d.number refl))) all)
 
 pub kept_set : (mark now : ℕ) (cs old : List code_change.Change) (ls : List code_left.Left) → IsKept mark ls old
     → mark < now → IsKept now (set_all now cs ls) cs
@@ -403,7 +396,7 @@ below_stop count cs i least so_far = so_far (subst (AreBelow count) (sym (drop_a
 other_dead : (t : Bool) (mark n i : ℕ) (ls : List code_left.Left) → 0 < mark → left_at mark ls n ≡ None
     → nat_eq n i ≡ t → left_at mark (modify (with_mark 0) n ls) i ≡ left_at mark ls i
 other_dead true mark n i ls some none test =
-    let same = numbers_alike n i test in
+    let same = eqb-true n i test in
     subst (λ k. left_at mark (modify (with_mark 0) n ls) k ≡ left_at mark ls k) same
     (left_dead mark n ls some ∙ sym none)
 other_dead false mark n i ls some none test = left_other mark (with_mark 0) n i ls test
@@ -481,7 +474,7 @@ step_by : (t : Bool) (mark n i : ℕ) (ls : List code_left.Left) (u : Bool) → 
     → cond u true t ≡ true → (u ≡ true → left_at mark ls i ≡ None)
     → left_at mark (modify (with_mark 0) n ls) i ≡ None
 step_by true mark n i ls u some test listed so_far =
-    let same = numbers_alike n i test in
+    let same = eqb-true n i test in
     subst (λ k. left_at mark (modify (with_mark 0) n ls) k ≡ None) same (left_dead mark n ls some)
 step_by false mark n i ls true some test listed so_far =
     left_other mark (with_mark 0) n i ls test ∙ so_far refl
@@ -568,7 +561,7 @@ module _ (mark c : ℕ) (ls cut now : List code_left.Left) (m : code_meaning.Mea
   -- what was not put off is not
   pub made_none : (t : Bool) → now ≡ cond t (cut ++ none ∷ []) cut → (i : ℕ) → left_at mark ls i ≡ None
       → left_at mark now i ≡ None
-  made_none t is i before = none_by_order t is i before (which i c)
+  made_none t is i before = none_by_order t is i before (cases_lt i c)
 
   cut_kept : (i : ℕ) (l : code_left.Left) → item_at i cut ≡ Some l → IsOne mark cs i l
   cut_kept i l is = kept.1 i l (item_taken c i ls l (ap (item_at i) (sym taken) ∙ is))
@@ -605,7 +598,7 @@ cut_fewer_by mark c i ls cut is was (inr least) = cut_none mark c ls cut is i le
 
 pub cut_fewer : (mark c : ℕ) (ls cut : List code_left.Left) → cut ≡ take c ls → (i : ℕ) → left_at mark ls i ≡ None
     → left_at mark cut i ≡ None
-cut_fewer mark c ls cut is i was = cut_fewer_by mark c i ls cut is was (which i c)
+cut_fewer mark c ls cut is i was = cut_fewer_by mark c i ls cut is was (cases_lt i c)
 
 pub kept_cut : (mark c : ℕ) (ls cut : List code_left.Left) (cs : List code_change.Change) → cut ≡ take c ls
     → IsKept mark ls cs → IsKept mark cut cs

@@ -1,6 +1,8 @@
 -- The innermost entry of a name is the one with its number.
 use Rattle.std.proofs.Common.{◌≡◌, ℕ, suc, ◌<◌, Bool, true, false, cond, List, [], ◌∷◌, length, Option, Some, None}
 use Rattle.std.proofs.Common.{refl, sym, ap, arith, ◌∙◌, nat_eq, bytes_eq}
+use Rattle.std.proofs.lemmas.Bool.{eq-eqb}
+use Rattle.small_laws.proofs.Comparisons.{gt-eqb}
 use Rattle.word_arithmetic.specs.Range.{Ends}
 use Rattle.scalar_ranges.specs.Entries.{Meaning, Entry, meaning_in, number_in}
 use Rattle.scalar_ranges.specs.Naming.{number_of}
@@ -10,7 +12,6 @@ use Rattle.scalar_ranges.specs.Narrowing.{Tested, test_of, left_of, with_range, 
 use Rattle.scalar_ranges.specs.Moves.{at_number, with_meaning}
 use Rattle.scalar_ranges.specs.MoveLaws.{meaning_at}
 use Rattle.scalar_ranges.specs.Changes.{changed_to}
-use Rattle.scalar_ranges.proofs.Rows.{same_number, lower_number}
 use Rattle.scalar_ranges.proofs.Nesting.{names_long}
 
 below_by : (t : Bool) (name : List ℕ) (es : List Entry) (n : ℕ) → cond t (Some (length es)) (number_in name es) ≡ Some n
@@ -27,9 +28,9 @@ pub by_number : {A : Type 0} (t : Bool) (name : List ℕ) (es : List Entry) (n :
     → cond t (Some (length es)) (number_in name es) ≡ Some n → (number_in name es ≡ Some n → y ≡ z)
     → cond t x y ≡ cond (nat_eq (length es) n) x z
 by_number true name es n x y z is further =
-    let same : length es ≡ n = cc in ap (λ t. cond t x z) (sym (same_number (length es) n same))
+    let same : length es ≡ n = cc in ap (λ t. cond t x z) (sym (eq-eqb (length es) n same))
 by_number false name es n x y z is further =
-    further is ∙ ap (λ t. cond t x z) (sym (lower_number (length es) n (number_below name es n is)))
+    further is ∙ ap (λ t. cond t x z) (sym (gt-eqb (length es) n (number_below name es n is)))
 
 pub changed_at : (f : Ends → Ends) (name : List ℕ) (n : ℕ) (es : List Entry) → number_in name es ≡ Some n
     → changed f name es ≡ at_number (with_meaning (with_range f)) n es

@@ -5,6 +5,7 @@ use Rattle.std.specs.Prelude.{bytes_eq, option_map, unwrap_or, IsTrue}
 use Rattle.std.specs.Ordering.{int_eq}
 use Rattle.std.proofs.lemmas.Int.{ints}
 use Rattle.std.proofs.lemmas.Bool.Decides.{Decides-int_eq}
+use Rattle.std.proofs.lemmas.Option.{same_Some}
 use Rattle.word_arithmetic.specs.Comparison.{compares}
 use Rattle.word_arithmetic.specs.declared.compare.Comparison.{Comparison}
 use Rattle.word_arithmetic.specs.declared.compare.Comparison.TheVariants as comparison
@@ -91,9 +92,6 @@ same_tests false false f g = refl
 int_eq_sym : (x y : ℤ) → int_eq x y ≡ int_eq y x
 int_eq_sym x y = same_tests (int_eq x y) (int_eq y x) (λ h. (Decides-int_eq y x).1 (sym ((Decides-int_eq x y).0 h)))
     (λ h. (Decides-int_eq x y).1 (sym ((Decides-int_eq y x).0 h)))
-
-some_is : {A : Type 0} (x y : A) → Some x ≡ Some y → x ≡ y
-some_is x y e = cc
 
 not_not : (b : Bool) → b ≡ not (not b)
 not_not true = refl
@@ -218,7 +216,7 @@ module _ (es : List Entry) (env : Environment) (meets : Meets env es) where
       let n = both_are (number_of_term env a) (number_of_term env b) (λ x y. Some (compares c x y)) holds truth in
       let alike = both_alike c s.0 s.1 u s.4 in
       first_holds c a b (tested es c a b) k holds n.0 n.1 s.0 s.1 refl test n.2 n.3 s.2 s.3 alike.0 alike.1
-      (some_is _ _ n.4)
+      (same_Some _ _ n.4)
   test_holds (Paired (pair.Arithmetic op) a b) k holds u is test truth = absurd (cc)
   test_holds (Alone t) k holds u is test truth = absurd (cc)
   test_holds (Prefixed op t) k holds u is test truth = absurd (cc)

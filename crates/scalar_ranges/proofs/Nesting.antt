@@ -2,6 +2,7 @@
 use Rattle.std.proofs.Common.{◌≡◌, ℕ, suc, ◌≤◌, Bool, true, false, cond, List, [], ◌∷◌, length, refl, sym, ap}
 use Rattle.std.proofs.Common.{Option, Some, None, subst, arith, ◌∙◌, nat_lt, unwrap_or, option_map}
 use Rattle.std.proofs.lemmas.Bool.Decides.{nat_tests}
+use Rattle.std.proofs.lemmas.Bool.{le-ltb}
 use Rattle.occam_parser.specs.Expressions.{Expression}
 use Rattle.scalar_ranges.specs.Entries.{Entry}
 use Rattle.scalar_ranges.specs.Moves.{outermost, Block, begun_with, taken, ends_with, end_of}
@@ -25,12 +26,9 @@ outermost_short count [] = omega arith
 outermost_short count (x ∷ xs) =
     shorter_by (nat_lt (length xs) count) x xs (outermost count xs) (outermost_short count xs)
 
-pub beyond : (n count : ℕ) → count ≤ n → nat_lt n count ≡ false
-beyond n count h = grind (arith, nat_tests)
-
 pub further_out : {A : Type 0} (count : ℕ) (x : A) (xs : List A) → count ≤ length xs
     → outermost count (x ∷ xs) ≡ outermost count xs
-further_out count x xs h = ap (λ t. cond t (x ∷ xs) (outermost count xs)) (beyond (length xs) count h)
+further_out count x xs h = ap (λ t. cond t (x ∷ xs) (outermost count xs)) (le-ltb (length xs) count h)
 
 twice_by : {A : Type 0} (t : Bool) (low count : ℕ) (x : A) (xs : List A) → low ≤ count
     → (t ≡ false → low ≤ length xs) → outermost low (outermost count xs) ≡ outermost low xs

@@ -1,15 +1,15 @@
 -- Items that are changed by their number, counted from the first one.
 use Rattle.std.proofs.Common.{◌≡◌, ℕ, zero, suc, Bool, true, false, cond, List, [], ◌∷◌, ◌++◌, length, map, reverse}
-use Rattle.std.proofs.Common.{take, Option, Some, None, option_map, refl, sym, ap, subst, arith, ◌∙◌, nat_eq, ◌<◌, ◌≤◌}
-use Rattle.std.proofs.Common.{◌⊎◌, inl, inr}
-use Rattle.std.proofs.lemmas.Bool.Decides.{nat_tests}
+use Rattle.std.proofs.Common.{take, Option, Some, None, option_map, refl, sym, ap, subst, ◌∙◌, nat_eq}
 use Rattle.std.proofs.lemmas.List.{reverse-append}
+use Rattle.std.proofs.lemmas.Bool.{eqb-true}
+use Rattle.std.proofs.Math.Dec.{eqb-suc-suc}
 use Rattle.scalar_ranges.specs.Environments.{item_at}
 use Rattle.scalar_ranges.specs.Moves.{outermost, at_number, is_one_of}
 use Rattle.scalar_ranges.specs.MoveLaws.{meaning_at}
 use Rattle.scalar_ranges.specs.Entries.{Entry, entry_at}
 use Rattle.scalar_ranges.specs.Changes.{modify, each}
-use Rattle.scalar_ranges.proofs.Rows.{eq_suc, at_last, at_further, cut_none, cut_last, meaning_last, meaning_further}
+use Rattle.scalar_ranges.proofs.Rows.{at_last, at_further, cut_none, cut_last, meaning_last, meaning_further}
 use Rattle.scalar_ranges.proofs.Rows.{entry_last, entry_further}
 
 pub modify_long : {A : Type 0} (f : A → A) (n : ℕ) (xs : List A) → length (modify f n xs) ≡ length xs
@@ -88,7 +88,7 @@ modify_swap f g zero zero (x ∷ xs) apart = absurd (cc)
 modify_swap f g zero (suc m) (x ∷ xs) apart = refl
 modify_swap f g (suc n) zero (x ∷ xs) apart = refl
 modify_swap f g (suc n) (suc m) (x ∷ xs) apart =
-    ap (λ ys. x ∷ ys) (modify_swap f g n m xs (sym (eq_suc n m) ∙ apart))
+    ap (λ ys. x ∷ ys) (modify_swap f g n m xs (sym (eqb-suc-suc n m) ∙ apart))
 
 -- ---- each item
 
@@ -104,10 +104,7 @@ other_item f n i [] apart = refl
 other_item f zero zero (x ∷ xs) apart = absurd (cc)
 other_item f zero (suc i) (x ∷ xs) apart = refl
 other_item f (suc n) zero (x ∷ xs) apart = refl
-other_item f (suc n) (suc i) (x ∷ xs) apart = other_item f n i xs (sym (eq_suc n i) ∙ apart)
-
-pub numbers_alike : (a b : ℕ) → nat_eq a b ≡ true → a ≡ b
-numbers_alike a b h = grind (arith, nat_tests)
+other_item f (suc n) (suc i) (x ∷ xs) apart = other_item f n i xs (sym (eqb-suc-suc n i) ∙ apart)
 
 item_here : {A : Type 0} (P : ℕ → A → Type 0) (f : A → A) (n : ℕ) (xs : List A) (y : A) (o : Option A)
     → ((x : A) → item_at n xs ≡ Some x → P n (f x)) → item_at n xs ≡ o → item_at n (modify f n xs) ≡ Some y → P n y
@@ -121,7 +118,7 @@ items_by : {A : Type 0} (t : Bool) (P : ℕ → A → Type 0) (f : A → A) (n i
     → ((x : A) → item_at n xs ≡ Some x → P n (f x)) → item_at i (modify f n xs) ≡ Some y → P i y
 items_by false P f n i xs y test all new is = all i y test (sym (other_item f n i xs test) ∙ is)
 items_by true P f n i xs y test all new is =
-    let same = numbers_alike n i test in
+    let same = eqb-true n i test in
     subst (λ k. P k y) same (item_here P f n xs y (item_at n xs) new refl
     (subst (λ k. item_at k (modify f n xs) ≡ Some y) (sym same) is))
 
@@ -196,13 +193,3 @@ pub item_mapped : {A B : Type 0} (f : A → B) (i : ℕ) (xs : List A) → item_
 item_mapped f i [] = refl
 item_mapped f zero (x ∷ xs) = refl
 item_mapped f (suc i) (x ∷ xs) = item_mapped f i xs
-
--- one of two orders
-which_more : (n k : ℕ) → (n < k) ⊎ (k ≤ n) → (suc n < suc k) ⊎ (suc k ≤ suc n)
-which_more n k (inl less) = inl (omega arith)
-which_more n k (inr least) = inr (omega arith)
-
-pub which : (n k : ℕ) → (n < k) ⊎ (k ≤ n)
-which n zero = inr (omega arith)
-which zero (suc k) = inl (omega arith)
-which (suc n) (suc k) = which_more n k (which n k)

@@ -3,6 +3,7 @@ use Rattle.std.proofs.Common.{◌≡◌, ℕ, ℤ, pos, ◌≤ℤ◌, Bool, true
 use Rattle.std.proofs.Common.{sym, ap, subst, arith, int_le, unsigned_abs}
 use Rattle.std.proofs.lemmas.Int.{ints}
 use Rattle.std.proofs.lemmas.Bool.{and_parts}
+use Rattle.std.proofs.lemmas.Option.{cond_some}
 use Rattle.word_arithmetic.specs.Word.{word_not, shifted_left, shifted_right}
 use Rattle.word_arithmetic.specs.Range.{Ends, InRange, IsRange, IsWordIn, in_range, is_within, not_range}
 use Rattle.word_arithmetic.specs.Range.{shift_left_range}
@@ -20,7 +21,7 @@ use Rattle.scalar_ranges.specs.Bounds.{by_counts, right_range, arithmetic_bound,
 use Rattle.scalar_ranges.specs.declared.bounds.TheConstants.{OUT_OF_RANGE}
 use Rattle.scalar_ranges.specs.Steps.{both_some}
 use Rattle.scalar_ranges.specs.Laws.{IsBound}
-use Rattle.scalar_ranges.proofs.Parts.{or_ok, mapped, both_are, passed, ok_same, is_some_of}
+use Rattle.scalar_ranges.proofs.Parts.{or_ok, mapped, both_are, ok_same, is_some_of}
 
 -- a number in a bound is between its ends
 pub bound_lies : (b : Bound) (v : ℤ) → IsBound b v → InRange (ends b) v
@@ -95,7 +96,7 @@ shift_members : (shift : ℤ → ℕ → ℤ) (range : Ends → Ends → Ends)
     → HoldsResults (shifted shift) (by_counts range)
 shift_members shift range holds = record {
   members = λ r s t p q e x y m n.
-      let f = passed (is_within s counts) (range r s) t e in
+      let f = cond_some (is_within s counts) (range r s) t e in
       let w = and_parts (int_le (pos 0) s.lo) (int_le s.hi (pos 31)) f.0 in
       shifted_in shift x y true t (in_range_in counts y (count_in s y f.0 n)) (count_in s y f.0 n)
       (subst (λ u. InRange u (shift x (unsigned_abs y))) f.1 (holds r s p (omega (arith, ints, w.0)) x y m n));

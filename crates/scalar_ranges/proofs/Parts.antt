@@ -30,11 +30,6 @@ both_are None p f z e = absurd (cc)
 both_are (Some x) None f z e = absurd (cc)
 both_are (Some x) (Some y) f z e = (x, y, refl, refl, e)
 
--- a test that lets its value through was passed
-pub passed : {A : Type 0} (b : Bool) (x z : A) → cond b (Some x) None ≡ Some z → (b ≡ true) × (x ≡ z)
-passed true x z e = (refl, cc)
-passed false x z e = absurd (cc)
-
 pub passed_ok : {A : Type 0} (b : Bool) (n : ℕ) (x z : A) → cond b (Ok x) (Err n) ≡ Ok z → (b ≡ true) × (x ≡ z)
 passed_ok true n x z e = (refl, cc)
 passed_ok false n x z e = absurd (cc)

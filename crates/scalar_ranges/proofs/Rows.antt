@@ -1,7 +1,9 @@
 -- The program has the outermost entry first, and the definitions have it last.
-use Rattle.std.proofs.Common.{◌≡◌, ℕ, suc, ◌<◌, ◌≤◌, Bool, true, false, cond, List, [], ◌∷◌, ◌++◌, length}
+use Rattle.std.proofs.Common.{◌≡◌, ℕ, suc, ◌≤◌, Bool, true, false, cond, List, [], ◌∷◌, ◌++◌, length}
 use Rattle.std.proofs.Common.{Some, None, refl, ap, arith, ◌∙◌, nat_eq, nat_lt}
 use Rattle.std.proofs.lemmas.Bool.Decides.{nat_tests}
+use Rattle.std.proofs.Math.Dec.{eqb-suc-suc}
+use Rattle.small_laws.proofs.Comparisons.{lt-eqb}
 use Rattle.scalar_ranges.specs.Entries.{Entry, entry_at}
 use Rattle.scalar_ranges.specs.Moves.{outermost, at_number}
 use Rattle.scalar_ranges.specs.MoveLaws.{meaning_at}
@@ -27,9 +29,6 @@ eq_none a = grind (arith, nat_tests)
 pub eq_some : (a : ℕ) → nat_eq 0 (suc a) ≡ false
 eq_some a = grind (arith, nat_tests)
 
-pub eq_suc : (a b : ℕ) → nat_eq (suc a) (suc b) ≡ nat_eq a b
-eq_suc a b = grind (arith, nat_tests)
-
 -- ---- the outermost ones
 
 pub cut_none : {A : Type 0} (ys : List A) → outermost 0 ys ≡ []
@@ -52,15 +51,6 @@ cut_last count (x ∷ xs) y =
 
 -- ---- one of them
 
-pub same_number : (a b : ℕ) → a ≡ b → nat_eq a b ≡ true
-same_number a b h = grind (arith, nat_tests)
-
-pub lower_number : (a b : ℕ) → b < a → nat_eq a b ≡ false
-lower_number a b h = grind (arith, nat_tests)
-
-higher_number : (a b : ℕ) → a < b → nat_eq a b ≡ false
-higher_number a b h = grind (arith, nat_tests)
-
 pub at_last : {A : Type 0} (f : A → A) (ys : List A) (y : A) → at_number f 0 (ys ++ y ∷ []) ≡ ys ++ f y ∷ []
 at_last f [] y = refl
 at_last f (x ∷ xs) y =
@@ -80,7 +70,7 @@ pub at_further : {A : Type 0} (f : A → A) (n : ℕ) (ys : List A) (y : A)
 at_further f n [] y = ap (λ t. cond t (f y ∷ []) (y ∷ [])) (eq_some n)
 at_further f n (x ∷ xs) y =
     ap (λ t. cond t (f x ∷ xs ++ y ∷ []) (x ∷ at_number f (suc n) (xs ++ y ∷ [])))
-    (ap (λ k. nat_eq k (suc n)) (one_longer xs y) ∙ eq_suc (length xs) n)
+    (ap (λ k. nat_eq k (suc n)) (one_longer xs y) ∙ eqb-suc-suc (length xs) n)
     ∙ at_by (nat_eq (length xs) n) f n x xs y (at_further f n xs y)
 
 not_at : {A : Type 0} (t : Bool) (f : A → A) (n : ℕ) (x : A) (xs : List A) → t ≡ false → at_number f n xs ≡ xs
@@ -92,7 +82,7 @@ not_at false f n x xs is h = ap (λ ks. x ∷ ks) h
 pub none_at : {A : Type 0} (f : A → A) (n : ℕ) (xs : List A) → length xs ≤ n → at_number f n xs ≡ xs
 none_at f n [] least = refl
 none_at f n (x ∷ xs) least =
-    not_at (nat_eq (length xs) n) f n x xs (higher_number (length xs) n (omega arith)) (none_at f n xs (omega arith))
+    not_at (nat_eq (length xs) n) f n x xs (lt-eqb (length xs) n (omega arith)) (none_at f n xs (omega arith))
 
 -- what an item means
 pub meaning_last : (ys : List Entry) (y : Entry) → meaning_at 0 (ys ++ y ∷ []) ≡ Some y.meaning
@@ -105,7 +95,7 @@ meaning_last (x ∷ xs) y =
 pub meaning_further : (n : ℕ) (ys : List Entry) (y : Entry) → meaning_at (suc n) (ys ++ y ∷ []) ≡ meaning_at n ys
 meaning_further n [] y = ap (λ t. cond t (Some y.meaning) None) (eq_some n)
 meaning_further n (x ∷ xs) y =
-    λ i. cond ((ap (λ k. nat_eq k (suc n)) (one_longer xs y) ∙ eq_suc (length xs) n) i) (Some x.meaning)
+    λ i. cond ((ap (λ k. nat_eq k (suc n)) (one_longer xs y) ∙ eqb-suc-suc (length xs) n) i) (Some x.meaning)
     (meaning_further n xs y i)
 
 -- an entry itself
@@ -119,5 +109,5 @@ entry_last (x ∷ xs) y =
 pub entry_further : (n : ℕ) (ys : List Entry) (y : Entry) → entry_at (suc n) (ys ++ y ∷ []) ≡ entry_at n ys
 entry_further n [] y = ap (λ t. cond t (Some y) None) (eq_some n)
 entry_further n (x ∷ xs) y =
-    λ i. cond ((ap (λ k. nat_eq k (suc n)) (one_longer xs y) ∙ eq_suc (length xs) n) i) (Some x)
+    λ i. cond ((ap (λ k. nat_eq k (suc n)) (one_longer xs y) ∙ eqb-suc-suc (length xs) n) i) (Some x)
     (entry_further n xs y i)

@@ -1,9 +1,9 @@
 -- What the program makes of its slots and lists is what the definitions make of them.
 use Rattle.std.proofs.Common.{◌≡◌, ℕ, zero, suc, ◌+◌, ◌-◌, ◌<◌, ◌≤◌, List, [], ◌∷◌, length, map, take, drop, set}
 use Rattle.std.proofs.Common.{get_or, Option, Some, None, refl, sym, ap, subst, arith, ◌∙◌, option_map, ◌++◌}
-use Rattle.std.proofs.Common.{nat_eq, Bool, false}
-use Rattle.std.proofs.lemmas.Bool.Decides.{nat_tests}
+use Rattle.std.proofs.Common.{Bool}
 use Rattle.std.proofs.lemmas.List.{drop_more, drop_all, get_or-map, length-map, take_all, append_assoc}
+use Rattle.std.proofs.lemmas.Bool.{ne_eqb}
 use Rattle.scalar_ranges.specs.declared.slots.Slot as code_slot
 use Rattle.scalar_ranges.specs.declared.slots.Change as code_change
 use Rattle.scalar_ranges.specs.Entries.{Meaning, Entry, entry_at}
@@ -179,9 +179,6 @@ numbers_turn cs i c before after all less found is so_far =
     ap (λ ms. ms ++ drop (i + 1) ns) is ∙ append_assoc before (c.number ∷ []) (drop (i + 1) ns)
     ∙ ap (λ ms. before ++ ms) (sym (number_at cs i c less found)) ∙ so_far
 
-unlike : (a b : ℕ) → (a ≡ b → ⊥) → nat_eq a b ≡ false
-unlike a b apart = grind (arith, nat_tests)
-
 -- changes of which each is foreign to a block
 pub foreign_turn : (count d : ℕ) (cs : List code_change.Change) (i : ℕ) (c : code_change.Change) → i < length cs
     → c ≡ get_or cs i c → c.number < count → (c.before.mark ≡ d → ⊥)
@@ -189,7 +186,7 @@ pub foreign_turn : (count d : ℕ) (cs : List code_change.Change) (i : ℕ) (c :
     → AreForeign count d (drop (i + 1) (changes_from cs)) → AreForeign count d (changes_from cs)
 foreign_turn count d cs i c less found low apart so_far others =
     so_far (subst (AreForeign count d) (sym (change_at cs i c less found))
-    (low, unlike c.before.mark d apart, others))
+    (low, ne_eqb c.before.mark d apart, others))
 
 pub foreign_done : (count d : ℕ) (cs : List code_change.Change) (i : ℕ) → length cs ≤ i
     → (AreForeign count d (drop i (changes_from cs)) → AreForeign count d (changes_from cs))

@@ -4,6 +4,7 @@ use Rattle.std.proofs.Common.{length, take, drop, reverse, map, option_map, ◌�
 use Rattle.std.proofs.Common.{get_or, refl, sym, ap, subst, arith, ◌∙◌, nat_eq}
 use Rattle.std.specs.Option.{is_some}
 use Rattle.std.proofs.lemmas.List.{length-map, length-reverse, length-take, reverse-reverse, drop_more, drop_all}
+use Rattle.std.proofs.lemmas.Bool.{eqb-true}
 use Rattle.scalar_ranges.specs.declared.slots.Slot as code_slot
 use Rattle.scalar_ranges.specs.declared.slots.Branching as code_branching
 use Rattle.scalar_ranges.specs.declared.slots.Change as code_change
@@ -22,7 +23,7 @@ use Rattle.scalar_ranges.specs.declared.deferred.Stage.TheVariants as stages
 use Rattle.scalar_ranges.specs.Lefts.{IsStillFor}
 use Rattle.scalar_ranges.specs.Deferring.{AreAlike, AreNone, AreStill, IsStill}
 use Rattle.scalar_ranges.proofs.Following.{end_is, map_reversed}
-use Rattle.scalar_ranges.proofs.Numbered.{numbers_alike, reverse_cons}
+use Rattle.scalar_ranges.proofs.Numbered.{reverse_cons}
 use Rattle.scalar_ranges.proofs.Noting.{innermost_seen}
 use Rattle.scalar_ranges.proofs.Ending.{undone_long}
 use Rattle.scalar_ranges.proofs.Postponing.{AreWhole, HasWhole, EndsShort, AreShort}
@@ -30,7 +31,7 @@ use Rattle.scalar_ranges.proofs.Postponing.{AreWhole, HasWhole, EndsShort, AreSh
 none_by : (t : Bool) (p : ℕ → Option Meaning) (c : Change) (cs : List Change) (i : ℕ) → nat_eq c.number i ≡ t
     → cond t true (is_one_of (numbers_of cs) i) ≡ true → p c.number ≡ None
     → (is_one_of (numbers_of cs) i ≡ true → p i ≡ None) → p i ≡ None
-none_by true p c cs i test listed here others = ap p (sym (numbers_alike c.number i test)) ∙ here
+none_by true p c cs i test listed here others = ap p (sym (eqb-true c.number i test)) ∙ here
 none_by false p c cs i test listed here others = others listed
 
 pub none_of : (p : ℕ → Option Meaning) (i : ℕ) (cs : List Change) → AreNone p cs → is_one_of (numbers_of cs) i ≡ true

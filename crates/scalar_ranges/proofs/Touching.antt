@@ -1,6 +1,7 @@
 -- An entry comes to the list of a branch, once the innermost block has it in its own.
 use Rattle.std.proofs.Common.{◌≡◌, ℕ, suc, ◌+◌, ◌≤◌, Bool, true, false, cond, not, List, [], ◌∷◌, length, map}
 use Rattle.std.proofs.Common.{reverse, take, Option, Some, None, refl, sym, ap, subst, arith, ◌∙◌, nat_eq}
+use Rattle.std.proofs.lemmas.Bool.{not-true, true_from_ne_false, eq-eqb}
 use Rattle.scalar_ranges.specs.Entries.{Meaning}
 use Rattle.scalar_ranges.specs.Environments.{item_at}
 use Rattle.scalar_ranges.specs.Moves.{is_one_of, at_number, with_meaning}
@@ -8,7 +9,7 @@ use Rattle.scalar_ranges.specs.Changes.{Slot, Branching, Tracked, modify, entry_
 use Rattle.scalar_ranges.specs.Changes.{ends_seen, blocks_in, without, is_recent, IsSettled, AreSettled, AreTracked}
 use Rattle.scalar_ranges.specs.Changes.{KeepsMarks, touched, touching, note, is_open_in, is_open, touch_if, touch, noted}
 use Rattle.scalar_ranges.specs.Changes.{put_by}
-use Rattle.scalar_ranges.proofs.Rows.{same_number, one_longer}
+use Rattle.scalar_ranges.proofs.Rows.{one_longer}
 use Rattle.scalar_ranges.proofs.Widening.{one_more}
 use Rattle.scalar_ranges.proofs.Counting.{fewer}
 use Rattle.scalar_ranges.proofs.Numbered.{take_modify, map_modify, map_unmodified, reverse_modify, items_modified}
@@ -25,14 +26,6 @@ pub record NotesWell (n : ℕ) (ss : List Slot) (bs : List Branching) (t : Track
 both_hold : (t u : Bool) → cond t u false ≡ true → (t ≡ true) × (u ≡ true)
 both_hold true u h = (refl, h)
 both_hold false u h = absurd (cc)
-
-not_true : (t : Bool) → not t ≡ true → t ≡ false
-not_true true h = absurd (cc)
-not_true false h = refl
-
-true_by : (t : Bool) → (t ≡ false → ⊥) → t ≡ true
-true_by true never = refl
-true_by false never = absurd (never refl)
 
 closed_recent : (t u : Bool) → t ≡ true → cond t (not u) false ≡ false → u ≡ true
 closed_recent true true here closed = refl
@@ -51,7 +44,7 @@ open_in : (n : ℕ) (ss : List Slot) (b : Branching) (bs : List Branching) (o : 
 open_in n ss b bs None is free = absurd (cc)
 open_in n ss b bs (Some s) is free =
     let both = both_hold (nat_eq s.mark (suc (length bs))) (not s.recent) free in
-    record { slot = s; is = is; here = both.0; apart = not_true s.recent both.1 }
+    record { slot = s; is = is; here = both.0; apart = not-true s.recent both.1 }
 
 open_is : (n : ℕ) (ss : List Slot) (b : Branching) (bs : List Branching) → is_open n ss (b ∷ bs) ≡ true
     → IsOpen n ss b bs
@@ -95,7 +88,7 @@ module _ (n : ℕ) (ss : List Slot) (b : Branching) (bs : List Branching) (track
   one_of k = one_more b.recent n k
 
   in_list : is_one_of after.recent n ≡ true
-  in_list = one_of n ∙ ap (cond (is_one_of b.recent n) true) (same_number n n refl) ∙ either (is_one_of b.recent n) true
+  in_list = one_of n ∙ ap (cond (is_one_of b.recent n) true) (eq-eqb n n refl) ∙ either (is_one_of b.recent n) true
 
   settled : AreSettled depth after (modify touched n base)
   settled = items_modified (λ i k. is_one_of after.recent i ≡ false → IsSettled depth after i k) touched n base
@@ -122,7 +115,7 @@ module _ (n : ℕ) (ss : List Slot) (b : Branching) (bs : List Branching) (track
   touched_listed : (s : Slot) → item_at n (take b.count (modify touched n ss)) ≡ Some s → nat_eq s.mark depth ≡ true
   touched_listed s there =
       items_modified (λ i j. i ≡ n → nat_eq j.mark depth ≡ true) touched n base
-      (λ i j apart here same. absurd (cc (same_number n i (sym same), apart)))
+      (λ i j apart here same. absurd (cc (eq-eqb n i (sym same), apart)))
       (λ j here same. listed j here) n s (subst (λ js. item_at n js ≡ Some s) at there) refl
 
   touched_well : NotesWell n ss (b ∷ bs) (touch_if true n ss b bs)
@@ -137,7 +130,7 @@ module _ (n : ℕ) (ss : List Slot) (b : Branching) (bs : List Branching) (track
 in_branch : (n : ℕ) (ss : List Slot) (b : Branching) (bs : List Branching) → AreTracked ss (b ∷ bs)
     → IsListed n ss (b ∷ bs) → is_open n ss (b ∷ bs) ≡ false → (s : Slot) → item_at n (take b.count ss) ≡ Some s
     → is_one_of b.recent n ≡ true
-in_branch n ss b bs tracked listed closed s is = true_by (is_one_of b.recent n) (λ others.
+in_branch n ss b bs tracked listed closed s is = true_from_ne_false (is_one_of b.recent n) (λ others.
     let d = suc (length bs) in
     let here = ap (is_open_in d) (sym is) ∙ closed in
     let apart = (tracked.1 n s is others).0 in

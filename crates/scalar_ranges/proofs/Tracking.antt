@@ -1,6 +1,7 @@
 -- What changes where the innermost block has an entry in its list leaves what the blocks know.
 use Rattle.std.proofs.Common.{◌≡◌, ℕ, suc, ◌+◌, ◌≤◌, Bool, true, false, cond, List, [], ◌∷◌, ◌++◌, length}
 use Rattle.std.proofs.Common.{map, reverse, take, Option, Some, None, refl, sym, ap, subst, arith, ◌∙◌, nat_eq}
+use Rattle.std.proofs.lemmas.Bool.{eqb-true, eq-eqb}
 use Rattle.scalar_ranges.specs.Entries.{Meaning}
 use Rattle.scalar_ranges.specs.Environments.{item_at}
 use Rattle.scalar_ranges.specs.Moves.{is_one_of, hull_meaning}
@@ -8,12 +9,12 @@ use Rattle.scalar_ranges.specs.Changes.{Slot, Change, Branching, Tracked, modify
 use Rattle.scalar_ranges.specs.Changes.{undone, before, ends_seen, blocks_in, numbers_of, AreListed}
 use Rattle.scalar_ranges.specs.Changes.{AreUpTo, without, is_marked, is_recent, AreMarked, IsSettled, AreSettled}
 use Rattle.scalar_ranges.specs.Changes.{AreTracked, KeepsMarks, marked, listing, note_if, note, with_new, with_end, each}
-use Rattle.scalar_ranges.proofs.Rows.{same_number, one_longer}
+use Rattle.scalar_ranges.proofs.Rows.{one_longer}
 use Rattle.scalar_ranges.proofs.Widening.{one_more}
 use Rattle.scalar_ranges.proofs.Hulls.{meaning_itself}
 use Rattle.scalar_ranges.proofs.Counting.{without_same, fewer}
 use Rattle.scalar_ranges.proofs.Numbered.{modify_long, take_modify, map_unmodified, unmodified}
-use Rattle.scalar_ranges.proofs.Numbered.{modify_over, modify_swap, items_modified, numbers_alike}
+use Rattle.scalar_ranges.proofs.Numbered.{modify_over, modify_swap, items_modified}
 
 -- ---- what is taken back
 
@@ -31,7 +32,7 @@ over_by : (t : Bool) (cs : List Change) (c : Change) (b : Slot) (f : Slot → Sl
     → ((k : Slot) → modify (restored k) n (undone cs (modify f n ss)) ≡ modify (restored k) n (undone cs ss))
     → modify (restored b) n (undone (c ∷ cs) (modify f n ss)) ≡ modify (restored b) n (undone (c ∷ cs) ss)
 over_by true cs c b f n ss test others =
-    let same = numbers_alike n c.number test in
+    let same = eqb-true n c.number test in
     (λ i. modify (restored b) n (modify (restored c.before) (sym same i) (undone cs (modify f n ss))))
     ∙ modify_over (restored c.before) (restored b) n (undone cs (modify f n ss)) (λ s. refl) ∙ others b
     ∙ sym (modify_over (restored c.before) (restored b) n (undone cs ss) (λ s. refl))
@@ -53,7 +54,7 @@ listed_by : (t : Bool) (c : Change) (cs : List Change) (f : Slot → Slot) (n : 
     → (is_one_of (numbers_of cs) n ≡ true → undone cs (modify f n ss) ≡ undone cs ss)
     → undone (c ∷ cs) (modify f n ss) ≡ undone (c ∷ cs) ss
 listed_by true c cs f n ss test listed names further =
-    let same = numbers_alike c.number n test in
+    let same = eqb-true c.number n test in
     (λ i. modify (restored c.before) (same i) (undone cs (modify f n ss))) ∙ undone_over cs c.before f n ss names
     ∙ (λ i. modify (restored c.before) (sym same i) (undone cs ss))
 listed_by false c cs f n ss test listed names further =
@@ -309,14 +310,14 @@ module _ (n : ℕ) (ss : List Slot) (b : Branching) (bs : List Branching) (s : S
       (λ i k apart there others. tracked.0.2 i k there (first_not (is_one_of (numbers_of b.changes) i) (nat_eq n i)
       (sym (one_of i) ∙ others)))
       (λ k there others. absurd (cc (
-        same_number n n refl,
+        eq-eqb n n refl,
         second_not (is_one_of (numbers_of b.changes) n) (nat_eq n n) (sym (one_of n) ∙ others),
       )))
 
   now_marked : AreMarked (modify (marked depth) n ss) after bs
   now_marked =
       let long = modify_long (marked depth) n ss in
-      let less = fewer (is_marked depth) (marked depth) n base s is test (same_number depth depth refl) in
+      let less = fewer (is_marked depth) (marked depth) n base s is test (eq-eqb depth depth refl) in
       let more = one_longer b.changes change in
       let room = tracked.0.3 in
       let many = ap (without (is_marked depth)) at in (
@@ -346,8 +347,8 @@ module _ (n : ℕ) (ss : List Slot) (b : Branching) (bs : List Branching) (s : S
   now_listed : IsListed n (modify (marked depth) n ss) (after ∷ bs)
   now_listed k there =
       items_modified (λ i j. i ≡ n → nat_eq j.mark depth ≡ true) (marked depth) n base
-      (λ i j apart here same. absurd (cc (same_number n i (sym same), apart)))
-      (λ j here same. same_number depth depth refl) n k (subst (λ js. item_at n js ≡ Some k) at there) refl
+      (λ i j apart here same. absurd (cc (eq-eqb n i (sym same), apart)))
+      (λ j here same. eq-eqb depth depth refl) n k (subst (λ js. item_at n js ≡ Some k) at there) refl
 
 note_by : (t : Bool) (n : ℕ) (ss : List Slot) (b : Branching) (bs : List Branching) (s : Slot)
     → AreTracked ss (b ∷ bs) → item_at n (take b.count ss) ≡ Some s → nat_eq s.mark (suc (length bs)) ≡ t

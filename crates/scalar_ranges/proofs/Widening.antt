@@ -3,6 +3,7 @@ use Rattle.std.proofs.Common.{◌≡◌, ℕ, suc, ◌<◌, Bool, true, false, c
 use Rattle.std.proofs.Common.{◌+◌, Option, Some, refl, sym, ap, arith, ◌∙◌, nat_eq}
 use Rattle.std.proofs.lemmas.List.{take_more}
 use Rattle.std.proofs.lemmas.Bool.Decides.{nat_tests}
+use Rattle.small_laws.proofs.Comparisons.{eqb_comm}
 use Rattle.scalar_ranges.specs.declared.scope.ScalarKind.TheVariants as kinds
 use Rattle.scalar_ranges.specs.Entries.{Meaning, Constant, Scalar, Array, Channel, Channels, Procedure, Entry}
 use Rattle.scalar_ranges.specs.Moves.{at_number, with_meaning, widened, is_one_of, widened_if, widen}
@@ -38,9 +39,6 @@ pub one_more : (ns : List ℕ) (n k : ℕ) → is_one_of (ns ++ n ∷ []) k ≡ 
 one_more [] n k = last_by (nat_eq n k)
 one_more (m ∷ ms) n k = more_by (nat_eq m k) ms n k (one_more ms n k)
 
-pub same_test : (a b : ℕ) → nat_eq a b ≡ nat_eq b a
-same_test a b = grind (arith, nat_tests)
-
 widen_here : (t : Bool) (e : Entry) → with_meaning widened (widened_if t e) ≡ widened_if true e
 widen_here true e = ap (λ m. record { name = e.name; meaning = m }) (twice e.meaning)
 widen_here false e = refl
@@ -65,7 +63,7 @@ widen_one ns n (e ∷ es) =
     let none : nat_eq n k ≡ true → at_number (with_meaning widened) n (widen ns es) ≡ widen ns es =
     λ h. none_at (with_meaning widened) n (widen ns es) (grind (arith, nat_tests)) in
     ap (λ t. cond t (with_meaning widened (widened_if s e) ∷ widen ns es)
-    (widened_if s e ∷ at_number (with_meaning widened) n (widen ns es))) (ap (λ a. nat_eq a n) long ∙ same_test k n)
+    (widened_if s e ∷ at_number (with_meaning widened) n (widen ns es))) (ap (λ a. nat_eq a n) long ∙ eqb_comm k n)
     ∙ widen_by s (nat_eq n k) n e es (widen ns es) (widen (ns ++ n ∷ []) es) none (widen_one ns n es)
     ∙ ap (λ t. widened_if t e ∷ widen (ns ++ n ∷ []) es) (sym (one_more ns n k))
 

@@ -28,7 +28,6 @@ use Rattle.machine_state.specs.World.{constants_start}
 use Rattle.machine_state.proofs.Among.{mapped_among}
 use Rattle.machine_state.proofs.Shares.{end_held}
 use Rattle.machine_state.proofs.SpanLaws.{runs_tell}
-use Rattle.states.proofs.RowFacts.{and-parts}
 use Rattle.rulings.specs.Channels.{message_length}
 use Rattle.rulings.specs.Lends.{IsRegionKind}
 use Rattle.rulings.specs.Meaning.{Layout, HasFrame, IsOwnWord, IsReadableWord, place_in, words_in, frame_lo, frame_hi}
@@ -109,7 +108,7 @@ module _ (m : Contents) (found : Found) (layout : Layout) (base : ℕ) (addresse
       sym (ap (λ (o : Option (Par × Branch)). elim o as (λ o. Bool) [
         | None ↦ true
         | Some found ↦ is_among found.1.writes k
-      ]) stands.numbered) ∙ (and-parts _ _ t).1
+      ]) stands.numbered) ∙ (and_parts _ _ t).1
 
   -- one that it may read is given it to write or to read
   is_read : (k : ℤ) → rights.may_read_word m (context_of m found) k ≡ true
@@ -118,7 +117,7 @@ module _ (m : Contents) (found : Found) (layout : Layout) (base : ℕ) (addresse
       (sym (ap (λ (o : Option (Par × Branch)). elim o as (λ o. Bool) [
         | None ↦ true
         | Some found ↦ is_among found.1.writes k || is_among found.1.reads k
-      ]) stands.numbered) ∙ (and-parts _ _ t).1)
+      ]) stands.numbered) ∙ (and_parts _ _ t).1)
 
   -- a word that the branch may read is one that the starter had left to read
   counts : (k : ℤ) → rights.may_read_word m (context_of m found) k ≡ true → left_scope.words.reads k ≡ true

@@ -3,7 +3,7 @@ use Rattle.std.proofs.Common.{◌≡◌, ℕ, ◌+◌, ◌*◌, ◌/◌, ◌&&�
 use Rattle.std.proofs.Common.{Some, None, refl, sym, ap, ◌∙◌, subst, arith, eqb-true}
 use Rattle.std.proofs.lemmas.Int.{ints}
 use Rattle.std.specs.Prelude.{slice_get, option_map, IsTrue, ◌%◌}
-use Rattle.std.proofs.lemmas.Bool.{or_cases}
+use Rattle.std.proofs.lemmas.Bool.{or_cases, and_parts}
 use Rattle.module_format.specs.declared.fact.Region.TheVariants as regions
 use Rattle.module_format.specs.declared.rows.Parameter.{Parameter}
 use Rattle.module_format.specs.declared.rows.ParameterKind.{ParameterKind}
@@ -19,7 +19,6 @@ use Rattle.machine_state.specs.BranchContexts.{context_of, IsContextOf}
 use Rattle.machine_state.specs.BranchShares.{region_size}
 use Rattle.machine_state.specs.JoinLookups.{Found}
 use Rattle.machine_state.specs.Memory.{place_of}
-use Rattle.states.proofs.RowFacts.{and-parts}
 use Rattle.rulings.specs.Lends.{IsRegionKind, of_parameter, Part}
 use Rattle.rulings.specs.Meaning.{Layout, place_in}
 use Rattle.rulings.specs.Regions.{Scope, scope_of, parameter_used}
@@ -107,10 +106,10 @@ module _ (m : Contents) (found : Found) (layout other : Layout) (keeps : Keeps m
       let among = sym (ap (λ (o : Option (Par × Branch)). elim o as (λ o. Bool) [
         | None ↦ true
         | Some found ↦ is_among found.1.writes k
-      ]) stands.numbered) ∙ (and-parts _ _ t).1 in
-      let a = and-parts (rights.may_write_word m found.par.context k && not (is_hidden found.par k)) _
+      ]) stands.numbered) ∙ (and_parts _ _ t).1 in
+      let a = and_parts (rights.may_write_word m found.par.context k && not (is_hidden found.par k)) _
       (left.writes k among) in
-      (and-parts (rights.may_write_word m found.par.context k) _ a.0).0
+      (and_parts (rights.may_write_word m found.par.context k) _ a.0).0
 
   -- one that it may read its opener may read
   reads : (k : ℤ) → rights.may_read_word m (context_of m found) k ≡ true
@@ -119,15 +118,15 @@ module _ (m : Contents) (found : Found) (layout other : Layout) (keeps : Keeps m
       (sym (ap (λ (o : Option (Par × Branch)). elim o as (λ o. Bool) [
         | None ↦ true
         | Some found ↦ is_among found.1.writes k || is_among found.1.reads k
-      ]) stands.numbered) ∙ (and-parts _ _ t).1)) [
+      ]) stands.numbered) ∙ (and_parts _ _ t).1)) [
         | inl w ↦
-            let a = and-parts (rights.may_write_word m found.par.context k && not (is_hidden found.par k)) _
+            let a = and_parts (rights.may_write_word m found.par.context k && not (is_hidden found.par k)) _
             (left.writes k w) in
-            written_readable m found.par.context k (and-parts (rights.may_write_word m found.par.context k) _ a.0).0
+            written_readable m found.par.context k (and_parts (rights.may_write_word m found.par.context k) _ a.0).0
         | inr r ↦
-            let a = and-parts (rights.may_read_word m found.par.context k && not (is_hidden found.par k)) _
+            let a = and_parts (rights.may_read_word m found.par.context k && not (is_hidden found.par k)) _
             (left.reads k r) in
-            (and-parts (rights.may_read_word m found.par.context k) _ a.0).0
+            (and_parts (rights.may_read_word m found.par.context k) _ a.0).0
       ]
 
   -- ---- parameters

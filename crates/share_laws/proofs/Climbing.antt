@@ -2,6 +2,7 @@
 use Rattle.std.proofs.Common.{◌≡◌, ◌⊎◌, inl, inr, ℕ, ◌+◌, ◌-◌, ◌*◌, ◌/◌, ◌<◌, ◌≤◌, ℤ, pos, ◌+ℤ◌, Bool, true, false}
 use Rattle.std.proofs.Common.{length, refl, sym, ap, ◌∙◌, subst, arith}
 use Rattle.std.proofs.lemmas.Int.{ints}
+use Rattle.std.proofs.lemmas.Bool.{cases_Bool}
 use Rattle.module_format.specs.declared.fact.Region.{Region}
 use Rattle.module_format.specs.declared.rows.ParameterKind.{ParameterKind}
 use Rattle.module_format.specs.declared.rows.ParameterKind.TheVariants.{Value, ReadRegion, WrittenRegion, Channels}
@@ -17,7 +18,6 @@ use Rattle.rulings.specs.Regions.{in_region, Keeps}
 use Rattle.rulings.proofs.Combining.{readable_byte}
 use Rattle.rulings.proofs.Lending.{byte_index, same_word, run_byte, lift_change, lift_named, frame_byte}
 use Rattle.rulings.proofs.Regions.{byte_of_own, bytes_read}
-use Rattle.rulings.proofs.Words.{bool_cases}
 use Rattle.share_laws.specs.Climbing.{ChangesWithin, IsRung, ChangesClimb, OtherWordsStay, is_branch, is_under}
 use Rattle.share_laws.specs.Climbing.{ChangesAreByABranch}
 
@@ -40,7 +40,7 @@ module _ (m : Contents) (theirs mine : Holding) (opener branch : Scope) (old new
 
   -- each byte is the same, or the branch may change it
   each_byte : (place : ℕ) → (byte_at new place ≡ byte_at old place) ⊎ MayChange branch place
-  each_byte place = elim (bool_cases (may_write mine place)) [
+  each_byte place = elim (cases_Bool (may_write mine place)) [
     | inl own ↦ within.keeps.bytes place (readable_byte mine place own)
     | inr other ↦ inl (within.own.others place other)
   ]
@@ -188,7 +188,7 @@ module _ (m : Contents) (theirs mine : Holding) (opener branch : Scope) (old new
       behind = rung.opener_named.constants.behind;
     };
     bytes = record {
-      each = λ place b held found. elim (bool_cases (may_write mine place)) [
+      each = λ place b held found. elim (cases_Bool (may_write mine place)) [
         | inl own ↦ branch_now.bytes.each place b (readable_byte mine place own) found
         | inr other ↦ rung.opener_named.bytes.each place b held (sym (within.own.others place other) ∙ found)
       ];

@@ -3,7 +3,7 @@ use Rattle.std.proofs.Common.{◌≡◌, ℕ, zero, suc, ◌<◌, ◌||◌, not,
 use Rattle.std.proofs.Common.{refl, sym, ap, ◌∙◌, arith}
 use Rattle.std.specs.Prelude.{slice_get}
 use Rattle.std.specs.List.{list_any}
-use Rattle.std.proofs.lemmas.Bool.{and_from}
+use Rattle.std.proofs.lemmas.Bool.{and_from, false_from_ne_true, not_from_false}
 use Rattle.module_format.specs.Pars.{key_of}
 use Rattle.module_format.specs.Contents.{Contents, Branch}
 use Rattle.certificate.specs.Rights.{is_among, is_same_end}
@@ -13,7 +13,7 @@ use Rattle.rulings.specs.Remaining.{some_started, is_hidden}
 use Rattle.rulings.specs.Remaining.{word_given_to_write, word_given_to_read}
 use Rattle.share_laws.specs.GivenOnce.{IsGivenOnce, SharesAreLeft}
 use Rattle.share_laws.specs.Starts.{IsLeft}
-use Rattle.share_laws.proofs.LeftBytes.{is_false, none_of, not_true}
+use Rattle.share_laws.proofs.LeftBytes.{none_of}
 
 -- where none of the first items passes a test, none of those does
 none_before : (branches : List Branch) (n : ℕ) (test : Branch → Bool)
@@ -35,12 +35,12 @@ module _ (m : Contents) (found : Found) (g : IsGivenOnce m found) where
 
   -- a word that the branch writes is not hidden
   written_shown : (k : ℤ) → is_among found.branch.writes k ≡ true → not (is_hidden found.par k) ≡ true
-  written_shown k among = not_true _ (is_false _ (λ hides.
+  written_shown k among = not_from_false _ (false_from_ne_true _ (λ hides.
       let free = (g.hidden k hides).0 in let no' : false ≡ true = sym free ∙ among in cc))
 
   -- nor is one that it reads
   read_shown : (k : ℤ) → is_among found.branch.reads k ≡ true → not (is_hidden found.par k) ≡ true
-  read_shown k among = not_true _ (is_false _ (λ hides.
+  read_shown k among = not_from_false _ (false_from_ne_true _ (λ hides.
       let free = (g.hidden k hides).1 in let no' : false ≡ true = sym free ∙ among in cc))
 
   -- what is given once is left
@@ -51,7 +51,8 @@ module _ (m : Contents) (found : Found) (g : IsGivenOnce m found) where
         (unstarted (λ b. is_among b.writes k) (λ i b low there. ((g.beside i b low there).writes k among).0))
         (unstarted (λ b. is_among b.reads k) (λ i b low there. ((g.beside i b low there).writes k among).1)));
     reads = λ k among. and_from _ _ (and_from _ _ (g.reads k among) (read_shown k among))
-        (not_true _ (unstarted (λ b. is_among b.writes k) (λ i b low there. (g.beside i b low there).reads k among)));
+        (not_from_false _ (unstarted (λ b. is_among b.writes k)
+        (λ i b low there. (g.beside i b low there).reads k among)));
     written = λ j listed.
         let w = g.written j listed in
         record {
@@ -72,7 +73,7 @@ module _ (m : Contents) (found : Found) (g : IsGivenOnce m found) where
       written = unstarted (λ b. is_listed b.written_parameters j)
           (λ i b low there. (g.beside i b low there).read j listed);
     };
-    ends = λ e among. and_from _ _ (g.ends e among) (not_true _ (unstarted
+    ends = λ e among. and_from _ _ (g.ends e among) (not_from_false _ (unstarted
         (λ b. list_any (λ other. is_same_end (key_of other) (key_of e)) b.ends)
         (λ i b low there. (g.beside i b low there).ends e among)));
     scheduling = g.scheduling;

@@ -2,7 +2,7 @@
 use Rattle.std.proofs.Common.{◌≡◌, ℕ, ◌+◌, ◌<◌, ◌&&◌, not, ℤ, true, List, length, Option, Some, None, refl, sym, ap}
 use Rattle.std.proofs.Common.{◌∙◌, subst}
 use Rattle.std.specs.Prelude.{slice_get}
-use Rattle.std.proofs.lemmas.Bool.{and_from}
+use Rattle.std.proofs.lemmas.Bool.{and_from, and_parts, not_from_false}
 use Rattle.module_format.specs.Rows.{Fact}
 use Rattle.module_format.specs.declared.fact.Fact.TheVariants.{Unknown, Number, Pointer, CodeAddress, Loop}
 use Rattle.module_format.specs.declared.fact.Fact.TheVariants.{ReturnAddress}
@@ -22,7 +22,6 @@ use Rattle.states.specs.declared.known.Mode.TheVariants.{Starting}
 use Rattle.states.specs.declared.known.WordFact.{WordFact}
 use Rattle.states.specs.declared.known.WordFact.TheVariants.{Alone, Index, Count}
 use Rattle.states.specs.State.{State, unknown}
-use Rattle.states.proofs.RowFacts.{and-parts}
 use Rattle.rulings.specs.Fitting.{Described, After}
 use Rattle.rulings.specs.Meaning.{Layout, Activation, Means, says_nothing, is_number, is_pointer, is_code_address}
 use Rattle.rulings.specs.Meaning.{is_return_address, MeansWord, is_fact, is_index, is_count, MeansKnown, SameMode}
@@ -35,7 +34,6 @@ use Rattle.share_laws.specs.GoingOn.{GoesOnAs, StartersGoOn, OpenersGoOn, Openin
 use Rattle.share_laws.specs.Opening.{layout_with, held_by_opener}
 use Rattle.share_laws.specs.Starts.{CanStart, held_by_starter, StarterHolds}
 use Rattle.share_laws.specs.Taking.{after_start, after_opening, StartTakes, OpeningTakes}
-use Rattle.share_laws.proofs.LeftBytes.{not_true}
 use Rattle.share_laws.proofs.OpenerHolds.{openers_hold_the_rest, none_started}
 use Rattle.share_laws.proofs.StarterHolds.{starters_hold_the_rest}
 use Rattle.share_laws.proofs.TakenWords.{takes_its_words, opening_takes_its_words}
@@ -168,8 +166,8 @@ openers_go_on m found act base addresses h memory depth workspace s l opens firs
     left_before : (k : ℤ) → (words_left m found.par found.par.context (found.number + 1)).reads k ≡ true
         → (words_left m found.par found.par.context 0).reads k ≡ true
     left_before k t =
-        let a = and-parts (rights.may_read_word m found.par.context k && not (is_hidden found.par k)) _ t in
-        and_from _ _ a.0 (not_true _ (none_started found.par (λ b. is_among b.writes k)))
+        let a = and_parts (rights.may_read_word m found.par.context k && not (is_hidden found.par k)) _ t in
+        and_from _ _ a.0 (not_from_false _ (none_started found.par (λ b. is_among b.writes k)))
 
 -- what the opening leaves can start the first branch
 pub openings_can_start : OpeningsCanStart

@@ -5,7 +5,8 @@ use Rattle.std.proofs.lemmas.Int.{ints}
 use Rattle.std.specs.Int.{w32}
 use Rattle.std.specs.Prelude.{int_le}
 use Rattle.std.specs.List.{list_any}
-use Rattle.std.proofs.lemmas.Bool.{or_cases, or_left, or_right}
+use Rattle.std.proofs.lemmas.Bool.{or_cases, or_left, or_right, and_parts, false_from_ne_true}
+use Rattle.small_laws.proofs.Comparisons.{int_le-true}
 use Rattle.module_format.specs.declared.rows.ChannelRow.{ChannelRow}
 use Rattle.module_format.specs.declared.rows.EndKind.TheVariants.{FrameWord}
 use Rattle.module_format.specs.Contents.{Contents, Par}
@@ -23,14 +24,12 @@ use Rattle.machine_state.specs.StartPlans.{hidden}
 use Rattle.machine_state.proofs.Among.{any_among}
 use Rattle.machine_state.proofs.EvenWords.{next_place}
 use Rattle.states.specs.State.{is_word}
-use Rattle.states.proofs.RowFacts.{and-parts, le-from}
 use Rattle.rulings.specs.Meaning.{Layout, HasFrame, IsOwnWord, words_in}
 use Rattle.rulings.specs.Regions.{IsByteOf, channel_address}
 use Rattle.rulings.specs.Remaining.{is_hidden, is_channel_word}
 use Rattle.rulings.proofs.Words.{local_place, word_test}
 use Rattle.share_laws.specs.Opening.{CanOpen}
 use Rattle.rulings.proofs.Regions.{bytes_written}
-use Rattle.share_laws.proofs.LeftBytes.{is_false}
 use Rattle.share_laws.proofs.Rows.{among_at, each_at}
 use Rattle.share_laws.proofs.ShareBytes.{frame_channel}
 
@@ -115,9 +114,9 @@ module _ (m : Contents) (row : ℕ) (par : Par) (layout : Layout) (base : ℕ) (
   of_place k hides a x at over =
       let w = hidden_word k hides in
       let is = w.is in
-      let both = and-parts (int_le (pos (place_of a)) (pos x)) _ over in
-      let low = le-from (pos (place_of a)) (pos x) both.0 in
-      let high = le-from (pos (x + 1)) (pos (place_of a) +ℤ pos 4) both.1 in
+      let both = and_parts (int_le (pos (place_of a)) (pos x)) _ over in
+      let low = int_le-true (pos (place_of a)) (pos x) both.0 in
+      let high = int_le-true (pos (x + 1)) (pos (place_of a) +ℤ pos 4) both.1 in
       (k, hides, record { low = omega (arith, ints, low, at, is); high = omega (arith, ints, high, at, is) })
 
   -- the block's second word lies at the place of its address
@@ -201,7 +200,7 @@ module _ (m : Contents) (row : ℕ) (par : Par) (layout : Layout) (base : ℕ) (
   -- no end that the starter has is one of a channel's word
   pub channel_free : (k : ℤ) (direction : Direction) → is_channel_word par k ≡ true
       → has_end h (record { address = channel_address layout (FrameWord k); direction = direction }) ≡ false
-  channel_free k direction is = is_false _ (λ held.
+  channel_free k direction is = false_from_ne_true _ (λ held.
       let w = hidden_word k (channel_hides k is) in
       let at : place_of (channel_address layout (FrameWord k)) ≡ w.place =
       ap place_of (sym (channel_at k is)) ∙ hidden_place k (channel_hides k is) (channel_fits k is) in

@@ -1,9 +1,10 @@
 -- The bytes of a share are held by the starter, and lie beside what the starter keeps.
 use Rattle.std.proofs.Common.{pos, ◌≡◌, ℕ, ◌+◌, ◌-◌, ◌<◌, ◌≤◌, ◌&&◌, ◌||◌, not, Bool, true, false, inl, inr, ℤ, List}
 use Rattle.std.proofs.Common.{length, Option, Some, refl, sym, ap, ◌∙◌, subst, arith}
-use Rattle.std.proofs.lemmas.Bool.{cases_eq, lt-ltb, le-ltb, and_from, or_cases, or_left, or_right}
+use Rattle.std.proofs.lemmas.Bool.{cases_eq, lt-ltb, le-ltb, and_from, or_cases, or_left, or_right, and_parts}
 use Rattle.std.proofs.lemmas.Int.{ints}
 use Rattle.std.specs.Prelude.{slice_get, nat_lt}
+use Rattle.std.proofs.lemmas.Bool.{not_from_false}
 use Rattle.module_format.specs.declared.rows.Parameter.{Parameter}
 use Rattle.module_format.specs.declared.rows.ParameterKind.{ParameterKind}
 use Rattle.module_format.specs.declared.rows.ParameterKind.TheVariants.{Value, ReadRegion, WrittenRegion, Channels}
@@ -21,7 +22,6 @@ use Rattle.machine_state.specs.Memory.{Memory, place_of}
 use Rattle.machine_state.specs.Spans.{Share, less, writes_place, reads_place}
 use Rattle.machine_state.specs.World.{constants_start}
 use Rattle.machine_state.proofs.SpanLaws.{runs_have, runs_tell}
-use Rattle.states.proofs.RowFacts.{and-parts}
 use Rattle.rulings.specs.Lends.{IsRegionKind}
 use Rattle.rulings.specs.Meaning.{place_in, Layout, words_left}
 use Rattle.rulings.specs.Reach.{is_listed}
@@ -37,21 +37,6 @@ use Rattle.share_laws.proofs.ShareBytes.{share_is_of_words}
 use Rattle.share_laws.proofs.LeftParameters.{Taken, taken, IsRegionLeft, written_left, read_left}
 
 -- ---- tests
-
--- a test that cannot hold is false
-pub is_false : (b : Bool) → (b ≡ true → ⊥) → b ≡ false
-is_false true never = absurd (never refl)
-is_false false never = refl
-
--- what is false is not true
-pub not_true : (b : Bool) → b ≡ false → not b ≡ true
-not_true true h = absurd (cc)
-not_true false h = refl
-
--- and the other way round
-pub was_false : (b : Bool) → not b ≡ true → b ≡ false
-was_false true h = absurd (cc)
-was_false false h = refl
 
 -- two that are false
 pub none_of : (a b : Bool) → a ≡ false → b ≡ false → not (a || b) ≡ true
@@ -90,7 +75,7 @@ unfolding less
 less_written n h share x inside own w r = runs_have _ 0 n x (record {
   above = omega arith;
   below = omega arith;
-  passes = and_from _ _ (and_from _ _ own (not_true _ w)) (not_true _ r);
+  passes = and_from _ _ (and_from _ _ own (not_from_false _ w)) (not_from_false _ r);
 })
 
 -- one that may be read, and that it has not to write, may be read
@@ -105,12 +90,12 @@ less_read n h share x inside read w = on (may_write h x) (reads_place share x) r
         && (not (may_write h place) || reads_place share place)) 0 n x (record {
           above = omega arith;
           below = omega arith;
-          passes = and_from _ _ (and_from _ _ read (not_true _ w)) passes;
+          passes = and_from _ _ (and_from _ _ read (not_from_false _ w)) passes;
         }))
 
     on : (a b : Bool) → may_write h x ≡ a → reads_place share x ≡ b → may_read (less n h share) x ≡ true
     on a true e f = only (or_right (not (may_write h x)) _ f)
-    on false false e f = only (or_left _ (reads_place share x) (not_true _ e))
+    on false false e f = only (or_left _ (reads_place share x) (not_from_false _ e))
     on true false e f = or_left _ _ (less_written n h share x inside e w f)
 
 -- what is left lies in memory
@@ -144,8 +129,8 @@ given_constant m n share x inside low high = on (writes_place share x) refl
         (record {
           above = omega arith;
           below = omega arith;
-          passes = and_from _ _ (not_true _ e) (or_right (reads_place share x) _ (and_from _ _ (lt-ltb x _ high)
-              (not_true _ (le-ltb x (constants_start m) low))));
+          passes = and_from _ _ (not_from_false _ e) (or_right (reads_place share x) _ (and_from _ _ (lt-ltb x _ high)
+              (not_from_false _ (le-ltb x (constants_start m) low))));
         }))
 
 -- and a place that it has to read
@@ -161,7 +146,7 @@ given_read m n share x inside r = on (writes_place share x) refl
         (record {
           above = omega arith;
           below = omega arith;
-          passes = and_from _ _ (not_true _ e) (or_left _ _ r);
+          passes = and_from _ _ (not_from_false _ e) (or_left _ _ r);
         }))
 
 -- ---- words that are left
@@ -171,9 +156,9 @@ module _ (m : Contents) (par : Par) (context started : ℕ) where
   pub left_readable : (k : ℤ) → (words_left m par context started).writes k ≡ true
       → (words_left m par context started).reads k ≡ true
   left_readable k h =
-      let a = and-parts (rights.may_write_word m context k && not (is_hidden par k))
+      let a = and_parts (rights.may_write_word m context k && not (is_hidden par k))
       (not (word_given_to_write par started k || word_given_to_read par started k)) h in
-      let b = and-parts (rights.may_write_word m context k) (not (is_hidden par k)) a.0 in
+      let b = and_parts (rights.may_write_word m context k) (not (is_hidden par k)) a.0 in
       and_from (rights.may_read_word m context k && not (is_hidden par k)) (not (word_given_to_write par started k))
       (and_from (rights.may_read_word m context k) (not (is_hidden par k)) (written_readable m context k b.0) b.1)
       (first (word_given_to_write par started k) (word_given_to_read par started k) a.1)

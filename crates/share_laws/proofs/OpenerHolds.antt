@@ -2,7 +2,7 @@
 use Rattle.std.proofs.Common.{◌≡◌, ℕ, ◌+◌, ◌<◌, ◌&&◌, ◌||◌, not, Bool, true, false, cond, ◌⊎◌, inl, inr, ℤ}
 use Rattle.std.proofs.Common.{if◌then◌else◌, List, [], ◌∷◌, ◌++◌, length, map, Option, Some, None, refl, sym, ap, ◌∙◌}
 use Rattle.std.proofs.Common.{subst, arith, eqb-true}
-use Rattle.std.proofs.lemmas.Bool.{eq-eqb, or_cases, or_left, or_right}
+use Rattle.std.proofs.lemmas.Bool.{eq-eqb, or_cases, or_left, or_right, and_parts, false_from_ne_true, not-true}
 use Rattle.std.specs.Prelude.{option_map, take, ◌==◌, find, int_le}
 use Rattle.std.specs.List.{list_any}
 use Rattle.module_format.specs.declared.rows.ChannelRow.{ChannelRow}
@@ -29,7 +29,6 @@ use Rattle.machine_state.specs.World.{constants_start}
 use Rattle.machine_state.proofs.Among.{among_left, among_right, among_more, filter_keeps}
 use Rattle.machine_state.proofs.Shares.{left_claims, end_among, end_held}
 use Rattle.states.specs.State.{is_word}
-use Rattle.states.proofs.RowFacts.{and-parts}
 use Rattle.rulings.specs.Channels.{message_length}
 use Rattle.rulings.specs.Meaning.{Layout, HasFrame, words_left}
 use Rattle.rulings.specs.Reach as reach
@@ -44,7 +43,7 @@ use Rattle.rulings.proofs.Words.{word_test, same_word_by}
 use Rattle.share_laws.specs.Opening.{lengths_with, layout_with, held_by_opener, CanOpen, OpenersHoldTheRest}
 use Rattle.share_laws.proofs.HiddenWords.{channel_free, hidden_byte, hidden_word, channel_at, one_channel}
 use Rattle.share_laws.proofs.HiddenWords.{channel_is_word}
-use Rattle.share_laws.proofs.LeftBytes.{byte_of, is_false, was_false, word_of_bytes, word_to_read, less_written}
+use Rattle.share_laws.proofs.LeftBytes.{byte_of, word_of_bytes, word_to_read, less_written}
 use Rattle.share_laws.proofs.LeftBytes.{less_read, less_inside}
 use Rattle.share_laws.proofs.LeftParameters.{left_by}
 use Rattle.share_laws.proofs.RowEnds.{listed_among}
@@ -164,7 +163,7 @@ lengths_elsewhere : (layout : Layout) (cs : List ChannelRow) (a : ℕ)
 lengths_elsewhere layout [] a never = refl
 lengths_elsewhere layout (c ∷ cs) a never =
     ap (λ (b : Bool). if b then c.length else lengths_with layout cs a)
-    (is_false (channel_address layout (FrameWord c.word) == a)
+    (false_from_ne_true (channel_address layout (FrameWord c.word) == a)
     (λ h. never c (inl refl) (eqb-true (channel_address layout (FrameWord c.word)) a h)))
     ∙ lengths_elsewhere layout cs a (λ d among. never d (inr among))
 
@@ -183,8 +182,8 @@ lengths_listed layout (c ∷ cs) word len h once = elim (word_test c.word word) 
       (ap (λ (z : ℤ). channel_address layout (FrameWord z)) t.1)) ∙ is
   | inr t ↦
       ap (λ (b : Bool). if b then c.length else lengths_with layout cs (channel_address layout (FrameWord word)))
-      (is_false (channel_address layout (FrameWord c.word) == channel_address layout (FrameWord word)) (λ e. t.1
-      (once c (inl refl) (eqb-true (channel_address layout (FrameWord c.word))
+      (false_from_ne_true (channel_address layout (FrameWord c.word) == channel_address layout (FrameWord word))
+      (λ e. t.1 (once c (inl refl) (eqb-true (channel_address layout (FrameWord c.word))
       (channel_address layout (FrameWord word)) e))))
       ∙ lengths_listed layout cs word len (sym (not_here (is_word c.word word) t.0) ∙ h) (λ d among. once d (inr among))
 ]
@@ -263,21 +262,21 @@ module _ (m : Contents) (row : ℕ) (par : Par) (layout : Layout) (base : ℕ) (
   -- a word that is left to write was the context's, and is not hidden
   left_word : (k : ℤ) → after.words.writes k ≡ true → IsShown k (rights.may_write_word m par.context k)
   left_word k t =
-      let a = and-parts (rights.may_write_word m par.context k && not (is_hidden par k)) _ t in
-      let b = and-parts (rights.may_write_word m par.context k) (not (is_hidden par k)) a.0 in
-      record { has = b.0; shown = was_false _ b.1 }
+      let a = and_parts (rights.may_write_word m par.context k && not (is_hidden par k)) _ t in
+      let b = and_parts (rights.may_write_word m par.context k) (not (is_hidden par k)) a.0 in
+      record { has = b.0; shown = not-true _ b.1 }
 
   -- so one that is left to read
   left_to_read : (k : ℤ) → after.words.reads k ≡ true → IsShown k (rights.may_read_word m par.context k)
   left_to_read k t =
-      let a = and-parts (rights.may_read_word m par.context k && not (is_hidden par k)) _ t in
-      let b = and-parts (rights.may_read_word m par.context k) (not (is_hidden par k)) a.0 in
-      record { has = b.0; shown = was_false _ b.1 }
+      let a = and_parts (rights.may_read_word m par.context k && not (is_hidden par k)) _ t in
+      let b = and_parts (rights.may_read_word m par.context k) (not (is_hidden par k)) a.0 in
+      record { has = b.0; shown = not-true _ b.1 }
 
   -- a byte of a word that is not hidden is none that is taken
   word_shown : (k : ℤ) (x : ℕ) → is_hidden par k ≡ false → IsByteOf layout.origin k x
       → writes_place (hidden base par) x ≡ false
-  word_shown k x shown b = is_false _ (λ w.
+  word_shown k x shown b = false_from_ne_true _ (λ w.
       let hides = hidden_byte m row par layout base h memory depth workspace o x w in
       let same = same_word layout.origin hides.0 k x hides.2 b in
       let no' : true ≡ false = sym hides.1 ∙ (ap (is_hidden par) same ∙ shown) in cc)
@@ -319,7 +318,7 @@ module _ (m : Contents) (row : ℕ) (par : Par) (layout : Layout) (base : ℕ) (
   region_shown : {may_use : ℕ → Bool} (place size i : ℕ) (lo hi : ℤ)
       → IsRegion m may_use before memory place size lo hi → i < size
       → writes_place (hidden base par) (place + i) ≡ false
-  region_shown place size i lo hi region low = is_false _ (λ w.
+  region_shown place size i lo hi region low = false_from_ne_true _ (λ w.
       let hides = hidden_byte m row par layout base h memory depth workspace o (place + i) w in
       region.beside hides.0 i (written_readable m par.context hides.0 (o.own hides.0 hides.1)) low hides.2)
 
@@ -392,7 +391,7 @@ module _ (m : Contents) (row : ℕ) (par : Par) (layout : Layout) (base : ℕ) (
   opener_constants = record {
     readable = λ i low. less_read (length memory) h (hidden base par) (constants_start m + i)
         (o.inside (constants_start m + i) (o.named.constants.readable i low)) (o.named.constants.readable i low)
-        (is_false _ (λ w.
+        (false_from_ne_true _ (λ w.
         let hides = hidden_byte m row par layout base h memory depth workspace o (constants_start m + i) w in
         let low_data = o.named.constants.behind (constants_start m + i)
         (byte_of_own h (length memory) layout.origin hides.0 (constants_start m + i)
@@ -416,7 +415,7 @@ module _ (m : Contents) (row : ℕ) (par : Par) (layout : Layout) (base : ℕ) (
   left_end : (kind : EndKind) (direction : Direction) → after.ends kind direction ≡ true → IsEnd kind direction
   left_end kind direction t =
       let e : EndRow = record { kind = kind; direction = direction } in
-      let a = and-parts (rights.has_end m par.context e || is_own_end par kind) _ t in
+      let a = and_parts (rights.has_end m par.context e || is_own_end par kind) _ t in
       elim (or_cases (rights.has_end m par.context e) (is_own_end par kind) a.0) [
         | inl has ↦ of_context has (λ k is same.
             let held = o.named.ends kind direction has in

@@ -2,13 +2,15 @@
 use Rattle.std.proofs.Common.{◌≡◌, ℕ, zero, suc, ◌+◌, ◌*◌, ◌%◌, ◌^◌, ◌<◌, ◌&&◌, Bool, true, false, if◌then◌else◌, inl}
 use Rattle.std.proofs.Common.{inr, ℤ, pos, ◌+ℤ◌, List, [], ◌∷◌, ◌++◌, map, length, Option, Some, None, FitsSigned, refl}
 use Rattle.std.proofs.Common.{sym, ap, ◌∙◌, subst, arith}
-use Rattle.std.proofs.lemmas.Bool.{eq-eqb, and_from}
+use Rattle.std.proofs.lemmas.Bool.{eq-eqb, and_from, and_parts}
 use Rattle.std.proofs.lemmas.Int.{ints, of_z-to_z}
 use Rattle.std.proofs.lemmas.Option.{slice_get-map}
 use Rattle.std.specs.Int.{w32, cast_unsigned, cast_signed}
 use Rattle.std.specs.Option.{option_map}
 use Rattle.std.specs.Prelude.{slice_get, ◌==◌, is_some, int_le, int_lt}
 use Rattle.std.specs.List.{list_all}
+use Rattle.small_laws.proofs.Comparisons.{int_le-true, int_lt-true}
+use Rattle.small_laws.proofs.Lookups.{slice_get_there}
 use Rattle.word_arithmetic.specs.Word.{least_word}
 use Rattle.module_format.specs.declared.rows.ChannelRow.{ChannelRow}
 use Rattle.module_format.specs.declared.rows.Parameter.{Parameter}
@@ -26,7 +28,6 @@ use Rattle.machine_state.specs.StartPlans.{Plan, word_in, first_plan, later_plan
 use Rattle.machine_state.specs.StartPlans.{ends_are_there, share_is_there, words_are_held, words_are_defined}
 use Rattle.machine_state.specs.StartPlans.{word_is_defined, is_word, is_prepared, is_next, first_fault, first_faults}
 use Rattle.states.proofs.FrameBounds.{frame-is-small}
-use Rattle.states.proofs.RowFacts.{and-parts, le-from, lt-from}
 use Rattle.rulings.specs.Remaining.{is_hidden}
 use Rattle.rulings.specs.Meaning.{Layout, Activation, frame_word, word_of, code_address}
 use Rattle.rulings.proofs.Offsets.{address_of_word}
@@ -86,12 +87,6 @@ named_at par j zero (q ∷ ps) p there names =
 named_at par j (suc i) (q ∷ ps) p there names =
     named_at par (j + 1) i ps p there
     (ap (row_names par) (let e : j + 1 + i ≡ j + suc i = omega arith in e) ∙ names)
-
--- a number that is low enough has an item
-nothing_at : {A : Type 0} (xs : List A) (i : ℕ) → i < length xs → slice_get xs i ≡ None → ⊥
-nothing_at [] i low none = omega (arith, low)
-nothing_at (x ∷ xs) zero low none = cc
-nothing_at (x ∷ xs) (suc i) low none = nothing_at xs i (omega (arith, low)) none
 
 -- ---- what the words hold
 
@@ -173,15 +168,15 @@ module _ (m : Contents) (p : ℕ) (found : Found) (layout : Layout) (h : Holding
 
   -- a word of the frame is small
   word_fits : (k : ℤ) → rights.may_read_word m found.par.context k ≡ true → FitsSigned w32 k
-  word_fits k reads = on (context_at m found.par.context) refl (and-parts _ _ reads).0
+  word_fits k reads = on (context_at m found.par.context) refl (and_parts _ _ reads).0
     where
       on : (c : Option Context) → context_at m found.par.context ≡ c → rights.has_word c k ≡ true → FitsSigned w32 k
       on None e h = absurd (cc)
       on (Some context) e h =
           let small = frame-is-small m o.keeps found.par.context context e in
-          let inside = and-parts (int_le context.lo k) (int_lt k context.hi) h in
-          let low = le-from context.lo k inside.0 in
-          let high = lt-from k context.hi inside.1 in
+          let inside = and_parts (int_le context.lo k) (int_lt k context.hi) h in
+          let low = int_le-true context.lo k inside.0 in
+          let high = int_lt-true k context.hi inside.1 in
           let least = small.low in
           let most = small.high in
           omega (arith, ints, low, high, least, most)
@@ -264,7 +259,7 @@ module _ (m : Contents) (p : ℕ) (found : Found) (layout : Layout) (h : Holding
       on : (q : Option Parameter) → slice_get (parameters_at m found.par.context) j ≡ q
           → address_of (map (word_in h memory base) (named_from found.par 0 (parameters_at m found.par.context))) j
           ≡ Some (layout.starts j % 2 ^ 32)
-      on None e = absurd (nothing_at (parameters_at m found.par.context) j low e)
+      on None e = absurd (slice_get_there (parameters_at m found.par.context) j low e)
       on (Some q) e =
           let w = parameter_word j q names e in
           let at : slice_get (map (word_in h memory base) (named_from found.par 0 (parameters_at m

@@ -4,8 +4,8 @@ use Rattle.std.proofs.Common.{ap₂, ◌∙◌, arith, eqb-true, if◌then◌els
 use Rattle.std.proofs.lemmas.Int.{ints}
 use Rattle.std.specs.Prelude.{◌==◌, int_le, is_some}
 use Rattle.std.specs.List.{list_any}
-use Rattle.std.proofs.lemmas.Bool.{and_from, or_cases}
-use Rattle.small_laws.proofs.Comparisons.{eqb-self}
+use Rattle.std.proofs.lemmas.Bool.{and_from, or_cases, and_parts}
+use Rattle.small_laws.proofs.Comparisons.{eqb-self, le-int_le}
 use Rattle.module_format.specs.declared.rows.Direction.{Direction}
 use Rattle.module_format.specs.declared.rows.Direction.TheVariants.{In, Out}
 use Rattle.module_format.specs.declared.rows.EndKind.{EndKind}
@@ -21,7 +21,6 @@ use Rattle.machine_state.specs.Holding.{same_direction}
 use Rattle.machine_state.specs.Ownership.{IsAmong}
 use Rattle.machine_state.specs.Spans.{is_listed}
 use Rattle.machine_state.proofs.Among.{any_among}
-use Rattle.states.proofs.RowFacts.{and-parts, le-yes}
 use Rattle.rulings.proofs.Words.{same_word_by}
 
 -- directions with one number are one
@@ -51,17 +50,17 @@ same_kind_by (ends.Link l) (ends.Parameter i b) kind number element = absurd (cc
 -- ends with one key are one
 pub same_end_by : (a b : EndRow) → is_same_end (key_of a) (key_of b) ≡ true → a ≡ b
 same_end_by a b h =
-    let three = and-parts _ _ h in
-    let two = and-parts _ _ three.0 in
-    let one = and-parts _ _ two.0 in
+    let three = and_parts _ _ h in
+    let two = and_parts _ _ three.0 in
+    let one = and_parts _ _ two.0 in
     ap₂ (λ (k : EndKind) (d : Direction). let e : EndRow = record { kind = k; direction = d } in e)
     (same_kind_by a.kind b.kind one.0 one.1 two.1) (same_direction_by a.direction b.direction three.1)
 
 -- an end has its own key
 pub end_itself : (e : EndRow) → is_same_end (key_of e) (key_of e) ≡ true
 end_itself e = and_from _ _ (and_from _ _ (and_from _ _ (eqb-self (kind_of e.kind))
-    (and_from _ _ (le-yes (number_of e.kind) (number_of e.kind) (omega (arith, ints)))
-    (le-yes (number_of e.kind) (number_of e.kind) (omega (arith, ints)))))
+    (and_from _ _ (le-int_le (number_of e.kind) (number_of e.kind) (omega (arith, ints)))
+    (le-int_le (number_of e.kind) (number_of e.kind) (omega (arith, ints)))))
     (eqb-self (element_of e.kind))) (eqb-self (direction_number e.direction))
 
 -- an end whose key is listed is in the list
@@ -87,7 +86,7 @@ ends_of_branch m n par b e numbered has = listed_end b.ends e
       | Some found ↦ list_any (λ other. is_same_end (key_of other) (key_of e)) found.1.ends
       | None ↦ if n == 0 then gives_link m.lengths e.kind e.direction else gives_parameter
           (parameters_at m n) e.kind e.direction
-    ]) numbered) ∙ (and-parts (is_some (context_at m n)) _ has).1)
+    ]) numbered) ∙ (and_parts (is_some (context_at m n)) _ has).1)
 
 -- ---- ends that processes hold
 
@@ -104,7 +103,7 @@ listed_among [] e listed = absurd (cc)
 listed_among (x ∷ xs) e listed =
     elim (or_cases ((e.address == x.address) && same_direction e.direction x.direction) _ listed) [
       | inl here ↦
-          let both = and-parts (e.address == x.address) (same_direction e.direction x.direction) here in
+          let both = and_parts (e.address == x.address) (same_direction e.direction x.direction) here in
           inl (ap₂ (λ (a : ℕ) (d : Direction). let y : End = record { address = a; direction = d } in y)
           (sym (eqb-true e.address x.address both.0)) (sym (direction_is e.direction x.direction both.1)))
       | inr there ↦ inr (listed_among xs e there)

@@ -7,9 +7,9 @@ use Rattle.std.proofs.lemmas.Int.{ints}
 use Rattle.std.specs.Int.{w32}
 use Rattle.std.specs.Prelude.{slice_get, int_le, int_lt, ◌==◌}
 use Rattle.std.specs.List.{list_any, list_all, flat_map}
-use Rattle.std.proofs.lemmas.Bool.{and_from}
+use Rattle.std.proofs.lemmas.Bool.{and_from, false_from_ne_true, not_from_false}
 use Rattle.small_laws.proofs.Options.{same_some}
-use Rattle.small_laws.proofs.Comparisons.{eqb-self}
+use Rattle.small_laws.proofs.Comparisons.{eqb-self, lt-int_lt, le-int_le}
 use Rattle.module_format.specs.declared.rows.Direction.{Direction}
 use Rattle.module_format.specs.declared.rows.Direction.TheVariants.{In, Out}
 use Rattle.module_format.specs.declared.rows.EndKey.{EndKey}
@@ -39,7 +39,6 @@ use Rattle.machine_state.specs.Spans.{is_listed, is_same_end, differ}
 use Rattle.machine_state.specs.StartPlans.{word_passes, scheduling_places}
 use Rattle.machine_state.proofs.Among.{among_more, any_among}
 use Rattle.machine_state.proofs.Shares.{end_among}
-use Rattle.states.proofs.RowFacts.{le-yes, lt-yes}
 use Rattle.rulings.specs.Meaning.{Layout, place_in}
 use Rattle.rulings.specs.Reach as reach
 use Rattle.rulings.specs.Regions.{scope_left, channel_address}
@@ -51,7 +50,7 @@ use Rattle.share_laws.specs.Shares.{of_word, end_at}
 use Rattle.share_laws.specs.Starts.{CanStart}
 use Rattle.share_laws.specs.Tests.{SharesAreThere}
 use Rattle.share_laws.proofs.BranchHolds.{branches_hold_their_shares}
-use Rattle.share_laws.proofs.LeftBytes.{is_false, not_true, of_words, written_held, read_held}
+use Rattle.share_laws.proofs.LeftBytes.{of_words, written_held, read_held}
 use Rattle.share_laws.proofs.RowEnds.{listed_among}
 use Rattle.share_laws.proofs.Rows.{gifts, read_is_region}
 
@@ -102,8 +101,8 @@ stretch_within n test first size some each inside =
     let last = inside (first + (size - 1)) (each (first + (size - 1)) (omega arith) (omega (arith, some))) in
     and_from (lies_in n (record { start = pos first; size = size })) (all_places test first size)
     (and_from (int_le (pos 0) (pos first)) (int_le (pos first +ℤ pos size) (pos n))
-    (le-yes (pos 0) (pos first) (omega (arith, ints)))
-    (le-yes (pos first +ℤ pos size) (pos n) (omega (arith, ints, last, some))))
+    (le-int_le (pos 0) (pos first) (omega (arith, ints)))
+    (le-int_le (pos first +ℤ pos size) (pos n) (omega (arith, ints, last, some))))
     (places_from test first size each)
 
 -- a place of a stretch is over it
@@ -111,8 +110,8 @@ over_from : (first size x : ℕ) → first ≤ x → x < first + size
     → stretches_over (record { start = pos first; size = size }) x ≡ true
 over_from first size x low high =
     and_from (int_le (pos first) (pos x)) (int_le (pos (x + 1)) (pos first +ℤ pos size))
-    (le-yes (pos first) (pos x) (omega (arith, ints, low)))
-    (le-yes (pos (x + 1)) (pos first +ℤ pos size) (omega (arith, ints, high)))
+    (le-int_le (pos first) (pos x) (omega (arith, ints, low)))
+    (le-int_le (pos (x + 1)) (pos first +ℤ pos size) (omega (arith, ints, high)))
 
 -- stretches that begin in memory, and have a place, lie in it
 abbrev IsSome : Stretch → Type 0
@@ -166,7 +165,7 @@ ends_differ : (layout : Layout) (low : EndKey) (es : List EndRow) → InOrder En
     → differ (map (end_at layout) es) ≡ true
 ends_differ layout low [] order once = refl
 ends_differ layout low (e ∷ es) order once =
-    and_from _ _ (not_true _ (is_false _ (λ listed.
+    and_from _ _ (not_from_false _ (false_from_ne_true _ (λ listed.
     let r = among_map (end_at layout) es (end_at layout e)
     (listed_among (map (end_at layout) es) (end_at layout e) listed) in
     let same : r.0 ≡ e = once r.0 e (inr r.1) (inl refl) r.2 in
@@ -230,8 +229,8 @@ module _ (m : Contents) (found : Found) (layout : Layout) (base : ℕ) (addresse
       let r = among_map (words_of base) words t among in
       let some = proper r.0 r.1 in
       let place = at r.0.lo (any_among (λ (i : Interval). int_le i.lo r.0.lo && int_lt r.0.lo i.hi) words r.0 r.1
-      (and_from (int_le r.0.lo r.0.lo) (int_lt r.0.lo r.0.hi) (le-yes r.0.lo r.0.lo (omega (arith, ints)))
-      (lt-yes r.0.lo r.0.hi some))) in
+      (and_from (int_le r.0.lo r.0.lo) (int_lt r.0.lo r.0.hi) (le-int_le r.0.lo r.0.lo (omega (arith, ints)))
+      (lt-int_lt r.0.lo r.0.hi some))) in
       let origin_is = s.laid.origin in
       let is = place.1 in (
         place.0,

@@ -2,7 +2,7 @@
 use Rattle.std.proofs.Common.{◌≡◌, ℕ, ◌+◌, ◌<◌, ◌&&◌, ◌||◌, not, Bool, true, false, inl, inr, ℤ, List, [], ◌∷◌, length}
 use Rattle.std.proofs.Common.{map, Option, Some, refl, sym, ap, ap₂, ◌∙◌, subst, arith}
 use Rattle.std.specs.List.{list_any}
-use Rattle.std.proofs.lemmas.Bool.{and_from}
+use Rattle.std.proofs.lemmas.Bool.{and_from, and_parts, false_from_ne_true, or_parts, not-true, not_from_false}
 use Rattle.module_format.specs.declared.rows.Direction.{Direction}
 use Rattle.module_format.specs.declared.rows.EndKind.{EndKind}
 use Rattle.module_format.specs.declared.rows.EndRow.{EndRow}
@@ -22,7 +22,6 @@ use Rattle.machine_state.specs.Spans.{Share, less, writes_place, reads_place, is
 use Rattle.machine_state.specs.World.{constants_start}
 use Rattle.machine_state.proofs.Among.{filter_keeps}
 use Rattle.machine_state.proofs.Shares.{left_claims, end_among, end_held}
-use Rattle.states.proofs.RowFacts.{and-parts}
 use Rattle.rulings.specs.Lends.{IsRegionKind}
 use Rattle.rulings.specs.Meaning.{Layout, HasFrame, words_left}
 use Rattle.rulings.specs.Reach as reach
@@ -35,7 +34,7 @@ use Rattle.rulings.proofs.Regions.{bytes_read, bytes_written}
 use Rattle.share_laws.specs.Shares.{end_at, share_at}
 use Rattle.share_laws.specs.Starts.{CanStart, held_by_starter, StartersHoldTheRest}
 use Rattle.share_laws.proofs.RowEnds.{end_listed, listed_among}
-use Rattle.share_laws.proofs.LeftBytes.{byte_of, none_of, is_false, not_true, was_false, word_of_bytes, word_to_read}
+use Rattle.share_laws.proofs.LeftBytes.{byte_of, none_of, word_of_bytes, word_to_read}
 use Rattle.share_laws.proofs.LeftBytes.{less_written, less_read, less_inside, left_readable, region_to_read, share}
 use Rattle.share_laws.proofs.LeftBytes.{of_words, to_write_left, to_read_left, listed_word, written_held, HasByte}
 use Rattle.share_laws.proofs.LeftBytes.{written_by_number, read_by_number}
@@ -82,12 +81,6 @@ neither true b h = absurd (cc)
 neither false true h = absurd (cc)
 neither false false h = (refl, refl)
 
--- the same of one that is false
-both_false : (a b : Bool) → (a || b) ≡ false → (a ≡ false) × (b ≡ false)
-both_false true b h = absurd (cc)
-both_false false true h = absurd (cc)
-both_false false false h = (refl, refl)
-
 module _ (m : Contents) (found : Found) (layout : Layout) (base : ℕ) (addresses : List (Option ℕ))
     (h : Holding) (memory : Memory) (depth : ℤ) (workspace : ℕ)
     (s : CanStart m found layout base addresses h memory depth workspace) where
@@ -119,12 +112,12 @@ module _ (m : Contents) (found : Found) (layout : Layout) (base : ℕ) (addresse
   -- a word that is left to write after the start
   left_word : (k : ℤ) → after.words.writes k ≡ true → IsLeftWord k
   left_word k t =
-      let a = and-parts (rights.may_write_word m found.par.context k && not (is_hidden found.par k)) _ t in
+      let a = and_parts (rights.may_write_word m found.par.context k && not (is_hidden found.par k)) _ t in
       let b = neither (word_given_to_write found.par (found.number + 1) k)
       (word_given_to_read found.par (found.number + 1) k) a.1 in
-      let w = both_false (word_given_to_write found.par found.number k) (is_among found.branch.writes k)
+      let w = or_parts (word_given_to_write found.par found.number k) (is_among found.branch.writes k)
       (sym (given (λ b. is_among b.writes k)) ∙ b.0) in
-      let r = both_false (word_given_to_read found.par found.number k) (is_among found.branch.reads k)
+      let r = or_parts (word_given_to_read found.par found.number k) (is_among found.branch.reads k)
       (sym (given (λ b. is_among b.reads k)) ∙ b.1) in
       record {
         before_it = and_from _ _ a.0 (none_of (word_given_to_write found.par found.number k)
@@ -140,15 +133,15 @@ module _ (m : Contents) (found : Found) (layout : Layout) (base : ℕ) (addresse
   -- one that is left to read: it was before, and the branch has not to write it
   left_to_read : (k : ℤ) → after.words.reads k ≡ true → IsLeftToRead k
   left_to_read k t =
-      let a = and-parts (rights.may_read_word m found.par.context k && not (is_hidden found.par k)) _ t in
-      let w = both_false (word_given_to_write found.par found.number k) (is_among found.branch.writes k)
-      (sym (given (λ b. is_among b.writes k)) ∙ was_false _ a.1) in
-      record { before_it = and_from _ _ a.0 (not_true _ w.0); not_written = w.1 }
+      let a = and_parts (rights.may_read_word m found.par.context k && not (is_hidden found.par k)) _ t in
+      let w = or_parts (word_given_to_write found.par found.number k) (is_among found.branch.writes k)
+      (sym (given (λ b. is_among b.writes k)) ∙ not-true _ a.1) in
+      record { before_it = and_from _ _ a.0 (not_from_false _ w.0); not_written = w.1 }
 
   -- a byte of a word that the branch has not to write is none of its share's
   word_unwritten : (k : ℤ) (x : ℕ) → before.words.reads k ≡ true → is_among found.branch.writes k ≡ false
       → IsByteOf layout.origin k x → writes_place gift x ≡ false
-  word_unwritten k x counts free b = is_false (writes_place gift x) (λ w.
+  word_unwritten k x counts free b = false_from_ne_true (writes_place gift x) (λ w.
       let among = listed_word m found layout base addresses h memory depth workspace s
       (to_write_left m found layout base addresses h memory depth workspace s) k x counts b
       ((of_words m found layout base addresses h memory depth workspace s).written x w) in
@@ -157,7 +150,7 @@ module _ (m : Contents) (found : Found) (layout : Layout) (base : ℕ) (addresse
   -- nor one that it has not to read
   word_unread : (k : ℤ) (x : ℕ) → before.words.reads k ≡ true → is_among found.branch.reads k ≡ false
       → IsByteOf layout.origin k x → reads_place gift x ≡ false
-  word_unread k x counts free b = is_false (reads_place gift x) (λ w.
+  word_unread k x counts free b = false_from_ne_true (reads_place gift x) (λ w.
       let among = listed_word m found layout base addresses h memory depth workspace s
       (to_read_left m found layout base addresses h memory depth workspace s) k x counts b
       ((of_words m found layout base addresses h memory depth workspace s).read x w) in
@@ -218,7 +211,7 @@ module _ (m : Contents) (found : Found) (layout : Layout) (base : ℕ) (addresse
   region_unwritten : (j : ℕ) (q : Parameter) (size i : ℕ) (lo hi : ℤ) → before.parameters j ≡ Some q
       → IsRegionKind q.kind size lo hi → i < size → reach.is_listed found.branch.written_parameters j ≡ false
       → writes_place gift (place_of (layout.starts j) + i) ≡ false
-  region_unwritten j q size i lo hi there kind low free = is_false _ (λ w.
+  region_unwritten j q size i lo hi there kind low free = false_from_ne_true _ (λ w.
       let listed = written_by_number m found layout base addresses h memory depth workspace s j q
       (place_of (layout.starts j) + i) (has_byte j q size i lo hi there kind low) w in
       let no' : false ≡ true = sym free ∙ listed in cc)
@@ -227,7 +220,7 @@ module _ (m : Contents) (found : Found) (layout : Layout) (base : ℕ) (addresse
   region_unread : (j : ℕ) (q : Parameter) (size i : ℕ) (lo hi : ℤ) → before.parameters j ≡ Some q
       → q.kind ≡ WrittenRegion size lo hi → i < size → reach.is_listed found.branch.read_parameters j ≡ false
       → reads_place gift (place_of (layout.starts j) + i) ≡ false
-  region_unread j q size i lo hi there kind low free = is_false _ (λ w.
+  region_unread j q size i lo hi there kind low free = false_from_ne_true _ (λ w.
       let listed = read_by_number m found layout base addresses h memory depth workspace s j q
       (place_of (layout.starts j) + i) (has_byte j q size i lo hi there (inr kind) low) kind w in
       let no' : false ≡ true = sym free ∙ listed in cc)
@@ -292,7 +285,7 @@ module _ (m : Contents) (found : Found) (layout : Layout) (base : ℕ) (addresse
   starter_constants = record {
     readable = λ i low. less_read (length memory) h gift (constants_start m + i)
         (s.inside (constants_start m + i) (s.named.constants.readable i low)) (s.named.constants.readable i low)
-        (is_false _ (λ w.
+        (false_from_ne_true _ (λ w.
         let low_data = s.named.constants.behind (constants_start m + i)
         (written_held m found layout base addresses h memory depth workspace s (constants_start m + i) w) in
         omega (arith, low_data)));
@@ -312,11 +305,11 @@ module _ (m : Contents) (found : Found) (layout : Layout) (base : ℕ) (addresse
   left_end : (kind : EndKind) (direction : Direction) → after.ends kind direction ≡ true → IsLeftEnd kind direction
   left_end kind direction t =
       let e : EndRow = record { kind = kind; direction = direction } in
-      let a = and-parts (rights.has_end m found.par.context e || is_own_end found.par kind) _ t in
-      let g = both_false (end_given found.par found.number e) _
-      (sym (given (λ b. list_any (λ other. is_same_end (key_of other) (key_of e)) b.ends)) ∙ was_false _ a.1) in
+      let a = and_parts (rights.has_end m found.par.context e || is_own_end found.par kind) _ t in
+      let g = or_parts (end_given found.par found.number e) _
+      (sym (given (λ b. list_any (λ other. is_same_end (key_of other) (key_of e)) b.ends)) ∙ not-true _ a.1) in
       record {
-        before_it = and_from _ _ a.0 (not_true _ g.0);
+        before_it = and_from _ _ a.0 (not_from_false _ g.0);
         not_given = λ among. let no' : false ≡ true = sym g.1 ∙ end_listed found.branch.ends e among in cc;
       }
 
@@ -329,7 +322,7 @@ module _ (m : Contents) (found : Found) (layout : Layout) (base : ℕ) (addresse
       let e : End = record { address = channel_address layout kind; direction = direction } in
       end_held mine e (filter_keeps (λ end. not (is_listed gift.ends end)) h.ends e
       (end_among h e (s.named.ends kind direction l.before_it))
-      (not_true _ (is_false _ (λ listed. l.not_given (of_share kind direction l.before_it
+      (not_from_false _ (false_from_ne_true _ (λ listed. l.not_given (of_share kind direction l.before_it
       (subst (λ (xs : List End). IsAmong e xs)
       (of_words m found layout base addresses h memory depth workspace s).ends (listed_among gift.ends e listed)))))))
     where

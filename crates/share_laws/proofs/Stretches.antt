@@ -2,18 +2,17 @@
 use Rattle.std.proofs.Common.{◌≡◌, ℕ, ◌+◌, ◌*◌, ◌/◌, ◌<◌, ◌≤◌, ◌&&◌, Bool, true, false, ◌⊎◌, inl, inr, ℤ, pos, ◌+ℤ◌}
 use Rattle.std.proofs.Common.{◌-ℤ◌, ◌*ℤ◌, ◌≤ℤ◌, ◌<ℤ◌, List, [], ◌∷◌, ◌++◌, map, Option, Some, None, refl, sym, ap, ◌∙◌}
 use Rattle.std.proofs.Common.{subst, arith, nat_abs}
-use Rattle.std.proofs.lemmas.Bool.{eqb-true, and_from, or_cases, or_left, or_right}
+use Rattle.std.proofs.lemmas.Bool.{eqb-true, and_from, or_cases, or_left, or_right, and_parts}
 use Rattle.std.proofs.lemmas.Int.{ints}
 use Rattle.std.specs.Prelude.{int_le, int_lt, slice_get, ◌==◌}
 use Rattle.std.specs.List.{list_any, flat_map, AllByRecursion}
-use Rattle.small_laws.proofs.Comparisons.{eqb-self}
+use Rattle.small_laws.proofs.Comparisons.{eqb-self, lt-int_lt, le-int_le, int_le-true, int_lt-true}
 use Rattle.module_format.specs.declared.rows.Parameter.{Parameter}
 use Rattle.module_format.specs.declared.rows.Interval.{Interval}
 use Rattle.certificate.specs.Rights.{is_among}
 use Rattle.machine_state.specs.BranchShares.{words_of, region_of, region_size, address_of}
 use Rattle.machine_state.specs.Memory.{place_of, data_start}
 use Rattle.machine_state.specs.Spans.{Stretch, stretches_over}
-use Rattle.states.proofs.RowFacts.{and-parts, le-yes, lt-yes, le-from, lt-from}
 use Rattle.rulings.specs.Meaning.{place_in}
 use Rattle.rulings.specs.Reach.{is_listed}
 use Rattle.rulings.specs.Regions.{IsByteOf}
@@ -50,9 +49,9 @@ any_second test (x ∷ xs) ys h = or_right (test x) _ (any_second test xs ys h)
 over_tells : (start : ℤ) (size place : ℕ) → stretches_over (record { start = start; size = size }) place ≡ true
     → (start ≤ℤ pos place) × (pos place <ℤ (start +ℤ pos size))
 over_tells start size place h =
-    let both = and-parts (int_le start (pos place)) (int_le (pos (place + 1)) (start +ℤ pos size)) h in
-    let low = le-from start (pos place) both.0 in
-    let high = le-from (pos (place + 1)) (start +ℤ pos size) both.1 in
+    let both = and_parts (int_le start (pos place)) (int_le (pos (place + 1)) (start +ℤ pos size)) h in
+    let low = int_le-true start (pos place) both.0 in
+    let high = int_le-true (pos (place + 1)) (start +ℤ pos size) both.1 in
     (low, omega (arith, ints, high))
 
 -- a place that lies there is over it
@@ -60,7 +59,7 @@ over_there : (start : ℤ) (size place : ℕ) → start ≤ℤ pos place → pos
     → stretches_over (record { start = start; size = size }) place ≡ true
 over_there start size place low high =
     and_from (int_le start (pos place)) (int_le (pos (place + 1)) (start +ℤ pos size))
-    (le-yes start (pos place) low) (le-yes (pos (place + 1)) (start +ℤ pos size) (omega (arith, ints, high)))
+    (le-int_le start (pos place) low) (le-int_le (pos (place + 1)) (start +ℤ pos size) (omega (arith, ints, high)))
 
 -- no interval ends before it begins
 abbrev pub AreProper : List Interval → Type 0
@@ -101,7 +100,7 @@ module _ (base : ℕ) (origin : ℤ) (at : pos base ≡ pos data_start +ℤ orig
     | inl here ↦
         let w = word_found i.lo i.hi place proper.0 here in (
           w.0,
-          or_left _ _ (and_from (int_le i.lo w.0) (int_lt w.0 i.hi) (le-yes i.lo w.0 w.1) (lt-yes w.0 i.hi w.2)),
+          or_left _ _ (and_from (int_le i.lo w.0) (int_lt w.0 i.hi) (le-int_le i.lo w.0 w.1) (lt-int_lt w.0 i.hi w.2)),
           w.3,
         )
     | inr there ↦
@@ -115,8 +114,8 @@ module _ (base : ℕ) (origin : ℤ) (at : pos base ≡ pos data_start +ℤ orig
   words_there [] k place among b = absurd (cc)
   words_there (i ∷ is) k place among b = elim (or_cases (int_le i.lo k && int_lt k i.hi) _ among) [
     | inl here ↦
-        let both = and-parts (int_le i.lo k) (int_lt k i.hi) here in
-        or_left _ _ (word_there i.lo i.hi k place (le-from i.lo k both.0) (lt-from k i.hi both.1) b)
+        let both = and_parts (int_le i.lo k) (int_lt k i.hi) here in
+        or_left _ _ (word_there i.lo i.hi k place (int_le-true i.lo k both.0) (int_lt-true k i.hi both.1) b)
     | inr there ↦ or_right (stretches_over (words_of base i) place) _ (words_there is k place there b)
   ]
 

@@ -3,7 +3,7 @@ use Rattle.std.proofs.Common.{◌≡◌, ℕ, ◌+◌, ◌<◌, ◌&&◌, not, t
 use Rattle.std.proofs.Common.{◌++◌, length, map, Option, None, FitsSigned, refl, sym, ◌∙◌, subst, arith}
 use Rattle.std.proofs.lemmas.Int.{ints}
 use Rattle.std.specs.Int.{w32}
-use Rattle.std.proofs.lemmas.Bool.{or_right}
+use Rattle.std.proofs.lemmas.Bool.{or_right, and_parts, not-true}
 use Rattle.module_format.specs.declared.rows.ChannelRow.{ChannelRow}
 use Rattle.module_format.specs.Contents.{Contents, Par}
 use Rattle.certificate.specs.Rights as rights
@@ -17,7 +17,6 @@ use Rattle.machine_state.specs.Memory.{Memory, data_start, place_of, with_word, 
 use Rattle.machine_state.specs.Ownership.{IsAmong}
 use Rattle.machine_state.specs.StartPlans.{scheduling_addresses, block_addresses, channel_addresses}
 use Rattle.machine_state.proofs.Reading.{length-with_word}
-use Rattle.states.proofs.RowFacts.{and-parts}
 use Rattle.rulings.specs.Meaning.{Layout, IsOwnWord, HasFrame, words_in, words_left, frame_word}
 use Rattle.rulings.specs.Regions.{Scope, Keeps, scope_of, scope_left}
 use Rattle.rulings.specs.Remaining.{is_hidden, word_given_to_write}
@@ -32,7 +31,7 @@ use Rattle.share_laws.specs.Taking.{OpeningTakes, OpeningsTakeTheirWords, Starts
 use Rattle.share_laws.proofs.BranchHolds.{branches_hold_their_shares}
 use Rattle.share_laws.proofs.HiddenWords.{hidden_place, second_place, block_hides, next_hides, channel_hides}
 use Rattle.share_laws.proofs.HiddenWords.{channel_is_word, fits_words, hidden_word}
-use Rattle.share_laws.proofs.LeftBytes.{left_readable, was_false}
+use Rattle.share_laws.proofs.LeftBytes.{left_readable}
 use Rattle.share_laws.proofs.LeftParameters.{one_more}
 use Rattle.share_laws.proofs.Rows.{workspace_fits}
 
@@ -150,8 +149,8 @@ module _ (m : Contents) (found : Found) (layout : Layout) (base : ℕ) (addresse
       given : (k : ℤ) → (words_left m found.par found.par.context (found.number + 1)).reads k ≡ true
           → is_among found.branch.writes k ≡ true → ⊥
       given k t among =
-          let a = and-parts (rights.may_read_word m found.par.context k && not (is_hidden found.par k)) _ t in
-          let free : word_given_to_write found.par (found.number + 1) k ≡ false = was_false _ a.1 in
+          let a = and_parts (rights.may_read_word m found.par.context k && not (is_hidden found.par k)) _ t in
+          let free : word_given_to_write found.par (found.number + 1) k ≡ false = not-true _ a.1 in
           let more = one_more found.par found.number found.branch (λ b. is_among b.writes k) s.is.branch in
           let no' : false ≡ true = sym free ∙ more ∙ or_right (word_given_to_write found.par found.number k)
           (is_among found.branch.writes k) among in
@@ -235,8 +234,8 @@ module _ (m : Contents) (row : ℕ) (par : Par) (layout : Layout) (base : ℕ) (
         size = size;
         keeps = opening_takes.keeps;
         words = λ k t. opening_takes.others k (λ hides.
-            let a = and-parts (rights.may_read_word m par.context k && not (is_hidden par k)) _ t in
-            let shown = was_false (is_hidden par k) (and-parts (rights.may_read_word m par.context k) _ a.0).1 in
+            let a = and_parts (rights.may_read_word m par.context k && not (is_hidden par k)) _ t in
+            let shown = not-true (is_hidden par k) (and_parts (rights.may_read_word m par.context k) _ a.0).1 in
             let no' : true ≡ false = sym hides ∙ shown in cc);
       }
 
@@ -258,9 +257,9 @@ module _ (m : Contents) (found : Found) (layout : Layout) (base : ℕ) (h : Hold
   writes_of : (k : ℤ) → is_among found.branch.writes k ≡ true
       → rights.may_write_word m found.par.context k ≡ true
   writes_of k among =
-      let a = and-parts (rights.may_write_word m found.par.context k && not (is_hidden found.par k)) _
+      let a = and_parts (rights.may_write_word m found.par.context k && not (is_hidden found.par k)) _
       (left.writes k among) in
-      (and-parts (rights.may_write_word m found.par.context k) _ a.0).0
+      (and_parts (rights.may_write_word m found.par.context k) _ a.0).0
 
   -- the three words are the opener's own
   own_scheduling : (n : ℕ) → n < 3

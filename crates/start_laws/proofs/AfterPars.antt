@@ -5,7 +5,9 @@ use Rattle.std.proofs.Common.{refl, sym, ap, ◌∙◌, arith, eqb-true}
 use Rattle.std.proofs.lemmas.Int.{ints}
 use Rattle.std.specs.Prelude.{int_le, int_lt}
 use Rattle.std.specs.List.{list_any}
-use Rattle.std.proofs.lemmas.Bool.{and_from, or_cases, or_left, or_right}
+use Rattle.std.proofs.lemmas.Bool.{and_from, or_cases, or_left, or_right, and_parts, false_from_ne_true, or_parts}
+use Rattle.std.proofs.lemmas.Bool.{not-true, cases_Bool}
+use Rattle.small_laws.proofs.Comparisons.{int_le-true, int_lt-true}
 use Rattle.module_format.specs.Rows.{Fact, Entry}
 use Rattle.module_format.specs.declared.fact.Fact.TheVariants.{Unknown, Number, Pointer, CodeAddress, Loop}
 use Rattle.module_format.specs.declared.fact.Fact.TheVariants.{ReturnAddress}
@@ -17,14 +19,11 @@ use Rattle.certificate.specs.Rights.{is_among}
 use Rattle.certificate.specs.Starting.{is_unknown, is_written, is_loop, is_written_loop, says_of_hidden}
 use Rattle.states.specs.declared.known.WordFact.TheVariants.{Alone}
 use Rattle.states.specs.State.{is_word, is_about, is_alone, is_silent, said_of, entry_fact}
-use Rattle.states.proofs.RowFacts.{and-parts, le-from, lt-from}
 use Rattle.rulings.specs.Meaning.{IsSpan, ArePairs}
 use Rattle.rulings.specs.Remaining.{is_hidden, is_channel_word, word_given_to_write}
 use Rattle.rulings.proofs.Entering.{entry_here, entry_later}
-use Rattle.rulings.proofs.Words.{bool_cases, same_word_by, int_le_tells, word_test}
+use Rattle.rulings.proofs.Words.{same_word_by, int_le_tells, word_test}
 use Rattle.par_rules.specs.Comparisons.{is_after}
-use Rattle.share_laws.proofs.LeftBytes.{is_false, was_false}
-use Rattle.start_laws.proofs.GivenIsLeft.{neither}
 
 -- ---- all branches
 
@@ -71,16 +70,16 @@ silent_stack stack a b c =
 
 pub after_tells : (par : Par) (t : Label) → is_after par t ≡ true → IsAfter par t
 after_tells par t h =
-    let e = and-parts _ (not (list_any (says_of_hidden par) t.entries)) h in
-    let d = and-parts _ (is_silent (Alone t.stack.c)) e.0 in
-    let c = and-parts _ (is_silent (Alone t.stack.b)) d.0 in
-    let b = and-parts _ (is_silent (Alone t.stack.a)) c.0 in
-    let a = and-parts (t.context == par.context) (is_word t.depth par.block) b.0 in
+    let e = and_parts _ (not (list_any (says_of_hidden par) t.entries)) h in
+    let d = and_parts _ (is_silent (Alone t.stack.c)) e.0 in
+    let c = and_parts _ (is_silent (Alone t.stack.b)) d.0 in
+    let b = and_parts _ (is_silent (Alone t.stack.a)) c.0 in
+    let a = and_parts (t.context == par.context) (is_word t.depth par.block) b.0 in
     record {
       context = eqb-true t.context par.context a.0;
       depth = same_word_by t.depth par.block a.1;
       registers = silent_stack t.stack (silent_is t.stack.a b.1) (silent_is t.stack.b c.1) (silent_is t.stack.c d.1);
-      hidden = was_false _ e.1;
+      hidden = not-true _ e.1;
     }
 
 -- an entry that is about a hidden word says nothing
@@ -126,8 +125,8 @@ pub says_nothing_hidden : (par : Par) (entries : List Entry) (k : ℤ) → list_
     → is_hidden par k ≡ true → entry_fact entries k ≡ Alone Unknown
 says_nothing_hidden par [] k quiet hides = refl
 says_nothing_hidden par (entry ∷ entries) k quiet hides =
-    let both = neither (says_of_hidden par entry) (list_any (says_of_hidden par) entries) quiet in
-    elim (bool_cases (is_about entry k)) [
+    let both = or_parts (says_of_hidden par entry) (list_any (says_of_hidden par) entries) quiet in
+    elim (cases_Bool (is_about entry k)) [
       | inl e ↦ entry_here entry entries k e
           ∙ unknown_said entry.fact (is_word entry.word k) (unknown_is entry.fact
           (entry_silent par entry k both.0 hides e))
@@ -167,23 +166,24 @@ pub written_alone : (par : Par) (entries : List Entry) (k : ℤ) → ArePairs en
     → is_alone (entry_fact entries k) ≡ true
 written_alone par [] k pairs none writes = refl
 written_alone par (entry ∷ entries) k pairs none writes =
-    let both = neither (is_written_loop par entry) (list_any (is_written_loop par) entries) none in
-    elim (bool_cases (is_about entry k)) [
+    let both = or_parts (is_written_loop par entry) (list_any (is_written_loop par) entries) none in
+    elim (cases_Bool (is_about entry k)) [
       | inr e ↦ ap is_alone (entry_later entry entries k e) ∙ written_alone par entries k pairs.1 both.1 writes
       | inl e ↦ ap is_alone (entry_here entry entries k e)
-          ∙ alone_said entry.fact (is_word entry.word k) (is_false (is_loop entry.fact) (λ loop. here e loop both.0))
+          ∙ alone_said entry.fact (is_word entry.word k)
+          (false_from_ne_true (is_loop entry.fact) (λ loop. here e loop both.0))
     ]
   where
     here : is_about entry k ≡ true → is_loop entry.fact ≡ true → is_written_loop par entry ≡ false → ⊥
     here e loop quiet =
-        let place = and-parts (int_le entry.word k) (int_lt k (entry.word +ℤ pos entry.span)) e in
+        let place = and_parts (int_le entry.word k) (int_lt k (entry.word +ℤ pos entry.span)) e in
         let two = loop_span entry.fact entry.span loop pairs.0 in
         let meets : (is_written par entry.word || is_written par (entry.word +ℤ pos 1)) ≡ true =
         elim (word_test entry.word k) [
           | inl same ↦ or_left _ _ (ap (is_written par) same.1 ∙ writes)
           | inr other ↦ or_right (is_written par entry.word) _ (ap (is_written par)
-              (two_words entry.word k entry.span two (le-from entry.word k place.0)
-              (lt-from k (entry.word +ℤ pos entry.span) place.1) other.1) ∙ writes)
+              (two_words entry.word k entry.span two (int_le-true entry.word k place.0)
+              (int_lt-true k (entry.word +ℤ pos entry.span) place.1) other.1) ∙ writes)
         ] in
         let loud : is_written_loop par entry ≡ true = and_from _ _ loop meets in
         let no' : false ≡ true = sym quiet ∙ loud in cc

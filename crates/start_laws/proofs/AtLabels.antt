@@ -5,6 +5,7 @@ use Rattle.std.proofs.Common.{arith, if◌then◌else◌}
 use Rattle.std.proofs.lemmas.Bool.{le-ltb, and_from}
 use Rattle.std.proofs.lemmas.Int.{ints}
 use Rattle.std.specs.Prelude.{int_le, int_lt}
+use Rattle.small_laws.proofs.Comparisons.{lt-int_lt, le-int_le}
 use Rattle.module_format.specs.declared.fact.Fact.TheVariants.{Unknown}
 use Rattle.module_format.specs.Contents.{Contents, Label, label_at}
 use Rattle.certificate.specs.Starting.{is_scheduling_word}
@@ -18,7 +19,6 @@ use Rattle.states.specs.declared.rule.Rule.TheVariants as rules
 use Rattle.states.specs.declared.known.WordFact.TheVariants.{Alone}
 use Rattle.states.specs.State.{State, Facts, begun, plain}
 use Rattle.states.specs.Below.{cost, agrees, below, view}
-use Rattle.states.proofs.RowFacts.{le-yes, lt-yes}
 use Rattle.rulings.specs.Meaning.{Activation, MeansWord, is_fact, nothing_known, frame_word, IsWellFormed, loop_due}
 use Rattle.rulings.specs.Meaning.{dues_from, dues, farthest_word, label_turns}
 use Rattle.rulings.proofs.Dues.{label_owed}
@@ -88,9 +88,9 @@ module _ (m : Contents) (found : Found) (s : State) (t : Label) where
       let low = such.low in
       let is = such.is in
       let below : int_lt k found.branch.workspace ≡ true =
-      lt-yes k found.branch.workspace (omega (arith, ints, is)) in
+      lt-int_lt k found.branch.workspace (omega (arith, ints, is)) in
       let near : int_le found.branch.workspace (k +ℤ pos 3) ≡ true =
-      le-yes found.branch.workspace (k +ℤ pos 3) (omega (arith, ints, is, low)) in
+      le-int_le found.branch.workspace (k +ℤ pos 3) (omega (arith, ints, is, low)) in
       let both = and_from _ _ below near in
       ap (λ (b : Bool). if may_read_word m (context_of m found) k && not b then Alone (plain (s.frame k))
       else Alone Unknown) both

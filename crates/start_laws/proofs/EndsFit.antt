@@ -2,6 +2,7 @@
 use Rattle.std.proofs.Common.{◌≡◌, ℕ, ◌≤◌, ◌==◌, ◌||◌, not, Bool, true, false, ℤ, length}
 use Rattle.std.proofs.Common.{Option, Some, None, refl, sym, ap, ◌∙◌, subst, eqb-true, if◌then◌else◌}
 use Rattle.std.specs.Prelude.{IsTrue, slice_get, option_map}
+use Rattle.std.proofs.lemmas.Bool.{and_parts}
 use Rattle.module_format.specs.Order.{is_stepped}
 use Rattle.module_format.specs.declared.fact.Fact.TheVariants.{Unknown}
 use Rattle.module_format.specs.declared.rows.EndKind.TheVariants.{FrameWord}
@@ -20,7 +21,6 @@ use Rattle.states.specs.declared.known.WordFact.TheVariants.{Alone, Index, Count
 use Rattle.states.specs.declared.rule.Rule.TheVariants as rules
 use Rattle.states.specs.State.{State, entry_fact, is_alone, by_itself}
 use Rattle.states.specs.Below.{is_plain, says}
-use Rattle.states.proofs.RowFacts.{and-parts}
 use Rattle.rulings.specs.Fitting.{Described, After, Here, rule_site, step_site}
 use Rattle.rulings.specs.Meaning.{Layout, Activation, MeansWord, is_fact, frame_word, SameMode, both_plain}
 use Rattle.rulings.specs.Meaning.{both_enabling, both_disabling, both_starting}
@@ -188,7 +188,7 @@ module _ (x : Here) (s : State) (l : Local) (a : After x.m x.h x.mode x.act s l)
       ]) (sym plain) ∙ agreed) in
       let kept = label_said (is_kept x.m s.context s.frame) kept_silent t.entries k below in
       let said : says (s.frame k) (entry_fact t.entries k) ≡ true =
-      (and-parts (says (s.frame k) (entry_fact t.entries k)) _
+      (and_parts (says (s.frame k) (entry_fact t.entries k)) _
       (ap (λ (b : Bool). not b || keeps (s.frame k) (entry_fact t.entries k)) (sym may) ∙ kept)).0 in
       alone_word k (s.frame k) (entry_fact t.entries k) other (frame_word l.memory other.layout.origin k) alike back
       alone said (means_same ((in_plain plain).knows.words k (written_readable x.m s.context k may)) refl

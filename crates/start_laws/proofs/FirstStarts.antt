@@ -4,7 +4,7 @@ use Rattle.std.proofs.Common.{◌≡◌, ℕ, ◌+◌, ◌-◌, ◌≤◌, ◌==
 use Rattle.std.proofs.Common.{length, Option, Some, None, Ok, refl, sym, ap, ◌∙◌, subst, arith}
 use Rattle.std.specs.Prelude.{sum_by}
 use Rattle.std.specs.List.{list_any, list_all}
-use Rattle.std.proofs.lemmas.Bool.{and_from}
+use Rattle.std.proofs.lemmas.Bool.{and_from, and_parts, not-true}
 use Rattle.small_laws.proofs.Comparisons.{eqb-self}
 use Rattle.module_format.specs.Rows.{Fact}
 use Rattle.module_format.specs.declared.fact.Fact.TheVariants.{Unknown}
@@ -22,7 +22,6 @@ use Rattle.states.specs.declared.known.Mode as states
 use Rattle.states.specs.declared.known.Mode.TheVariants.{Plain}
 use Rattle.states.specs.State.{State, Facts, begun, is_word}
 use Rattle.states.specs.Below.{agrees, below, cost, view, implies, entries_hold, is_whole, price}
-use Rattle.states.proofs.RowFacts.{and-parts}
 use Rattle.rulings.specs.Fitting.{Described, After, Here}
 use Rattle.rulings.specs.Meaning.{MeansWord, words_left, frame_word}
 use Rattle.rulings.specs.Meaning.{IsWellFormed, dues, owed, label_turns}
@@ -41,7 +40,6 @@ use Rattle.share_laws.specs.Shares.{IsBranch}
 use Rattle.share_laws.specs.Taking.{after_opening}
 use Rattle.share_laws.proofs.GoingOn.{word_with}
 use Rattle.share_laws.proofs.HiddenWords.{is_itself}
-use Rattle.share_laws.proofs.LeftBytes.{was_false}
 use Rattle.share_laws.proofs.TakenWords.{openings_take_their_words}
 use Rattle.start_laws.specs.BranchLabels.{LabelAfter, owed_at_label}
 use Rattle.start_laws.specs.Starting.{LiesInside, IsBase, StartsFirst}
@@ -78,7 +76,7 @@ module _ (x : Here) (s : State) (l : Local) (wf : IsWellFormed x.m) (keeps : Kee
 
   both : (is_prepared x.m s found.par ≡ true) × HasLabel x.m found.par
   both =
-      let parts = and-parts (is_prepared x.m s found.par) _ opens in
+      let parts = and_parts (is_prepared x.m s found.par) _ opens in
       (parts.0, has_label x.m found.par (label_at x.m found.par.successor) refl parts.1)
 
   can_open : (base : ℕ) → IsBase x base → LiesInside x l.memory → HasNoEndsInside x.h
@@ -96,7 +94,7 @@ module _ (x : Here) (s : State) (l : Local) (wf : IsWellFormed x.m) (keeps : Kee
 
   -- no loop after the PAR has a word that a branch writes
   no_loops : list_any (is_written_loop found.par) both.1.label.entries ≡ false
-  no_loops = was_false _ (ap (λ (o : Option Label). elim o as (λ o. Bool) [
+  no_loops = not-true _ (ap (λ (o : Option Label). elim o as (λ o. Bool) [
     | None ↦ true
     | Some t ↦ not (list_any (is_written_loop found.par) t.entries)
   ]) (sym both.1.at) ∙ loops)
@@ -111,7 +109,7 @@ module _ (x : Here) (s : State) (l : Local) (wf : IsWellFormed x.m) (keeps : Kee
   module _ (agreed : agrees_after found.par s (label_after x.m s.mode found.par) ≡ true) where
     known : (list_all (λ entry. words_pass (is_left found.par s.frame) entry entry.span) both.1.label.entries ≡ true)
         × (list_all (is_whole s.frame) both.1.label.entries ≡ true)
-    known = and-parts _ _ (ap (agrees_after found.par s) (sym compared) ∙ agreed)
+    known = and_parts _ _ (ap (agrees_after found.par s) (sym compared) ∙ agreed)
 
     abbrev facts : Facts
     facts = facts_after found.par s.frame both.1.label.entries
@@ -183,7 +181,7 @@ module _ (x : Here) (s : State) (l : Local) (wf : IsWellFormed x.m) (keeps : Kee
           → (words_left x.m found.par found.par.context 0).reads k ≡ true
       left_first k may = subst (λ (n : ℕ). (words_left x.m found.par found.par.context n).reads k ≡ true) first
           (left_to_read x.m found (left_of x.m s found tested) k
-          (and-parts (has_word (context_at x.m (context_of x.m found)) k) _
+          (and_parts (has_word (context_at x.m (context_of x.m found)) k) _
           (sym (reads_is x.m s found tested k) ∙ may)).1)
 
       -- what is known of the branch's words once the PAR is open
@@ -197,7 +195,7 @@ module _ (x : Here) (s : State) (l : Local) (wf : IsWellFormed x.m) (keeps : Kee
           let opened = openings_take_their_words x.m found.row found.par x.act.layout base x.h l.memory s.depth
           l.registers.workspace can in
           word_with found
-          (means_same (all_here.knows.words k (and-parts _ _ (and-parts _ _ left).0).0) refl
+          (means_same (all_here.knows.words k (and_parts _ _ (and_parts _ _ left).0).0) refl
           (sym (opened.words k left)))
 
       pub starts_first : StartsFirst x s (after_start found (cost_of_start x.m s found label)

@@ -5,7 +5,8 @@ use Rattle.std.proofs.Common.{arith, eqb-true, if◌then◌else◌}
 use Rattle.std.proofs.lemmas.Int.{ints}
 use Rattle.std.specs.Prelude.{slice_get, ◌==◌, is_some}
 use Rattle.std.specs.List.{list_any, list_all}
-use Rattle.std.proofs.lemmas.Bool.{and_from, or_cases, or_left, or_right}
+use Rattle.std.proofs.lemmas.Bool.{and_from, or_cases, or_left, or_right, and_parts, false_from_ne_true, or_parts}
+use Rattle.std.proofs.lemmas.Bool.{not-true, both_ways}
 use Rattle.module_format.specs.declared.contexts.Context.{Context}
 use Rattle.module_format.specs.declared.rows.ChannelRow.{ChannelRow}
 use Rattle.module_format.specs.declared.rows.EndRow.{EndRow}
@@ -27,7 +28,6 @@ use Rattle.machine_state.specs.JoinLookups.{Found}
 use Rattle.machine_state.specs.Ownership.{IsAmong}
 use Rattle.machine_state.proofs.Among.{all_among, any_among}
 use Rattle.states.specs.State.{State, is_word}
-use Rattle.states.proofs.RowFacts.{and-parts}
 use Rattle.rulings.specs.Reach.{is_listed, may_write_parameter, may_read_parameter, writable_size, readable_size}
 use Rattle.rulings.specs.Remaining.{is_hidden, is_channel_word}
 use Rattle.rulings.proofs.Words.{same_word_by}
@@ -39,20 +39,10 @@ use Rattle.share_laws.specs.Shares.{IsBranch}
 use Rattle.share_laws.specs.Starts.{IsLeft}
 use Rattle.share_laws.proofs.GivenOnce.{shares_are_left}
 use Rattle.share_laws.proofs.IntervalTests.{words_pass, no_common_word}
-use Rattle.share_laws.proofs.LeftBytes.{is_false, was_false}
 use Rattle.share_laws.proofs.RowEnds.{same_end_by, end_itself}
 use Rattle.share_laws.proofs.Rows.{has_context}
 
 -- ---- tests
-
--- what is true is not false
-clash : (b : Bool) → b ≡ true → b ≡ false → ⊥
-clash b t f = let no' : true ≡ false = sym t ∙ f in cc
-
--- two, neither of which is true
-pub neither : (a b : Bool) → (a || b) ≡ false → (a ≡ false) × (b ≡ false)
-neither true b h = absurd (cc)
-neither false b h = (refl, h)
 
 -- a number in both lists
 common_number : (numbers others : List ℕ) (j : ℕ) → is_listed numbers j ≡ true → is_listed others j ≡ true
@@ -66,15 +56,15 @@ common_number numbers (k ∷ others) j mine theirs = elim (or_cases (k == j) _ t
 no_common_number : (numbers others : List ℕ) (j : ℕ) → have_common_number numbers others ≡ false
     → is_listed numbers j ≡ true → is_listed others j ≡ false
 no_common_number numbers others j apart mine =
-    is_false (is_listed others j) (λ theirs. clash _ (common_number numbers others j mine theirs) apart)
+    false_from_ne_true (is_listed others j) (λ theirs. both_ways _ apart (common_number numbers others j mine theirs))
 
 -- a number that is listed passes what all do
 number_passes : (test : ℕ → Bool) (numbers : List ℕ) (j : ℕ) → list_all test numbers ≡ true
     → is_listed numbers j ≡ true → test j ≡ true
 number_passes test [] j all listed = absurd (cc)
 number_passes test (k ∷ numbers) j all listed = elim (or_cases (k == j) _ listed) [
-  | inl here ↦ ap test (sym (eqb-true k j here)) ∙ (and-parts (test k) _ all).0
-  | inr there ↦ number_passes test numbers j (and-parts (test k) _ all).1 there
+  | inl here ↦ ap test (sym (eqb-true k j here)) ∙ (and_parts (test k) _ all).0
+  | inr there ↦ number_passes test numbers j (and_parts (test k) _ all).1 there
 ]
 
 -- ---- branches before one
@@ -122,8 +112,8 @@ module _ (m : Contents) (s : State) (found : Found) (t : IsTested m s found) whe
       × (may_give_parameters m found.par.context found.branch ≡ true)
       × (leaves_hidden_words m (context_of m found) found.par ≡ true)
   gives =
-      let both = and-parts _ _ t.gives in
-      let first = and-parts (may_give_words m s.context found.branch) _ both.0 in (
+      let both = and_parts _ _ t.gives in
+      let first = and_parts (may_give_words m s.context found.branch) _ both.0 in (
         subst (λ n. may_give_words m n found.branch ≡ true) (sym t.context) first.0,
         subst (λ n. may_give_parameters m n found.branch ≡ true) (sym t.context) first.1,
         both.1,
@@ -131,11 +121,11 @@ module _ (m : Contents) (s : State) (found : Found) (t : IsTested m s found) whe
 
   written : (k : ℤ) → is_among found.branch.writes k ≡ true → may_write_word m found.par.context k ≡ true
   written k among =
-      words_pass (may_write_word m found.par.context) found.branch.writes k (and-parts _ _ gives.0).0 among
+      words_pass (may_write_word m found.par.context) found.branch.writes k (and_parts _ _ gives.0).0 among
 
   read : (k : ℤ) → is_among found.branch.reads k ≡ true → may_read_word m found.par.context k ≡ true
   read k among =
-      words_pass (may_read_word m found.par.context) found.branch.reads k (and-parts _ _ gives.0).1 among
+      words_pass (may_read_word m found.par.context) found.branch.reads k (and_parts _ _ gives.0).1 among
 
   -- a word of the context's frame is one of the branch's frame
   in_frame : (k : ℤ) → has_word (context_at m found.par.context) k ≡ true
@@ -144,25 +134,25 @@ module _ (m : Contents) (s : State) (found : Found) (t : IsTested m s found) whe
 
   -- the branch may read what it is given
   written_known : (k : ℤ) → is_among found.branch.writes k ≡ true → may_read_word m (context_of m found) k ≡ true
-  written_known k among = reads_is k ∙ and_from _ _ (in_frame k (and-parts _ _ (written k among)).0)
+  written_known k among = reads_is k ∙ and_from _ _ (in_frame k (and_parts _ _ (written k among)).0)
       (or_left _ (is_among found.branch.reads k) among)
 
   read_known : (k : ℤ) → is_among found.branch.reads k ≡ true → may_read_word m (context_of m found) k ≡ true
-  read_known k among = reads_is k ∙ and_from _ _ (in_frame k (and-parts _ _ (read k among)).0)
+  read_known k among = reads_is k ∙ and_from _ _ (in_frame k (and_parts _ _ (read k among)).0)
       (or_right (is_among found.branch.writes k) _ among)
 
   -- which is nothing of the block or a channel
   shown : (k : ℤ) → is_hidden found.par k ≡ true → may_read_word m (context_of m found) k ≡ false
   shown k hides =
-      let three = and-parts _ _ gives.2 in
-      let two = and-parts (not (may_read_word m (context_of m found) found.par.block)) _ three.0 in
+      let three = and_parts _ _ gives.2 in
+      let two = and_parts (not (may_read_word m (context_of m found) found.par.block)) _ three.0 in
       elim (or_cases _ (is_channel_word found.par k) hides) [
         | inr channel ↦ of_channel found.par.channels three.1 channel
         | inl block ↦ elim (or_cases (is_word found.par.block k) _ block) [
           | inl first ↦ ap (may_read_word m (context_of m found)) (sym (same_word_by found.par.block k first))
-              ∙ was_false _ two.0
+              ∙ not-true _ two.0
           | inr second ↦ ap (may_read_word m (context_of m found))
-              (sym (same_word_by (found.par.block +ℤ pos 1) k second)) ∙ was_false _ two.1
+              (sym (same_word_by (found.par.block +ℤ pos 1) k second)) ∙ not-true _ two.1
         ]
       ]
     where
@@ -172,17 +162,17 @@ module _ (m : Contents) (s : State) (found : Found) (t : IsTested m s found) whe
           → may_read_word m (context_of m found) k ≡ false
       of_channel [] all some = absurd (cc)
       of_channel (c ∷ channels) all some =
-          let both = and-parts (not (may_read_word m (context_of m found) c.word)) _ all in
+          let both = and_parts (not (may_read_word m (context_of m found) c.word)) _ all in
           elim (or_cases (is_word c.word k) _ some) [
-            | inl it ↦ ap (may_read_word m (context_of m found)) (sym (same_word_by c.word k it)) ∙ was_false _ both.0
+            | inl it ↦ ap (may_read_word m (context_of m found)) (sym (same_word_by c.word k it)) ∙ not-true _ both.0
             | inr later ↦ of_channel channels both.1 later
           ]
 
   hidden : (k : ℤ) → is_hidden found.par k ≡ true
       → (is_among found.branch.writes k ≡ false) × (is_among found.branch.reads k ≡ false)
   hidden k hides = (
-    is_false _ (λ among. clash _ (written_known k among) (shown k hides)),
-    is_false _ (λ among. clash _ (read_known k among) (shown k hides)),
+    false_from_ne_true _ (λ among. both_ways _ (shown k hides) (written_known k among)),
+    false_from_ne_true _ (λ among. both_ways _ (shown k hides) (read_known k among)),
   )
 
   -- ---- parameters
@@ -231,8 +221,8 @@ module _ (m : Contents) (s : State) (found : Found) (t : IsTested m s found) whe
             else gives_parameter (parameters_at m (context_of m found)) e.kind e.direction
       ]) numbered
       ∙ and_from _ _ (there (context_at m (context_of m found))
-      (and-parts (has_word (context_at m (context_of m found)) (found.branch.workspace -ℤ pos 1)) _
-      (and-parts _ _ (and-parts _ _ t.scheduling).0).0).0)
+      (and_parts (has_word (context_at m (context_of m found)) (found.branch.workspace -ℤ pos 1)) _
+      (and_parts _ _ (and_parts _ _ t.scheduling).0).0).0)
       (any_among (λ (other : EndRow). is_same_end (key_of other) (key_of e)) found.branch.ends e among (end_itself e))
     where
       there : (o : Option Context) → has_word o (found.branch.workspace -ℤ pos 1) ≡ true → is_some o ≡ true
@@ -246,8 +236,8 @@ module _ (m : Contents) (s : State) (found : Found) (t : IsTested m s found) whe
       not_shared : share_what_is_written found.branch other ≡ false
       not_shared = elim (or_cases (other.entry == found.branch.entry) _
           (all_among (is_beside found.branch) (started_in m s.mode) other t.apart (t.started n other low there))) [
-            | inl same ↦ absurd (clash _ same (t.differs n other low there))
-            | inr apart ↦ was_false _ apart
+            | inl same ↦ absurd (both_ways _ (t.differs n other low there) same)
+            | inr apart ↦ not-true _ apart
           ]
 
       -- neither has what the other one writes
@@ -261,11 +251,11 @@ module _ (m : Contents) (s : State) (found : Found) (t : IsTested m s found) whe
 
       are_apart : AreApart
       are_apart =
-          let a = neither _ (have_common_number found.branch.read_parameters other.written_parameters) not_shared in
-          let b = neither _ (have_common_number found.branch.written_parameters other.read_parameters) a.0 in
-          let c = neither _ (have_common_number found.branch.written_parameters other.written_parameters) b.0 in
-          let d = neither _ (have_common_word found.branch.reads other.writes) c.0 in
-          let e = neither (have_common_word found.branch.writes other.writes)
+          let a = or_parts _ (have_common_number found.branch.read_parameters other.written_parameters) not_shared in
+          let b = or_parts _ (have_common_number found.branch.written_parameters other.read_parameters) a.0 in
+          let c = or_parts _ (have_common_number found.branch.written_parameters other.written_parameters) b.0 in
+          let d = or_parts _ (have_common_word found.branch.reads other.writes) c.0 in
+          let e = or_parts (have_common_word found.branch.writes other.writes)
           (have_common_word found.branch.writes other.reads) d.0 in
           record {
             writes = e.0;
@@ -278,10 +268,10 @@ module _ (m : Contents) (s : State) (found : Found) (t : IsTested m s found) whe
 
       other_ends : (e : EndRow) → IsAmong e found.branch.ends
           → list_any (λ x. is_same_end (key_of x) (key_of e)) other.ends ≡ false
-      other_ends e among = is_false _ (λ has. clash _ (has_too other.ends has)
-          (was_false _ (all_among (has_other_ends m (context_of m found)) (started_in m s.mode) other
-          (and-parts (list_all (has_end_to_give m s.context found.par) found.branch.ends) _ t.free).1
-          (t.started n other low there))))
+      other_ends e among = false_from_ne_true _ (λ has. both_ways _
+          (not-true _ (all_among (has_other_ends m (context_of m found)) (started_in m s.mode) other
+          (and_parts (list_all (has_end_to_give m s.context found.par) found.branch.ends) _ t.free).1
+          (t.started n other low there))) (has_too other.ends has))
         where
           has_too : (es : List EndRow) → list_any (λ x. is_same_end (key_of x) (key_of e)) es ≡ true
               → list_any (has_end m (context_of m found)) es ≡ true
@@ -310,12 +300,12 @@ module _ (m : Contents) (s : State) (found : Found) (t : IsTested m s found) whe
   -- the words that scheduling takes, by their numbers
   scheduling : (n : ℕ) → n < 3 → is_among found.branch.writes (found.branch.workspace +ℤ negsuc n) ≡ true
   scheduling n low =
-      let third = and-parts _ _ t.scheduling in
-      let two = and-parts (may_write_word m (context_of m found) (found.branch.workspace -ℤ pos 1)) _ third.0 in
+      let third = and_parts _ _ t.scheduling in
+      let two = and_parts (may_write_word m (context_of m found) (found.branch.workspace -ℤ pos 1)) _ third.0 in
       by_number n low (of_word _ two.0) (of_word _ two.1) (of_word _ third.1)
     where
       of_word : (k : ℤ) → may_write_word m (context_of m found) k ≡ true → is_among found.branch.writes k ≡ true
-      of_word k may = (and-parts (has_word (context_at m (context_of m found)) k) _ (sym (writes_is k) ∙ may)).1
+      of_word k may = (and_parts (has_word (context_at m (context_of m found)) k) _ (sym (writes_is k) ∙ may)).1
 
       by_number : (n : ℕ) → n < 3 → is_among found.branch.writes (found.branch.workspace -ℤ pos 1) ≡ true
           → is_among found.branch.writes (found.branch.workspace -ℤ pos 2) ≡ true
@@ -338,12 +328,12 @@ module _ (m : Contents) (s : State) (found : Found) (t : IsTested m s found) whe
     reads = read;
     hidden = hidden;
     written = λ j among. writable j (slice_get (parameters_at m found.par.context) j) refl
-        (number_passes _ found.branch.written_parameters j (and-parts _ _ gives.1).0 among);
+        (number_passes _ found.branch.written_parameters j (and_parts _ _ gives.1).0 among);
     read = λ j among. readable j (slice_get (parameters_at m found.par.context) j) refl
-        (number_passes _ found.branch.read_parameters j (and-parts _ _ gives.1).1 among);
+        (number_passes _ found.branch.read_parameters j (and_parts _ _ gives.1).1 among);
     ends = λ e among. subst (λ n. has_end_to_give m n found.par e ≡ true) (sym t.context)
         (all_among (has_end_to_give m s.context found.par) found.branch.ends e
-        (and-parts (list_all (has_end_to_give m s.context found.par) found.branch.ends) _ t.free).0 among);
+        (and_parts (list_all (has_end_to_give m s.context found.par) found.branch.ends) _ t.free).0 among);
     scheduling = scheduling;
     beside = beside;
   }

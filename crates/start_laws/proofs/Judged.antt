@@ -1,7 +1,7 @@
 -- A start that breaks no rule has passed all of its tests.
-use Rattle.std.proofs.Common.{◌≡◌, inl, inr, ℕ, ◌-◌, ◌≤◌, suc, Bool, true, false, cond, Option, Some, None}
-use Rattle.std.proofs.Common.{refl, sym, ◌∙◌, arith, ltb}
-use Rattle.std.proofs.lemmas.Bool.Decides.{leb_tells}
+use Rattle.std.proofs.Common.{◌≡◌, ℕ, ◌-◌, ◌≤◌, Bool, true, false, cond, Option, Some, None}
+use Rattle.std.proofs.Common.{refl, ltb}
+use Rattle.std.proofs.lemmas.Bool.{ltb-false}
 use Rattle.module_format.specs.Rows.{Fact}
 use Rattle.module_format.specs.declared.fact.Fact.TheVariants.{Unknown, Number, Pointer, CodeAddress, Loop}
 use Rattle.module_format.specs.declared.fact.Fact.TheVariants.{ReturnAddress}
@@ -31,13 +31,6 @@ pub data Judged (P : Ruling → Type 0) : Ruling → Type 0 where
 pub data IsSettled : Mode → Type 0 where
   is_plain : IsSettled Plain
   is_among : (row started : ℕ) → IsSettled (Starting row started)
-
--- a number that is not too small
-pub not_less : (m n : ℕ) → ltb m n ≡ false → n ≤ m
-not_less m n e = elim (leb_tells (suc m) n) [
-  | inl p ↦ let no' : true ≡ false = sym p.0 ∙ e in absurd (cc)
-  | inr p ↦ let high : n ≤ m = omega (arith, p.1) in high
-]
 
 -- ---- one test after the other
 
@@ -79,7 +72,7 @@ module _ (P : Ruling → Type 0) where
       on : (b : Bool) → ltb s.number site.length ≡ b
           → Judged P (cond b (breaks rules.Budget) (k (record s { number = s.number - site.length })))
       on true e = broken rules.Budget
-      on false e = go (not_less s.number site.length e)
+      on false e = go (ltb-false s.number site.length e)
 
   with_label_judged : (site : Site) (at : ℕ) (k : Label → Ruling)
       → ((t : Label) → label_at site.contents at ≡ Some t → Judged P (k t)) → Judged P (with_label site at k)
@@ -129,7 +122,7 @@ module _ (site : Site) (s : State) where
           (record s { number = s.number - site.length })) (labels_of_start site.contents s found))))
       on true e = broken rules.Budget
       on false e = wants_judged (HasPassed site s) (start_agrees site.contents s found t) rules.Label _
-          (λ agrees. passed (go (not_less _ _ e) agrees))
+          (λ agrees. passed (go (ltb-false _ _ e) agrees))
 
   branch_judged : (found : Found) → named_branch site s.stack.b.fact ≡ Some found
       → Judged (HasPassed site s) (starts_branch site s s.stack.a.fact found)

@@ -2,7 +2,7 @@
 use Rattle.std.proofs.Common.{◌≡◌, ℕ, ◌+◌, ◌-◌, ◌≤◌, ◌<◌, ◌||◌, not, Bool, true, false, inl, inr, ℤ}
 use Rattle.std.proofs.Common.{List, [], ◌∷◌, take, Option, Some, None, refl, sym, ap, ◌∙◌, subst, arith}
 use Rattle.std.specs.Prelude.{slice_get}
-use Rattle.std.proofs.lemmas.Bool.{and_from, or_cases}
+use Rattle.std.proofs.lemmas.Bool.{and_from, or_cases, and_parts, not-true, not_from_false}
 use Rattle.module_format.specs.Contents.{Contents, Par, Branch, Label, label_at}
 use Rattle.module_format.specs.Contexts.{context_at}
 use Rattle.module_format.specs.Keeping.{Keeps}
@@ -17,7 +17,6 @@ use Rattle.states.specs.declared.known.Mode as states
 use Rattle.states.specs.declared.known.Mode.TheVariants.{Starting}
 use Rattle.states.specs.State.{State}
 use Rattle.states.specs.Below.{agrees}
-use Rattle.states.proofs.RowFacts.{and-parts}
 use Rattle.rulings.specs.Fitting.{Described, After, Here}
 use Rattle.rulings.specs.Meaning.{MeansWord, SameMode, both_plain, both_enabling}
 use Rattle.rulings.specs.Meaning.{both_disabling, both_starting, words_left, frame_word, IsWellFormed}
@@ -31,7 +30,6 @@ use Rattle.par_rules.specs.ParRules.{cost_of_start}
 use Rattle.share_laws.specs.GoingOn.{GoesOnAs}
 use Rattle.share_laws.specs.Shares.{IsBranch, IsLaidOut}
 use Rattle.share_laws.specs.Starts.{CanStart, IsLeft}
-use Rattle.share_laws.proofs.LeftBytes.{not_true, was_false}
 use Rattle.share_laws.proofs.LeftParameters.{one_more}
 use Rattle.start_laws.specs.BranchLabels.{owed_at_label}
 use Rattle.start_laws.specs.Starting.{LiesInside, StartsNext}
@@ -45,9 +43,9 @@ module _ (m : Contents) (found : Found) (left : IsLeft m found) where
   left_written : (k : ℤ) → is_among found.branch.writes k ≡ true
       → (words_left m found.par found.par.context found.number).reads k ≡ true
   left_written k among =
-      let three = and-parts _ (not (word_given_to_write found.par found.number k
+      let three = and_parts _ (not (word_given_to_write found.par found.number k
       || word_given_to_read found.par found.number k)) (left.writes k among) in
-      let two = and-parts (may_write_word m found.par.context k) _ three.0 in
+      let two = and_parts (may_write_word m found.par.context k) _ three.0 in
       and_from _ _ (and_from _ _ (written_readable m found.par.context k two.0) two.1)
       (not_written (word_given_to_write found.par found.number k) (word_given_to_read found.par found.number k) three.1)
     where
@@ -68,10 +66,10 @@ pub left_before : (m : Contents) (found : Found) → IsBranch m found → (k : �
     → (words_left m found.par found.par.context (found.number + 1)).reads k ≡ true
     → (words_left m found.par found.par.context found.number).reads k ≡ true
 left_before m found is k h =
-    let both = and-parts _ (not (word_given_to_write found.par (found.number + 1) k)) h in
-    and_from _ _ both.0 (not_true _ (first (word_given_to_write found.par found.number k) (is_among
+    let both = and_parts _ (not (word_given_to_write found.par (found.number + 1) k)) h in
+    and_from _ _ both.0 (not_from_false _ (first (word_given_to_write found.par found.number k) (is_among
     found.branch.writes k)
-    (sym (one_more found.par found.number found.branch (λ b. is_among b.writes k) is.branch) ∙ was_false _ both.1)))
+    (sym (one_more found.par found.number found.branch (λ b. is_among b.writes k) is.branch) ∙ not-true _ both.1)))
   where
     first : (a b : Bool) → (a || b) ≡ false → a ≡ false
     first true b h = absurd (cc)
@@ -145,7 +143,7 @@ module _ (x : Here) (s : State) (l : Local) (wf : IsWellFormed x.m) (keeps : Kee
     words : (k : ℤ) → may_read_word x.m (context_of x.m found) k ≡ true
         → MeansWord x.m x.act k (s.frame k) (frame_word l.memory x.act.layout.origin k)
     words k may = here.knows.words k (left_to_read x.m found (is_left x.m s found t) k
-        (and-parts (has_word (context_at x.m (context_of x.m found)) k) _ (sym (reads_is x.m s found t k) ∙ may)).1)
+        (and_parts (has_word (context_at x.m (context_of x.m found)) k) _ (sym (reads_is x.m s found t k) ∙ may)).1)
 
     pub starts_next : StartsNext x s (after_start found (cost_of_start x.m s found label)
         (record s { number = s.number - x.len })) l found

@@ -5,7 +5,7 @@ use Rattle.std.proofs.Common.{arith, eqb-true}
 use Rattle.std.proofs.lemmas.Int.{ints}
 use Rattle.std.specs.Prelude.{slice_get}
 use Rattle.std.specs.List.{list_any, list_all}
-use Rattle.std.proofs.lemmas.Bool.{or_cases}
+use Rattle.std.proofs.lemmas.Bool.{or_cases, and_parts}
 use Rattle.word_arithmetic.specs.Word.{least_word}
 use Rattle.module_format.specs.declared.fact.Fact.TheVariants.{Unknown, Number, Pointer, CodeAddress, Loop}
 use Rattle.module_format.specs.declared.fact.Fact.TheVariants.{ReturnAddress}
@@ -27,7 +27,6 @@ use Rattle.states.specs.declared.known.WordFact.{WordFact}
 use Rattle.states.specs.declared.known.WordFact.TheVariants.{Alone, Index, Count}
 use Rattle.states.specs.State.{State, is_word}
 use Rattle.states.specs.Below.{holds_constant}
-use Rattle.states.proofs.RowFacts.{and-parts}
 use Rattle.rulings.specs.Meaning.{Activation, is_pointer, is_code_address, MeansWord, is_fact}
 use Rattle.rulings.specs.Meaning.{frame_word, word_of, code_address}
 use Rattle.rulings.specs.Remaining.{is_hidden, is_channel_word}
@@ -71,8 +70,8 @@ start_value m act k (Alone (Pointer (regions.Parameter number) lo hi Byte)) j v 
 start_value m act k (Alone (Pointer (regions.Parameter number) lo hi Word)) j None t (is_fact means) = elim means [ ]
 start_value m act k (Alone (Pointer (regions.Parameter number) lo hi Word)) j (Some x) t
     (is_fact (is_pointer offset low high stepped is)) =
-    let both = and-parts _ (is_word hi (pos 0)) t in
-    let one = and-parts (number == j) (is_word lo (pos 0)) both.0 in
+    let both = and_parts _ (is_word hi (pos 0)) t in
+    let one = and_parts (number == j) (is_word lo (pos 0)) both.0 in
     let first = same_word_by lo (pos 0) one.1 in
     let last = same_word_by hi (pos 0) both.1 in
     let none : offset ≡ pos 0 = omega (arith, ints, first, last, low, high) in
@@ -96,8 +95,8 @@ module _ (m : Contents) (s : State) (act : Activation) (memory : Memory) (par : 
   three : (block_is_prepared m s par ≡ true) × (list_all (channel_is_empty m s) par.channels ≡ true)
       × (list_all (named_are_as_given m s) par.branches ≡ true)
   three =
-      let both = and-parts _ (list_all (named_are_as_given m s) par.branches) t in
-      let first = and-parts (block_is_prepared m s par) (list_all (channel_is_empty m s) par.channels) both.0 in
+      let both = and_parts _ (list_all (named_are_as_given m s) par.branches) t in
+      let first = and_parts (block_is_prepared m s par) (list_all (channel_is_empty m s) par.channels) both.0 in
       (first.0, first.1, both.1)
 
   -- in the PAR's context
@@ -111,20 +110,20 @@ module _ (m : Contents) (s : State) (act : Activation) (memory : Memory) (par : 
 
   first_of_block : (may_write_word m s.context par.block ≡ true) × (is_code (s.frame par.block) par.successor ≡ true)
   first_of_block =
-      let both = and-parts (may_write_word m s.context par.block && is_code (s.frame par.block) par.successor) _
+      let both = and_parts (may_write_word m s.context par.block && is_code (s.frame par.block) par.successor) _
       three.0 in
-      and-parts (may_write_word m s.context par.block) _ both.0
+      and_parts (may_write_word m s.context par.block) _ both.0
 
   second_of_block : (may_write_word m s.context (par.block +ℤ pos 1) ≡ true)
       × (holds_constant (s.frame (par.block +ℤ pos 1)) (pos (length par.branches) +ℤ pos 1) ≡ true)
   second_of_block =
-      let both = and-parts (may_write_word m s.context par.block && is_code (s.frame par.block) par.successor) _
+      let both = and_parts (may_write_word m s.context par.block && is_code (s.frame par.block) par.successor) _
       three.0 in
-      and-parts (may_write_word m s.context (par.block +ℤ pos 1)) _ both.1
+      and_parts (may_write_word m s.context (par.block +ℤ pos 1)) _ both.1
 
   channel : (c : ChannelRow) → IsAmong c par.channels
       → (may_write_word m s.context c.word ≡ true) × (holds_constant (s.frame c.word) least_word ≡ true)
-  channel c among = and-parts (may_write_word m s.context c.word) _
+  channel c among = and_parts (may_write_word m s.context c.word) _
       (all_among (channel_is_empty m s) par.channels c three.1 among)
 
   -- a channel's word is one of a row
@@ -133,7 +132,7 @@ module _ (m : Contents) (s : State) (act : Activation) (memory : Memory) (par : 
   channel_word k channels some all =
       let c = any_all (λ (c : ChannelRow). is_word c.word k) (channel_is_empty m s) channels some all in
       ap (may_write_word m s.context) (sym (same_word_by c.0.word k c.1))
-      ∙ (and-parts (may_write_word m s.context c.0.word) _ c.2).0
+      ∙ (and_parts (may_write_word m s.context c.0.word) _ c.2).0
 
   -- the words of the block and the channels are the starter's own
   pub hidden_own : (k : ℤ) → is_hidden par k ≡ true → may_write_word m par.context k ≡ true
@@ -152,7 +151,7 @@ module _ (m : Contents) (s : State) (act : Activation) (memory : Memory) (par : 
   given j p there h =
       let here : slice_get (parameters_at m s.context) j ≡ Some p =
       ap (λ (n : ℕ). slice_get (parameters_at m n) j) (sym context) ∙ there in
-      let both = and-parts (may_read_word m s.context (pos p.word)) _
+      let both = and_parts (may_read_word m s.context (pos p.word)) _
       (ap (λ (o : Option Parameter). elim o as (λ o. Bool) [
         | None ↦ false
         | Some p ↦ may_read_word m s.context (pos p.word) && is_start_of j (s.frame (pos p.word))
@@ -183,8 +182,8 @@ module _ (m : Contents) (s : State) (act : Activation) (memory : Memory) (par : 
   branch_given : (b : Branch) (j : ℕ) → named_are_as_given m s b ≡ true → branch_names j b ≡ true
       → is_as_given m s j ≡ true
   branch_given b j all names =
-      let last = and-parts _ (list_all (λ (e : EndRow). end_is_as_given m s e.kind) b.ends) all in
-      let both = and-parts (list_all (is_as_given m s) b.written_parameters) _ last.0 in
+      let last = and_parts _ (list_all (λ (e : EndRow). end_is_as_given m s e.kind) b.ends) all in
+      let both = and_parts (list_all (is_as_given m s) b.written_parameters) _ last.0 in
       elim (or_cases _ (list_any (λ (e : EndRow). names_end j e.kind) b.ends) names) [
         | inr ends ↦
             let e = any_all (λ (e : EndRow). names_end j e.kind) (λ (e : EndRow). end_is_as_given m s e.kind) b.ends

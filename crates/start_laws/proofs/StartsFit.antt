@@ -2,6 +2,7 @@
 use Rattle.std.proofs.Common.{◌≡◌, ℕ, ◌+◌, ◌-◌, ◌<◌, ◌==◌, ◌&&◌, true, ℤ, List, [], ◌∷◌}
 use Rattle.std.proofs.Common.{Some, refl, sym, ap, ◌∙◌, subst, eqb-true, arith}
 use Rattle.std.specs.Prelude.{IsTrue, slice_get}
+use Rattle.std.proofs.lemmas.Bool.{and_parts}
 use Rattle.module_format.specs.Order.{is_stepped}
 use Rattle.module_format.specs.Contents.{Branch}
 use Rattle.module_format.specs.Keeping.{Keeps}
@@ -16,7 +17,6 @@ use Rattle.states.specs.declared.known.Mode as states
 use Rattle.states.specs.declared.known.Mode.TheVariants.{Plain, Enabling, Disabling, Starting}
 use Rattle.states.specs.State.{State, is_word}
 use Rattle.states.specs.Below.{agrees}
-use Rattle.states.proofs.RowFacts.{and-parts}
 use Rattle.rulings.specs.Fitting.{After, HasNext, Here, rule_site, step_site}
 use Rattle.rulings.specs.Meaning.{Layout, IsWellFormed, MeansWord, words_left, frame_word}
 use Rattle.rulings.specs.Rulings as rule
@@ -42,7 +42,7 @@ use Rattle.start_laws.proofs.Workspaces.{workspace_address, even_address, named_
 next_mode : (row started : ℕ) (found_row number : ℕ) → ((found_row == row) && (number == started)) ≡ true
     → Starting row started ≡ Starting found_row number
 next_mode row started found_row number h =
-    let both = and-parts (found_row == row) (number == started) h in
+    let both = and_parts (found_row == row) (number == started) h in
     ap (λ (r : ℕ). Starting r started) (sym (eqb-true found_row row both.0))
     ∙ ap (Starting found_row) (sym (eqb-true number started both.1))
 
@@ -52,9 +52,9 @@ module _ (x : Here) (s : State) (l : Local) (wf : IsWellFormed x.m) (keeps : Kee
     turn : (is_next s.mode p.found ≡ true) × (p.found.par.context ≡ s.context) × (p.found.par.depth ≡ s.depth)
         × (is_workspace p.found.branch.workspace s.stack.a.fact ≡ true)
     turn =
-        let three = and-parts _ (is_workspace p.found.branch.workspace s.stack.a.fact) p.turn in
-        let two = and-parts _ (is_word p.found.par.depth s.depth) three.0 in
-        let one = and-parts (is_next s.mode p.found) (p.found.par.context == s.context) two.0 in (
+        let three = and_parts _ (is_workspace p.found.branch.workspace s.stack.a.fact) p.turn in
+        let two = and_parts _ (is_word p.found.par.depth s.depth) three.0 in
+        let one = and_parts (is_next s.mode p.found) (p.found.par.context == s.context) two.0 in (
           one.0,
           eqb-true p.found.par.context s.context one.1,
           same_word_by p.found.par.depth s.depth two.1,
@@ -120,7 +120,7 @@ module _ (x : Here) (s : State) (l : Local) (wf : IsWellFormed x.m) (keeps : Kee
         (even_address x.act.layout p.found.branch.workspace place.value even place.address)
 
     branch_agrees : agrees (branch_view x.m (context_of x.m p.found) p.found.branch s) p.label ≡ true
-    branch_agrees = (and-parts (agrees (branch_view x.m (context_of x.m p.found) p.found.branch s) p.label) _
+    branch_agrees = (and_parts (agrees (branch_view x.m (context_of x.m p.found) p.found.branch s) p.label) _
         p.agrees).0
 
     -- a later start
@@ -140,9 +140,9 @@ module _ (x : Here) (s : State) (l : Local) (wf : IsWellFormed x.m) (keeps : Kee
         let tests = tested (λ n other low there. absurd (omega (arith, low, zero))) in
         to_start_first p.found (starts_branch tests (λ k t.
         (all_here x s l wf keeps a p.found first.is plain zero turn.1 opens loops).knows.words k
-        (and-parts _ _ (and-parts _ _ t).0).0))
+        (and_parts _ _ (and_parts _ _ t).0).0))
         (starts_first x s l wf keeps a p.found first.is plain zero turn.1 opens loops
-        (and-parts (agrees (branch_view x.m (context_of x.m p.found) p.found.branch s) p.label) _ p.agrees).1 tests
+        (and_parts (agrees (branch_view x.m (context_of x.m p.found) p.found.branch s) p.label) _ p.agrees).1 tests
         p.label p.at branch_agrees p.pays p.covers)
 
     -- by the mode

@@ -8,8 +8,8 @@ use Rattle.std.proofs.lemmas.Int.{ints}
 use Rattle.std.specs.Prelude.{int_le, sum_by}
 use Rattle.std.specs.List.{list_any, list_all}
 use Rattle.std.proofs.lemmas.List.Sums.{sum_by-cons}
-use Rattle.std.proofs.lemmas.Bool.{and_from}
-use Rattle.small_laws.proofs.Comparisons.{eqb-self}
+use Rattle.std.proofs.lemmas.Bool.{and_from, and_parts, false_from_ne_true, or_parts, cases_Bool}
+use Rattle.small_laws.proofs.Comparisons.{eqb-self, le-int_le}
 use Rattle.module_format.specs.Rows.{Fact, Entry}
 use Rattle.module_format.specs.declared.fact.Fact.TheVariants.{Unknown, Number, Pointer, CodeAddress, Loop}
 use Rattle.module_format.specs.declared.fact.Fact.TheVariants.{ReturnAddress}
@@ -27,15 +27,12 @@ use Rattle.states.specs.State.{Facts, is_about, is_alone, said_of, entry_fact}
 use Rattle.states.specs.Below.{implies, step_implies, says, words_say, entries_hold, are_alike, is_whole, price}
 use Rattle.states.specs.Below.{holds_constant}
 use Rattle.states.specs.Rows.{rise_from}
-use Rattle.states.proofs.RowFacts.{and-parts, le-yes, rise-parts, about-within, about-behind}
+use Rattle.states.proofs.RowFacts.{rise-parts, about-within, about-behind}
 use Rattle.rulings.specs.Meaning.{ArePairs, loop_due, dues_from, dues, farthest_word}
 use Rattle.rulings.proofs.Entering.{first_word, entry_here, entry_later}
-use Rattle.rulings.proofs.Words.{bool_cases}
 use Rattle.par_rules.specs.Comparisons.{words_pass, is_left}
 use Rattle.share_laws.proofs.HiddenWords.{is_itself}
-use Rattle.share_laws.proofs.LeftBytes.{is_false}
 use Rattle.start_laws.proofs.AfterPars.{written_alone}
-use Rattle.start_laws.proofs.GivenIsLeft.{neither}
 
 -- ---- what is said says itself
 
@@ -50,7 +47,7 @@ region_itself (regions.Parameter j) = eqb-self j
 
 range_itself : (lo hi : ℤ) → (int_le lo lo && int_le hi hi) ≡ true
 range_itself lo hi =
-    and_from _ _ (le-yes lo lo (omega (arith, ints))) (le-yes hi hi (omega (arith, ints)))
+    and_from _ _ (le-int_le lo lo (omega (arith, ints))) (le-int_le hi hi (omega (arith, ints)))
 
 implies_itself : (fact : Fact) → (is_loop fact ≡ true → ⊥) → implies fact fact ≡ true
 implies_itself Unknown other = refl
@@ -134,8 +131,8 @@ module _ (par : Par) (facts : Facts) where
       → words_pass (is_left par facts) entry span ≡ true → words_say given entry span ≡ true
   words_hold given entry entries zero these low t = refl
   words_hold given entry entries (suc more) these low t =
-      let both = and-parts (is_left par facts (entry.word +ℤ pos more) (said_of entry.fact (eqb more 0))) _ t in
-      and_from _ _ (on both.0 (bool_cases (is_written par (entry.word +ℤ pos more))))
+      let both = and_parts (is_left par facts (entry.word +ℤ pos more) (said_of entry.fact (eqb more 0))) _ t in
+      and_from _ _ (on both.0 (cases_Bool (is_written par (entry.word +ℤ pos more))))
       (words_hold given entry entries more these (omega (arith, low)) both.1)
     where
       about : is_about entry (entry.word +ℤ pos more) ≡ true
@@ -164,7 +161,7 @@ module _ (par : Par) (facts : Facts) where
   entries_pass given low (entry ∷ entries) rise these t =
       let parts = rise-parts low entry entries rise in
       let from : low ≤ℤ entry.word = parts.0 in
-      let both = and-parts (words_pass (is_left par facts) entry entry.span) _ t in
+      let both = and_parts (words_pass (is_left par facts) entry entry.span) _ t in
       and_from _ _ (words_hold given entry entries entry.span (record {
         written = λ k above. these.written k (omega (arith, ints, from, above));
         others = these.others;
@@ -196,10 +193,10 @@ module _ (par : Par) (facts : Facts) where
       → is_written_loop par entry ≡ false → is_loop entry.fact ≡ true → LoopStays given entry
   loop_stays given entry others none loop =
       let quiet : (is_written par entry.word || is_written par (entry.word +ℤ pos 1)) ≡ false =
-      is_false _ (λ meets.
+      false_from_ne_true _ (λ meets.
       let loud : is_written_loop par entry ≡ true = and_from _ _ loop meets in
       let no' : false ≡ true = sym none ∙ loud in cc) in
-      let both = neither (is_written par entry.word) (is_written par (entry.word +ℤ pos 1)) quiet in
+      let both = or_parts (is_written par entry.word) (is_written par (entry.word +ℤ pos 1)) quiet in
       record { first = others entry.word both.0; second = others (entry.word +ℤ pos 1) both.1 }
 
   -- what is asked of a loop, and what it costs, are the same
@@ -217,8 +214,8 @@ module _ (par : Par) (facts : Facts) where
       → list_all (is_whole given) entries ≡ true
   whole_after given [] others none whole = refl
   whole_after given (entry ∷ entries) others none whole =
-      let quiet = neither (is_written_loop par entry) (list_any (is_written_loop par) entries) none in
-      let both = and-parts (is_whole facts entry) (list_all (is_whole facts) entries) whole in
+      let quiet = or_parts (is_written_loop par entry) (list_any (is_written_loop par) entries) none in
+      let both = and_parts (is_whole facts entry) (list_all (is_whole facts) entries) whole in
       and_from _ _ ((entry_same given entry others quiet.0).0 ∙ both.0)
       (whole_after given entries others quiet.1 both.1)
 
@@ -228,7 +225,7 @@ module _ (par : Par) (facts : Facts) where
       → sum_by (price given) entries ≡ sum_by (price facts) entries
   price_after given [] others none = refl
   price_after given (entry ∷ entries) others none =
-      let quiet = neither (is_written_loop par entry) (list_any (is_written_loop par) entries) none in
+      let quiet = or_parts (is_written_loop par entry) (list_any (is_written_loop par) entries) none in
       let here = (entry_same given entry others quiet.0).1 in
       let rest = price_after given entries others quiet.1 in
       let one = sum_by-cons (price given) entry entries in
@@ -239,7 +236,7 @@ module _ (par : Par) (facts : Facts) where
   module _ (entries : List Entry) (pairs : ArePairs entries)
       (none : list_any (is_written_loop par) entries ≡ false) (turns : ℤ → ℕ) where
     due_here : (k : ℤ) → loop_due (facts_after entries k) (turns k) ≤ loop_due (facts k) (turns k)
-    due_here k = elim (bool_cases (is_written par k)) [
+    due_here k = elim (cases_Bool (is_written par k)) [
       | inl writes ↦
           let nothing : loop_due (facts_after entries k) (turns k) ≡ 0 =
           ap (λ (f : WordFact). loop_due f (turns k)) (of_written entries k writes)

@@ -1,7 +1,7 @@
 -- What registers name that a start and an end use: a word of the frame, and a branch.
 use Rattle.std.proofs.Common.{◌≡◌, ℕ, ◌+◌, ◌%◌, ◌==◌, ℤ, pos, ◌+ℤ◌, ◌*ℤ◌, ◌≤ℤ◌, Bool, true, false, cond}
 use Rattle.std.proofs.Common.{Option, Some, None, refl, ap, ◌∙◌, subst, arith, if◌then◌else◌}
-use Rattle.std.proofs.lemmas.Bool.{eq-eqb}
+use Rattle.std.proofs.lemmas.Bool.{eq-eqb, and_parts}
 use Rattle.std.proofs.lemmas.Int.{ints}
 use Rattle.std.specs.Prelude.{IsTrue}
 use Rattle.module_format.specs.Order.{is_stepped}
@@ -22,7 +22,6 @@ use Rattle.machine_state.specs.Memory.{data_start}
 use Rattle.machine_state.specs.Site as steps
 use Rattle.machine_state.specs.Site.{Local, starts, joins, fails}
 use Rattle.states.specs.State.{is_word}
-use Rattle.states.proofs.RowFacts.{and-parts}
 use Rattle.rulings.specs.Meaning.{Layout, Means, is_number, is_pointer, region_start, word_of, place_in}
 use Rattle.rulings.specs.Regions.{channel_address}
 use Rattle.rulings.specs.Rulings.{Site}
@@ -55,7 +54,7 @@ pub word_address : (m : Contents) (layout : Layout) (fact : Fact) (k : ℤ) (v :
     → Means m layout fact v → IsAddress layout k v
 word_address m layout (Pointer regions.Frame lo hi step) k None t means = elim means [ ]
 word_address m layout (Pointer regions.Frame lo hi step) k (Some x) t (is_pointer offset low high stepped is) =
-    let both = and-parts (is_word lo (pos 4 *ℤ k)) (is_word hi (pos 4 *ℤ k)) t in
+    let both = and_parts (is_word lo (pos 4 *ℤ k)) (is_word hi (pos 4 *ℤ k)) t in
     record {
       value = x;
       is = refl;
@@ -74,7 +73,7 @@ word_address m layout ReturnAddress k v t means = absurd (cc)
 pub workspace_address : (m : Contents) (layout : Layout) (fact : Fact) (k : ℤ) (v : Option ℤ)
     → is_workspace k fact ≡ true → Means m layout fact v → IsAddress layout k v
 workspace_address m layout (Pointer region lo hi step) k v t means =
-    word_address m layout (Pointer region lo hi step) k v (and-parts _ _ t).0 means
+    word_address m layout (Pointer region lo hi step) k v (and_parts _ _ t).0 means
 workspace_address m layout Unknown k v t means = absurd (cc)
 workspace_address m layout (Number lo hi) k v t means = absurd (cc)
 workspace_address m layout (CodeAddress offset) k v t means = absurd (cc)

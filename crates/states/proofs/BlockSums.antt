@@ -10,6 +10,7 @@ use Rattle.std.proofs.lemmas.Nat.{div-mul-add, div-add-mod'}
 use Rattle.std.proofs.lemmas.Bool.{cases_eq}
 use Rattle.std.proofs.lemmas.Bool.Decides.{nat_tests}
 use Rattle.std.proofs.lemmas.Int.{ints, clamps}
+use Rattle.std.proofs.Math.Bool.{and-true}
 use Rattle.module_format.specs.Rows.{Fact}
 use Rattle.module_format.specs.declared.fact.Fact.TheVariants.{Unknown, Number, Pointer, CodeAddress, Loop}
 use Rattle.module_format.specs.declared.fact.Fact.TheVariants.{ReturnAddress}
@@ -22,7 +23,6 @@ use Rattle.states.specs.Frames.{with_alone}
 use Rattle.states.specs.Spans.{of_none, with_plain, with_one, together, joined}
 use Rattle.states.specs.Blocks.{block_words, no_block, block_at, first_of, AreSummed}
 use Rattle.states.proofs.FrameFacts.{word-cases}
-use Rattle.states.proofs.SpanFacts.{and-yes}
 
 -- ---- one span after the other
 
@@ -91,8 +91,8 @@ joined-none t b =
     λ i. record {
       lo = low i;
       hi = high i;
-      are_numbers = and-yes t.are_numbers i;
-      are_alone = and-yes t.are_alone i;
+      are_numbers = and-true t.are_numbers i;
+      are_alone = and-true t.are_alone i;
     }
 
 together-joined : (facts : Facts) (first : ℤ) (n m : ℕ)

@@ -4,6 +4,8 @@ use Rattle.std.proofs.Common.{List, [], ◌∷◌, ◌++◌, length, get_or, Som
 use Rattle.std.specs.Prelude.{◌==◌, Option, is_some}
 use Rattle.std.proofs.lemmas.Bool.Decides.{nat_tests}
 use Rattle.std.proofs.lemmas.Int.{ints}
+use Rattle.std.proofs.lemmas.Bool.{and_parts, and_from}
+use Rattle.small_laws.proofs.Comparisons.{le-int_le, int_le-true}
 use Rattle.module_format.specs.Rows.{Fact, Entry}
 use Rattle.module_format.specs.Regions.{is_same_region}
 use Rattle.module_format.specs.Contents.{Contents, Label, label_at}
@@ -23,7 +25,6 @@ use Rattle.states.specs.Below.{says, implies, step_implies}
 use Rattle.states.specs.Blocks.{block_words, first_of}
 use Rattle.states.specs.Comparing.{BlockSaysAll, loop_of, IsPast}
 use Rattle.states.specs.Remembered.{time_of, index_time, word_time, wants_no_loop}
-use Rattle.states.proofs.RowFacts.{and-parts, and-both, le-yes, le-from}
 use Rattle.states.proofs.Hulls.{unknown-implied, implies-narrower, plain-said}
 use Rattle.states.proofs.BlockSums.{number-of}
 
@@ -113,22 +114,22 @@ regions-through a b c h g = subst (λ (r : Region). is_same_region a r ≡ true)
 implies-through : (a b c : Fact) → implies a b ≡ true → implies b c ≡ true → implies a c ≡ true
 implies-through a b Unknown h g = unknown-implied a
 implies-through (Number lo hi) (Number low high) (Number from to) h g =
-    let both = and-parts _ _ h in
-    implies-narrower lo hi low high (Number from to) (le-from low lo both.0) (le-from hi high both.1) g
+    let both = and_parts _ _ h in
+    implies-narrower lo hi low high (Number from to) (int_le-true low lo both.0) (int_le-true hi high both.1) g
 implies-through (Pointer region lo hi step) (Pointer other low high stride) (Pointer third from to pace) h g =
-    let first = and-parts _ _ h in
-    let regions = and-parts _ _ first.0 in
-    let second = and-parts _ _ g in
-    let others = and-parts _ _ second.0 in
-    let l = and-parts _ _ regions.1 in
-    let r = and-parts _ _ others.1 in
-    let a = le-from low lo l.0 in
-    let b = le-from hi high l.1 in
-    let c = le-from from low r.0 in
-    let d = le-from high to r.1 in
-    and-both _ _
-    (and-both _ _ (regions-through region other third regions.0 others.0)
-    (and-both _ _ (le-yes from lo (omega (arith, ints, a, c))) (le-yes hi to (omega (arith, ints, b, d)))))
+    let first = and_parts _ _ h in
+    let regions = and_parts _ _ first.0 in
+    let second = and_parts _ _ g in
+    let others = and_parts _ _ second.0 in
+    let l = and_parts _ _ regions.1 in
+    let r = and_parts _ _ others.1 in
+    let a = int_le-true low lo l.0 in
+    let b = int_le-true hi high l.1 in
+    let c = int_le-true from low r.0 in
+    let d = int_le-true high to r.1 in
+    and_from _ _
+    (and_from _ _ (regions-through region other third regions.0 others.0)
+    (and_from _ _ (le-int_le from lo (omega (arith, ints, a, c))) (le-int_le hi to (omega (arith, ints, b, d)))))
     (steps-through step stride pace first.1 second.1)
 implies-through (CodeAddress offset) (CodeAddress other) (CodeAddress third) h g = same-through offset other third h g
 implies-through ReturnAddress ReturnAddress ReturnAddress h g = refl

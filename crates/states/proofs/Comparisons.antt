@@ -7,7 +7,7 @@ use Rattle.std.specs.Prelude.{option_map, unwrap_or, is_some}
 use Rattle.std.proofs.lemmas.Nat.{div-add-mod'}
 use Rattle.std.proofs.Math.Nat.{mod-lt}
 use Rattle.std.proofs.lemmas.List.{get_or_default, get_or_past}
-use Rattle.std.proofs.lemmas.Bool.{cases_eq, cases_lt, cases_Bool}
+use Rattle.std.proofs.lemmas.Bool.{cases_eq, cases_lt, cases_Bool, and_parts, and_from}
 use Rattle.std.proofs.lemmas.Bool.Decides.{nat_tests}
 use Rattle.std.proofs.lemmas.Int.{ints, by_lt_z}
 use Rattle.module_format.specs.Rows.{Fact}
@@ -27,7 +27,7 @@ use Rattle.module_format.specs.Order.{least_word}
 use Rattle.module_format.specs.Facts.{end_of}
 use Rattle.states.specs.Rows.{rise_from, AreApart}
 use Rattle.states.specs.Comparing.{SaysAll, SaysLess, OneSaysAll, WrittenSaysAll, BlockSaysAll, LeftSaysAll}
-use Rattle.states.proofs.RowFacts.{and-parts, and-both, before, within, behind, lies, about-before, about-behind}
+use Rattle.states.proofs.RowFacts.{before, within, behind, lies, about-before, about-behind}
 use Rattle.states.proofs.RowFacts.{rise-parts, unknown-below, entry_fact-within}
 use Rattle.states.proofs.FrameFacts.{distance, is_word-same, is_word-below}
 use Rattle.states.proofs.Loops.{some-words}
@@ -57,14 +57,14 @@ words_say-each : (facts : Facts) (entry : Entry) (span : ℕ)
     → words_say facts entry span ≡ true
 words_say-each facts entry zero each = refl
 words_say-each facts entry (suc n) each =
-    and-both _ _ (each n (omega arith)) (words_say-each facts entry n (λ m h. each m (omega arith)))
+    and_from _ _ (each n (omega arith)) (words_say-each facts entry n (λ m h. each m (omega arith)))
 
 words_say-at : (facts : Facts) (entry : Entry) (span n : ℕ) → words_say facts entry span ≡ true → n < span
     → says (facts (entry.word +ℤ pos n)) (said_of entry.fact (eqb n 0)) ≡ true
 words_say-at facts entry zero n h l = absurd (omega arith)
 words_say-at facts entry (suc m) n h l =
     let p : (says (facts (entry.word +ℤ pos m)) (said_of entry.fact (eqb m 0)) ≡ true)
-    × (words_say facts entry m ≡ true) = and-parts _ _ h in
+    × (words_say facts entry m ≡ true) = and_parts _ _ h in
     elim (cases_lt n m) [
       | inl low ↦ words_say-at facts entry m n p.1 low
       | inr high ↦ let same : n ≡ m =
@@ -92,7 +92,7 @@ pub words_say-more : (facts : Facts) (entry : Entry) (k : ℤ) (n m : ℕ) (fact
     → says fact wanted ≡ true → words_say facts entry n ≡ true → words_say facts entry m ≡ true
 words_say-more facts entry k n m fact wanted at m_is fact_is wanted_is holds earlier =
     ap (words_say facts entry) m_is
-    ∙ and-both _ _
+    ∙ and_from _ _
     (ap (says (facts (entry.word +ℤ pos n))) (sym wanted_is)
     ∙ (ap (λ (f : WordFact). says f wanted) (sym (fact_is ∙ ap facts at)) ∙ holds))
     earlier
@@ -109,7 +109,7 @@ pub entries_hold-says : (facts : Facts) (entries : List Entry) → entries_hold 
     → SaysAll facts (entry_fact entries)
 entries_hold-says facts [] h = λ k. says-unknown (facts k)
 entries_hold-says facts (entry ∷ entries) h = λ k.
-    let p : (words_say facts entry entry.span ≡ true) × (entries_hold facts entries ≡ true) = and-parts _ _ h in
+    let p : (words_say facts entry entry.span ≡ true) × (entries_hold facts entries ≡ true) = and_parts _ _ h in
     let rest = entries_hold-says facts entries p.1 k in
     elim (lies entry k) [
       | before b ↦ says-rest facts entry entries k (about-before entry k b) rest
@@ -129,7 +129,7 @@ says-entries_hold : (low : ℤ) (facts : Facts) (entries : List Entry) → rise_
 says-entries_hold low facts [] r h = refl
 says-entries_hold low facts (entry ∷ entries) r h =
     let p = rise-parts low entry entries r in
-    and-both _ _
+    and_from _ _
     (words_say-each facts entry entry.span (λ n l.
     let k = entry.word +ℤ pos n in
     ap (λ c. says (facts k) (said_of entry.fact c)) (sym (first-test entry.word n))

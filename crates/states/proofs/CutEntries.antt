@@ -6,6 +6,9 @@ use Rattle.std.specs.List.{list_all}
 use Rattle.std.proofs.lemmas.Int.{ints, by_lt_z}
 use Rattle.std.proofs.lemmas.List.Folds.{list_all-append}
 use Rattle.std.proofs.lemmas.List.Sums.{sum_by-cons, sum_by_push}
+use Rattle.std.proofs.lemmas.Bool.{and_parts, and_from}
+use Rattle.std.proofs.Math.Bool.{and-true, and_assoc}
+use Rattle.small_laws.proofs.Comparisons.{le-int_le, int_le-true}
 use Rattle.module_format.specs.Rows.{Fact, Entry}
 use Rattle.module_format.specs.declared.rows.Interval.{Interval}
 use Rattle.module_format.specs.declared.fact.Fact.TheVariants.{Unknown, Number, Pointer, CodeAddress, Loop}
@@ -23,7 +26,7 @@ use Rattle.states.specs.Comparing.{loop_of}
 use Rattle.states.specs.Rows.{rise_from, AreApart}
 use Rattle.states.specs.Cutting.{keeps, kept_facts, rise_between, AreCut, IsCutTo, IsCutBefore, CutsOn, CutsEntry}
 use Rattle.states.specs.Cutting.{SaysOutside, SaysInside}
-use Rattle.states.proofs.RowFacts.{le-yes, le-from, and-parts, and-both, about-before, about-behind, rise-parts}
+use Rattle.states.proofs.RowFacts.{about-before, about-behind, rise-parts}
 use Rattle.states.proofs.RowFacts.{unknown-below, entry_fact-before, entry_fact-within, entry_fact-behind}
 use Rattle.states.proofs.Comparisons.{entries_hold-says}
 use Rattle.states.proofs.Entering.{plain-by}
@@ -32,10 +35,10 @@ use Rattle.states.proofs.Entering.{plain-by}
 
 between-parts : (low high : ℤ) (entry : Entry) (entries : List Entry) → rise_between low high (entry ∷ entries) ≡ true
     → (low ≤ℤ entry.word) × (rise_between (end_of entry) high entries ≡ true)
-between-parts low high entry entries h = let p = and-parts _ _ h in (le-from low entry.word p.0, p.1)
+between-parts low high entry entries h = let p = and_parts _ _ h in (int_le-true low entry.word p.0, p.1)
 
 between-ends : (low high : ℤ) (entries : List Entry) → rise_between low high entries ≡ true → low ≤ℤ high
-between-ends low high [] h = le-from low high h
+between-ends low high [] h = int_le-true low high h
 between-ends low high (entry ∷ entries) h =
     let p = between-parts low high entry entries h in
     let first = p.0 in
@@ -46,23 +49,23 @@ between-rises : (low high : ℤ) (entries : List Entry) → rise_between low hig
     → rise_from low entries ≡ true
 between-rises low high [] h = refl
 between-rises low high (entry ∷ entries) h =
-    let p = and-parts _ _ h in and-both _ _ p.0 (between-rises (end_of entry) high entries p.1)
+    let p = and_parts _ _ h in and_from _ _ p.0 (between-rises (end_of entry) high entries p.1)
 
 between-further : (low high further : ℤ) (entries : List Entry) → high ≤ℤ further
     → rise_between low high entries ≡ true → rise_between low further entries ≡ true
 between-further low high further [] le h =
-    let first = le-from low high h in le-yes low further (omega (arith, ints, first))
+    let first = int_le-true low high h in le-int_le low further (omega (arith, ints, first))
 between-further low high further (entry ∷ entries) le h =
-    let p = and-parts _ _ h in and-both _ _ p.0 (between-further (end_of entry) high further entries le p.1)
+    let p = and_parts _ _ h in and_from _ _ p.0 (between-further (end_of entry) high further entries le p.1)
 
 between-more : (low high end : ℤ) (entries : List Entry) (piece : Entry) → rise_between low high entries ≡ true
     → high ≤ℤ piece.word → end_of piece ≤ℤ end → rise_between low end (entries ++ (piece ∷ [])) ≡ true
 between-more low high end [] piece h le ends =
-    let first = le-from low high h in
-    and-both _ _ (le-yes low piece.word (omega (arith, ints, first))) (le-yes (end_of piece) end ends)
+    let first = int_le-true low high h in
+    and_from _ _ (le-int_le low piece.word (omega (arith, ints, first))) (le-int_le (end_of piece) end ends)
 between-more low high end (entry ∷ entries) piece h le ends =
-    let p = and-parts _ _ h in
-    and-both _ _ p.0 (between-more (end_of entry) high end entries piece p.1 le ends)
+    let p = and_parts _ _ h in
+    and_from _ _ p.0 (between-more (end_of entry) high end entries piece p.1 le ends)
 
 -- nothing is said of the words after them
 unknown-behind : (low high k : ℤ) (entries : List Entry) → rise_between low high entries ≡ true → high ≤ℤ k
@@ -163,19 +166,11 @@ module _ (side : Side) (intervals : List Interval) (row rest further pieces : Li
         let all = sum_by_push (price facts) pieces piece in
         omega (arith, so_far, here, all);
   } where
-    and-assoc : (a b c : Bool) → a && (b && c) ≡ (a && b) && c
-    and-assoc true b c = refl
-    and-assoc false b c = refl
-
-    and-true : (a : Bool) → a && true ≡ a
-    and-true true = refl
-    and-true false = refl
-
     all-more : (test : Entry → Bool) (entries : List Entry) (entry : Entry) (later : Bool)
         → list_all test entries && (test entry && later)
         ≡ list_all test (entries ++ (entry ∷ [])) && later
     all-more test entries entry later =
-        and-assoc (list_all test entries) (test entry) later
+        sym (and_assoc (list_all test entries) (test entry) later)
         ∙ ap (λ (b : Bool). b && later) (sym (list_all-append test entries (entry ∷ [])
         ∙ ap (λ (b : Bool). list_all test entries && b) (and-true (test entry))))
 
@@ -296,7 +291,7 @@ cut-begun side intervals row apart = record {
   rises = apart;
   cut = record {
     later = λ k l. refl;
-    apart = le-yes least_word least_word (omega (arith, ints));
+    apart = le-int_le least_word least_word (omega (arith, ints));
     kept = λ k h. sym (kept-none (keeps side (is_among intervals k)) (entry_fact row k)
         (unknown-below least_word k row apart h));
     same = λ k l. refl;
@@ -354,10 +349,6 @@ cut-done side intervals row rest pieces left before is =
           let none = ap (sum_by (price facts)) is in
           omega (arith, all, none);
     }
-  where
-    and-true : (a : Bool) → a && true ≡ a
-    and-true true = refl
-    and-true false = refl
 
 -- ---- what is known of the pieces
 

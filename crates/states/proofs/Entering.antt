@@ -1,7 +1,7 @@
 -- What a row says of the entries that another one wants, and what is paid for their loops.
 use Rattle.std.proofs.Common.{◌≡◌, ℕ, zero, suc, ◌+◌, ◌-◌, ◌*◌, ◌≤◌, ℤ, pos, ◌+ℤ◌, ◌-ℤ◌, ◌≤ℤ◌, ◌<ℤ◌, Bool}
 use Rattle.std.proofs.Common.{true, false, ◌&&◌}
-use Rattle.std.proofs.Common.{if◌then◌else◌, eqb, List, [], ◌∷◌, Option, Some, None, refl, sym, ap, subst, ◌∙◌, arith}
+use Rattle.std.proofs.Common.{if◌then◌else◌, List, [], ◌∷◌, Option, Some, None, refl, sym, ap, subst, ◌∙◌, arith}
 use Rattle.std.proofs.Common.{◌⊎◌, ◌<◌, inl, inr, drop, get_or, length}
 use Rattle.std.specs.Prelude.{sum_by, nat_lt, Ok, option_map, unwrap_or, is_some, not}
 use Rattle.std.specs.List.{list_all}
@@ -9,6 +9,9 @@ use Rattle.std.proofs.lemmas.Bool.Decides.{nat_tests}
 use Rattle.std.proofs.lemmas.Int.{ints, by_lt_z}
 use Rattle.std.proofs.lemmas.List.{drop_more}
 use Rattle.std.proofs.lemmas.List.Sums.{sum_by-cons}
+use Rattle.std.proofs.lemmas.Bool.{and_from}
+use Rattle.std.proofs.Math.Bool.{and_assoc}
+use Rattle.small_laws.proofs.Comparisons.{eqb-self, le-int_le}
 use Rattle.module_format.specs.Rows.{Fact, Entry}
 use Rattle.module_format.specs.Contents.{Label}
 use Rattle.module_format.specs.Order.{least_word}
@@ -29,7 +32,7 @@ use Rattle.states.specs.Lookup.{lookup, fact_of_index, facts_over}
 use Rattle.states.specs.Rows.{rise_from, AreApart}
 use Rattle.states.specs.Comparing.{OneSays, OneSaysAll, SaysEntry, IsPast, loop_of, IsDue, EntryHolds, IsEntered}
 use Rattle.states.specs.Comparing.{AreEntered, IsBase, IsKeptLoop, IsPair, IsConstantAt, IsInto, IsWalk, stands}
-use Rattle.states.proofs.RowFacts.{before, within, behind, lies, about-before, about-behind, and-both, le-yes}
+use Rattle.states.proofs.RowFacts.{before, within, behind, lies, about-before, about-behind}
 use Rattle.states.proofs.RowFacts.{rise-parts, entry_fact-within, entry_fact-behind, segment-behind, segment-apart}
 use Rattle.states.proofs.FrameFacts.{is_word-same, is_word-below}
 use Rattle.states.proofs.Comparisons.{says-unknown}
@@ -128,14 +131,11 @@ loop-is (Loop base count weight) loop h =
     ap (λ (l : CountedLoop). Loop l.base l.count l.weight) same
 loop-is fact loop h = absurd (cc)
 
-same-number : (n : ℕ) → eqb n n ≡ true
-same-number n = grind (arith, nat_tests)
-
 -- a loop is the same as itself
 same-loop : (loop : CountedLoop) → is_same_loop loop loop ≡ true
 same-loop loop =
-    and-both _ _ (and-both _ _ (is_word-same loop.base loop.base refl) (same-number loop.count))
-    (same-number loop.weight)
+    and_from _ _ (and_from _ _ (is_word-same loop.base loop.base refl) (eqb-self loop.count))
+    (eqb-self loop.weight)
 
 -- a constant is said of each word alike
 constant-said : (fact : Fact) (t : Bool) (number : ℤ) → is_constant fact number ≡ true → said_of fact t ≡ Alone fact
@@ -298,7 +298,7 @@ walk-from said facts row base left rest entry later paid walk is same =
     record {
       low = entry.word;
       rises = subst (λ (es : List Entry). rise_from entry.word es ≡ true) (sym is)
-          (and-both _ _ (le-yes entry.word entry.word (omega (arith, ints))) parts.1);
+          (and_from _ _ (le-int_le entry.word entry.word (omega (arith, ints))) parts.1);
       same = λ k l. same k l ∙ walk.same k (omega (arith, ints));
       each = walk.each;
       whole = walk.whole;
@@ -478,16 +478,12 @@ none-is (Some x) false h t = absurd (cc)
 
 -- ---- a label
 
-and-assoc : (a b c : Bool) → a && (b && c) ≡ (a && b) && c
-and-assoc true b c = refl
-and-assoc false b c = refl
-
 -- the tests of the place and of the registers come first
 pub agrees-first : (v : View) (t : Label) (b : Bool)
     → b ≡ (entries_hold v.frame t.entries && list_all (is_whole v.frame) t.entries) → (stands v t && b) ≡ agrees v t
 agrees-first v t b is =
     ap (λ (c : Bool). stands v t && c) is
-    ∙ and-assoc (stands v t) (entries_hold v.frame t.entries) (list_all (is_whole v.frame) t.entries)
+    ∙ sym (and_assoc (stands v t) (entries_hold v.frame t.entries) (list_all (is_whole v.frame) t.entries))
 
 -- a view that is where the label is, and that knows all that the label wants, pays this
 pub compared-paid : (number paid cost : ℕ) (v : View) (t : Label) → stands v t ≡ true
@@ -495,7 +491,7 @@ pub compared-paid : (number paid cost : ℕ) (v : View) (t : Label) → stands v
     → sum_by (price v.frame) t.entries ≡ paid → cost ≡ paid + t.number → cost ≤ number
     → compared number v t ≡ Ok cost
 compared-paid number paid total v t there hold whole paid_is total_is covered =
-    let agreed : agrees v t ≡ true = and-both _ _ (and-both _ _ there hold) whole in
+    let agreed : agrees v t ≡ true = and_from _ _ (and_from _ _ there hold) whole in
     let same : cost v t ≡ total = omega (arith, paid_is, total_is) in
     let enough : nat_lt number total ≡ false = grind (arith, nat_tests) in
     rw (same, enough, agreed) refl

@@ -3,9 +3,10 @@ use Rattle.std.proofs.Common.{◌≡◌, ℕ, ℤ, pos, negsuc, ◌+ℤ◌, ◌-
 use Rattle.std.proofs.Common.{eqb, List, Some, refl, sym, ap, ◌∙◌, arith, ◌⊎◌, inl, inr}
 use std.Path.{fun_ext}
 use Rattle.std.specs.Prelude.{int_le, option_map, unwrap_or}
-use Rattle.std.proofs.lemmas.Bool.{cases_eq, cases_lt}
+use Rattle.std.proofs.lemmas.Bool.{cases_eq, cases_lt, and_from}
 use Rattle.std.proofs.lemmas.Bool.Decides.{nat_tests}
 use Rattle.std.proofs.lemmas.Int.{ints, by_lt_z}
+use Rattle.small_laws.proofs.Comparisons.{le-int_le, lt-int_le}
 use Rattle.module_format.specs.Rows.{Fact}
 use Rattle.module_format.specs.Rows.{Entry}
 use Rattle.states.specs.declared.overlay.Written.{Written}
@@ -17,19 +18,18 @@ use Rattle.states.specs.declared.known.LoopWord.TheVariants as words
 use Rattle.states.specs.declared.known.WordFact.{WordFact}
 use Rattle.states.specs.declared.known.WordFact.TheVariants.{Alone, Index, Count}
 use Rattle.states.specs.Frames.{with_alone, is_loop_word, parted}
-use Rattle.states.proofs.RowFacts.{le-yes, le-no, and-both}
 
 pub is_word-same : (j k : ℤ) → j ≡ k → is_word j k ≡ true
-is_word-same j k e = and-both _ _ (le-yes j k (omega (arith, ints))) (le-yes k j (omega (arith, ints)))
+is_word-same j k e = and_from _ _ (le-int_le j k (omega (arith, ints))) (le-int_le k j (omega (arith, ints)))
 
 pub is_word-below : (j k : ℤ) → j <ℤ k → is_word j k ≡ false
-is_word-below j k h = rw (le-no k j h) (false-right (int_le j k)) where
+is_word-below j k h = rw (lt-int_le k j h) (false-right (int_le j k)) where
   false-right : (b : Bool) → b && false ≡ false
   false-right true = refl
   false-right false = refl
 
 pub is_word-above : (j k : ℤ) → k <ℤ j → is_word j k ≡ false
-is_word-above j k h = rw (le-no j k h) refl
+is_word-above j k h = rw (lt-int_le j k h) refl
 
 -- one more written
 write-at : (written new : List Written) (fact : Fact) (rest : WordFact) (lo word k : ℤ) (i : ℕ) (z : ℤ) → z ≡ k -ℤ lo

@@ -1,11 +1,11 @@
 -- What is known of words together, and of each of them.
-use Rattle.std.proofs.Common.{◌≡◌, ℕ, zero, suc, ◌<◌, ℤ, pos, ◌+ℤ◌, ◌≤ℤ◌, ◌<ℤ◌, Bool, true, false, ◌&&◌}
+use Rattle.std.proofs.Common.{◌≡◌, ℕ, zero, suc, ◌<◌, ℤ, pos, ◌+ℤ◌, ◌≤ℤ◌, ◌<ℤ◌, Bool, true, ◌&&◌}
 use Rattle.std.proofs.Common.{List, [], ◌∷◌, ◌++◌, length, get_or, drop, None, refl, sym, ap, ◌∙◌, subst, arith, ◌⊎◌}
 use Rattle.std.proofs.Common.{inl, inr}
-use Rattle.std.specs.Prelude.{not}
 use Rattle.std.specs.Int.{int_min, int_max}
-use Rattle.std.proofs.lemmas.Bool.{cases_lt}
+use Rattle.std.proofs.lemmas.Bool.{cases_lt, and_parts, and_from}
 use Rattle.std.proofs.lemmas.Int.{ints, clamps}
+use Rattle.small_laws.proofs.Comparisons.{le-int_le, int_le-true}
 use Rattle.module_format.specs.Rows.{Fact, Entry}
 use Rattle.module_format.specs.Order.{least_word}
 use Rattle.module_format.specs.Facts.{end_of}
@@ -21,7 +21,7 @@ use Rattle.states.specs.Blocks.{block_words}
 use Rattle.states.specs.Implied.{IsImplied, AllImplied, BlockImplied, WantsOnlyWithin}
 use Rattle.states.specs.Rows.{rise_from, AreApart}
 use Rattle.states.specs.Spans.{with_plain, together}
-use Rattle.states.proofs.RowFacts.{and-parts, and-both, le-yes, le-from, before, within, behind, lies, about-before}
+use Rattle.states.proofs.RowFacts.{before, within, behind, lies, about-before}
 use Rattle.states.proofs.RowFacts.{rise-parts, about-behind, entry_fact-before, entry_fact-within, entry_fact-drop}
 
 -- each fact says nothing
@@ -38,10 +38,10 @@ pub implies-narrower : (lo hi low high : ℤ) (wanted : Fact) → low ≤ℤ lo 
     → implies (Number low high) wanted ≡ true → implies (Number lo hi) wanted ≡ true
 implies-narrower lo hi low high Unknown a b h = refl
 implies-narrower lo hi low high (Number from to) a b h =
-    let both = and-parts _ _ h in
-    let l = le-from from low both.0 in
-    let r = le-from high to both.1 in
-    and-both _ _ (le-yes from lo (omega (arith, ints, l))) (le-yes hi to (omega (arith, ints, r)))
+    let both = and_parts _ _ h in
+    let l = int_le-true from low both.0 in
+    let r = int_le-true high to both.1 in
+    and_from _ _ (le-int_le from lo (omega (arith, ints, l))) (le-int_le hi to (omega (arith, ints, r)))
 implies-narrower lo hi low high (Pointer region from to step) a b h = absurd (cc)
 implies-narrower lo hi low high (CodeAddress offset) a b h = absurd (cc)
 implies-narrower lo hi low high (Loop base count weight) a b h = absurd (cc)
@@ -212,8 +212,3 @@ pub dropped : (row : List Entry) (n : ℕ) (d : Entry) (first word : ℤ) → Ar
     → entry_fact (drop n row) k ≡ entry_fact row k
 dropped row n d first word apart low is begun = λ k l.
     entry_fact-drop least_word k row n d apart low (omega (arith, ints, is, begun, l))
-
--- what is not false
-pub not-no : (b : Bool) → not b ≡ false → b ≡ true
-not-no true h = refl
-not-no false h = absurd (cc)

@@ -4,12 +4,12 @@ use Rattle.std.proofs.Common.{ap, ◌∙◌, sym, subst, arith}
 use Rattle.std.proofs.Math.Bool.{or-true}
 use Rattle.std.specs.Prelude.{int_le, int_lt}
 use Rattle.std.proofs.lemmas.Int.{ints, by_lt_z}
+use Rattle.std.proofs.lemmas.Bool.{and_from, and_right}
+use Rattle.small_laws.proofs.Comparisons.{lt-int_lt, le-int_le, lt-int_le, le-int_lt}
 use Rattle.module_format.specs.declared.rows.Interval.{Interval}
 use Rattle.module_format.specs.Order.{InOrder, least_word}
 use Rattle.module_format.specs.Pars.{IntervalKeeps, behind_interval}
 use Rattle.certificate.specs.Rights.{is_among}
-use Rattle.states.proofs.RowFacts.{le-yes, le-no, lt-yes, lt-no, and-both}
-use Rattle.states.proofs.SpanFacts.{and-no}
 
 abbrev Rise : ℤ → List Interval → Type 0
 Rise low intervals = InOrder IntervalKeeps behind_interval low intervals
@@ -19,12 +19,12 @@ pub ended : (i : Interval) (is : List Interval) (word k : ℤ) → i.hi ≤ℤ w
     → is_among is k ≡ is_among (i ∷ is) k
 ended i is word k ends later =
     sym (ap (λ (b : Bool). b || is_among is k)
-    (and-no (int_le i.lo k) (int_lt k i.hi) (lt-no k i.hi (omega (arith, ints)))))
+    (and_right (int_le i.lo k) (int_lt k i.hi) (le-int_lt k i.hi (omega (arith, ints)))))
 
 -- an interval has the words from its first up to its end
 pub begun : (i : Interval) (is : List Interval) (k : ℤ) → i.lo ≤ℤ k → k <ℤ i.hi → is_among (i ∷ is) k ≡ true
 begun i is k low high =
-    ap (λ (b : Bool). b || is_among is k) (and-both _ _ (le-yes i.lo k low) (lt-yes k i.hi high))
+    ap (λ (b : Bool). b || is_among is k) (and_from _ _ (le-int_le i.lo k low) (lt-int_lt k i.hi high))
 
 -- none has a word before the first
 pub none-before : (low : ℤ) (is : List Interval) (k : ℤ) → Rise low is → k <ℤ low → is_among is k ≡ false
@@ -32,14 +32,16 @@ none-before low [] k h less = refl
 none-before low (i ∷ is) k h less =
     let apart = h.0.apart in
     let some = h.0.some in
-    ap (λ (b : Bool). b || is_among is k) (ap (λ (b : Bool). b && int_lt k i.hi) (le-no i.lo k (omega (arith, ints))))
+    ap (λ (b : Bool). b || is_among is k)
+    (ap (λ (b : Bool). b && int_lt k i.hi) (lt-int_le i.lo k (omega (arith, ints))))
     ∙ none-before i.hi is k h.1 (omega (arith, ints))
 
 pub before-first : (low : ℤ) (i : Interval) (is : List Interval) (k : ℤ) → Rise low (i ∷ is) → k <ℤ i.lo
     → is_among (i ∷ is) k ≡ false
 before-first low i is k h less =
     let some = h.0.some in
-    ap (λ (b : Bool). b || is_among is k) (ap (λ (b : Bool). b && int_lt k i.hi) (le-no i.lo k less))
+    ap (λ (b : Bool). b || is_among is k)
+    (ap (λ (b : Bool). b && int_lt k i.hi) (lt-int_le i.lo k less))
     ∙ none-before i.hi is k h.1 (omega (arith, ints))
 
 from-least : (low : ℤ) (is : List Interval) → least_word ≤ℤ low → Rise low is → Rise least_word is

@@ -3,8 +3,9 @@ use Rattle.std.proofs.Common.{◌≡◌, ℕ, ℤ, pos, ◌+ℤ◌, ◌≤ℤ◌
 use Rattle.std.proofs.Common.{Option, Some, None, refl, sym, ap, ◌∙◌, subst, arith, inl, inr}
 use Rattle.std.specs.Prelude.{MatchOption, find, ◌==◌}
 use Rattle.std.specs.List.{AllByRecursion}
-use Rattle.std.proofs.lemmas.Bool.{cases_Bool}
+use Rattle.std.proofs.lemmas.Bool.{cases_Bool, and_parts, and_from}
 use Rattle.std.proofs.lemmas.Int.{ints}
+use Rattle.small_laws.proofs.Comparisons.{lt-int_lt, le-int_le, int_le-true, int_lt-true}
 use Rattle.module_format.specs.Rows.{Fact}
 use Rattle.module_format.specs.declared.fact.Fact.TheVariants.{Unknown, Number, Pointer, CodeAddress, Loop}
 use Rattle.module_format.specs.declared.fact.Fact.TheVariants.{ReturnAddress}
@@ -20,14 +21,13 @@ use Rattle.states.specs.declared.known.WordFact.{WordFact}
 use Rattle.states.specs.declared.known.WordFact.TheVariants.{Alone}
 use Rattle.states.specs.State.{is_word, is_about, said_of, entry_fact}
 use Rattle.states.specs.Rows.{rise_from, LoopFits, IsRowOf}
-use Rattle.states.proofs.RowFacts.{and-parts, and-both, le-yes, lt-yes, le-from, lt-from}
 
 -- valid entries are apart
 pub entries-apart : (code_len : ℕ) (low : ℤ) (entries : List Entry)
     → InOrder (EntryKeeps code_len) behind_entry low entries → rise_from low entries ≡ true
 entries-apart code_len low [] keeps = refl
 entries-apart code_len low (entry ∷ entries) keeps =
-    and-both _ _ (le-yes low entry.word keeps.0.apart) (entries-apart code_len (end_of entry) entries keeps.1)
+    and_from _ _ (le-int_le low entry.word keeps.0.apart) (entries-apart code_len (end_of entry) entries keeps.1)
 
 said-fits : (code_len span : ℕ) (fact : Fact) (is_first : Bool) → WordKeeps code_len span fact
     → LoopFits (said_of fact is_first)
@@ -56,12 +56,13 @@ outside-unknown : (context : Context) (entries : List Entry) (k : ℤ) → AllBy
 outside-unknown context [] k all out = refl
 outside-unknown context (entry ∷ entries) k all out = elim (cases_Bool (is_about entry k)) [
   | inl e ↦
-      let both = and-parts _ _ e in
-      let low : entry.word ≤ℤ k = le-from entry.word k both.0 in
-      let high : k <ℤ (entry.word +ℤ pos entry.span) = lt-from k (entry.word +ℤ pos entry.span) both.1 in
+      let both = and_parts _ _ e in
+      let low : entry.word ≤ℤ k = int_le-true entry.word k both.0 in
+      let high : k <ℤ (entry.word +ℤ pos entry.span) = int_lt-true k (entry.word +ℤ pos entry.span) both.1 in
       let a : context.lo ≤ℤ k = omega (arith, ints, all.0.low) in
       let b : k <ℤ context.hi = omega (arith, ints, all.0.high) in
-      let inside : has_word (Some context) k ≡ true = and-both _ _ (le-yes context.lo k a) (lt-yes k context.hi b) in
+      let inside : has_word (Some context) k ≡ true =
+      and_from _ _ (le-int_le context.lo k a) (lt-int_lt k context.hi b) in
       let clash : true ≡ false = sym inside ∙ out in
       absurd (cc)
   | inr e ↦ ap (λ (b : Bool). cond b (said_of entry.fact (is_word entry.word k)) (entry_fact entries k)) e

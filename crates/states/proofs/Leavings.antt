@@ -5,13 +5,14 @@ use Rattle.std.proofs.Common.{refl, sym, ap, ◌∙◌, subst}
 use Rattle.std.proofs.Common.{arith, inl, inr}
 use std.Path.{fun_ext}
 use Rattle.std.specs.Int.{int_min, int_max}
-use Rattle.std.proofs.lemmas.Bool.{cases_eq, cases_lt}
+use Rattle.std.proofs.lemmas.Bool.{cases_eq, cases_lt, and_from}
 use Rattle.std.proofs.lemmas.List.{get_or_default, get_or_past}
 use Rattle.std.proofs.lemmas.Bool.Decides.{nat_tests}
 use Rattle.std.proofs.lemmas.Int.{ints, clamps}
 use Rattle.std.proofs.lemmas.Nat.{div-add-mod'}
 use Rattle.std.proofs.Math.Nat.{mod-lt}
 use Rattle.std.specs.Prelude.{option_map, unwrap_or}
+use Rattle.std.proofs.Math.Bool.{and-true}
 use Rattle.module_format.specs.Rows.{Fact, Entry}
 use Rattle.module_format.specs.declared.fact.Fact.TheVariants.{Unknown, Number, Pointer, CodeAddress, Loop}
 use Rattle.module_format.specs.declared.fact.Fact.TheVariants.{ReturnAddress}
@@ -30,9 +31,8 @@ use Rattle.states.specs.Blocks.{block_words, no_block, block_at, first_of, left_
 use Rattle.states.specs.Blocks.{AreSummed}
 use Rattle.states.specs.Blocks.{is_number, is_unbounded, sum_left}
 use Rattle.module_format.specs.Order.{least_word, greatest_word}
-use Rattle.states.proofs.RowFacts.{and-both}
 use Rattle.states.proofs.FrameFacts.{word-cases, is_word-same, distance}
-use Rattle.states.proofs.SpanFacts.{and-yes, LiesBy, below, within, above, lies-by, in-span, not-below, not-above}
+use Rattle.states.proofs.SpanFacts.{LiesBy, below, within, above, lies-by, in-span, not-below, not-above}
 use Rattle.states.proofs.Loops.{some-words}
 use Rattle.states.proofs.BlockSums.{number-of, together-same, min-assoc, max-assoc}
 
@@ -463,17 +463,17 @@ data Widened (lo hi : ℤ) (t u : Together) : Type 0 where
 widened-other : (lo hi : ℤ) (t u : Together) (alone : Bool) → Widened lo hi t u
     → Widened lo hi (record t { are_numbers = false; are_alone = t.are_alone && alone })
     (record u { are_numbers = false; are_alone = u.are_alone && true })
-widened-other lo hi t u alone (no_number a b c d e f) = no_number a b c d refl (and-yes u.are_alone ∙ f)
-widened-other lo hi t u alone (a_number a b e f) = a_number a b refl (and-yes u.are_alone ∙ f)
+widened-other lo hi t u alone (no_number a b c d e f) = no_number a b c d refl (and-true u.are_alone ∙ f)
+widened-other lo hi t u alone (a_number a b e f) = a_number a b refl (and-true u.are_alone ∙ f)
 
 widened-more : (lo hi : ℤ) (said : Fact) (t u : Together) (alone : Bool) → Widened lo hi t u
     → Widened lo hi (with_plain (handed_out said) (record t { are_alone = t.are_alone && alone }))
     (with_plain (handed_out (widened lo hi said)) (record u { are_alone = u.are_alone && true }))
 widened-more lo hi (Number a b) t u alone (no_number tl th ul uh numbers lone) =
     a_number (omega (arith, ints, clamps, tl, ul)) (omega (arith, ints, clamps, th, uh)) numbers
-    (and-yes u.are_alone ∙ lone)
+    (and-true u.are_alone ∙ lone)
 widened-more lo hi (Number a b) t u alone (a_number ul uh numbers lone) =
-    a_number (omega (arith, ints, clamps, ul)) (omega (arith, ints, clamps, uh)) numbers (and-yes u.are_alone ∙ lone)
+    a_number (omega (arith, ints, clamps, ul)) (omega (arith, ints, clamps, uh)) numbers (and-true u.are_alone ∙ lone)
 widened-more lo hi Unknown t u alone w = widened-other lo hi t u alone w
 widened-more lo hi (Pointer region a b step) t u alone w = widened-other lo hi t u alone w
 widened-more lo hi (CodeAddress offset) t u alone w = widened-other lo hi t u alone w
@@ -503,7 +503,7 @@ span-word facts first n j leaving less =
 sum-widened : (lo hi : ℤ) (t u sum : Together) → Widened lo hi t u
     → sum_left (Some t) (Widen lo hi) ≡ Some sum → sum ≡ u
 sum-widened lo hi t u sum (no_number tl th ul uh numbers lone) is =
-    let unbounded = and-both _ _ (is_word-same t.lo greatest_word tl) (is_word-same t.hi least_word th) in
+    let unbounded = and_from _ _ (is_word-same t.lo greatest_word tl) (is_word-same t.hi least_word th) in
     let clash : None ≡ Some sum =
     sym (ap (λ (b : Bool). cond b None (Some
     (record t { lo = int_min t.lo lo; hi = int_max t.hi hi; are_alone = true })))

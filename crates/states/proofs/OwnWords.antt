@@ -2,10 +2,11 @@
 use Rattle.std.proofs.Common.{◌≡◌, ℕ, ℤ, pos, ◌+ℤ◌, ◌≤ℤ◌, ◌<ℤ◌, Bool, true, false, ◌&&◌, ◌||◌, Option, Some, None}
 use Rattle.std.proofs.Common.{refl, sym, ap, ◌∙◌, subst, inl, inr}
 use Rattle.std.proofs.Common.{to_z, of_z}
-use Rattle.std.proofs.lemmas.Bool.{cases_Bool}
+use Rattle.std.proofs.lemmas.Bool.{cases_Bool, and_parts, and_right}
 use Rattle.std.proofs.lemmas.Int.{to_z-of_z}
 use Rattle.std.specs.Prelude.{FitsSigned, IsTrue, SomeIff, int_lt}
 use Rattle.std.specs.Int.{w32, w64}
+use Rattle.small_laws.proofs.Comparisons.{lt-int_le, le-int_lt}
 use Rattle.module_format.specs.Contents.{Contents, Par, Branch}
 use Rattle.module_format.specs.Contexts.{context_at}
 use Rattle.module_format.specs.declared.contexts.Context.{Context}
@@ -13,15 +14,14 @@ use Rattle.certificate.specs.Rights.{has_word, is_among, may_write_word, may_rea
 use Rattle.certificate.specs.Branches.{numbered_branch}
 use Rattle.states.specs.declared.state.State.{State as InMemory}
 use Rattle.states.specs.Views.{BelongsTo, CanWrite, IsUsable, AreUsable}
-use Rattle.states.proofs.RowFacts.{and-parts, le-no, lt-no}
 use Rattle.states.proofs.States.{room-fits}
-use Rattle.states.proofs.SpanFacts.{and-no, all-from-each, all-fail-at}
+use Rattle.states.proofs.SpanFacts.{all-from-each, all-fail-at}
 
 pub written-own : (m : Contents) (n : ℕ) (k : ℤ) → may_write_word m n k ≡ true → has_word (context_at m n) k ≡ true
-written-own m n k h = (and-parts _ _ h).0
+written-own m n k h = (and_parts _ _ h).0
 
 pub read-own : (m : Contents) (n : ℕ) (k : ℤ) → may_read_word m n k ≡ true → has_word (context_at m n) k ≡ true
-read-own m n k h = (and-parts _ _ h).0
+read-own m n k h = (and_parts _ _ h).0
 
 module _ {may_use : Contents → ℕ → ℤ → Bool}
     (own : (m : Contents) (n : ℕ) (k : ℤ) → may_use m n k ≡ true → has_word (context_at m n) k ≡ true)
@@ -136,11 +136,7 @@ read-as m n k o is h =
 -- ---- the ends of a frame
 
 pub not-before : (context : Context) (k : ℤ) → k <ℤ context.lo → has_word (Some context) k ≡ false
-not-before context k less = ap (λ (b : Bool). b && int_lt k context.hi) (le-no context.lo k less)
+not-before context k less = ap (λ (b : Bool). b && int_lt k context.hi) (lt-int_le context.lo k less)
 
 pub not-behind : (context : Context) (k : ℤ) → context.hi ≤ℤ k → has_word (Some context) k ≡ false
-not-behind context k more = and-no _ _ (lt-no k context.hi more)
-
-pub or-none : (b : Bool) → b || false ≡ b
-or-none true = refl
-or-none false = refl
+not-behind context k more = and_right _ _ (le-int_lt k context.hi more)

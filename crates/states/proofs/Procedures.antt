@@ -9,6 +9,8 @@ use Rattle.std.proofs.lemmas.List.{append-nil}
 use Rattle.std.proofs.lemmas.Option.{slice_get_within}
 use Rattle.std.proofs.lemmas.Bool.Decides.{nat_tests}
 use Rattle.std.proofs.lemmas.Int.{ints}
+use Rattle.std.proofs.lemmas.Bool.{and_from}
+use Rattle.small_laws.proofs.Comparisons.{lt-int_lt, le-int_le}
 use Rattle.module_format.specs.declared.fact.Fact.TheVariants.{ReturnAddress}
 use Rattle.module_format.specs.Rows.{Fact}
 use Rattle.module_format.specs.declared.rows.Parameter.{Parameter}
@@ -23,7 +25,6 @@ use Rattle.states.specs.State.{Facts, entry_fact, parameter_fact, parameter_fact
 use Rattle.states.specs.Frames.{with_alone, HasRoom, HasRoomForAll, SameRoom}
 use Rattle.states.specs.declared.state.State.{State as InMemory}
 use Rattle.states.specs.Views.{BelongsTo}
-use Rattle.states.proofs.RowFacts.{and-both, le-yes, lt-yes}
 
 -- ---- contexts
 
@@ -71,7 +72,7 @@ word-room : (m : Contents) (s : InMemory) (n : ℕ) (p : Procedure) (word : ℕ)
 word-room m s n p word b is low high =
     let own : has_word (context_at m n) (pos word) ≡ true =
     ap (λ o. has_word o (pos word)) is
-    ∙ and-both _ _ (le-yes p.lo (pos word) (omega (arith, ints))) (lt-yes (pos word) p.hi high) in
+    ∙ and_from _ _ (le-int_le p.lo (pos word) (omega (arith, ints))) (lt-int_lt (pos word) p.hi high) in
     (b.room n (pos word) own).room
 
 -- what becomes of a state where a procedure begins

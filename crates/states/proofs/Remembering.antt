@@ -5,7 +5,7 @@ use Rattle.std.proofs.Common.{Bool, true, false, ◌&&◌, List, [], ◌∷◌, 
 use Rattle.std.proofs.Common.{subst, arith, inl, inr, cond}
 use Rattle.std.specs.Prelude.{nat_le, nat_lt, is_none, sum_by, if◌then◌else◌, Result, Ok, Err, vec_len}
 use Rattle.std.specs.List.{list_all}
-use Rattle.std.proofs.lemmas.Bool.{cases_lt, cases_eq}
+use Rattle.std.proofs.lemmas.Bool.{cases_lt, cases_eq, and_parts, and_from, leb-true, le-leb}
 use Rattle.std.proofs.lemmas.Bool.Decides.{nat_tests}
 use Rattle.std.proofs.lemmas.Int.{ints}
 use Rattle.std.proofs.lemmas.List.{get_or_past, get_or-set_same, get_or-set_other}
@@ -43,7 +43,6 @@ use Rattle.states.specs.Remembered.{word_written, no_changes, changes_of, since_
 use Rattle.states.specs.Remembered.{range_in, became_until}
 use Rattle.states.specs.Remembering.{IsRemembered, AreFixed, AreRemembered, IsChanged, IsPlaced, IsLeftSo, IsRenewed}
 use Rattle.states.proofs.BlockSums.{number-of}
-use Rattle.states.proofs.RowFacts.{and-parts, and-both}
 use Rattle.states.proofs.Comparisons.{entries_hold-says, says-unknown}
 use Rattle.states.proofs.FrameFacts.{word-cases}
 use Rattle.states.proofs.Loops.{some-words}
@@ -52,12 +51,6 @@ use Rattle.states.proofs.Widenings.{widened-in}
 
 -- ---- loops whose words are what they were
 
-le-of : (a b : ℕ) → nat_le a b ≡ true → a ≤ b
-le-of a b h = grind (arith, nat_tests)
-
-le-is : (a b : ℕ) → a ≤ b → nat_le a b ≡ true
-le-is a b h = grind (arith, nat_tests)
-
 -- the facts of an entry's two words, if it is of a loop, are what they were where they were not changed
 whole-by : (fact : Fact) (f g f' g' : WordFact) (first second time : ℕ)
     → (first ≤ time → f' ≡ f) → (second ≤ time → g' ≡ g)
@@ -65,8 +58,8 @@ whole-by : (fact : Fact) (f g f' g' : WordFact) (first second time : ℕ)
     → (elim fact as (λ _. Bool) [ Loop base count weight ↦ are_alike (is_alone f') (is_alone g') | _ ↦ true ])
     ≡ (elim fact as (λ _. Bool) [ Loop base count weight ↦ are_alike (is_alone f) (is_alone g) | _ ↦ true ])
 whole-by (Loop base count weight) f g f' g' first second time f_is g_is stays =
-    let both = and-parts _ _ stays in
-    rw (f_is (le-of first time both.0), g_is (le-of second time both.1)) refl
+    let both = and_parts _ _ stays in
+    rw (f_is (leb-true first time both.0), g_is (leb-true second time both.1)) refl
 whole-by Unknown f g f' g' first second time f_is g_is stays = refl
 whole-by (Number lo hi) f g f' g' first second time f_is g_is stays = refl
 whole-by (Pointer region lo hi step) f g f' g' first second time f_is g_is stays = refl
@@ -87,8 +80,8 @@ price-by : (fact : Fact) (f g f' g' : WordFact) (first second time : ℕ)
       | _ ↦ 0
     ])
 price-by (Loop base count weight) f g f' g' first second time f_is g_is stays =
-    let both = and-parts _ _ stays in
-    rw (f_is (le-of first time both.0), g_is (le-of second time both.1)) refl
+    let both = and_parts _ _ stays in
+    rw (f_is (leb-true first time both.0), g_is (leb-true second time both.1)) refl
 price-by Unknown f g f' g' first second time f_is g_is stays = refl
 price-by (Number lo hi) f g f' g' first second time f_is g_is stays = refl
 price-by (Pointer region lo hi step) f g f' g' first second time f_is g_is stays = refl
@@ -105,8 +98,9 @@ loop-stays : (fact : Fact) (first second first' second' time : ℕ)
     ≡ true
     → (elim fact as (λ _. Bool) [ Loop base count weight ↦ nat_le first time && nat_le second time | _ ↦ true ]) ≡ true
 loop-stays (Loop base count weight) first second first' second' time f g stays =
-    let both = and-parts _ _ stays in
-    and-both _ _ (le-is first time (f (le-of first' time both.0))) (le-is second time (g (le-of second' time both.1)))
+    let both = and_parts _ _ stays in
+    and_from _ _ (le-leb first time (f (leb-true first' time both.0)))
+    (le-leb second time (g (leb-true second' time both.1)))
 loop-stays Unknown first second first' second' time f g stays = refl
 loop-stays (Number lo hi) first second first' second' time f g stays = refl
 loop-stays (Pointer region lo hi step) first second first' second' time f g stays = refl
@@ -118,8 +112,8 @@ stayed : (times later : ℤ → ℕ) (facts others : Facts) (time : ℕ) (entrie
     → loops_stay times time entries ≡ true
 stayed times later facts others time [] same stays = refl
 stayed times later facts others time (entry ∷ entries) same stays =
-    let both : (loop_stays later time entry ≡ true) × (loops_stay later time entries ≡ true) = and-parts _ _ stays in
-    and-both _ _
+    let both : (loop_stays later time entry ≡ true) × (loops_stay later time entries ≡ true) = and_parts _ _ stays in
+    and_from _ _
     (loop-stays entry.fact (times entry.word) (times (entry.word +ℤ pos 1)) (later entry.word)
     (later (entry.word +ℤ pos 1)) time (λ l. (same entry.word l).1) (λ l. (same (entry.word +ℤ pos 1) l).1) both.0)
     (stayed times later facts others time entries same both.1)
@@ -129,7 +123,7 @@ whole-same : (times later : ℤ → ℕ) (facts others : Facts) (time : ℕ) (en
     → list_all (is_whole others) entries ≡ list_all (is_whole facts) entries
 whole-same times later facts others time [] same stays = refl
 whole-same times later facts others time (entry ∷ entries) same stays =
-    let both : (loop_stays later time entry ≡ true) × (loops_stay later time entries ≡ true) = and-parts _ _ stays in
+    let both : (loop_stays later time entry ≡ true) × (loops_stay later time entries ≡ true) = and_parts _ _ stays in
     let here : is_whole others entry ≡ is_whole facts entry =
     whole-by entry.fact (facts entry.word) (facts (entry.word +ℤ pos 1)) (others entry.word)
     (others (entry.word +ℤ pos 1)) (later entry.word) (later (entry.word +ℤ pos 1)) time
@@ -143,7 +137,7 @@ due-same : (times later : ℤ → ℕ) (facts others : Facts) (time : ℕ) (entr
     → sum_by (price others) entries ≡ sum_by (price facts) entries
 due-same times later facts others time [] same stays = refl
 due-same times later facts others time (entry ∷ entries) same stays =
-    let both : (loop_stays later time entry ≡ true) × (loops_stay later time entries ≡ true) = and-parts _ _ stays in
+    let both : (loop_stays later time entry ≡ true) × (loops_stay later time entries ≡ true) = and_parts _ _ stays in
     let here : price others entry ≡ price facts entry =
     price-by entry.fact (facts entry.word) (facts (entry.word +ℤ pos 1)) (others entry.word)
     (others (entry.word +ℤ pos 1)) (later entry.word) (later (entry.word +ℤ pos 1)) time
@@ -827,7 +821,7 @@ pub stays-by : (times : ℤ → ℕ) (time : ℕ) (entry : Entry) (base : ℤ) (
     → first ≡ times word → second ≡ times next → first ≤ time → nat_le second time ≡ loop_stays times time entry
 stays-by times time entry base count weight word next first second is word_is next_is first_is second_is below =
     let here = ap times word_is in
-    let yes : nat_le (times entry.word) time ≡ true = le-is _ _ (omega (arith, here, first_is, below)) in
+    let yes : nat_le (times entry.word) time ≡ true = le-leb _ _ (omega (arith, here, first_is, below)) in
     rw (is, yes) (ap (λ (n : ℕ). nat_le n time) (second_is ∙ ap times next_is))
 
 -- no loop is changed where none is wanted
@@ -844,8 +838,8 @@ pub no-loop-stays : (times : ℤ → ℕ) (time : ℕ) (entries : List Entry) �
     → loops_stay times time entries ≡ true
 no-loop-stays times time [] none = refl
 no-loop-stays times time (entry ∷ entries) none =
-    let both : (is_none (loop_of entry.fact) ≡ true) × (wants_no_loop entries ≡ true) = and-parts _ _ none in
-    and-both _ _
+    let both : (is_none (loop_of entry.fact) ≡ true) × (wants_no_loop entries ≡ true) = and_parts _ _ none in
+    and_from _ _
     (no-loop entry.fact (nat_le (times entry.word) time && nat_le (times (entry.word +ℤ pos 1)) time) both.0)
     (no-loop-stays times time entries both.1)
 
@@ -853,14 +847,14 @@ all-stay : (times : ℤ → ℕ) (time : ℕ) (entries : List Entry) → ((k : �
     → loops_stay times time entries ≡ true
 all-stay times time [] all = refl
 all-stay times time (entry ∷ entries) all =
-    and-both _ _
+    and_from _ _
     (loop-stays entry.fact (times entry.word) (times (entry.word +ℤ pos 1)) 0 0 time (λ l. all entry.word)
     (λ l. all (entry.word +ℤ pos 1)) (zero-stays entry.fact))
     (all-stay times time entries all)
   where
     zero-stays : (fact : Fact)
         → (elim fact as (λ _. Bool) [ Loop base count weight ↦ nat_le 0 time && nat_le 0 time | _ ↦ true ]) ≡ true
-    zero-stays (Loop base count weight) = and-both _ _ (le-is 0 time (omega arith)) (le-is 0 time (omega arith))
+    zero-stays (Loop base count weight) = and_from _ _ (le-leb 0 time (omega arith)) (le-leb 0 time (omega arith))
     zero-stays Unknown = refl
     zero-stays (Number lo hi) = refl
     zero-stays (Pointer region lo hi step) = refl
@@ -886,7 +880,7 @@ no-price ReturnAddress f g h = refl
 none-due : (facts : Facts) (entries : List Entry) → wants_no_loop entries ≡ true → sum_by (price facts) entries ≡ 0
 none-due facts [] none = refl
 none-due facts (entry ∷ entries) none =
-    let both : (is_none (loop_of entry.fact) ≡ true) × (wants_no_loop entries ≡ true) = and-parts _ _ none in
+    let both : (is_none (loop_of entry.fact) ≡ true) × (wants_no_loop entries ≡ true) = and_parts _ _ none in
     let here : price facts entry ≡ 0 =
     no-price entry.fact (facts entry.word) (facts (entry.word +ℤ pos 1)) both.0 in
     let rest = none-due facts entries both.1 in
@@ -897,8 +891,8 @@ none-whole : (facts : Facts) (entries : List Entry) → wants_no_loop entries �
     → list_all (is_whole facts) entries ≡ true
 none-whole facts [] none = refl
 none-whole facts (entry ∷ entries) none =
-    let both : (is_none (loop_of entry.fact) ≡ true) × (wants_no_loop entries ≡ true) = and-parts _ _ none in
-    and-both _ _
+    let both : (is_none (loop_of entry.fact) ≡ true) × (wants_no_loop entries ≡ true) = and_parts _ _ none in
+    and_from _ _
     (no-loop entry.fact (are_alike (is_alone (facts entry.word)) (is_alone (facts (entry.word +ℤ pos 1)))) both.0)
     (none-whole facts entries both.1)
 
@@ -1058,8 +1052,8 @@ changed-says lo times facts wanted time each = λ k late. on k (k -ℤ lo) refl 
 agreed-parts : (v : View) (t : Label) → agrees v t ≡ true
     → (entries_hold v.frame t.entries ≡ true) × (list_all (is_whole v.frame) t.entries ≡ true)
 agreed-parts v t h =
-    let first = and-parts (stands v t && entries_hold v.frame t.entries) (list_all (is_whole v.frame) t.entries) h in
-    let second = and-parts (stands v t) (entries_hold v.frame t.entries) first.0 in (second.1, first.1)
+    let first = and_parts (stands v t && entries_hold v.frame t.entries) (list_all (is_whole v.frame) t.entries) h in
+    let second = and_parts (stands v t) (entries_hold v.frame t.entries) first.0 in (second.1, first.1)
 
 -- what is known of a state that may go on as a label's
 pub paid-below : (s : State) (t : Label) (paid : ℕ) → below s t ≡ Ok paid

@@ -1,9 +1,10 @@
 -- What a row of entries says of the words.
 use Rattle.std.proofs.Common.{◌≡◌, ℕ, zero, suc, ◌<◌, ℤ, ◌≤ℤ◌, ◌<ℤ◌, Bool, true, false, ◌&&◌, cond, List, [], ◌∷◌}
 use Rattle.std.proofs.Common.{length, get_or, take, drop, refl, sym, ap, ◌∙◌, subst, add-zero, arith}
-use Rattle.std.specs.Prelude.{int_le, int_lt}
 use Rattle.std.proofs.lemmas.List.{get_or-drop}
 use Rattle.std.proofs.lemmas.Int.{ints, by_lt_z}
+use Rattle.std.proofs.lemmas.Bool.{and_parts, and_from}
+use Rattle.small_laws.proofs.Comparisons.{lt-int_lt, le-int_le, lt-int_le, le-int_lt, int_le-true}
 use Rattle.module_format.specs.declared.fact.Fact.TheVariants.{Unknown}
 use Rattle.module_format.specs.Rows.{Entry}
 use Rattle.states.specs.declared.known.WordFact.TheVariants.{Alone}
@@ -13,31 +14,6 @@ use Rattle.module_format.specs.Facts.{end_of}
 use Rattle.states.specs.Rows.{rise_from, AreApart}
 
 -- ---- tests of numbers
-
-pub le-yes : (a b : ℤ) → a ≤ℤ b → int_le a b ≡ true
-le-yes a b h = grind (arith, ints)
-
-pub le-no : (a b : ℤ) → b <ℤ a → int_le a b ≡ false
-le-no a b h = grind (arith, ints)
-
-pub lt-yes : (a b : ℤ) → a <ℤ b → int_lt a b ≡ true
-lt-yes a b h = grind (arith, ints)
-
-pub lt-no : (a b : ℤ) → b ≤ℤ a → int_lt a b ≡ false
-lt-no a b h = grind (arith, ints)
-
-pub le-from : (a b : ℤ) → int_le a b ≡ true → a ≤ℤ b
-le-from a b h = grind (arith, ints)
-
-pub lt-from : (a b : ℤ) → int_lt a b ≡ true → a <ℤ b
-lt-from a b h = grind (arith, ints)
-
-pub and-parts : (x y : Bool) → x && y ≡ true → (x ≡ true) × (y ≡ true)
-and-parts true y h = (refl, h)
-and-parts false y h = absurd (cc)
-
-pub and-both : (x y : Bool) → x ≡ true → y ≡ true → x && y ≡ true
-and-both x y p q = rw (p, q) refl
 
 -- ---- where a word lies
 
@@ -50,13 +26,13 @@ pub lies : (entry : Entry) (k : ℤ) → Lies entry k
 lies entry k = by_lt_z k entry.word (λ h. before h) (λ h. by_lt_z k (end_of entry) (λ l. within h l) (λ l. behind h l))
 
 pub about-before : (entry : Entry) (k : ℤ) → k <ℤ entry.word → is_about entry k ≡ false
-about-before entry k h = rw (le-no entry.word k h) refl
+about-before entry k h = rw (lt-int_le entry.word k h) refl
 
 pub about-within : (entry : Entry) (k : ℤ) → entry.word ≤ℤ k → k <ℤ end_of entry → is_about entry k ≡ true
-about-within entry k l h = and-both _ _ (le-yes entry.word k l) (lt-yes k (end_of entry) h)
+about-within entry k l h = and_from _ _ (le-int_le entry.word k l) (lt-int_lt k (end_of entry) h)
 
 pub about-behind : (entry : Entry) (k : ℤ) → end_of entry ≤ℤ k → is_about entry k ≡ false
-about-behind entry k h = and-no _ _ (lt-no k (end_of entry) h) where
+about-behind entry k h = and-no _ _ (le-int_lt k (end_of entry) h) where
   and-no : (x y : Bool) → y ≡ false → x && y ≡ false
   and-no true y q = q
   and-no false y q = refl
@@ -66,14 +42,14 @@ about-behind entry k h = and-no _ _ (lt-no k (end_of entry) h) where
 pub rise-parts : (low : ℤ) (entry : Entry) (entries : List Entry) → rise_from low (entry ∷ entries) ≡ true
     → (low ≤ℤ entry.word) × (rise_from (end_of entry) entries ≡ true)
 rise-parts low entry entries h =
-    let p = and-parts _ _ h in (le-from low entry.word p.0, p.1)
+    let p = and_parts _ _ h in (int_le-true low entry.word p.0, p.1)
 
 pub rise-lower : (l low : ℤ) (entries : List Entry) → l ≤ℤ low → rise_from low entries ≡ true
     → rise_from l entries ≡ true
 rise-lower l low [] h r = refl
 rise-lower l low (entry ∷ entries) h r =
     let p = rise-parts low entry entries r in
-    and-both _ _ (le-yes l entry.word (omega (arith, ints))) p.1
+    and_from _ _ (le-int_le l entry.word (omega (arith, ints))) p.1
 
 -- the entries after the first
 pub rise-tail : (low : ℤ) (entry : Entry) (entries : List Entry) → rise_from low (entry ∷ entries) ≡ true
@@ -108,7 +84,7 @@ rise-take low [] zero r = refl
 rise-take low [] (suc n) r = refl
 rise-take low (entry ∷ entries) zero r = refl
 rise-take low (entry ∷ entries) (suc n) r =
-    let p = and-parts _ _ r in and-both _ _ p.0 (rise-take (end_of entry) entries n p.1)
+    let p = and_parts _ _ r in and_from _ _ p.0 (rise-take (end_of entry) entries n p.1)
 
 pub rise-drop : (low : ℤ) (entries : List Entry) (n : ℕ) → rise_from low entries ≡ true
     → rise_from low (drop n entries) ≡ true
@@ -135,7 +111,7 @@ pub entry_fact-take : (low k : ℤ) (entries : List Entry) (n : ℕ) (d : Entry)
 entry_fact-take low k [] n d r l h = absurd (omega arith)
 entry_fact-take low k (entry ∷ entries) zero d r l h =
     sym (unknown-below entry.word k (entry ∷ entries)
-    (and-both _ _ (le-yes entry.word entry.word (omega (arith, ints))) (rise-parts low entry entries r).1) h)
+    (and_from _ _ (le-int_le entry.word entry.word (omega (arith, ints))) (rise-parts low entry entries r).1) h)
 entry_fact-take low k (entry ∷ entries) (suc n) d r l h =
     let p = rise-parts low entry entries r in
     ap (λ f. cond (is_about entry k) (said_of entry.fact (is_word entry.word k)) f)
@@ -151,7 +127,7 @@ pub entry_fact-before : (low k : ℤ) (entry : Entry) (entries : List Entry) →
     → k <ℤ entry.word → entry_fact (entry ∷ entries) k ≡ Alone Unknown
 entry_fact-before low k entry entries r h =
     unknown-below entry.word k (entry ∷ entries)
-    (and-both _ _ (le-yes entry.word entry.word (omega (arith, ints))) (rise-parts low entry entries r).1) h
+    (and_from _ _ (le-int_le entry.word entry.word (omega (arith, ints))) (rise-parts low entry entries r).1) h
 
 pub entry_fact-within : (k : ℤ) (entry : Entry) (entries : List Entry) → entry.word ≤ℤ k → k <ℤ end_of entry
     → entry_fact (entry ∷ entries) k ≡ said_of entry.fact (is_word entry.word k)

@@ -3,9 +3,11 @@ use Rattle.std.proofs.Common.{◌≡◌, ℕ, zero, suc, ◌+◌, ◌-◌, ◌<�
 use Rattle.std.proofs.Common.{◌<ℤ◌, Bool, true, false, ◌&&◌, ◌==◌, cond}
 use Rattle.std.proofs.Common.{refl, sym, ap, ◌∙◌, arith, inl, inr, nat_abs}
 use std.Path.{fun_ext}
-use Rattle.std.proofs.lemmas.Bool.{cases_lt}
+use Rattle.std.proofs.lemmas.Bool.{cases_lt, and_parts, and_from, and_right}
 use Rattle.std.proofs.lemmas.Bool.Decides.{nat_tests}
 use Rattle.std.proofs.lemmas.Int.{ints, by_lt_z}
+use Rattle.std.proofs.Math.Bool.{and-true}
+use Rattle.small_laws.proofs.Comparisons.{lt-int_lt, le-int_le, lt-int_le, le-int_lt}
 use Rattle.module_format.specs.Rows.{Fact}
 use Rattle.module_format.specs.declared.fact.Fact.TheVariants.{Unknown, Number, Pointer, CodeAddress, Loop as LoopFact}
 use Rattle.module_format.specs.declared.fact.Fact.TheVariants.{ReturnAddress}
@@ -25,7 +27,6 @@ use Rattle.states.specs.Frames.{frame_facts, with_alone, with_span, is_loop_word
 use Rattle.states.specs.Frames.{HasRoomForSpan}
 use Rattle.certificate.specs.Words.{all_words}
 use Rattle.states.specs.Spans.{is_in_span, left_of, on_span, of_none, with_one, with_silent, together, after_change}
-use Rattle.states.proofs.RowFacts.{le-yes, le-no, lt-yes, lt-no, and-both, and-parts}
 use Rattle.states.proofs.Loops.{room-known}
 use Rattle.states.proofs.FrameFacts.{is_word-same, is_word-below, is_word-above, distance}
 
@@ -36,25 +37,21 @@ pub data LiesBy (first : ℤ) (count : ℕ) (k : ℤ) : Type 0 where
   within : first ≤ℤ k → k <ℤ (first +ℤ pos count) → is_in_span first count k ≡ true → LiesBy first count k
   above : (first +ℤ pos count) ≤ℤ k → is_in_span first count k ≡ false → LiesBy first count k
 
-pub and-no : (x y : Bool) → y ≡ false → x && y ≡ false
-and-no true y q = q
-and-no false y q = refl
-
 pub lies-by : (first : ℤ) (count : ℕ) (k : ℤ) → LiesBy first count k
 lies-by first count k = by_lt_z k first
-    (λ low. below low (rw (le-no first k low) refl))
+    (λ low. below low (rw (lt-int_le first k low) refl))
     (λ high. by_lt_z k (first +ℤ pos count)
-    (λ inside. within high inside (and-both _ _ (le-yes first k high) (lt-yes k (first +ℤ pos count) inside)))
-    (λ behind. above behind (and-no _ _ (lt-no k (first +ℤ pos count) behind))))
+    (λ inside. within high inside (and_from _ _ (le-int_le first k high) (lt-int_lt k (first +ℤ pos count) inside)))
+    (λ behind. above behind (and_right _ _ (le-int_lt k (first +ℤ pos count) behind))))
 
 pub in-span : (first : ℤ) (count : ℕ) (k : ℤ) → first ≤ℤ k → k <ℤ (first +ℤ pos count) → is_in_span first count k ≡ true
-in-span first count k low high = and-both _ _ (le-yes first k low) (lt-yes k (first +ℤ pos count) high)
+in-span first count k low high = and_from _ _ (le-int_le first k low) (lt-int_lt k (first +ℤ pos count) high)
 
 pub not-below : (first : ℤ) (count : ℕ) (k : ℤ) → k <ℤ first → is_in_span first count k ≡ false
-not-below first count k low = rw (le-no first k low) refl
+not-below first count k low = rw (lt-int_le first k low) refl
 
 pub not-above : (first : ℤ) (count : ℕ) (k : ℤ) → (first +ℤ pos count) ≤ℤ k → is_in_span first count k ≡ false
-not-above first count k high = and-no _ _ (lt-no k (first +ℤ pos count) high)
+not-above first count k high = and_right _ _ (le-int_lt k (first +ℤ pos count) high)
 
 -- ---- one word after the other
 
@@ -185,24 +182,20 @@ span-steps first before behind count leaving facts one two new some before_is be
 
 -- ---- what is known of a span together: words of which nothing is known
 
-pub and-yes : (b : Bool) → b && true ≡ b
-and-yes true = refl
-and-yes false = refl
-
 -- the same so far, with `k` more of which nothing is known
 pub silent-more : (facts : Facts) (first : ℤ) (n k : ℕ)
     → ((j : ℕ) → n ≤ j → j < n + k → facts (first +ℤ pos j) ≡ Alone Unknown)
     → together facts first (n + k) ≡ with_silent k (together facts first n)
 silent-more facts first n zero silent =
     ap (together facts first) (let e : n + 0 ≡ n = omega arith in e)
-    ∙ (let t = together facts first n in λ i. record t { are_numbers = sym (and-yes t.are_numbers) i })
+    ∙ (let t = together facts first n in λ i. record t { are_numbers = sym (and-true t.are_numbers) i })
 silent-more facts first n (suc k) silent =
     let t = together facts first n in
     let so_far = silent-more facts first n k (λ j low high. silent j low (omega arith)) in
     ap (together facts first) (let e : n + suc k ≡ suc (n + k) = omega arith in e)
     ∙ (ap (λ (f : WordFact). with_one f (together facts first (n + k))) (silent (n + k) (omega arith) (omega arith))
     ∙ (ap (with_one (Alone Unknown)) so_far
-    ∙ ((λ i. record t { are_numbers = no t.are_numbers i; are_alone = and-yes t.are_alone i })
+    ∙ ((λ i. record t { are_numbers = no t.are_numbers i; are_alone = and-true t.are_alone i })
     ∙ (λ i. record t { are_numbers = t.are_numbers && sym some i }))))
   where
     some : (suc k == 0) ≡ false
@@ -300,7 +293,7 @@ pub all-fail : (test : ℤ → Bool) (first word : ℤ) (n count : ℕ) → word
     → test word ≡ false → all_words test first count ≡ false
 all-fail test first word n zero word_is less fails = absurd (omega arith)
 all-fail test first word n (suc count) word_is less fails = elim (cases_lt n count) [
-  | inl later ↦ and-no _ _ (all-fail test first word n count word_is later fails)
+  | inl later ↦ and_right _ _ (all-fail test first word n count word_is later fails)
   | inr here ↦
       let same : n ≡ count = omega arith in
       ap (λ (b : Bool). b && all_words test first count)
@@ -312,7 +305,7 @@ pub all-there : (test : ℤ → Bool) (first : ℤ) (count : ℕ) (k : ℤ) → 
     → k <ℤ (first +ℤ pos count) → test k ≡ true
 all-there test first zero k all low high = absurd (omega (arith, ints))
 all-there test first (suc count) k all low high =
-    let both = and-parts _ _ all in
+    let both = and_parts _ _ all in
     by_lt_z k (first +ℤ pos count) (λ before. all-there test first count k both.1 low before)
     (λ here. ap test (let e : k ≡ first +ℤ pos count = omega (arith, ints) in e) ∙ both.0)
 
@@ -321,7 +314,7 @@ pub all-from-each : (test : ℤ → Bool) (first : ℤ) (count : ℕ)
     → ((k : ℤ) → first ≤ℤ k → k <ℤ (first +ℤ pos count) → test k ≡ true) → all_words test first count ≡ true
 all-from-each test first zero each = refl
 all-from-each test first (suc count) each =
-    and-both _ _ (each (first +ℤ pos count) (omega (arith, ints)) (omega (arith, ints)))
+    and_from _ _ (each (first +ℤ pos count) (omega (arith, ints)) (omega (arith, ints)))
     (all-from-each test first count (λ k low high. each k low (omega (arith, ints))))
 
 -- they do not where one of them does not

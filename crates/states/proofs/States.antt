@@ -5,8 +5,9 @@ use Rattle.std.proofs.Common.{inl, inr}
 use Rattle.std.specs.Prelude.{slice_get, option_map, nat_lt, ◌==◌, FitsSigned}
 use Rattle.std.specs.Int.{w32}
 use Rattle.std.proofs.lemmas.List.{get_or_default}
-use Rattle.std.proofs.lemmas.Bool.{cases_Bool, cases_lt}
+use Rattle.std.proofs.lemmas.Bool.{cases_Bool, cases_lt, and_parts}
 use Rattle.std.proofs.lemmas.Int.{ints}
+use Rattle.small_laws.proofs.Comparisons.{int_le-true, int_lt-true}
 use Rattle.module_format.specs.Rows.{Fact}
 use Rattle.module_format.specs.declared.contexts.Context.{Context}
 use Rattle.module_format.specs.Rows.{ProcedureRow}
@@ -18,7 +19,6 @@ use Rattle.states.specs.State.{State, Facts, is_at, with_fact, forgets, written}
 use Rattle.states.specs.Room.{Covers}
 use Rattle.states.specs.declared.state.State.{State as InMemory}
 use Rattle.states.specs.Views.{CanWrite}
-use Rattle.states.proofs.RowFacts.{and-parts, le-from, lt-from}
 
 -- a state whose fields are those of one with a word written is that one
 pub written-fields : (word w v : ℤ) (fact : Fact) (s : State) (a b c : Known) (frame : Facts)
@@ -96,9 +96,9 @@ word-within : (lo hi : ℤ) (o : Option Context) (k : ℤ) → ((context : Conte
 word-within lo hi None k each h = absurd (cc)
 word-within lo hi (Some context) k each h =
     let w = each context refl in
-    let p = and-parts _ _ h in
-    let low = le-from context.lo k p.0 in
-    let high = lt-from k context.hi p.1 in
+    let p = and_parts _ _ h in
+    let low = int_le-true context.lo k p.0 in
+    let high = int_lt-true k context.hi p.1 in
     let below = w.low in
     let above = w.high in
     (omega (arith, ints), omega (arith, ints))

@@ -3,6 +3,8 @@ use Rattle.std.proofs.Common.{◌≡◌, ℕ, ◌/◌, ℤ, pos, ◌-ℤ◌, Boo
 use Rattle.std.proofs.Common.{ap, ◌∙◌, arith}
 use Rattle.std.specs.Int.{int_min, int_max}
 use Rattle.std.proofs.lemmas.Int.{ints, clamps}
+use Rattle.std.proofs.lemmas.Bool.{and_parts, and_from}
+use Rattle.small_laws.proofs.Comparisons.{le-int_le, int_le-true}
 use Rattle.module_format.specs.Rows.{Fact}
 use Rattle.module_format.specs.declared.fact.Fact.TheVariants.{Unknown, Number, Pointer, CodeAddress, Loop}
 use Rattle.module_format.specs.declared.fact.Fact.TheVariants.{ReturnAddress}
@@ -16,7 +18,6 @@ use Rattle.states.specs.Blocks.{block_words, first_of, left_after, is_widening}
 use Rattle.states.specs.Frames.{with_span}
 use Rattle.states.specs.Spans.{widened}
 use Rattle.states.specs.Remembered.{allows}
-use Rattle.states.proofs.RowFacts.{and-parts, and-both, le-yes, le-from}
 use Rattle.states.proofs.Hulls.{implies-narrower, unknown-implied}
 use Rattle.states.proofs.Leavings.{inside, outside, in-block}
 
@@ -25,14 +26,14 @@ widened-implies : (lo hi : ℤ) (said wanted : Fact) → implies (Number lo hi) 
     → implies (widened lo hi said) wanted ≡ true
 widened-implies lo hi said Unknown range h = unknown-implied (widened lo hi said)
 widened-implies lo hi (Number a b) (Number from to) range h =
-    let both = and-parts _ _ h in
-    let other = and-parts _ _ range in
-    let l = le-from from a both.0 in
-    let r = le-from b to both.1 in
-    let m = le-from from lo other.0 in
-    let s = le-from hi to other.1 in
-    and-both _ _ (le-yes from (int_min a lo) (omega (arith, ints, clamps, l, m)))
-    (le-yes (int_max b hi) to (omega (arith, ints, clamps, r, s)))
+    let both = and_parts _ _ h in
+    let other = and_parts _ _ range in
+    let l = int_le-true from a both.0 in
+    let r = int_le-true b to both.1 in
+    let m = int_le-true from lo other.0 in
+    let s = int_le-true hi to other.1 in
+    and_from _ _ (le-int_le from (int_min a lo) (omega (arith, ints, clamps, l, m)))
+    (le-int_le (int_max b hi) to (omega (arith, ints, clamps, r, s)))
 widened-implies lo hi Unknown (Number from to) range h = absurd (cc)
 widened-implies lo hi (Pointer region a b step) (Number from to) range h = absurd (cc)
 widened-implies lo hi (CodeAddress offset) (Number from to) range h = absurd (cc)

@@ -3,6 +3,7 @@ use Rattle.std.proofs.Common.{◌≡◌, List, [], ◌∷◌, true, Option, Some
 use Rattle.std.proofs.Common.{inr, refl, ap, ap₂, sym, ◌∙◌}
 use Rattle.std.specs.Prelude.{Box}
 use Rattle.std.specs.Box.{box_value}
+use Rattle.std.proofs.lemmas.Option.{same_Some}
 use Rattle.clap.specs.Matches.{found_of}
 use Rattle.clap.specs.Walk.{Text, Row, rows_of}
 use Rattle.clap.specs.Simple.{App, HasMatchesOf, is_simple, subcommand_of, subcommand_rows, subcommand_rows_of}
@@ -21,9 +22,6 @@ use Rattle.tpm.specs.CommandLine.{Asked, asked_of, entered_by, unless_faulty, li
 use Rattle.tpm.specs.LineFaults.{FaultOf, IsFaultAt}
 use Rattle.tpm.proofs.SubcommandsHavePaths.{given}
 
-same_inside : {A : Type 0} (x y : A) → Some x ≡ Some y → x ≡ y
-same_inside x y e = cc
-
 -- a subcommand's name and rows, each known separately, are known together
 entered_is : {Z : Type 0} (s : Option (Box SubCommand Z)) (name : Text) (rows : List Row)
     → Some name ≡ option_map (λ b. (out-SubCommand (box_value b)).name.now) s
@@ -31,7 +29,7 @@ entered_is : {Z : Type 0} (s : Option (Box SubCommand Z)) (name : Text) (rows : 
     → subcommand_rows s ≡ Some (name, rows)
 entered_is None name rows a b = absurd (cc)
 entered_is (Some box) name rows a b =
-    ap₂ (λ (x : Text) (y : List Row). Some (x, y)) (sym (same_inside _ _ a)) (sym (same_inside _ _ b))
+    ap₂ (λ (x : Text) (y : List Row). Some (x, y)) (sym (same_Some _ _ a)) (sym (same_Some _ _ b))
 
 -- what is asked for by the subcommand that was met, with this name and what was given to it
 pub asks_by : (matches given : ArgMatches) (name : Text)

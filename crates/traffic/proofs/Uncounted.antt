@@ -3,18 +3,13 @@ use Rattle.std.proofs.Common.{◌≡◌, ℕ, ◌<◌, ◌≤◌, ◌&&◌, Bool
 use Rattle.std.proofs.Common.{length, Option, Some, None, slice_get, slice_set, refl, ◌∙◌, sym, arith}
 use Rattle.std.proofs.Common.{length-append, replicate, ⊎_elim}
 use Rattle.std.proofs.lemmas.Grind.{common_steps}
-use Rattle.std.proofs.lemmas.Bool.{cases_lt}
+use Rattle.std.proofs.lemmas.Bool.{cases_lt, and_parts}
 use Rattle.std.proofs.lemmas.List.{get_or_append_left, get_or-append_right}
 use Rattle.machine_state.specs.declared.process.Channel.{Channel}
 use Rattle.machine_state.specs.declared.link.InputLink.{InputLink}
 use Rattle.machine_state.specs.Alternations.{is_by}
 use Rattle.traffic.specs.EnabledCounts.{enabler_of, enabled_count, AreCounts, AreAll, is_counted, handed_over}
 use Rattle.traffic.proofs.Counting.{count_after_set, handed-length, in_cell, alone, none_enabled}
-
-both : (a b : Bool) → (a && b) ≡ true → (a ≡ true) × (b ≡ true)
-both true true holds = (refl, refl)
-both true false holds = (refl, holds)
-both false b holds = (holds, absurd (cc))
 
 another : (counts : List ℕ) (o : Option ℕ) (p : ℕ) → is_counted counts o ≡ true → length counts ≤ p
     → ◌≡◌ {A = ℕ} (cond (is_by o p) 1 0) 0
@@ -28,7 +23,7 @@ pub all_after_input : (holds : Bool) (counts : List ℕ) (inputs : List InputLin
 all_after_input holds counts inputs channels k old new there all = record {
   others = λ now p past.
       let before : length counts ≤ p = omega (arith, handed-length old.enabled new.enabled counts) in
-      let parts = both holds (is_counted counts new.enabled) now in
+      let parts = and_parts holds (is_counted counts new.enabled) now in
       let none : enabled_count p inputs channels ≡ 0 = all.others parts.0 p before in
       let unmoved = another counts new.enabled p parts.1 before in
       omega (arith, count_after_set (λ (link : InputLink). is_by link.enabled p) inputs k old new there);
@@ -41,7 +36,7 @@ pub all_after_channel : (holds : Bool) (counts : List ℕ) (inputs : List InputL
 all_after_channel holds counts inputs channels k old new there all = record {
   others = λ now p past.
       let before : length counts ≤ p = omega (arith, handed-length (enabler_of old) (enabler_of new) counts) in
-      let parts = both holds (is_counted counts (enabler_of new)) now in
+      let parts = and_parts holds (is_counted counts (enabler_of new)) now in
       let none : enabled_count p inputs channels ≡ 0 = all.others parts.0 p before in
       let unmoved = another counts (enabler_of new) p parts.1 before in
       let test = λ (cell : Option Channel). elim cell as (λ x. Bool) [

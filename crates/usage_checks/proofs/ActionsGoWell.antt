@@ -6,6 +6,7 @@ use Rattle.std.proofs.lemmas.Bool.Decides.{nat_tests}
 use Rattle.std.specs.Prelude.{option_and_then, is_some, bytes_eq, nat_eq, nat_le, take, unwrap_or, IsSome, IfSome}
 use Rattle.std.specs.List.{AllByRecursion}
 use Rattle.std.proofs.lemmas.Bool.{and_parts}
+use Rattle.small_laws.proofs.Comparisons.{gt-eqb}
 use Rattle.word_arithmetic.specs.Range.{Ends, InRange, full}
 use Rattle.occam_parser.specs.declared.tree.ValueType.{ValueType}
 use Rattle.occam_parser.specs.declared.tree.ValueType.TheVariants as value_type
@@ -130,16 +131,13 @@ pub at_below : (n : ℕ) (m : Meaning) (es : List Entry) → meaning_at n es ≡
 at_below n m [] is = absurd (cc is)
 at_below n m (e ∷ es) is = below_by (nat_eq (length es) n) n m e es refl is (at_below n m es)
 
-other_number : (n count : ℕ) → n < count → nat_eq count n ≡ false
-other_number n count less = grind (arith, nat_tests)
-
 pub of_main_more : (s : Surroundings) (e : Entry) (es : List Entry) → IsOwn e.meaning → IsOfMain s es
     → IsOfMain s (e ∷ es)
 of_main_more s e es own is = record {
   own = (own, is.own);
   ports = λ n p at.
       ap (λ t. cond t (Some e.meaning) (meaning_at n es))
-      (other_number n (length es) (at_below n (Channel p.carries) es (is.ports n p at))) ∙ is.ports n p at;
+      (gt-eqb (length es) n (at_below n (Channel p.carries) es (is.ports n p at))) ∙ is.ports n p at;
 }
 
 flat_own : (m : Meaning) → IsOwn (with_range (λ r. full) m) → IsOwn m

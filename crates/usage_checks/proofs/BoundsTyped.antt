@@ -5,6 +5,7 @@ use Rattle.std.proofs.lemmas.Int.{ints}
 use Rattle.std.specs.Prelude.{bytes_eq, int_le, unwrap_or, unsigned_abs, ◌*ℤ◌, ◌^◌, FitsSigned, IfSome}
 use Rattle.std.specs.Int.{w32}
 use Rattle.std.proofs.lemmas.Bool.{and_parts}
+use Rattle.std.proofs.lemmas.Option.{cond_some}
 use Rattle.word_arithmetic.specs.Word.{least_word, greatest_word, word_not, shifted_left, shifted_right}
 use Rattle.word_arithmetic.specs.Range.{Ends, InRange, IsRange, constant, full, bytes, fitting, range_between}
 use Rattle.word_arithmetic.specs.Range.{is_within}
@@ -43,7 +44,7 @@ use Rattle.scalar_ranges.specs.Types.{type_of, type_of_terms, type_of_term, type
 use Rattle.scalar_ranges.specs.Types.{subscripted, prefix_type, pair_type, chain_type, converted_type}
 use Rattle.scalar_ranges.specs.Values.{operation_of, shifted, counts}
 use Rattle.scalar_ranges.specs.Steps.{both_some}
-use Rattle.scalar_ranges.proofs.Parts.{both_ok, then_ok, or_ok, mapped, both_are, passed, passed_ok, ok_same}
+use Rattle.scalar_ranges.proofs.Parts.{both_ok, then_ok, or_ok, mapped, both_are, passed_ok, ok_same}
 use Rattle.program_meaning.specs.RangesWithin.{RangeWithin}
 use Rattle.program_meaning.proofs.ValuesTyped.{byte_in_range, arithmetic_word}
 use Rattle.usage_checks.specs.TypedRanges.{IsInType, AreInTypes}
@@ -138,12 +139,12 @@ arithmetic_words arithmetic.Minus b c d h g is = binary_words binary.Difference 
 arithmetic_words arithmetic.ShiftLeft b c d h g is =
     gives_words (shifted shifted_left) (by_counts shift_left_range) (arithmetic_word arithmetic.ShiftLeft)
     (λ r s t m n same.
-    let all = passed (is_within s counts) (shift_left_range r s) t same in
+    let all = cond_some (is_within s counts) (shift_left_range r s) t same in
     subst (λ q. RangeWithin q full) all.1 (left_words r s)) b c d h g is
 arithmetic_words arithmetic.ShiftRight b c d h g is =
     gives_words (shifted shifted_right) (by_counts right_range) (arithmetic_word arithmetic.ShiftRight)
     (λ r s t m n same.
-    let all = passed (is_within s counts) (right_range r s) t same in
+    let all = cond_some (is_within s counts) (right_range r s) t same in
     subst (λ q. RangeWithin q full) all.1 (right_words r m)) b c d h g is
 
 not_words : (b d : Bound) → IsOfWords b → not_bound b ≡ Ok d → IsOfWords d

@@ -4,6 +4,8 @@ use Rattle.std.proofs.Common.{nat_eq, map, take, get_or, Option, None, inl, inr,
 use Rattle.std.proofs.Common.{append_assoc, add-zero, length}
 use Rattle.std.specs.List.{list_any}
 use Rattle.std.proofs.lemmas.List.{append-nil, take_all, length-take, length-map}
+use Rattle.std.proofs.Math.Bool.{and-true, or_assoc}
+use Rattle.small_laws.proofs.Connectives.{or_swap}
 use Rattle.occam_parser.specs.declared.tree.Expr.{Expr}
 use Rattle.occam_parser.specs.Expressions.{Expression}
 use Rattle.occam_parser.specs.Views.{expression_of}
@@ -28,19 +30,6 @@ use Rattle.usage_checks.specs.Remembering.{remembered, all_remembered, is_again}
 
 -- ---- the set
 
-second_first : (a b c : Bool) → (a || (b || c)) ≡ (b || (a || c))
-second_first true true c = refl
-second_first true false c = refl
-second_first false b c = refl
-
-first_within : (a b c : Bool) → ((a || b) || c) ≡ (a || (b || c))
-first_within true b c = refl
-first_within false b c = refl
-
-and_true : (b : Bool) → (b && true) ≡ b
-and_true true = refl
-and_true false = refl
-
 -- one thing more in the set
 again_more : (h k : Handed) (us : List Use)
     → is_again (is_among (remembered k ++ us)) h ≡ (collide h k || is_again (is_among us) h)
@@ -50,26 +39,26 @@ again_more handed.Nothing (handed.Values n) us = refl
 again_more handed.Nothing (handed.Element t) us = refl
 again_more (handed.Whole m) handed.Nothing us = refl
 again_more (handed.Whole m) (handed.Whole n) us =
-    second_first (is_among us (used.Read m)) (nat_eq m n) (is_among us (used.Change m))
+    or_swap (is_among us (used.Read m)) (nat_eq m n) (is_among us (used.Change m))
 again_more (handed.Whole m) (handed.Values n) us =
-    first_within (nat_eq m n) (is_among us (used.Read m)) (is_among us (used.Change m))
+    or_assoc (nat_eq m n) (is_among us (used.Read m)) (is_among us (used.Change m))
 again_more (handed.Whole m) (handed.Element t) us =
-    first_within (nat_eq m t.channel) (is_among us (used.Read m)) (is_among us (used.Change m))
+    or_assoc (nat_eq m t.channel) (is_among us (used.Read m)) (is_among us (used.Change m))
 again_more (handed.Values m) handed.Nothing us = refl
 again_more (handed.Values m) (handed.Whole n) us = refl
 again_more (handed.Values m) (handed.Values n) us = refl
 again_more (handed.Values m) (handed.Element t) us = refl
 again_more (handed.Element s) handed.Nothing us = refl
 again_more (handed.Element s) (handed.Whole n) us =
-    first_within (nat_eq s.channel n) (is_among us (used.Change s.channel))
+    or_assoc (nat_eq s.channel n) (is_among us (used.Change s.channel))
     (is_among us (used.Channel s.channel s.element direction.Input))
 again_more (handed.Element s) (handed.Values n) us = refl
 again_more (handed.Element s) (handed.Element t) us =
     let d = is_among us (used.Channel s.channel s.element direction.Input) in
-    second_first (is_among us (used.Change s.channel))
+    or_swap (is_among us (used.Change s.channel))
     (nat_eq s.channel t.channel && (nat_eq s.element t.element && true)) d
     ∙ ap (λ b. (nat_eq s.channel t.channel && b) || (is_among us (used.Change s.channel) || d))
-    (and_true (nat_eq s.element t.element))
+    (and-true (nat_eq s.element t.element))
 
 again_all : (h : Handed) (hs : List Handed) → is_again (is_among (all_remembered hs)) h ≡ list_any (collide h) hs
 again_all handed.Nothing [] = refl

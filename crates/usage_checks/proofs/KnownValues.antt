@@ -1,11 +1,10 @@
 -- What breaks no rule has a type and a range, and a value where a constant is wanted.
 use Rattle.std.proofs.Common.{◌≡◌, ℕ, ℤ, pos, negsuc, ◌≤◌, Bool, true, false, cond, List, [], ◌∷◌, length, Option, Some}
-use Rattle.std.proofs.Common.{None, Result, Ok, Err, inl, inr, refl, sym, ap, subst, arith, ◌∙◌, ◌⊎◌, ◌<◌, bytes_eq}
-use Rattle.std.proofs.Common.{nat_eq, nat_lt}
-use Rattle.std.proofs.lemmas.Bool.Decides.{nat_tests}
+use Rattle.std.proofs.Common.{None, Result, Ok, Err, inl, inr, refl, sym, ap, subst, arith, ◌∙◌, ◌⊎◌, bytes_eq}
 use Rattle.std.proofs.lemmas.Int.{ints}
 use Rattle.std.specs.Prelude.{option_and_then, int_le, unsigned_abs}
-use Rattle.std.proofs.lemmas.Bool.{and_parts}
+use Rattle.std.proofs.lemmas.Bool.{and_parts, true_from_ne_false}
+use Rattle.std.proofs.lemmas.Option.{cond_some}
 use Rattle.word_arithmetic.specs.Word.{least_word, greatest_word, word_not}
 use Rattle.word_arithmetic.specs.Range.{Ends, is_within, constant, shift_left_range}
 use Rattle.word_arithmetic.specs.Binary.{computed, result_range}
@@ -33,7 +32,7 @@ use Rattle.scalar_ranges.specs.Values.{operation_of}
 use Rattle.scalar_ranges.specs.Bounds.{Bound, Exactly, Within, ends, gives, by_counts, right_range, arithmetic_bound}
 use Rattle.scalar_ranges.specs.Bounds.{pair_bound, chain_bound, not_bound, prefix_bound, named_bound, converted_bound}
 use Rattle.scalar_ranges.specs.Bounds.{bound_of, bound_of_terms, bound_of_term, exact_value, range_found}
-use Rattle.scalar_ranges.proofs.Parts.{both_ok, then_ok, or_ok, mapped, passed, passed_ok, ok_same}
+use Rattle.scalar_ranges.proofs.Parts.{both_ok, then_ok, or_ok, mapped, passed_ok, ok_same}
 use Rattle.program_uses.specs.declared.faults.TheConstants.{CONSTANT_WANTED}
 use Rattle.program_uses.specs.Constants.{is_same_type, has_type, value_as, from_one, size_in}
 use Rattle.usage_checks.specs.declared.wanting.Wanted.{Wanted}
@@ -43,22 +42,6 @@ use Rattle.usage_checks.specs.Holding.{HasValue, Suits, IsFit}
 use Rattle.usage_checks.specs.Wanting.{is_constant_meaning, is_constant, are_constant, is_constant_term, HasFault}
 use Rattle.usage_checks.specs.Wanting.{IsUnfit, BreaksWanted}
 use Rattle.usage_checks.specs.Whole.{is_whole, AreWhole}
-
-pub not_false : (b : Bool) → (b ≡ false → ⊥) → b ≡ true
-not_false true h = refl
-not_false false h = absurd (h refl)
-
-pub below : (m n : ℕ) → nat_lt m n ≡ true → m < n
-below m n h = grind (arith, nat_tests)
-
-pub is_below : (m n : ℕ) → m < n → nat_lt m n ≡ true
-is_below m n h = grind (arith, nat_tests)
-
-pub equal_numbers : (m n : ℕ) → nat_eq m n ≡ true → m ≡ n
-equal_numbers m n h = grind (arith, nat_tests)
-
-pub equal_itself : (n : ℕ) → nat_eq n n ≡ true
-equal_itself n = grind (arith, nat_tests)
 
 -- ---- names
 
@@ -270,7 +253,7 @@ type_itself types.Byte = refl
 type_itself types.Condition = refl
 
 pub types_agree : (s t : ExprType) → (is_same_type s t ≡ false → ⊥) → s ≡ t
-types_agree s t h = same_type s t (not_false (is_same_type s t) h)
+types_agree s t h = same_type s t (true_from_ne_false (is_same_type s t) h)
 
 -- a type as is wanted, and a constant if one is wanted
 abbrev pub IsWanted : Wanted → ExprType → Bool → Type 0
@@ -306,7 +289,7 @@ read_of (wanted.Constant u) (Ok t) (Ok b) c none = record {
   bound_is = refl;
   suits = (
     types_agree t u (λ h. none WRONG_TYPE (inr (inl (h, refl)))),
-    not_false c (λ h. none CONSTANT_WANTED (inr (inr (h, refl)))),
+    true_from_ne_false c (λ h. none CONSTANT_WANTED (inr (inr (h, refl)))),
   );
 }
 
@@ -369,7 +352,7 @@ pub size_found : (count : ℕ) (es : List Entry) (e : Expression) → AreWhole c
     → ((n : ℕ) → BreaksSize es e n → ⊥) → (size : ℕ) × (size_in es e ≡ Some size)
 size_found count es e whole none =
     let v = value_found types.Int count es e whole tt (λ n h. none n (inl h)) in
-    let positive = not_false (int_le (pos 1) v.0) (λ h. none OUT_OF_RANGE
+    let positive = true_from_ne_false (int_le (pos 1) v.0) (λ h. none OUT_OF_RANGE
     (inr (subst (λ o. IsNoSize o OUT_OF_RANGE) (sym v.1) (h, refl)))) in (
       unsigned_abs v.0,
       ap (option_and_then from_one) v.1
@@ -379,7 +362,7 @@ size_found count es e whole none =
 from_one_positive : (o : Option ℤ) (n : ℕ) → option_and_then from_one o ≡ Some n → 1 ≤ n
 from_one_positive None n h = absurd (cc h)
 from_one_positive (Some (pos m)) n h =
-    let p = passed (int_le (pos 1) (pos m)) m n h in
+    let p = cond_some (int_le (pos 1) (pos m)) m n h in
     let same = p.1 in
     omega (arith, ints, p.0)
 from_one_positive (Some (negsuc m)) n h = absurd (cc h)

@@ -5,7 +5,8 @@ use Rattle.std.proofs.Common.{length, Option, Some, None, Result, Ok, Err, inl, 
 use Rattle.std.proofs.Common.{nat_eq, nat_lt, option_map}
 use Rattle.std.specs.Prelude.{fold, int_le, int_lt, is_some, unwrap_or}
 use Rattle.std.specs.List.{AllByRecursion}
-use Rattle.std.proofs.lemmas.Bool.{and_parts}
+use Rattle.std.proofs.lemmas.Bool.{and_parts, eqb-true, ltb-true, true_from_ne_false}
+use Rattle.small_laws.proofs.Comparisons.{eqb-self}
 use Rattle.word_arithmetic.specs.Range.{Ends, constant, hull}
 use Rattle.occam_parser.specs.declared.tree.FormalKind.{FormalKind}
 use Rattle.occam_parser.specs.declared.tree.FormalKind.TheVariants as formal_kind
@@ -60,8 +61,7 @@ use Rattle.usage_checks.specs.PlaceRules.{BreaksSubscript, BreaksTarget, Differ}
 use Rattle.usage_checks.specs.ChannelRules.{BreaksEnd}
 use Rattle.usage_checks.specs.Whole.{is_whole, AreWhole}
 use Rattle.scalar_ranges.proofs.Parts.{ok_same}
-use Rattle.usage_checks.proofs.KnownValues.{below, equal_numbers, equal_itself}
-use Rattle.usage_checks.proofs.KnownValues.{not_false, found_whole, found_number, IsNumber, types_agree, WantsNumber}
+use Rattle.usage_checks.proofs.KnownValues.{found_whole, found_number, IsNumber, types_agree, WantsNumber}
 use Rattle.usage_checks.proofs.KnownValues.{fit}
 use Rattle.usage_checks.proofs.KnownValues.{value_found, value_range, size_found, size_positive}
 use Rattle.usage_checks.proofs.WholeMoves.{holds_whole}
@@ -103,7 +103,7 @@ subscript_holds w count es size (Some e) whole int none =
     let at_int = subst (λ t. IsFit w es e t x.1) type x.2 in (
       x.1,
       at_int,
-      λ n is. not_false (is_subscript n x.1) (λ h. none OUTSIDE
+      λ n is. true_from_ne_false (is_subscript n x.1) (λ h. none OUTSIDE
           (inr (subst (λ (y : Option ℕ × Result ExprType ℕ × Result Ends ℕ). IsOutside y.0 y.1 y.2 OUTSIDE)
           (λ i. (sym is i, sym at_int.type_is i, sym at_int.range_is i)) (h, refl)))),
     )
@@ -184,8 +184,8 @@ called_of : (signatures : List (List Parameter)) (m : Option Meaning) (count : �
 called_of signatures None count none = absurd (none UNKNOWN_NAME refl)
 called_of signatures (Some (entries.Procedure number)) count none =
     let long = length (parameters_in signatures (Some (entries.Procedure number))) in
-    let same = not_false (nat_eq long count) (λ h. none OTHER_ACTUAL (h, refl)) in
-    record { number = number; called = refl; long = equal_numbers long count same }
+    let same = true_from_ne_false (nat_eq long count) (λ h. none OTHER_ACTUAL (h, refl)) in
+    record { number = number; called = refl; long = eqb-true long count same }
 called_of signatures (Some m) count none = absurd (none WRONG_TYPE refl)
 
 pub item_known : {A : Type 0} (n : ℕ) (xs : List A) → n < length xs → (x : A) × (item_at n xs ≡ Some x)
@@ -198,7 +198,7 @@ taken_of : (formal : Meaning) (m : Option Meaning) (subscripted : Bool)
     → (k : Meaning) × (m ≡ Some k) × (takes formal k subscripted ≡ true)
 taken_of formal None subscripted none = absurd (none UNKNOWN_NAME refl)
 taken_of formal (Some k) subscripted none =
-    (k, refl, not_false (takes formal k subscripted) (λ h. none OTHER_ACTUAL (h, refl)))
+    (k, refl, true_from_ne_false (takes formal k subscripted) (λ h. none OTHER_ACTUAL (h, refl)))
 
 subscript_wanted : (formal : Meaning) → WantsInt (subscript_for (Some formal))
 subscript_wanted (entries.Channel type) = refl
@@ -215,7 +215,7 @@ actual_holds count es formal e None whole none =
       x.0,
       x.1,
       x.2,
-      not_false (takes_value formal x.0) (λ h. none OTHER_ACTUAL
+      true_from_ne_false (takes_value formal x.0) (λ h. none OTHER_ACTUAL
           (inr (subst (λ r. IsNoValue (Some formal) r OTHER_ACTUAL) (sym x.2.type_is) (h, refl)))),
     )
 actual_holds count es formal e (Some p) whole none =
@@ -251,7 +251,7 @@ instance_holds p signatures es name actuals whole none =
     let m = meaning_in name es in
     let c = called_of signatures m (length actuals) (λ n h. none n (inl h)) in
     let there : nat_lt c.number count ≡ true = found_whole count name es (entries.Procedure c.number) whole c.called in
-    let item = item_known c.number signatures (below c.number count there) in
+    let item = item_known c.number signatures (ltb-true c.number count there) in
     let qs : parameters_in signatures m ≡ item.0 =
     ap (parameters_in signatures) c.called ∙ ap (λ o. unwrap_or o []) item.1 in
     record {
@@ -330,7 +330,7 @@ replicator_holds count es r whole none =
       count = times.0;
       base_is = base.1;
       count_is = times.1;
-      fits = not_false (int_le (pos 0) times.0 && fits_word (Some base.0) times.0) (λ h. none OUT_OF_RANGE
+      fits = true_from_ne_false (int_le (pos 0) times.0 && fits_word (Some base.0) times.0) (λ h. none OUT_OF_RANGE
           (inr (inr (subst (λ (x : Option ℤ × Option ℤ). IsNoCount x.0 x.1 OUT_OF_RANGE)
           (λ i. (sym base.1 i, sym times.1 i)) (h, refl)))));
     }
@@ -359,9 +359,9 @@ items_hold count es type k (e ∷ items) whole none = (
 sized : (size : Option ℕ) (n count : ℕ) → size ≡ Some n → ((k : ℕ) → HasOtherSize size count k → ⊥)
     → size ≡ Some count
 sized size n count is none =
-    let same = not_false (nat_eq n count) (λ h. none WRONG_TYPE
+    let same = true_from_ne_false (nat_eq n count) (λ h. none WRONG_TYPE
     (subst (λ o. HasOtherSize o count WRONG_TYPE) (sym is) (h, refl))) in
-    is ∙ ap Some (equal_numbers n count same)
+    is ∙ ap Some (eqb-true n count same)
 
 text_type : (type : ValueType) → ((n : ℕ) → IsNoText type n → ⊥) → type ≡ value_type.Byte
 text_type value_type.Int none = absurd (none WRONG_TYPE refl)
@@ -432,7 +432,7 @@ table_by count false type size r h = absurd (cc h)
 table_whole : (count : ℕ) (type : ValueType) (size : Option ℕ) (n : ℕ) (range : Option Ends) (r : Ends)
     → size ≡ Some n → range ≡ Some r → is_whole count (table_of type size n range) ≡ true
 table_whole count type size n range r is known =
-    let same = equal_itself n in
+    let same = eqb-self n in
     ap (is_whole count) (λ i. table_of type (is i) n (known i)) ∙ table_by count (nat_eq n n) type n r same
 
 value_whole : (count : ℕ) (es : List Entry) (type : ValueType) (value : Value) → ValueHolds es type value

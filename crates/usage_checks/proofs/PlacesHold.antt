@@ -5,7 +5,7 @@ use Rattle.std.proofs.Common.{◌≤◌, ◌+ℤ◌, negsuc, append_assoc, eq-or
 use Rattle.std.proofs.lemmas.Int.{ints}
 use Rattle.std.proofs.lemmas.List.{length-append, append-nil}
 use Rattle.std.specs.Prelude.{int_le, is_some, unsigned_abs}
-use Rattle.std.proofs.lemmas.Bool.{and_parts}
+use Rattle.std.proofs.lemmas.Bool.{and_parts, lt-ltb}
 use Rattle.word_arithmetic.specs.Word.{greatest_word, is_word}
 use Rattle.word_arithmetic.specs.Range.{Ends}
 use Rattle.word_arithmetic.proofs.WordLaws.{words_lie_between}
@@ -48,7 +48,6 @@ use Rattle.usage_checks.specs.Sizes.{Measured, measures_of_item}
 use Rattle.program_uses.specs.Telling.{At}
 use Rattle.usage_checks.specs.Walking.{word_of}
 use Rattle.usage_checks.specs.Whole.{is_whole, AreWhole, IsWhole}
-use Rattle.usage_checks.proofs.KnownValues.{is_below}
 use Rattle.usage_checks.proofs.LinesHold.{action_holds, condition_holds, guard_holds, replicator_holds}
 use Rattle.usage_checks.proofs.LinesHold.{declaration_holds, all_formals_hold, declared_whole, formal_whole}
 use Rattle.usage_checks.proofs.WholeMoves.{action_whole, entries_whole, left_whole, begun_whole, ended_whole}
@@ -287,7 +286,7 @@ walk_whole (GlobalProcedure p) o none w =
     let ended = inside_whole a _ _ p.body (in_body p o.known) (λ f x. none f (inl (inr (inr x)))) body in
     let after = whole_more count (after_procedure a p o.known)
     (left_whole count (length o.known.entries) (inside a p.body (in_body p o.known)) ended) in
-    let number = is_below count (suc count) (omega arith) in
+    let number = lt-ltb count (suc count) (omega arith) in
     subst (λ n. IsWhole n (after_walk (GlobalProcedure p) o).known) (one_more o.signatures (signature_of a p o.known))
     (indexed_whole (suc count) p.head.name (entries.Procedure count) (after_procedure a p o.known) number after)
 

@@ -7,7 +7,7 @@ use Rattle.std.proofs.lemmas.Bool.Decides.{nat_tests}
 use Rattle.std.proofs.lemmas.List.{length-append, append-nil}
 use Rattle.std.specs.List.{AllByRecursion, slice_get, list_all}
 use Rattle.std.specs.Prelude.{nat_eq, option_map}
-use Rattle.std.proofs.lemmas.Bool.{and_parts}
+use Rattle.std.proofs.lemmas.Bool.{and_parts, true_from_ne_false}
 use Rattle.word_arithmetic.specs.Range.{Ends, full}
 use Rattle.occam_parser.specs.declared.tree.ValueType.{ValueType}
 use Rattle.occam_parser.specs.declared.tree.FormalKind.{FormalKind}
@@ -53,7 +53,6 @@ use Rattle.usage_checks.specs.ItemRules.{Ends as EndsAt, EndsCounting, after_wal
 use Rattle.usage_checks.specs.MainRules.{is_link_as, are_links, is_main_name, is_main, IsNoMain}
 use Rattle.usage_checks.specs.Reaching.{Comes, in_procedure, to_body}
 use Rattle.usage_checks.specs.Sizes.{Measured, measures_of_item, end_in}
-use Rattle.usage_checks.proofs.KnownValues.{not_false}
 use Rattle.usage_checks.proofs.PlacesHold.{Unbroken, items_hold}
 use Rattle.usage_checks.specs.NeverStuck.{ProgramsGoOn}
 use Rattle.usage_checks.proofs.ActionsGoWell.{IsOwn, at_below}
@@ -266,7 +265,7 @@ last_found item (next ∷ items) = last_found next items
 last_is_main : (item : ProgramItem) (items : List ProgramItem) → BreaksNoRule (item ∷ items)
     → is_main (last_of item items) ≡ true
 last_is_main item items none =
-    not_false (is_main (last_of item items))
+    true_from_ne_false (is_main (last_of item items))
     (λ is. none (record { number = NO_MAIN; line = item_line (last_of item items) })
     (inr (subst (λ o. IsNoMain o (record { number = NO_MAIN; line = item_line (last_of item items) }))
     (sym (ap (slice_get (item ∷ items)) (omega arith) ∙ last_found item items)) (refl, (is, refl)))))

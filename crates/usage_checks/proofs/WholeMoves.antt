@@ -2,6 +2,7 @@
 use Rattle.std.proofs.Common.{◌≡◌, ℕ, suc, Bool, true, false, cond, List, [], ◌∷◌, length, Option, Some, None}
 use Rattle.std.proofs.Common.{Result, Ok, Err, refl, sym, subst, arith, ◌∙◌, nat_eq, nat_lt}
 use Rattle.std.specs.Prelude.{max, unwrap_or}
+use Rattle.std.proofs.lemmas.Bool.{lt-ltb, ltb-true}
 use Rattle.word_arithmetic.specs.Range.{Ends, full}
 use Rattle.occam_layout.specs.declared.mark.Mark.TheVariants as mark
 use Rattle.occam_parser.specs.declared.tree.ValueType.{ValueType}
@@ -28,7 +29,6 @@ use Rattle.usage_checks.specs.Following.{receive_if, assign_if, passed_to, after
 use Rattle.usage_checks.specs.Following.{after_guard}
 use Rattle.usage_checks.specs.NameRules.{with_entries}
 use Rattle.usage_checks.specs.Whole.{is_whole, AreWhole, AreWholeIfAny, BlocksAreWhole, IsWhole}
-use Rattle.usage_checks.proofs.KnownValues.{below, is_below}
 
 -- ---- entries of one shape
 
@@ -276,7 +276,7 @@ more_procedures count (Array kind type size range) w = w
 more_procedures count (Channel type) w = w
 more_procedures count (Channels type size) w = w
 more_procedures count (Procedure number) w =
-    let before = below number count w in is_below number (suc count) (omega (arith, before))
+    let before = ltb-true number count w in lt-ltb number (suc count) (omega (arith, before))
 
 entries_more : (count : ℕ) (es : List Entry) → AreWhole count es → AreWhole (suc count) es
 entries_more count [] w = tt

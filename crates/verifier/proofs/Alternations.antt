@@ -2,7 +2,7 @@
 use Rattle.std.proofs.Common.{◌≡◌, ◌≢◌, ◌⊎◌, ℕ, ◌+◌, ◌≤◌, ◌<◌, ℤ, pos, ◌≤ℤ◌, Bool, true, false, ◌||◌, is_some, inl, inr}
 use Rattle.std.proofs.Common.{List}
 use Rattle.std.proofs.Common.{suc, [], ◌∷◌, length, Option, Some, None, refl, sym, ap, ◌∙◌, subst, arith, if◌then◌else◌}
-use Rattle.std.proofs.lemmas.Bool.{cases_eq}
+use Rattle.std.proofs.lemmas.Bool.{cases_eq, or_cases}
 use Rattle.std.proofs.lemmas.Bool.Decides.{leb_tells, eqb_tells}
 use Rattle.std.proofs.lemmas.Int.{ints}
 use Rattle.std.proofs.lemmas.Option.{slice_get_within}
@@ -418,11 +418,6 @@ module _ (m : Contents) (wf : IsWellFormed m) (w : World) (lawful : IsLawful m w
   busy_enabling : state.mode ≡ states_modes.Enabling → t.mode ≡ modes.Plain → ⊥
   busy_enabling e plain = let no' = sym (plain_state modes_fit plain) ∙ e in cc
 
-  -- whether it was ready, or something that is enabled now is
-  or_ready : (a b : Bool) → (a || b) ≡ true → (a ≡ true) ⊎ (b ≡ true)
-  or_ready true b e = inl refl
-  or_ready false b e = inr e
-
   ready_mode : (b : Bool) → MustBeReady (behind_in m t (modes.Enabling b) Ready (record {
     registers = t.registers;
     memory = w.memory;
@@ -494,7 +489,7 @@ module _ (m : Contents) (wf : IsWellFormed m) (w : World) (lawful : IsLawful m w
       refl refl
       (λ address enables. inl (same.fewer address enables)) (λ address enables. same.more address enables)
       (λ address so at. let no' : Skip ≡ AtChannel at.0 = at.1 in absurd (cc)) (b || holds, refl)
-      (λ must. elim (or_ready b holds (enables_mode later alters more lives (b || holds) u refl must)) [
+      (λ must. elim (or_cases b holds (enables_mode later alters more lives (b || holds) u refl must)) [
         | inl was ↦ elim (was_ready later alters more lives b now.1 was) [
           | inl found ↦ inl (ready_stays (counted after) u tasks found)
           | inr skip ↦ inr (inl skip)
@@ -536,7 +531,7 @@ module _ (m : Contents) (wf : IsWellFormed m) (w : World) (lawful : IsLawful m w
         let same : kind ≡ at.0 = let e : AtChannel kind ≡ AtChannel at.0 = at.1 in cc in
         subst (λ n. EnablesAt after p n) (sym channel.address_is ∙ (ap (channel_address act.layout) same ∙ at.2))
         (sets.there refl)) (b || s.is_ready, refl)
-        (λ must. elim (or_ready b s.is_ready (enables_mode later alters more lives (b || s.is_ready) u refl must)) [
+        (λ must. elim (or_cases b s.is_ready (enables_mode later alters more lives (b || s.is_ready) u refl must)) [
           | inl was ↦ elim (was_ready later alters more lives b is was) [
             | inl old ↦ inl (ready_stays after u tasks (sets.ready (inl (λ e. is_by_nobody s.enabled p free e)) old))
             | inr skip ↦ inr (inl skip)

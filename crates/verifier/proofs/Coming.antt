@@ -2,8 +2,9 @@
 use Rattle.std.proofs.Common.{◌≡◌, ◌≢◌, ℕ, zero, suc, ◌+◌, ◌-◌, ◌≤◌, ◌<◌, ◌%◌, ◌^◌, Bool, true, false, ◌&&◌}
 use Rattle.std.proofs.Common.{◌||◌, ◌⊎◌, inl, inr, length, Some, refl, sym, ap, ◌∙◌, subst, arith, eqb}
 use Rattle.std.proofs.Common.{leb}
-use Rattle.std.proofs.lemmas.Bool.{cases_lt, cases_eq, le-leb}
+use Rattle.std.proofs.lemmas.Bool.{cases_lt, cases_eq, le-leb, cases_Bool, or_parts}
 use Rattle.std.proofs.lemmas.Bool.Decides.{eqb_tells, leb_tells}
+use Rattle.small_laws.proofs.Comparisons.{eqb-self}
 use Rattle.module_format.specs.Contents.{Contents}
 use Rattle.machine_state.specs.declared.process.Condition.{Condition}
 use Rattle.machine_state.specs.declared.process.Condition.TheVariants.{Ready, Sending, Receiving, OnLink}
@@ -17,11 +18,9 @@ use Rattle.machine_state.proofs.Copying.{copied-beside}
 use Rattle.machine_state.proofs.Reading.{length-with_byte, byte_at-with_byte, byte_at-with_byte_other}
 use Rattle.rulings.proofs.BlocksMove.{copied-inside, length-copied}
 use Rattle.rulings.proofs.Reaching.{inside_memory}
-use Rattle.rulings.proofs.Words.{bool_cases}
 use Rattle.rulings.specs.Buffers.{message_place, is_filled, IsByte}
 use Rattle.certified_worlds.specs.Lives.{awaits, IsExchanging, Lives}
 use Rattle.certified_worlds.specs.Point.{Began}
-use Rattle.certified_worlds.proofs.GivenStates.{or_left}
 use Rattle.verifier.proofs.Tables.{Allows, lives_on, lives_whatever}
 
 -- ---- what is awaited
@@ -68,7 +67,7 @@ pub fills_allowed : {m : Contents} {h : Holding} {began : Began} {memory : Memor
 fills_allowed {h = h} {memory = memory} {t = t} l new size others come = record {
   own = record {
     size = size;
-    others = λ place free. elim (bool_cases (awaits t.condition place)) [
+    others = λ place free. elim (cases_Bool (awaits t.condition place)) [
       | inl awaited ↦ let no' : true ≡ false = sym (l.room place awaited).0 ∙ free in absurd (cc)
       | inr none ↦ others place none
     ];
@@ -88,11 +87,8 @@ module _ {m : Contents} {h : Holding} {began : Began} {memory : Memory} {t : Tas
   abbrev with_it : Memory
   with_it = with_byte memory goal (Some byte)
 
-  eqb_is : (n : ℕ) → eqb n n ≡ true
-  eqb_is n = elim (eqb_tells n n) [ inl t ↦ t.0 | inr t ↦ absurd (t.1 refl) ]
-
   awaited_here : awaits t.condition goal ≡ true
-  awaited_here = was goal ∙ ap (λ (b : Bool). b || still goal) (eqb_is goal)
+  awaited_here = was goal ∙ ap (λ (b : Bool). b || still goal) (eqb-self goal)
 
   differs : (place : ℕ) → eqb place goal ≡ false → place ≢ goal
   differs place e same =
@@ -101,7 +97,7 @@ module _ {m : Contents} {h : Holding} {began : Began} {memory : Memory} {t : Tas
   pub byte_changes : Allows l memory with_it
   byte_changes = fills_allowed l with_it (length-with_byte memory goal (Some byte))
       (λ place free. byte_at-with_byte_other memory goal place (Some byte)
-      (differs place (or_left (eqb place goal) (still place) (sym (was place) ∙ free))))
+      (differs place (or_parts (eqb place goal) (still place) (sym (was place) ∙ free)).0))
       (λ place awaited. elim (eqb_tells place goal) [
         | inl t ↦ inr (subst (λ q. IsByte (byte_at with_it q)) (sym t.1)
             (byte, byte_at-with_byte memory goal (Some byte) (l.room goal awaited_here).1, small))
@@ -113,7 +109,7 @@ module _ {m : Contents} {h : Holding} {began : Began} {memory : Memory} {t : Tas
       → ((place : ℕ) → awaits c place ≡ still place) → Lives m h began with_it (record t { condition = c }) due
   byte_lives c quiet is_still = lives_on with_it c quiet byte_changes.own.size
       (λ place e free. byte_at-with_byte_other memory goal place (Some byte)
-      (differs place (or_left (eqb place goal) (still place) (sym (was place) ∙ free))))
+      (differs place (or_parts (eqb place goal) (still place) (sym (was place) ∙ free)).0))
       (λ place e. was place ∙ or_true_right (eqb place goal) (still place) (sym (is_still place) ∙ e))
       (λ place e. elim (eqb_tells place goal) [
         | inl t ↦ inr (subst (λ q. IsByte (byte_at with_it q)) (sym t.1) comes_in)

@@ -1,7 +1,7 @@
 -- What holds of the guards of a process in an alternation once it has begun, enabled, waited or disabled.
 use Rattle.std.proofs.Common.{◌≡◌, ◌≢◌, ◌⊎◌, ℕ, ◌+◌, ◌≤◌, ◌<◌, ℤ, Bool, true, false, inl, inr, List, [], ◌∷◌}
 use Rattle.std.proofs.Common.{length, Option, Some, None, refl, sym, ap, ◌∙◌, subst, arith}
-use Rattle.std.proofs.lemmas.Bool.{cases_eq, cases_lt}
+use Rattle.std.proofs.lemmas.Bool.{cases_eq, cases_lt, cases_Bool}
 use Rattle.std.proofs.lemmas.Option.{slice_get_within}
 use Rattle.std.specs.Prelude.{slice_get}
 use Rattle.small_laws.proofs.Options.{same_some}
@@ -25,7 +25,6 @@ use Rattle.rulings.specs.Meaning.{Activation}
 use Rattle.rulings.specs.Regions.{scope_of, channel_address, HoldsNamed}
 use Rattle.rulings.specs.Guarding.{guard_value, first_left, GuardsFit}
 use Rattle.rulings.specs.Fitting.{Here, Enables, Disables}
-use Rattle.rulings.proofs.Words.{bool_cases}
 use Rattle.certified_worlds.specs.Alternating.{IsTrueGuard, IsTrueSkip, EnablesAt, AlternatesHere}
 use Rattle.certified_worlds.proofs.Carrying.{MustBeReady}
 
@@ -101,7 +100,7 @@ module _ (m : Contents) (x : Here) (kind : GuardKind) (holds : Bool) (next : Sta
       })
       | inr last ↦ inr (
         last.1,
-        elim (bool_cases holds) [
+        elim (cases_Bool holds) [
           | inl so ↦ so
           | inr not_so ↦
               let value = same_value (sym (values_as new) ∙ ap (λ (g : Guard). guard_value memory x.act g.name) (sym
@@ -298,7 +297,7 @@ module _ (m : Contents) (x : Here) (kind : GuardKind) (holds : Bool) (distance :
         (subst (λ (n : ℕ). slice_get x.before.guards n ≡ Some g) number was.here) less.there in
         record {
           is = it;
-          yes = elim (bool_cases holds) [
+          yes = elim (cases_Bool holds) [
             | inl so ↦ so
             | inr not_so ↦
                 let value = same_value

@@ -1,12 +1,13 @@
 -- The verdict on a module is right: Ok where the module is certified, and else the first rule that is broken. No module
 -- is both.
-use Rattle.std.proofs.Common.{◌≡◌, ℕ, zero, suc, ◌+◌, ◌-◌, ◌≤◌, ◌<◌, Bool, true, false, cond, if◌then◌else◌, leb, eqb}
+use Rattle.std.proofs.Common.{◌≡◌, ℕ, zero, suc, ◌+◌, ◌-◌, ◌≤◌, ◌<◌, Bool, true, false, cond, if◌then◌else◌, eqb}
 use Rattle.std.proofs.Common.{length, Option, Some, None, Result, Ok, Err, ◌⊎◌, inl, inr, refl, sym, ap, ◌∙◌, subst}
 use Rattle.std.proofs.Common.{arith}
 use Rattle.std.specs.Prelude.{nat_lt}
-use Rattle.std.proofs.lemmas.Bool.{cases_lt, cases_eq, cases_Bool, le-leb}
-use Rattle.std.proofs.lemmas.Bool.Decides.{leb_tells, eqb_tells, nat_tests}
+use Rattle.std.proofs.lemmas.Bool.{cases_lt, cases_eq, cases_Bool, le-leb, ne_eqb, lt-leb}
 use Rattle.std.proofs.lemmas.Option.{some_pair_parts}
+use Rattle.small_laws.proofs.Comparisons.{eqb-self}
+use Rattle.small_laws.proofs.Options.{same_some, same_ok, none_or_some}
 use Rattle.prefix_decoder.specs.declared.decoding.Instr.{Instr}
 use Rattle.prefix_decoder.specs.declared.decoding.DecodeFault.{DecodeFault}
 use Rattle.prefix_decoder.specs.Fetching.{fetched}
@@ -30,17 +31,8 @@ use Rattle.verifier.specs.Judge.{start_among, refused, at_the_end, judge, verdic
 
 -- ---- no module is both
 
-same_ok : {A E : Type 0} (r : Result A E) (x y : A) → r ≡ Ok x → r ≡ Ok y → x ≡ y
-same_ok {A} {E} r x y p q = let e : ◌≡◌ {A = Result A E} (Ok x) (Ok y) = sym p ∙ q in cc
-
 ok_or_err : {A E : Type 0} (r : Result A E) (x : A) (e : E) → r ≡ Ok x → r ≡ Err e → ⊥
 ok_or_err {A} {E} r x e p q = let f : ◌≡◌ {A = Result A E} (Ok x) (Err e) = sym p ∙ q in cc
-
-same_some : {A : Type 0} (o : Option A) (x y : A) → o ≡ Some x → o ≡ Some y → x ≡ y
-same_some {A} o x y p q = let e : Some x ≡ Some y = sym p ∙ q in cc
-
-none_or_some : {A : Type 0} (o : Option A) (x : A) → o ≡ None → o ≡ Some x → ⊥
-none_or_some {A} o x p q = let e : None ≡ Some x = sym p ∙ q in cc
 
 option_cases : {A : Type 0} (o : Option A) → (o ≡ None) ⊎ ((x : A) × (o ≡ Some x))
 option_cases None = inl refl
@@ -381,15 +373,6 @@ module _ (m : Contents) (spans : Spans m) where
 
 -- ---- tests of numbers
 
-eqb-same : (n : ℕ) → eqb n n ≡ true
-eqb-same n = grind (arith, nat_tests)
-
-eqb-apart : (a b : ℕ) → (a ≡ b → ⊥) → eqb a b ≡ false
-eqb-apart a b h = elim (eqb_tells a b) [ inl t ↦ absurd (h t.1) | inr t ↦ t.0 ]
-
-leb-false : (a b : ℕ) → b < a → leb a b ≡ false
-leb-false a b h = elim (leb_tells a b) [ inl t ↦ absurd (omega (arith, t.1)) | inr t ↦ t.0 ]
-
 -- ---- the states that the pass gives
 
 abbrev walk_on : (ℕ → Option State → Option State) → ℕ → Result (Option State) Rule → Option State
@@ -410,7 +393,7 @@ walk (suc more) m at before target = if eqb target at then state_at m at before 
 walk_here : (n : ℕ) (m : Contents) (at : ℕ) (before : Option State) → walk (suc n) m at before at ≡ state_at m at before
 unfolding walk
 walk_here n m at before = ap (λ (b : Bool). cond b (state_at m at before)
-    (walk_past m (λ to after. walk n m to after at) at before (fetched m.code at))) (eqb-same at)
+    (walk_past m (λ to after. walk n m to after at) at before (fetched m.code at))) (eqb-self at)
 
 walk_beyond : (n : ℕ) (m : Contents) (at : ℕ) (before after : Option State) (i : Instr) (target : ℕ) → at < target
     → fetched m.code at ≡ Ok i → judged_at m at before i ≡ Ok after
@@ -418,7 +401,7 @@ walk_beyond : (n : ℕ) (m : Contents) (at : ℕ) (before after : Option State) 
 unfolding walk
 walk_beyond n m at before after i target low sp j =
     ap (λ (b : Bool). cond b (state_at m at before) (walk_past m (λ to after. walk n m to after target) at before
-    (fetched m.code at))) (eqb-apart target at (λ e. omega arith))
+    (fetched m.code at))) (ne_eqb target at (λ e. omega arith))
     ∙ ap (walk_past m (λ to after. walk n m to after target) at before) sp
     ∙ ap (walk_on (λ to after. walk n m to after target) (at + i.len)) j
 
@@ -472,7 +455,7 @@ module _ (n : ℕ) (m : Contents) (at : ℕ) (before : Option State) where
   judge_step v low h =
       let e : past_spelling m (λ to after. judge n m to after) at before (fetched m.code at) ≡ v =
       sym (ap (λ (b : Bool). cond b (at_the_end at before) (past_spelling m (λ to after. judge n m to after) at before
-      (fetched m.code at))) (leb-false (length m.code) at low)) ∙ h in
+      (fetched m.code at))) (lt-leb (length m.code) at low)) ∙ h in
       past_spelling_is (fetched m.code at) v refl e
 
 pub judge_end : (n : ℕ) (m : Contents) (at : ℕ) (before : Option State) → length m.code ≤ at

@@ -4,7 +4,7 @@ use Rattle.std.proofs.Common.{◌&&◌, ◌||◌, List, [], ◌∷◌, length, g
 use Rattle.std.proofs.Common.{◌∙◌, subst, arith}
 use Rattle.std.specs.Prelude.{nat_lt, ◌==◌, slice_get}
 use Rattle.std.specs.List.{list_any}
-use Rattle.std.proofs.lemmas.Bool.{le-leb, eq-eqb, cases_lt}
+use Rattle.std.proofs.lemmas.Bool.{le-leb, eq-eqb, cases_lt, and_parts, ltb-true, and_from}
 use Rattle.std.proofs.lemmas.Bool.Decides.{leb_tells, eqb_tells}
 use Rattle.std.proofs.lemmas.List.{get_or_past}
 use Rattle.module_format.specs.declared.rows.EndKind.{EndKind}
@@ -20,7 +20,6 @@ use Rattle.certificate.specs.Rights as rights
 use Rattle.machine_state.specs.declared.holding.End.{End}
 use Rattle.machine_state.specs.Holding.{has_end, same_direction}
 use Rattle.machine_state.specs.World.{link_word, link_words, output_word, link_ends_from, root_holding}
-use Rattle.states.proofs.RowFacts.{and-parts, and-both}
 use Rattle.rulings.specs.Meaning.{Layout}
 use Rattle.rulings.specs.Channels.{message_length}
 use Rattle.rulings.specs.Regions.{channel_address}
@@ -48,7 +47,7 @@ link_there from (n ∷ ns) zero link some at =
     ∙ ap (λ (f : ℕ). ((output_word f == link_words + 4 * link) && same_direction (way f) (way link))
     || is_there (link_words + 4 * link) (way link) (link_ends_from (from + 1) ns)) here
     ∙ ap (λ (b : Bool). b || is_there (link_words + 4 * link) (way link) (link_ends_from (from + 1) ns))
-    (and-both _ _ (eq-eqb (output_word link) (link_words + 4 * link) refl) (same_way (way link)))
+    (and_from _ _ (eq-eqb (output_word link) (link_words + 4 * link) refl) (same_way (way link)))
   where
     used : (n : ℕ) → 0 < n → (n == 0) ≡ false
     used n some = elim (eqb_tells n 0) [ inl e ↦ absurd (let z = e.1 in omega arith) | inr e ↦ e.0 ]
@@ -64,12 +63,6 @@ link_there from (n ∷ ns) (suc k) link some at =
         or_later : (a b : Bool) → b ≡ true → (a || b) ≡ true
         or_later true b e = refl
         or_later false b e = e
-
-less : (i j : ℕ) → nat_lt i j ≡ true → i < j
-less i j e = elim (leb_tells (suc i) j) [
-  | inl t ↦ let u = t.1 in omega arith
-  | inr t ↦ let no' : false ≡ true = sym t.0 ∙ e in absurd (cc)
-]
 
 module _ (m : Contents) (eight : length m.lengths ≡ 8) (layout : Layout) where
   no_branch : numbered_branch m 0 ≡ None
@@ -100,27 +93,27 @@ module _ (m : Contents) (eight : length m.lengths ≡ 8) (layout : Layout) where
         | Some found ↦ list_any (λ other. rights.is_same_end (key_of other)
             (key_of (record { kind = kind; direction = direction }))) found.1.ends
         | None ↦ rights.gives_link m.lengths kind direction
-      ]) no_branch) ∙ (and-parts _ _ t).1)
+      ]) no_branch) ∙ (and_parts _ _ t).1)
     where
       on_kind : (kind : EndKind) (direction : Direction) → rights.gives_link m.lengths kind direction ≡ true
           → IsLinkEnd kind direction
       on_kind (kinds.FrameWord word) direction gives = absurd (cc)
       on_kind (kinds.Parameter number element) direction gives = absurd (cc)
       on_kind (kinds.Link link) Out gives =
-          let both = and-parts (nat_lt link 4) (nat_lt 0 (get_or m.lengths link 0)) gives in
+          let both = and_parts (nat_lt link 4) (nat_lt 0 (get_or m.lengths link 0)) gives in
           record {
             link = link;
             is = refl;
-            used = less 0 (get_or m.lengths link 0) both.1;
+            used = ltb-true 0 (get_or m.lengths link 0) both.1;
             goes = ap (λ (b : Bool). if b then Out else In) both.0;
           }
       on_kind (kinds.Link link) In gives =
-          let both = and-parts (nat_lt 3 link) (nat_lt 0 (get_or m.lengths link 0)) gives in
-          let high = less 3 link both.0 in
+          let both = and_parts (nat_lt 3 link) (nat_lt 0 (get_or m.lengths link 0)) gives in
+          let high = ltb-true 3 link both.0 in
           record {
             link = link;
             is = refl;
-            used = less 0 (get_or m.lengths link 0) both.1;
+            used = ltb-true 0 (get_or m.lengths link 0) both.1;
             goes = ap (λ (b : Bool). if b then Out else In) (not_less link high);
           }
         where
@@ -195,14 +188,14 @@ held_link from (n ∷ ns) e held =
         → IsOfLink e from (from + length (n ∷ ns))
     on_first true here later held = elim (eqb_tells (output_word from) e.address) [
       | inl t ↦
-          let goes = one_way (way from) e.direction (and-parts _ _ here).1 in
+          let goes = one_way (way from) e.direction (and_parts _ _ here).1 in
           record {
             link = from;
             low = omega arith;
             high = omega arith;
             is = λ i. record { address = sym t.1 i; direction = sym goes i };
           }
-      | inr t ↦ let no' : false ≡ true = sym t.0 ∙ (and-parts _ _ here).0 in absurd (cc)
+      | inr t ↦ let no' : false ≡ true = sym t.0 ∙ (and_parts _ _ here).0 in absurd (cc)
     ]
     on_first false here later held = later held
 

@@ -1,32 +1,16 @@
 -- What the root holds where a module begins: the constants, and bytes.
-use Rattle.std.proofs.Common.{◌≡◌, ℕ, zero, suc, ◌+◌, ◌-◌, ◌*◌, ◌≤◌, ◌<◌, Bool, true, false, ◌&&◌, ◌||◌, List, [], ◌∷◌}
+use Rattle.std.proofs.Common.{◌≡◌, ℕ, zero, suc, ◌+◌, ◌-◌, ◌*◌, ◌<◌, Bool, true, false, ◌&&◌, ◌||◌, List, [], ◌∷◌}
 use Rattle.std.proofs.Common.{◌++◌, length, map, replicate, get_or, Option, Some, None, refl, sym, ap, ◌∙◌, arith, ◌⊎◌}
 use Rattle.std.proofs.Common.{inl, inr}
 use Rattle.std.proofs.lemmas.List.{length-append, length-map, length-replicate, get_or-append-add, get_or_append_left}
-use Rattle.std.proofs.lemmas.Bool.{le-leb}
-use Rattle.std.proofs.lemmas.Bool.Decides.{leb_tells}
+use Rattle.std.proofs.lemmas.Bool.{le-leb, and_parts, or_cases, and_from, or_right, leb-true}
 use Rattle.std.specs.Prelude.{nat_le, nat_lt}
 use Rattle.module_format.specs.Order.{IsBytes}
 use Rattle.module_format.specs.Contents.{Contents}
 use Rattle.machine_state.specs.Memory.{byte_at}
 use Rattle.machine_state.specs.Holding.{may_read, may_write}
 use Rattle.machine_state.specs.World.{constants_start, padding, loaded_memory, root_holding}
-use Rattle.states.proofs.RowFacts.{and-parts, and-both}
 use Rattle.rulings.specs.Regions.{HasConstants, HasBytes}
-
-or_cases : (a b : Bool) → (a || b) ≡ true → (a ≡ true) ⊎ (b ≡ true)
-or_cases true b h = inl refl
-or_cases false b h = inr h
-
-or_right : (a b : Bool) → b ≡ true → (a || b) ≡ true
-or_right true b h = refl
-or_right false b h = h
-
-leb-le : (a b : ℕ) → nat_le a b ≡ true → a ≤ b
-leb-le a b h = elim (leb_tells a b) [
-  | inl p ↦ p.1
-  | inr p ↦ let no : true ≡ false = sym h ∙ p.0 in absurd (cc)
-]
 
 -- ---- memory where it is loaded
 
@@ -77,15 +61,15 @@ module _ (m : Contents) where
 
   written_low : (place : ℕ) → may_write (root_holding m) place ≡ true → place < 4 * m.data_words
   written_low place h = elim (or_cases (nat_le 0 place && nat_lt place (4 * m.data_words)) false h) [
-    | inl both ↦ leb-le (suc place) (4 * m.data_words)
-        (and-parts (nat_le 0 place) (nat_lt place (4 * m.data_words)) both).1
+    | inl both ↦ leb-true (suc place) (4 * m.data_words)
+        (and_parts (nat_le 0 place) (nat_lt place (4 * m.data_words)) both).1
     | inr none ↦ let no : false ≡ true = none in absurd (cc)
   ]
 
   constant_read : (i : ℕ) → i < length m.constants → may_read (root_holding m) (constants_start m + i) ≡ true
   constant_read i low =
       or_right (may_write (root_holding m) (constants_start m + i)) _
-      (ap (λ (b : Bool). b || false) (and-both (nat_le (constants_start m) (constants_start m + i))
+      (ap (λ (b : Bool). b || false) (and_from (nat_le (constants_start m) (constants_start m + i))
       (nat_lt (constants_start m + i) (constants_start m + length m.constants))
       (le-leb (constants_start m) (constants_start m + i) (omega arith))
       (le-leb (suc (constants_start m + i)) (constants_start m + length m.constants) (omega arith))))
@@ -110,10 +94,10 @@ module _ (m : Contents) where
       on_read : (place b : ℕ) → byte_at (loaded_memory m) place ≡ Some b
           → (nat_le (constants_start m) place && nat_lt place (constants_start m + length m.constants)) ≡ true → b < 256
       on_read place b found t =
-          let both = and-parts (nat_le (constants_start m) place)
+          let both = and_parts (nat_le (constants_start m) place)
           (nat_lt place (constants_start m + length m.constants)) t in
-          let from = leb-le (constants_start m) place both.0 in
-          let to = leb-le (suc place) (constants_start m + length m.constants) both.1 in
+          let from = leb-true (constants_start m) place both.0 in
+          let to = leb-true (suc place) (constants_start m + length m.constants) both.1 in
           let is : place ≡ constants_start m + (place - constants_start m) = omega (arith, from) in
           constant_low (place - constants_start m) b (omega (arith, from, to))
           (ap (byte_at (loaded_memory m)) (sym is) ∙ found)

@@ -1,11 +1,12 @@
 -- The invariant holds of the loaded world.
 use Rattle.std.proofs.Common.{◌≡◌, ℕ, zero, suc, ◌+◌, ◌*◌, ◌≤◌, ◌<◌, ◌≤ℤ◌, ◌<ℤ◌, ◌+ℤ◌, ◌-ℤ◌, neg_ℤ, Bool, true, false}
-use Rattle.std.proofs.Common.{if◌then◌else◌, ltb, ◌&&◌, ◌||◌, ℤ, pos, negsuc, List, [], ◌∷◌, length, replicate, Some}
+use Rattle.std.proofs.Common.{if◌then◌else◌, ltb, ◌&&◌, ◌||◌, ℤ, pos, List, [], ◌∷◌, length, replicate, Some}
 use Rattle.std.proofs.Common.{Option, None, refl, sym, ap, ◌∙◌, subst, arith}
 use Rattle.std.proofs.lemmas.List.{length-append, length-map, length-replicate}
-use Rattle.std.proofs.lemmas.Bool.{le-leb}
+use Rattle.std.proofs.lemmas.Bool.{le-leb, and_parts}
 use Rattle.std.proofs.lemmas.Int.{ints}
 use Rattle.std.specs.Prelude.{slice_get, int_le, int_lt, option_map, ◌-◌, ◌/◌, ◌%◌}
+use Rattle.small_laws.proofs.Comparisons.{int_le-true, int_lt-true, pos_from}
 use Rattle.module_format.specs.declared.contexts.Context.{Context}
 use Rattle.module_format.specs.Contents.{Contents, Par, link_length}
 use Rattle.certificate.specs.Rights.{has_word}
@@ -38,7 +39,6 @@ use Rattle.rulings.specs.Fitting.{After}
 use Rattle.rulings.proofs.Addresses.{stepped}
 use Rattle.rulings.proofs.Dues.{nothing_due}
 use Rattle.rulings.proofs.Combining.{readable}
-use Rattle.states.proofs.RowFacts.{and-parts, le-from, lt-from}
 use Rattle.certified_worlds.proofs.Steps.{enter, entered_behind, lives_at}
 
 -- no branch comes before the root
@@ -76,10 +76,6 @@ memory_length m = simp (length-append, length-map, length-replicate)
 data_inside : (m : Contents) → 4 * m.data_words ≤ length (loaded_memory m)
 data_inside m = rw (memory_length m) (omega arith)
 
-natural : (z : ℤ) → pos 0 ≤ℤ z → (n : ℕ) × (z ≡ pos n)
-natural (pos n) h = (n, refl)
-natural (negsuc n) h = absurd (omega (arith, ints))
-
 -- the root may write the data area
 root_writes : (m : Contents) (place : ℕ) → place < 4 * m.data_words → may_write (root_holding m) place ≡ true
 root_writes m place low =
@@ -102,10 +98,10 @@ root_word : (m : Contents) (k : ℤ) → has_word (context_at m 0) k ≡ true
     → IsOwnWord (root_holding m) (length (loaded_memory m)) (pos (4 * m.base)) k
 root_word m k h =
     let inside : has_word (Some (root_context m)) k ≡ true = subst (λ c. has_word c k ≡ true) (root_is m) h in
-    let both = and-parts (int_le (root_context m).lo k) (int_lt k (root_context m).hi) inside in
-    let low : neg_ℤ (pos m.base) ≤ℤ k = le-from (neg_ℤ (pos m.base)) k both.0 in
-    let high : k <ℤ (pos m.data_words -ℤ pos m.base) = lt-from k (pos m.data_words -ℤ pos m.base) both.1 in
-    let n = natural (pos m.base +ℤ k) (omega (arith, ints)) in
+    let both = and_parts (int_le (root_context m).lo k) (int_lt k (root_context m).hi) inside in
+    let low : neg_ℤ (pos m.base) ≤ℤ k = int_le-true (neg_ℤ (pos m.base)) k both.0 in
+    let high : k <ℤ (pos m.data_words -ℤ pos m.base) = int_lt-true k (pos m.data_words -ℤ pos m.base) both.1 in
+    let n = pos_from (pos m.base +ℤ k) (omega (arith, ints)) in
     let place : ℕ = 4 * n.0 in
     let fits : 4 * n.0 + 4 ≤ 4 * m.data_words = omega (arith, ints, n.1) in
     record {
@@ -129,9 +125,9 @@ root_frame m wf = record {
   from_start = subst (λ (k : ℤ). pos 0 ≤ℤ place_in (pos (4 * m.base)) k) (sym (root_lo m)) (omega (arith, ints));
   to_end = subst (λ (k : ℤ). place_in (pos (4 * m.base)) k ≤ℤ pos (length (loaded_memory m))) (sym (root_hi m))
       (omega (arith, ints, data_inside m));
-  own = λ k h. root_word m k (and-parts _ _ h).0;
+  own = λ k h. root_word m k (and_parts _ _ h).0;
   readable = λ k h.
-      let w = root_word m k (and-parts _ _ h).0 in
+      let w = root_word m k (and_parts _ _ h).0 in
       record { place = w.place; is = w.is; inside = w.inside; readable = readable (root_holding m) w.place w.mine };
   start = omega (arith, ints);
 }

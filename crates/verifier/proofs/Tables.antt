@@ -1,7 +1,7 @@
 -- What the change of one process leaves of the others, and of the invariant.
 use Rattle.std.proofs.Common.{◌≡◌, ◌≢◌, ℕ, ◌+◌, ◌≤◌, ◌<◌, ◌⊎◌, true, false, inl, inr, List, length}
 use Rattle.std.proofs.Common.{Option, Some, None, refl, sym, ap, ◌∙◌, subst, arith}
-use Rattle.std.proofs.lemmas.Bool.{cases_eq}
+use Rattle.std.proofs.lemmas.Bool.{cases_eq, cases_Bool}
 use Rattle.std.proofs.lemmas.List.{length-set}
 use Rattle.std.specs.Prelude.{slice_get, slice_set}
 use std.Path.{path_j}
@@ -23,7 +23,6 @@ use Rattle.machine_state.specs.World.{World, Role, Join, held}
 use Rattle.machine_state.specs.declared.process.Channel.{Channel}
 use Rattle.machine_state.specs.Moves.{picked, dispatch, cell_of}
 use Rattle.machine_state.proofs.Lines.{got_set, got_other, set_either}
-use Rattle.rulings.proofs.Words.{bool_cases}
 use Rattle.rulings.proofs.Combining.{readable_byte}
 use Rattle.rulings.specs.Regions.{Scope, scope_in, Keeps}
 use Rattle.rulings.proofs.Within.{is_starting, scope_still}
@@ -88,7 +87,7 @@ lives_on {m} {h} {began} {memory} {t} {due} new c quiet size same fewer either c
   claim = λ later again agree bytes.
       let old = l.claim later (again ∙ size)
       (λ place e not_awaited. agree place e (nor place not_awaited) ∙ same place e not_awaited)
-      (λ place awaited. elim (bool_cases (awaits c place)) [
+      (λ place awaited. elim (cases_Bool (awaits c place)) [
         | inl still ↦ bytes place still
         | inr over ↦ subst IsByte
             (sym (agree place (readable_byte h place (l.room place awaited).0) over)) (came place awaited over)
@@ -99,7 +98,7 @@ lives_on {m} {h} {began} {memory} {t} {due} new c quiet size same fewer either c
   fills = λ old later f. l.fills old later (record {
     size = f.size;
     others = λ place e not_awaited. f.others place e (nor place not_awaited);
-    come = λ place e awaited. elim (bool_cases (awaits c place)) [
+    come = λ place e awaited. elim (cases_Bool (awaits c place)) [
       | inl still ↦ f.come place e still
       | inr over ↦ inl (f.others place e over)
     ];
@@ -112,7 +111,7 @@ lives_on {m} {h} {began} {memory} {t} {due} new c quiet size same fewer either c
 }
   where
     nor : (place : ℕ) → awaits t.condition place ≡ false → awaits c place ≡ false
-    nor place none = elim (bool_cases (awaits c place)) [
+    nor place none = elim (cases_Bool (awaits c place)) [
       | inl still ↦ let no' : true ≡ false = sym (fewer place still) ∙ none in absurd (cc)
       | inr over ↦ over
     ]
@@ -121,7 +120,7 @@ lives_on {m} {h} {began} {memory} {t} {due} new c quiet size same fewer either c
     kept = l.fills memory new (record {
       size = size;
       others = same;
-      come = λ place e awaited. elim (bool_cases (awaits c place)) [
+      come = λ place e awaited. elim (cases_Bool (awaits c place)) [
         | inl still ↦ either place still
         | inr over ↦ inr (came place awaited over)
       ];

@@ -2,8 +2,9 @@
 -- holds.
 use Rattle.std.proofs.Common.{◌≡◌, ◌≢◌, ℕ, suc, ◌+◌, true, false, inl, inr, length}
 use Rattle.std.proofs.Common.{Option, Some, None, refl, sym, ap, ◌∙◌, subst, arith}
-use Rattle.std.proofs.lemmas.Bool.Decides.{leb_tells, eqb_tells}
-use Rattle.std.specs.Prelude.{slice_get, nat_lt, ◌==◌}
+use Rattle.std.proofs.lemmas.Bool.Decides.{leb_tells}
+use Rattle.std.specs.Prelude.{slice_get, nat_lt}
+use Rattle.std.proofs.lemmas.Bool.{eqb-false}
 use Rattle.small_laws.proofs.Options.{same_some}
 use Rattle.module_format.specs.Contents.{Contents, link_length}
 use Rattle.module_format.specs.declared.rows.Direction.{Direction}
@@ -137,12 +138,6 @@ module _ (m : Contents) (wf : IsWellFormed m) (w : World) (lawful : IsLawful m w
     | inr is ↦ let low = talks.low in let high = is.1 in omega arith
   ]
 
-  differs : (a b : ℕ) → (a == b) ≡ false → a ≡ b → ⊥
-  differs a b no' same = elim (eqb_tells a b) [
-    | inl t ↦ let e : true ≡ false = sym t.0 ∙ no' in cc
-    | inr t ↦ t.1 same
-  ]
-
   -- the process that waits at the cell of a channel
   waiter : (e : Exchange) (c : Channel) (q : ℕ) → channel_at w e.channel ≡ Some c → c.waiting ≡ Some q
       → WaitsAt w.tasks q (cell_of e.channel)
@@ -204,7 +199,7 @@ module _ (m : Contents) (wf : IsWellFormed m) (w : World) (lawful : IsLawful m w
       ]
   never_in pick talks (receives_other_length e l c q sent outside at waiting is differ) =
       let u = wants_it w q (Sending sent) is (λ e. cc) in
-      differs sent.length e.length differ (same_length {direction = In} {e = e} Out q u.0 sent c talks
+      eqb-false sent.length e.length differ (same_length {direction = In} {e = e} Out q u.0 sent c talks
       (channel_there w e.channel c at) (over_it e sent q u.0 Out c at waiting u.1 u.2) u.1 u.2)
   never_in pick talks (receives_other_than_link e l k link found here differ) = on (there talks)
     where
@@ -212,7 +207,7 @@ module _ (m : Contents) (wf : IsWellFormed m) (w : World) (lawful : IsLawful m w
       on (an_input n few is in_ len) =
           let at = link_found (input_word 0) e.channel k found in
           let same : n ≡ k = omega (arith, at, is) in
-          differs (link_length m (4 + k)) e.length differ (ap (λ n. link_length m (4 + n)) (sym same) ∙ len)
+          eqb-false (link_length m (4 + k)) e.length differ (ap (λ n. link_length m (4 + n)) (sym same) ∙ len)
       on (an_output n few is out len) = cc
       on (a_channel c there len word) =
           let low = link_low (input_word 0) e.channel k found in
@@ -240,7 +235,7 @@ module _ (m : Contents) (wf : IsWellFormed m) (w : World) (lawful : IsLawful m w
       ]
   never_out pick talks (sends_other_length e l c q wanted outside at waiting is differ) =
       let u = wants_it w q (Receiving wanted) is (λ e. cc) in
-      differs wanted.length e.length differ (same_length {direction = Out} {e = e} In q u.0 wanted c talks
+      eqb-false wanted.length e.length differ (same_length {direction = Out} {e = e} In q u.0 wanted c talks
       (channel_there w e.channel c at) (over_it e wanted q u.0 In c at waiting u.1 u.2) u.1 u.2)
   never_out pick talks (sends_other_than_link e l k found differ) = on (there talks)
     where
@@ -249,7 +244,7 @@ module _ (m : Contents) (wf : IsWellFormed m) (w : World) (lawful : IsLawful m w
       on (an_output n few is out len) =
           let at = link_found (output_word 0) e.channel k found in
           let same : n ≡ k = omega (arith, at, is) in
-          differs (link_length m k) e.length differ (ap (link_length m) (sym same) ∙ len)
+          eqb-false (link_length m k) e.length differ (ap (link_length m) (sym same) ∙ len)
       on (a_channel c there len word) =
           let low = link_low (output_word 0) e.channel k found in
           let at = link_found (output_word 0) e.channel k found in

@@ -21,11 +21,12 @@ use Rattle.states.proofs.LabelRows.{label_row_at}
 use Rattle.rulings.specs.Meaning.{IsWellFormed, farthest_word}
 use Rattle.states.proofs.FrameBounds.{frame-is-small}
 use Rattle.states.proofs.Procedures.{at-row}
-use Rattle.states.proofs.RowFacts.{and-parts, le-from, lt-from}
 use Rattle.certificate.specs.Rights.{has_word}
 use Rattle.module_format.specs.declared.contexts.Context.{Context}
 use Rattle.module_format.specs.Contexts.{context_at}
 use Rattle.std.proofs.lemmas.Int.{ints}
+use Rattle.std.proofs.lemmas.Bool.{and_parts}
+use Rattle.small_laws.proofs.Comparisons.{int_le-true, int_lt-true}
 use Rattle.rulings.proofs.LabelRows.{label_pairs}
 use Rattle.certified_worlds.specs.Point.{Decodes}
 use Rattle.verifier.proofs.Judging.{Spans}
@@ -118,9 +119,9 @@ frame_words m keeps n k h = on_context (context_at m n) refl h
     on_context None e h = absurd (cc)
     on_context (Some context) e h =
         let small = frame-is-small m keeps n context e in
-        let inside = and-parts (int_le context.lo k) (int_lt k context.hi) h in
-        let low = le-from context.lo k inside.0 in
-        let high = lt-from k context.hi inside.1 in
+        let inside = and_parts (int_le context.lo k) (int_lt k context.hi) h in
+        let low = int_le-true context.lo k inside.0 in
+        let high = int_lt-true k context.hi inside.1 in
         (omega (arith, ints, small.low, low), omega (arith, ints, small.high, high))
 
 pub well_formed : (m : Contents) → Keeps m → IsWellFormed m

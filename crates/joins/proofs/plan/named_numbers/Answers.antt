@@ -1,10 +1,10 @@
 use Rattle.std.proofs.Common.{◌∙◌, List, sym, ap}
 use Rattle.std.proofs.lemmas.Result.{IfOk-weaker}
 use Rattle.std.specs.List.{list_any}
+use Rattle.small_laws.proofs.Mapped.{list_any-map}
 use Rattle.module_format.specs.Rows.{BranchRow}
 use Rattle.module_format.specs.Contents.{branch_of}
 use Rattle.machine_state.specs.JoinLookups.{branch_names}
-use Rattle.joins.proofs.Mapped.{list_any-map}
 use Rattle.joins.proofs.plan.named_numbers.Goals as goal
 
 pub returns : goal.returns

@@ -1,7 +1,7 @@
 use Rattle.std.proofs.Common.{◌≡◌, arith, true, sym, ap, ◌∙◌}
+use Rattle.std.proofs.lemmas.Bool.{not-false}
 use Rattle.states.specs.Frames.{frame_facts}
 use Rattle.states.specs.Remembered.{word_time, loops_stay}
-use Rattle.states.proofs.Hulls.{not-no}
 use Rattle.states.proofs.Remembering.{recalled-all, recalled-some, no-loop-stays}
 use Rattle.states.proofs.frame.Frame.known.Goals.{else-not-compared-via-then-not-compared+else-not-loops_stay}
 use Rattle.states.proofs.frame.Frame.known.Goals.{else-not-compared-via-else-not-compared}
@@ -29,6 +29,6 @@ returns-clause-recalled c =
           ∙ (sym w.loops_stay.ensures ∙ w.if-not-loops_stay.false)
       | else-not-compared-via-else-not-compared w ↦
           no-loop-stays (word_time frame.lo times) time entries (known.plain
-          (not-no c.in_ok-compared.compared.is_plain w.if-not-compared.false))
+          (not-false c.in_ok-compared.compared.is_plain w.if-not-compared.false))
     ] in
     recalled-some frame.lo kept (frame_facts frame) entries c.in_ok-compared.compared stays c.in_ok-left.ensures known

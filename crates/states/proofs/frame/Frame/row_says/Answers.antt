@@ -1,11 +1,11 @@
 use Rattle.std.proofs.Common.{◌≡◌, rules, arith, pos, ◌+ℤ◌, ◌≤ℤ◌, SFits, ap, sym, ◌∙◌, to_z, of_z}
 use Rattle.std.proofs.lemmas.Int.{ints, to_z-of_z}
 use Rattle.std.specs.Int.{w64}
+use Rattle.small_laws.proofs.Comparisons.{int_le-true}
 use Rattle.module_format.specs.Contents.{Contents, label_of, label_at}
 use Rattle.states.specs.Blocks.{block_words, first_of}
 use Rattle.states.specs.Frames.{frame_facts}
 use Rattle.states.specs.State.{entry_fact}
-use Rattle.states.proofs.RowFacts.{le-from}
 use Rattle.states.proofs.Claimed.{row-says, no-loop-there}
 use Rattle.states.proofs.Remembering.{remembered-said}
 use Rattle.states.proofs.frame.Frame.row_says.Goals as goal
@@ -26,7 +26,7 @@ returns c = λ yes.
     let end_is : end ≡ first +ℤ pos block_words = omega (arith, ints, first_is, last) in
     let ends : end ≤ℤ next =
     rw (to_z-of_z w64 end end_fits, to_z-of_z w64 next next_fits) at
-    (le-from (to_z w64 (of_z w64 end)) (to_z w64 (of_z w64 next)) yes) in
+    (int_le-true (to_z w64 (of_z w64 end)) (to_z w64 (of_z w64 next)) yes) in
     let same = rw (to_z-of_z w64 first fits) at c.from_word-rest.ensures.same in
     let past = rw (to_z-of_z w64 first fits, to_z-of_z w64 end end_fits) at c.past_saying.ensures in
     let claim = rw (to_z-of_z w64 first fits, to_z-of_z w64 end end_fits) at c.in-Some.ensures in

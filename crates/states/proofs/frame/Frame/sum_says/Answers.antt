@@ -1,11 +1,12 @@
 use Rattle.std.proofs.Common.{◌≡◌, rules, ℤ, SFits, ap, ◌∙◌}
 use Rattle.std.proofs.lemmas.Int.{to_z-of_z}
 use Rattle.std.specs.Int.{w32, w64}
+use Rattle.std.proofs.lemmas.Bool.{not-false}
 use Rattle.states.specs.Blocks.{block_words, first_of}
 use Rattle.states.specs.Frames.{frame_facts}
 use Rattle.states.specs.Spans.{together}
 use Rattle.states.specs.State.{entry_fact}
-use Rattle.states.proofs.Hulls.{sum-says, not-no}
+use Rattle.states.proofs.Hulls.{sum-says}
 use Rattle.states.proofs.frame.Frame.sum_says.Goals as goal
 
 pub returns : goal.returns
@@ -23,4 +24,4 @@ returns c = λ yes.
     rw c.block_words.ensures.value at c.word_of-first.ensures in
     sum-says facts (entry_fact c.args.row.now) (first_of frame.lo c.args.number) sum
     (summed ∙ ap (λ (w : ℤ). together facts w block_words) first_is)
-    (not-no sum.are_numbers c.if-not-sum.false) all
+    (not-false sum.are_numbers c.if-not-sum.false) all

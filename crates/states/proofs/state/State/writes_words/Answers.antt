@@ -1,9 +1,10 @@
 use Rattle.std.proofs.Common.{◌≡◌, ℤ, true, Option, Some, None, ◌∙◌, refl, sym, arith}
 use Rattle.std.proofs.lemmas.Int.{ints}
+use Rattle.std.proofs.Math.Bool.{or-false}
 use Rattle.module_format.specs.Contexts.{context_at}
 use Rattle.module_format.specs.Contents.{Par, Branch, par_of, branch_of}
 use Rattle.certificate.specs.Rights.{has_word, is_among}
-use Rattle.states.proofs.OwnWords.{written-own, each-usable, one-unusable, usable-if, unwritten, written-as, or-none}
+use Rattle.states.proofs.OwnWords.{written-own, each-usable, one-unusable, usable-if, unwritten, written-as}
 use Rattle.states.proofs.state.State.writes_words.Goals as goal
 
 pub returns-then-not-has_words : goal.returns-then-not-has_words
@@ -23,7 +24,7 @@ returns-in_Some-_row c =
     let as_said = λ (k : ℤ) (own : has_word context k ≡ true).
     written-as c.args.self.now.module.now c.args.self.now.context k found
     c.in_Some-_row.ensures.found own
-    ∙ sym (or-none (is_among writes k)) in
+    ∙ sym (or-false (is_among writes k)) in
     let own = c.if-not-has_words.ensures.yes refl in
     usable-if written-own c.args.self.now c.args.first c.args.count c.have_words.result
     (λ yes k low high. as_said k (own k (omega (arith, ints, start)) (omega (arith, ints, start)))
