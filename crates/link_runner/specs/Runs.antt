@@ -58,6 +58,8 @@ module _ {R W : Type 0} (left : R → Option (List ℕ)) (read_failed : R → Bo
     pub unread : readers_after ≡ readers
     pub unwritten : writers_after ≡ writers
 
+  -- What `run` does, whatever its readers turn out to give: they are asked link by link, and may fail. `RunsWith` says
+  -- it of readers whose bytes are known beforehand, as one run over all of these.
   abbrev pub Runs : Result Report RunError → Type 0
   Runs (Ok report) = Finishes report
   Runs (Err (ReadFailed link)) = StopsAtRead link

@@ -34,7 +34,8 @@ become_numbers p end s =
     then after_change (on_span (word_behind p.lo) (words_within p.lo end) (Become (number_within full))) s else s
 
 -- Bytes come from the first place to which a pointer leads up to `end`. Where all are bytes of numbers, a word that has
--- some of them may be any number if it was one; otherwise nothing is known of it.
+-- some of them may be any number if it was one; otherwise nothing is known of it. That is said first of all words with
+-- such bytes, and then the words without other bytes become numbers, whatever they were.
 unfoldable pub filled : Bool → Pointed → ℤ → State → State
 filled numbers p end s =
     if numbers then become_numbers p end (leaves_words p end stored_byte s) else leaves_words p end (Become Unknown) s
