@@ -23,12 +23,16 @@ fn keyword_of_two(text: &[u8]) -> Option<Mark>
     requires { length text.now ≡ 2 }
     ensures { option_map marked result ≡ keyword_among (keywords_of_len 2) text.now }
 {
-    match text {
-        b"IS" => Some(Mark::Is),
-        b"OF" => Some(Mark::Of),
-        b"IF" => Some(Mark::If),
-        b"OR" => Some(Mark::Or),
-        _ => None,
+    if text == b"IS".as_slice() {
+        Some(Mark::Is)
+    } else if text == b"OF".as_slice() {
+        Some(Mark::Of)
+    } else if text == b"IF".as_slice() {
+        Some(Mark::If)
+    } else if text == b"OR".as_slice() {
+        Some(Mark::Or)
+    } else {
+        None
     }
 }
 
@@ -36,16 +40,24 @@ fn keyword_of_three(text: &[u8]) -> Option<Mark>
     requires { length text.now ≡ 3 }
     ensures { option_map marked result ≡ keyword_among (keywords_of_len 3) text.now }
 {
-    match text {
-        b"VAL" => Some(Mark::Val),
-        b"INT" => Some(Mark::Int),
-        b"SEQ" => Some(Mark::Seq),
-        b"PAR" => Some(Mark::Par),
-        b"ALT" => Some(Mark::Alt),
-        b"FOR" => Some(Mark::For),
-        b"AND" => Some(Mark::And),
-        b"NOT" => Some(Mark::Not),
-        _ => None,
+    if text == b"VAL".as_slice() {
+        Some(Mark::Val)
+    } else if text == b"INT".as_slice() {
+        Some(Mark::Int)
+    } else if text == b"SEQ".as_slice() {
+        Some(Mark::Seq)
+    } else if text == b"PAR".as_slice() {
+        Some(Mark::Par)
+    } else if text == b"ALT".as_slice() {
+        Some(Mark::Alt)
+    } else if text == b"FOR".as_slice() {
+        Some(Mark::For)
+    } else if text == b"AND".as_slice() {
+        Some(Mark::And)
+    } else if text == b"NOT".as_slice() {
+        Some(Mark::Not)
+    } else {
+        None
     }
 }
 
@@ -53,15 +65,22 @@ fn keyword_of_four(text: &[u8]) -> Option<Mark>
     requires { length text.now ≡ 4 }
     ensures { option_map marked result ≡ keyword_among (keywords_of_len 4) text.now }
 {
-    match text {
-        b"BYTE" => Some(Mark::Byte),
-        b"PROC" => Some(Mark::Proc),
-        b"CHAN" => Some(Mark::Chan),
-        b"SKIP" => Some(Mark::Skip),
-        b"STOP" => Some(Mark::Stop),
-        b"PLUS" => Some(Mark::Plus),
-        b"TRUE" => Some(Mark::True),
-        _ => None,
+    if text == b"BYTE".as_slice() {
+        Some(Mark::Byte)
+    } else if text == b"PROC".as_slice() {
+        Some(Mark::Proc)
+    } else if text == b"CHAN".as_slice() {
+        Some(Mark::Chan)
+    } else if text == b"SKIP".as_slice() {
+        Some(Mark::Skip)
+    } else if text == b"STOP".as_slice() {
+        Some(Mark::Stop)
+    } else if text == b"PLUS".as_slice() {
+        Some(Mark::Plus)
+    } else if text == b"TRUE".as_slice() {
+        Some(Mark::True)
+    } else {
+        None
     }
 }
 
@@ -69,11 +88,14 @@ fn keyword_of_five(text: &[u8]) -> Option<Mark>
     requires { length text.now ≡ 5 }
     ensures { option_map marked result ≡ keyword_among (keywords_of_len 5) text.now }
 {
-    match text {
-        b"MINUS" => Some(Mark::Minus),
-        b"TIMES" => Some(Mark::Times),
-        b"FALSE" => Some(Mark::False),
-        _ => None,
+    if text == b"MINUS".as_slice() {
+        Some(Mark::Minus)
+    } else if text == b"TIMES".as_slice() {
+        Some(Mark::Times)
+    } else if text == b"FALSE".as_slice() {
+        Some(Mark::False)
+    } else {
+        None
     }
 }
 
