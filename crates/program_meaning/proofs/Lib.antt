@@ -1,3 +1,5 @@
+pub mod DoingIsRunning
+pub mod LeavesAreTrue
 pub mod Worked
 pub mod NumbersStored
 pub mod ValuesTyped

@@ -1,6 +1,7 @@
 pub mod Links
 pub mod Storing
 pub mod Running
+pub mod Doing
 pub mod Sequential
 pub mod Meaning
 pub mod SmallPrograms
@@ -12,5 +13,6 @@ pub mod RangesWithin
 pub mod KeepingTypes
 pub mod Loops
 pub mod GoingWell
+pub mod LeavesAreTrue
 pub mod Declarations
 pub mod DeclaredTypes

@@ -52,9 +52,9 @@ facing way None = None
 facing way (Some p) = if is_same_way p.way way then Some p else None
 
 -- The link that a channel is, where it is used in this direction. An element of an array of channels is none.
-abbrev pub port_of : Surroundings → Environment → Direction → Place → Option Port
-port_of s env way channel = elim channel.subscript [
-  | None ↦ facing way (option_and_then (λ n. unwrap_or (item_at n s.ports) None) (number_held channel.name env))
+abbrev pub port_of : List (Option Port) → Environment → Direction → Place → Option Port
+port_of ports env way channel = elim channel.subscript [
+  | None ↦ facing way (option_and_then (λ n. unwrap_or (item_at n ports) None) (number_held channel.name env))
   | Some e ↦ None
 ]
 
@@ -82,9 +82,9 @@ act s Skip env l = Goes env l
 act s Stop env l = Waits l
 act s (Assign target value) env l =
     or_stuck (option_and_then (stored env target) (number_of env value)) (λ after. Goes after l)
-act s (Input channel target) env l = input (port_of s env direction.Input channel) target env l
+act s (Input channel target) env l = input (port_of s.ports env direction.Input channel) target env l
 act s (Output channel value) env l =
-    or_stuck (number_of env value) (λ v. output s (port_of s env direction.Output channel) v env l)
+    or_stuck (number_of env value) (λ v. output s (port_of s.ports env direction.Output channel) v env l)
 act s (Instance name actuals) env l = Stuck
 
 -- ---- processes

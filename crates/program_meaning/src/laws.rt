@@ -9,6 +9,8 @@ ghost use Rattle.program_meaning.specs.Loops.{LoopsGoOn};
 ghost use Rattle.program_meaning.specs.Declarations.{DeclarationsHold};
 ghost use Rattle.program_meaning.specs.DeclaredTypes.{DeclarationsTyped};
 ghost use Rattle.program_meaning.specs.GoingWell.{OutcomesGoWell};
+ghost use Rattle.program_meaning.specs.Doing.{DoingIsRunning};
+ghost use Rattle.program_meaning.specs.LeavesAreTrue.{LeavesAreTrue};
 
 /// Small programs read, write and end as they should: sums over a link, echoes, quotients, counts of 0 and 1, links
 /// that end early, links to which nothing listens, and numbers and subscripts that have no value.
@@ -79,4 +81,17 @@ pub fn outcomes_go_well()
 pub fn declarations_hold()
     ensures held { DeclarationsHold }
     ensures typed { DeclarationsTyped }
+{}
+
+/// What a process does, as a tree of what it asks for, sends and leaves, comes over links to what becomes of it.
+#[tactic(auto, using(crate::proofs::DoingIsRunning::doing_is_running))]
+pub fn doing_is_running()
+    ensures { DoingIsRunning }
+{}
+
+/// What holds of what a process leaves, whatever comes in and whoever listens, holds of each leaf of the tree of what it
+/// does: nothing fails there, whatever bytes come.
+#[tactic(auto, using(crate::proofs::LeavesAreTrue::leaves_are_true))]
+pub fn leaves_are_true()
+    ensures { LeavesAreTrue }
 {}

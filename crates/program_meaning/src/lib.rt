@@ -5,6 +5,7 @@
 mod laws;
 
 pub use laws::{
-    declarations_hold, loops_go_on, messages_hold_numbers, moves_stay_within, numbers_are_stored,
-    outcomes_go_well, small_programs_mean, types_stay, values_are_typed,
+    declarations_hold, doing_is_running, leaves_are_true, loops_go_on, messages_hold_numbers,
+    moves_stay_within, numbers_are_stored, outcomes_go_well, small_programs_mean, types_stay,
+    values_are_typed,
 };
