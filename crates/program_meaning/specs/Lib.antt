@@ -5,6 +5,7 @@ pub mod Doing
 pub mod Sequential
 pub mod Meaning
 pub mod SmallPrograms
+pub mod SmallTerms
 pub mod WorkedPrograms
 pub mod StoringLaws
 pub mod TypedValues

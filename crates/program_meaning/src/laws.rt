@@ -1,5 +1,6 @@
 //! The laws of what programs mean, each the contract of a function that does nothing.
 ghost use Rattle.program_meaning.specs.WorkedPrograms.{SumsMean, EchoesMean, SendingMeans, WordsMatter};
+ghost use Rattle.program_meaning.specs.WorkedPrograms.{NamesMean, BitsMean, ConditionsMean, LoopsAndLinksMean};
 ghost use Rattle.program_meaning.specs.StoringLaws.{NumbersAgree, ScalarsStored, ElementsStored};
 ghost use Rattle.program_meaning.specs.TypedValues.{ValuesAreTyped};
 ghost use Rattle.program_meaning.specs.Messages.{ReceivedIsOfType, MessagesReadBack};
@@ -13,13 +14,18 @@ ghost use Rattle.program_meaning.specs.Doing.{DoingIsRunning};
 ghost use Rattle.program_meaning.specs.LeavesAreTrue.{LeavesAreTrue};
 
 /// Small programs read, write and end as they should: sums over a link, echoes, quotients, counts of 0 and 1, links
-/// that end early, links to which nothing listens, and numbers and subscripts that have no value.
+/// that end early, links to which nothing listens, numbers and subscripts that have no value, constants and tables,
+/// operations on bits, conditions, and names that hide others.
 #[tactic(auto, using(crate::proofs::Worked::worked_programs))]
 pub fn small_programs_mean()
     ensures sums { SumsMean }
     ensures echoes { EchoesMean }
     ensures sending { SendingMeans }
     ensures words { WordsMatter }
+    ensures names { NamesMean }
+    ensures bits { BitsMean }
+    ensures conditions { ConditionsMean }
+    ensures loops { LoopsAndLinksMean }
 {}
 
 /// Where an environment meets a scope, a number is stored in the scalar that a name denotes there, and one in the
