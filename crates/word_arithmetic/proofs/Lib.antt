@@ -11,3 +11,4 @@ pub mod TestLaws
 pub mod BinaryLaws
 pub mod UnaryLaws
 pub mod RangesOfRanges
+pub mod Proved

@@ -42,9 +42,9 @@ pub enum Binary {
     Equal,
 }
 
+#[tactic(auto, unfolding(crate::specs::Binary::computed, crate::specs::Binary::result_range))]
 impl Binary {
     /// The result; `None` where the T414 sets the error flag.
-    #[tactic(auto, unfolding(crate::specs::Binary::computed))]
     pub fn apply(self, left: i32, right: i32) -> Option<i32>
         ensures { result ≡ computed self left right }
     {
@@ -66,7 +66,6 @@ impl Binary {
     }
 
     /// The range of the results; `None` where some members set the error flag.
-    #[tactic(auto, unfolding(crate::specs::Binary::result_range))]
     pub fn range(self, left: Range, right: Range) -> Option<Range>
         ensures { option_map ends_of result ≡ result_range self (ends_of left) (ends_of right) }
     {

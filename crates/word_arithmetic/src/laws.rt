@@ -1,24 +1,23 @@
 //! The laws of the operations and their ranges, each the contract of a function that does nothing.
+#![tactic(auto, using(crate::proofs::Proved::laws))]
+
 ghost use Rattle.word_arithmetic.specs.Word.{WordsFit, WordsLieBetween, CheckedGivesWords};
 ghost use Rattle.word_arithmetic.specs.Range.{WordsInOrderAreRanges, MembersLieBetween, ComparisonsAreTests};
 ghost use Rattle.word_arithmetic.specs.Binary.{BinaryGivesWords, BinaryHolds, BinaryFails, BinaryGivesRanges};
 ghost use Rattle.word_arithmetic.specs.Unary.{UnaryGivesWords, UnaryHolds, UnaryGivesRanges};
 
 /// The words are the numbers of 32 bits with a sign, from the least to the greatest.
-#[tactic(auto, using(crate::proofs::WordLaws::words_fit, crate::proofs::WordLaws::words_lie_between))]
 pub fn words_have_32_bits()
     ensures fit { WordsFit }
     ensures between { WordsLieBetween }
 {}
 
 /// A checked result is the number itself, and a word.
-#[tactic(auto, using(crate::proofs::WordLaws::checked_gives_words))]
 pub fn checked_results_are_words()
     ensures { CheckedGivesWords }
 {}
 
 /// The result of words is a word.
-#[tactic(auto, using(crate::proofs::BinaryLaws::binary_gives_words, crate::proofs::UnaryLaws::unary_gives_words))]
 pub fn operations_give_words()
     ensures binary { BinaryGivesWords }
     ensures unary { UnaryGivesWords }
@@ -26,7 +25,6 @@ pub fn operations_give_words()
 
 /// Where the results of an operation have a range, no members set the error flag, and each result of members is a
 /// word in that range.
-#[tactic(auto, using(crate::proofs::BinaryLaws::binary_holds, crate::proofs::UnaryLaws::unary_holds))]
 pub fn ranges_hold_results()
     ensures binary { BinaryHolds }
     ensures unary { UnaryHolds }
@@ -39,21 +37,18 @@ pub fn results_have_ranges_of_words()
 {}
 
 /// The results of an operation have no range only if some members set the error flag.
-#[tactic(auto, using(crate::proofs::BinaryLaws::binary_fails))]
 pub fn no_range_means_failure()
     ensures { BinaryFails }
 {}
 
 /// Two numbers have a range between them exactly if they are words in order, and its members are the numbers between
 /// them, both included.
-#[tactic(auto, using(crate::proofs::EndsLaws::words_in_order_are_ranges, crate::proofs::EndsLaws::members_lie_between))]
 pub fn words_in_order_are_ranges()
     ensures ends { WordsInOrderAreRanges }
     ensures members { MembersLieBetween }
 {}
 
 /// A comparison with a word leaves of a range what a test leaves whether a number lies in some range, or outside it.
-#[tactic(auto, using(crate::proofs::TestLaws::comparisons_are_tests))]
 pub fn comparisons_are_tests()
     ensures { ComparisonsAreTests }
 {}

@@ -14,9 +14,9 @@ pub enum Unary {
     Not,
 }
 
+#[tactic(auto, unfolding(crate::specs::Unary::unary_computed, crate::specs::Unary::unary_result_range))]
 impl Unary {
     /// The result; `None` where the T414 sets the error flag.
-    #[tactic(auto, unfolding(crate::specs::Unary::unary_computed))]
     pub fn apply(self, operand: i32) -> Option<i32>
         ensures { result ≡ unary_computed self operand }
     {
@@ -26,7 +26,6 @@ impl Unary {
     }
 
     /// The range of the results; `None` where some members set the error flag.
-    #[tactic(auto, unfolding(crate::specs::Unary::unary_result_range))]
     pub fn range(self, operand: Range) -> Option<Range>
         ensures { option_map ends_of result ≡ unary_result_range self (ends_of operand) }
     {
