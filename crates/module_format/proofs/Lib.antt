@@ -20,3 +20,4 @@ pub mod FileLaws
 pub mod IntervalLaws
 pub mod KeepingLaws
 pub mod WritingLaws
+pub mod Opening

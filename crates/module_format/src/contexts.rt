@@ -1,4 +1,5 @@
 //! The contexts of a module: the root, the procedures and the branches.
+#![tactic(auto, unfolding(crate::specs::Contexts::context_at, crate::specs::Contexts::parameters_at))]
 
 ghost use Rattle.std.specs.Prelude.{◌≡◌, option_map};
 ghost use Rattle.module_format.specs.Contents.{procedure_of, contents_of};
@@ -164,7 +165,6 @@ impl<'t, 'a> Contexts<'t, 'a> {
     }
 
     /// The context of a number, where there is one.
-    #[tactic(auto, unfolding(crate::specs::Contexts::context_at))]
     pub fn context(&self, number: u32) -> Option<Context>
         ensures { result ≡ context_at self.now number }
     {
@@ -174,7 +174,6 @@ impl<'t, 'a> Contexts<'t, 'a> {
 
     /// The parameters of the procedure that a context is or belongs to; none where there is no such
     /// context.
-    #[tactic(auto, unfolding(crate::specs::Contexts::parameters_at))]
     pub fn parameters(&self, number: u32) -> &'t [Parameter]
         ensures { result.now ≡ parameters_at self.now number }
     {

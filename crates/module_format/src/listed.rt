@@ -1,5 +1,6 @@
 //! Lists whose items follow one another: how an item is read, the rules it keeps, and what it leaves to the one after
 //! it.
+#![tactic(auto, unfolding(crate::proofs::Opening::listed))]
 
 ghost use Rattle.std.specs.Prelude.{◌≡◌, ◌↔◌, IsTrue, ℕ, ℤ, List, map};
 ghost use Rattle.module_format.specs.Contents.{label_of, procedure_of};
@@ -63,7 +64,6 @@ impl Listed<usize> for Entry {
 
     ghost Keeps = { EntryKeeps };
 
-    #[tactic(auto, unfolding(crate::specs::ReadingRows::entry_at, crate::specs::Reading::and_then))]
     fn read(code_len: &usize, low: i64, from: &mut Cursor<'_>) -> Entry {
         let word = read_first_word(low, from);
         let span = read_span(from);
@@ -97,7 +97,6 @@ impl Listed<Labelled<'_>> for LabelRow {
 
     ghost Keeps = { λ code. LabelKeeps code.code_len (map procedure_of code.procedures.now) };
 
-    #[tactic(auto, unfolding(crate::specs::ReadingRows::label_row_at, crate::specs::Reading::and_then))]
     fn read(code: &Labelled<'_>, low: u32, from: &mut Cursor<'_>) -> LabelRow {
         LabelRow {
             offset: read_label_offset(code.code_len, code.procedures, low, from),
@@ -137,7 +136,6 @@ impl Listed<Frame> for Parameter {
 
     ghost Keeps = { λ frame. ParameterKeeps frame.hi };
 
-    #[tactic(auto, unfolding(crate::specs::ReadingRows::parameter_at, crate::specs::Reading::and_then))]
     fn read(frame: &Frame, low: u16, from: &mut Cursor<'_>) -> Parameter {
         let word = read_parameter_word(frame.hi, low, from);
         let kind = read_parameter_kind(frame.version, from);
@@ -169,7 +167,6 @@ impl Listed<Code> for ProcedureRow {
 
     ghost Keeps = { λ code. ProcedureKeeps code.len };
 
-    #[tactic(auto, unfolding(crate::specs::ReadingRows::procedure_row_at, crate::specs::Reading::and_then))]
     fn read(code: &Code, low: u32, from: &mut Cursor<'_>) -> ProcedureRow {
         let entry = read_procedure_entry(code.len, low, from);
         let lo = read_frame_start(from);
@@ -211,7 +208,6 @@ impl Listed<Constants<'_>> for TableRow {
 
     ghost Keeps = { λ constants. TableKeeps constants.0.now };
 
-    #[tactic(auto, unfolding(crate::specs::ReadingRows::table_row_at, crate::specs::Reading::tested, crate::specs::Reading::and_then))]
     fn read(constants: &Constants<'_>, low: u32, from: &mut Cursor<'_>) -> TableRow {
         let start = read_table_start(low, from);
         let end = read_table_end(constants.0.len(), start, from);
@@ -251,7 +247,6 @@ impl Listed<()> for ChannelRow {
 
     ghost Keeps = { λ _. ChannelKeeps };
 
-    #[tactic(auto, unfolding(crate::specs::ReadingPars::channel_at, crate::specs::Reading::and_then))]
     fn read(_context: &(), low: i64, from: &mut Cursor<'_>) -> ChannelRow {
         let word = read_first_word(low, from);
         let length = from.positive(MAX_MESSAGE);
@@ -303,7 +298,6 @@ impl Listed<Written<'_>> for Interval {
 
     ghost Keeps = { λ written. ReadKeeps written.intervals.now };
 
-    #[tactic(auto, unfolding(crate::specs::ReadingPars::read_words_at, crate::specs::Reading::tested))]
     fn read(written: &Written<'_>, low: i64, from: &mut Cursor<'_>) -> Interval {
         let at = from.place();
         let interval = read_words(low, from);
@@ -331,7 +325,6 @@ impl Listed<()> for u16 {
 
     ghost Keeps = { λ _. NumberKeeps };
 
-    #[tactic(auto, unfolding(crate::specs::ReadingPars::parameter_number_at, crate::specs::Reading::tested))]
     fn read(_context: &(), low: u32, from: &mut Cursor<'_>) -> u16 {
         let at = from.place();
         let number = from.u16();
@@ -356,7 +349,6 @@ impl Listed<()> for EndRow {
 
     ghost Keeps = { λ _. EndKeeps };
 
-    #[tactic(auto, unfolding(crate::specs::ReadingPars::end_at, crate::specs::Reading::and_then))]
     fn read(_context: &(), before: EndKey, from: &mut Cursor<'_>) -> EndRow {
         let kind = read_end_kind(before, from);
         let number = read_end_number(before, kind, from);

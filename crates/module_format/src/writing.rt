@@ -1,4 +1,5 @@
 //! From tables to bytes.
+#![tactic(auto, unfolding(crate::proofs::Opening::writing))]
 
 mod branches;
 mod facts;
@@ -57,7 +58,6 @@ fn put_counts(out: &mut Writer, tables: &Tables)
 }
 
 /// What is before the code in both versions, after the magic.
-#[tactic(auto, unfolding(crate::specs::Spelling::header_bytes))]
 fn put_header(out: &mut Writer, version: Version, tables: &Tables)
     requires { Keeps (contents_of tables.now) }
     ensures { Writes out.old (header_bytes (contents_of tables.now)) out.new }
@@ -83,7 +83,6 @@ fn put_extension(out: &mut Writer, version: Version, tables: &Tables)
 }
 
 /// The rows, which follow the code and the constants.
-#[tactic(auto, unfolding(crate::specs::Spelling::rows_bytes))]
 fn put_rows(out: &mut Writer, version: Version, tables: &Tables)
     requires { Keeps (contents_of tables.now) }
     ensures { Writes out.old (rows_bytes version (contents_of tables.now)) out.new }
@@ -104,7 +103,6 @@ pub fn write(alloc: Global, tables: &Tables) -> Result<Vec<u8>, AllocError>
 }
 
 /// The one file of valid tables in a version, whatever their own is.
-#[tactic(auto, unfolding(crate::specs::Spelling::file_of))]
 pub fn write_as(alloc: Global, version: Version, tables: &Tables) -> Result<Vec<u8>, AllocError>
     requires valid { Keeps (contents_of tables.now) }
     requires fits { FitsVersion version (contents_of tables.now) }

@@ -1,4 +1,5 @@
 //! Branches of PAR rows.
+#![tactic(auto, unfolding(crate::proofs::Opening::reading_branches))]
 
 ghost use Rattle.std.specs.Prelude.{◌≡◌, ⊤, ◌++◌, [], ◌∷◌, ℕ, ℤ, List, None, map};
 ghost use Rattle.std.specs.List.{list_any};
@@ -23,7 +24,6 @@ use crate::rows::{BranchCounts, BranchRow, EndKey, EndRow, Interval};
 use smallvec::SmallVec;
 
 /// The end of an interval, which is not empty.
-#[tactic(auto, unfolding(crate::specs::ReadingPars::interval_end_at, crate::specs::Reading::tested))]
 fn read_interval_end(lo: i32, from: &mut Cursor<'_>) -> i32
     ensures { Takes (λ size. interval_end_at size lo) from.old result from.new }
 {
@@ -34,7 +34,6 @@ fn read_interval_end(lo: i32, from: &mut Cursor<'_>) -> i32
 }
 
 /// Frame words from `low` on.
-#[tactic(auto, unfolding(crate::specs::ReadingPars::words_at, crate::specs::Reading::and_then))]
 pub(crate) fn read_words(low: i64, from: &mut Cursor<'_>) -> Interval
     ensures { Takes (λ size. words_at size low) from.old result from.new }
 {
@@ -92,7 +91,6 @@ fn read_ends(count: u16, from: &mut Cursor<'_>) -> Vec<EndRow>
 }
 
 /// How many intervals, parameters and ends a branch has.
-#[tactic(auto, unfolding(crate::specs::ReadingPars::branch_counts_at, crate::specs::Reading::and_then))]
 fn read_branch_counts(from: &mut Cursor<'_>) -> BranchCounts
     ensures { Takes branch_counts_at from.old result from.new }
 {
@@ -116,7 +114,6 @@ pub(crate) struct Branches {
 
 impl Branches {
     /// The entry of the next branch.
-    #[tactic(auto, unfolding(crate::specs::ReadingPars::branch_entry_at, crate::specs::Reading::tested))]
     fn entry(&self, from: &mut Cursor<'_>) -> u32
         ensures { Takes (λ size. branch_entry_at size self.now.code_len
             (record { low = self.now.low; entries = self.now.taken.entries.items })) from.old result from.new }
@@ -135,7 +132,6 @@ impl Reader for Branches {
     ghost walk = { walk (λ r. r.code_len) (λ r. record { low = r.low; entries = r.taken.entries.items })
         (listed_as branch_of (λ code_len size. branch_row_at size code_len) behind_branch) };
 
-    #[tactic(auto, unfolding(crate::specs::ReadingPars::branch_row_at, crate::specs::Reading::and_then))]
     fn read(&mut self, from: &mut Cursor<'_>) -> BranchRow {
         let entry = self.entry(from);
         let workspace = from.i32();

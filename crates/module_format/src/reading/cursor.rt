@@ -2,7 +2,7 @@
 //!
 //! Readers that are called in several places are inlined. Where no call takes a cursor's address, its fields stay in
 //! registers, and reading takes half the time.
-#![tactic(auto, unfolding(crate::specs::Reading::number_at))]
+#![tactic(auto, unfolding(crate::proofs::Opening::reading_cursor))]
 
 ghost use Rattle.std.specs.Prelude.{◌≤◌, length};
 ghost use Rattle.module_format.specs.Order.{IsBytes};
@@ -160,7 +160,6 @@ impl<'a> Cursor<'a> {
         true
     }
 
-    #[tactic(auto, unfolding(crate::specs::Reading::byte_at))]
     pub(crate) fn u8(&mut self) -> u8
         ensures { Takes byte_at self.old result self.new }
     {
@@ -197,7 +196,6 @@ impl<'a> Cursor<'a> {
         }
     }
 
-    #[tactic(auto, unfolding(crate::specs::Reading::number_at, crate::specs::Reading::int_at, crate::specs::Reading::and_then))]
     pub(crate) fn i32(&mut self) -> i32
         ensures { Takes int_at self.old result self.new }
     {
@@ -208,7 +206,6 @@ impl<'a> Cursor<'a> {
     }
 
     /// As many bytes as a length says.
-    #[tactic(auto, unfolding(crate::specs::Reading::bytes_at))]
     pub(crate) fn bytes(&mut self, len: u32) -> &'a [u8]
         ensures { Takes (λ size. bytes_at size len) self.old result.now self.new }
     {

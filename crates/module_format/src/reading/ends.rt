@@ -1,4 +1,5 @@
 //! Channel ends that a branch is given.
+#![tactic(auto, unfolding(crate::proofs::Opening::reading_ends))]
 
 ghost use Rattle.std.specs.Prelude.{◌≡◌, true};
 ghost use Rattle.module_format.specs.ReadingPars.{end_kind_at, is_number_of, end_number_at, end_element_at};
@@ -11,7 +12,6 @@ use crate::rows::{Direction, EndKey, EndKind};
 use crate::tags::{DIRECTION_IN, DIRECTION_OUT, END_FRAME_WORD, END_LINK, END_PARAMETER};
 
 /// A kind of end, which is not below that of the end before.
-#[tactic(auto, unfolding(crate::specs::ReadingPars::end_kind_at, crate::specs::Reading::tested))]
 pub(crate) fn read_end_kind(before: EndKey, from: &mut Cursor<'_>) -> u8
     ensures { Takes (λ size. end_kind_at size before) from.old result from.new }
 {
@@ -30,7 +30,6 @@ fn is_number_of(kind: u8, number: i32) -> bool
 }
 
 /// The number of an end of this kind.
-#[tactic(auto, unfolding(crate::specs::ReadingPars::end_number_at, crate::specs::Reading::tested))]
 pub(crate) fn read_end_number(before: EndKey, kind: u8, from: &mut Cursor<'_>) -> i32
     ensures takes { Takes (λ size. end_number_at size before kind) from.old result from.new }
     ensures number { is_number_of kind result ≡ true }
@@ -48,7 +47,6 @@ pub(crate) fn read_end_number(before: EndKey, kind: u8, from: &mut Cursor<'_>) -
 }
 
 /// The element of an end: only a parameter's has one.
-#[tactic(auto, unfolding(crate::specs::ReadingPars::end_element_at, crate::specs::Reading::tested))]
 pub(crate) fn read_end_element(before: EndKey, kind: u8, number: i32, from: &mut Cursor<'_>) -> u32
     ensures { Takes (λ size. end_element_at size before kind number) from.old result from.new }
 {
@@ -67,7 +65,6 @@ pub(crate) fn read_end_element(before: EndKey, kind: u8, number: i32, from: &mut
 }
 
 /// The direction of an end, after its other fields.
-#[tactic(auto, unfolding(crate::specs::ReadingPars::end_direction_at, crate::specs::Reading::tested))]
 pub(crate) fn read_end_direction(
     before: EndKey,
     kind: u8,

@@ -1,4 +1,5 @@
 //! Facts and entries.
+#![tactic(auto, unfolding(crate::proofs::Opening::reading_facts))]
 
 ghost use Rattle.std.specs.Prelude.{◌≡◌};
 ghost use Rattle.module_format.specs.Facts.{end_of};
@@ -22,7 +23,6 @@ use crate::tags::{
 pub(crate) const LEAST_WORD: i64 = -2_147_483_648;
 
 /// The bounds of a number.
-#[tactic(auto, unfolding(crate::specs::ReadingRows::range_at, crate::specs::Reading::and_then))]
 fn read_range(from: &mut Cursor<'_>) -> Fact
     ensures { Takes range_at from.old result from.new }
 {
@@ -31,7 +31,6 @@ fn read_range(from: &mut Cursor<'_>) -> Fact
 }
 
 /// A step of 1, or of 4 where both bounds are multiples of it.
-#[tactic(auto, unfolding(crate::specs::ReadingRows::step_at, crate::specs::Reading::and_then))]
 fn read_step(lo: i32, hi: i32, from: &mut Cursor<'_>) -> Step
     ensures { Takes (λ size. step_at size lo hi) from.old result from.new }
 {
@@ -49,7 +48,6 @@ fn read_step(lo: i32, hi: i32, from: &mut Cursor<'_>) -> Step
 }
 
 /// The region that a pointer leads to.
-#[tactic(auto, unfolding(crate::specs::ReadingRows::pointed_at, crate::specs::Reading::and_then))]
 fn read_pointed(from: &mut Cursor<'_>) -> Region
     ensures { Takes pointed_at from.old result from.new }
 {
@@ -57,7 +55,6 @@ fn read_pointed(from: &mut Cursor<'_>) -> Region
 }
 
 /// A pointer's region, bounds and step.
-#[tactic(auto, unfolding(crate::specs::ReadingRows::pointer_at, crate::specs::Reading::and_then))]
 #[inline(always)]
 fn read_pointer(from: &mut Cursor<'_>) -> Fact
     ensures { Takes pointer_at from.old result from.new }
@@ -74,7 +71,6 @@ fn read_pointer(from: &mut Cursor<'_>) -> Fact
 }
 
 /// A code offset, the end of the code included.
-#[tactic(auto, unfolding(crate::specs::ReadingRows::code_address_at, crate::specs::Reading::and_then))]
 fn read_code_address(code_len: usize, from: &mut Cursor<'_>) -> Fact
     ensures { Takes (λ size. code_address_at size code_len) from.old result from.new }
 {
@@ -83,7 +79,6 @@ fn read_code_address(code_len: usize, from: &mut Cursor<'_>) -> Fact
 }
 
 /// How often a loop turns.
-#[tactic(auto, unfolding(crate::specs::ReadingRows::count_at, crate::specs::Reading::tested))]
 fn read_turn_count(base: i32, from: &mut Cursor<'_>) -> u32
     ensures { Takes (λ size. count_at size base) from.old result from.new }
 {
@@ -94,7 +89,6 @@ fn read_turn_count(base: i32, from: &mut Cursor<'_>) -> u32
 }
 
 /// A loop's base, count and weight.
-#[tactic(auto, unfolding(crate::specs::ReadingRows::loop_at, crate::specs::Reading::and_then))]
 fn read_loop(from: &mut Cursor<'_>) -> Fact
     ensures { Takes loop_at from.old result from.new }
 {
@@ -109,7 +103,6 @@ fn read_loop(from: &mut Cursor<'_>) -> Fact
 }
 
 /// A fact that registers and words have alike, after its tag at an offset.
-#[tactic(auto, unfolding(crate::specs::ReadingRows::fact_at))]
 #[inline(always)]
 fn read_common_fact(code_len: usize, at: usize, tag: u8, from: &mut Cursor<'_>) -> Fact
     ensures { Takes (λ size. fact_at size code_len at tag) from.old result from.new }
@@ -126,7 +119,6 @@ fn read_common_fact(code_len: usize, at: usize, tag: u8, from: &mut Cursor<'_>) 
 }
 
 /// A fact of a register.
-#[tactic(auto, unfolding(crate::specs::ReadingRows::register_at, crate::specs::Reading::and_then))]
 #[inline(always)]
 fn read_register(code_len: usize, from: &mut Cursor<'_>) -> Fact
     ensures { Takes (λ size. register_at size code_len) from.old result from.new }
@@ -140,7 +132,6 @@ fn read_register(code_len: usize, from: &mut Cursor<'_>) -> Fact
 }
 
 /// A fact of `span` frame words.
-#[tactic(auto, unfolding(crate::specs::ReadingRows::word_at, crate::specs::Reading::and_then))]
 pub(crate) fn read_word_fact(code_len: usize, span: u32, from: &mut Cursor<'_>) -> Fact
     ensures { Takes (λ size. word_at size code_len span) from.old result from.new }
 {
@@ -154,7 +145,6 @@ pub(crate) fn read_word_fact(code_len: usize, span: u32, from: &mut Cursor<'_>) 
 }
 
 /// A frame word that no item before has: those end at word `low`.
-#[tactic(auto, unfolding(crate::specs::ReadingRows::first_word_at, crate::specs::Reading::tested))]
 pub fn read_first_word(low: i64, from: &mut Cursor<'_>) -> i32
     ensures { Takes (λ size. first_word_at size low) from.old result from.new }
 {
@@ -165,7 +155,6 @@ pub fn read_first_word(low: i64, from: &mut Cursor<'_>) -> i32
 }
 
 /// A number of words or channels, at least 1.
-#[tactic(auto, unfolding(crate::specs::ReadingRows::span_at, crate::specs::Reading::tested))]
 pub fn read_span(from: &mut Cursor<'_>) -> u32
     ensures { Takes span_at from.old result from.new }
 {
@@ -183,7 +172,6 @@ pub(crate) fn end_of(entry: &Entry) -> i64
 }
 
 /// The entries of a label row, after their number.
-#[tactic(auto, unfolding(crate::specs::ReadingRows::entries_at, crate::specs::Reading::and_then))]
 pub fn read_entries(code_len: usize, from: &mut Cursor<'_>) -> Vec<Entry>
     ensures { Takes (λ size. entries_at size code_len) from.old result.items from.new }
 {
@@ -192,7 +180,6 @@ pub fn read_entries(code_len: usize, from: &mut Cursor<'_>) -> Vec<Entry>
 }
 
 /// The facts of A, B and C.
-#[tactic(auto, unfolding(crate::specs::ReadingRows::registers_at, crate::specs::Reading::and_then))]
 pub fn read_registers(code_len: usize, from: &mut Cursor<'_>) -> Stack<Fact>
     ensures { Takes (λ size. registers_at size code_len) from.old result from.new }
 {

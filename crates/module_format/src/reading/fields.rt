@@ -1,5 +1,5 @@
 //! Single fields with a rule of their own.
-#![tactic(auto, unfolding(crate::specs::Reading::limited_at, crate::specs::Reading::tested))]
+#![tactic(auto, unfolding(crate::proofs::Opening::reading_fields))]
 
 ghost use Rattle.module_format.specs.Reading.{limited_at, positive_at, at_most_at, in_code_at, interval_at};
 ghost use Rattle.module_format.specs.Taking.{Takes};
@@ -39,7 +39,6 @@ impl Cursor<'_> {
     }
 
     /// A u32 from 1 to a limit.
-    #[tactic(auto, unfolding(crate::specs::Reading::positive_at, crate::specs::Reading::tested))]
     pub(crate) fn positive(&mut self, limit: u32) -> u32
         ensures { Takes (λ size. positive_at size limit) self.old result self.new }
     {
@@ -50,7 +49,6 @@ impl Cursor<'_> {
     }
 
     /// A u32 of which no value above `most` is allowed.
-    #[tactic(auto, unfolding(crate::specs::Reading::at_most_at, crate::specs::Reading::tested))]
     pub(crate) fn at_most(&mut self, most: usize) -> u32
         ensures { Takes (λ size. at_most_at size most) self.old result self.new }
     {
@@ -61,7 +59,6 @@ impl Cursor<'_> {
     }
 
     /// An offset in the code that isn't its first.
-    #[tactic(auto, unfolding(crate::specs::Reading::in_code_at, crate::specs::Reading::tested))]
     pub(crate) fn in_code(&mut self, code_len: usize) -> u32
         ensures { Takes (λ size. in_code_at size code_len) self.old result self.new }
     {
@@ -73,7 +70,6 @@ impl Cursor<'_> {
     }
 
     /// The bounds of an interval, the first not above the second.
-    #[tactic(auto, unfolding(crate::specs::Reading::interval_at, crate::specs::Reading::hi_at, crate::specs::Reading::tested, crate::specs::Reading::and_then))]
     pub(crate) fn interval(&mut self) -> (i32, i32)
         ensures { Takes interval_at self.old result self.new }
     {

@@ -1,4 +1,5 @@
 //! The whole file.
+#![tactic(auto, unfolding(crate::proofs::Opening::reading_file))]
 
 ghost use Rattle.std.specs.Prelude.{◌≡◌, None, IfOk};
 ghost use Rattle.module_format.specs.Contents.{contents_of};
@@ -23,7 +24,6 @@ use crate::tables::{Tables, first_branch};
 use std::alloc::Global;
 
 /// The code, the constants and the rows, with the offset of the label rows.
-#[tactic(auto, unfolding(crate::specs::ReadingFile::tables_at, crate::specs::Reading::and_then))]
 fn read_tables<'a>(header: &Header, from: &mut Cursor<'a>) -> (Tables<'a>, usize)
     ensures takes { Takes (λ size. tables_at size header.now) from.old (contents_of result.0, result.1) from.new }
     ensures version { result.0.version ≡ header.now.version }
@@ -67,7 +67,6 @@ fn read_tables<'a>(header: &Header, from: &mut Cursor<'a>) -> (Tables<'a>, usize
 
 /// The places of the branches of tables that a cursor read, whose label rows begin at offset `rows`, if it
 /// did not fail, what the rows name is there and nothing is left.
-#[tactic(auto, unfolding(crate::specs::ReadingFile::ended_at, crate::specs::Reading::and_then))]
 fn conclude(
     alloc: Global,
     tables: &Tables,
@@ -91,7 +90,6 @@ fn conclude(
 }
 
 /// The tables that the bytes spell, all of the bytes, with the places of the branches.
-#[tactic(auto, unfolding(crate::specs::ReadingFile::read_file, crate::specs::Reading::and_then))]
 pub fn tables_of(alloc: Global, bytes: &[u8]) -> Result<(Tables<'_>, Vec<Place>), ReadError>
     ensures gives { Gives (λ x. (x.0.version, contents_of x.0)) result (read_file bytes.now) }
     ensures places { IfOk result (λ x. ArePlaces (contents_of x.0) (branch_count (contents_of x.0).pars) x.1.items) }

@@ -1,4 +1,5 @@
 //! The header.
+#![tactic(auto, unfolding(crate::proofs::Opening::reading_header))]
 
 ghost use Rattle.std.specs.Prelude.{◌≡◌, length};
 ghost use Rattle.module_format.specs.Keeping.{max_code};
@@ -26,7 +27,6 @@ pub struct Sizes {
 }
 
 /// The magic at the front of a file.
-#[tactic(auto, unfolding(crate::specs::ReadingFile::magic_at))]
 fn read_magic(from: &mut Cursor<'_>) -> Version
     ensures { Takes (λ size. magic_at) from.old result from.new }
 {
@@ -50,7 +50,6 @@ pub fn max_code(version: Version) -> u32
     }
 }
 
-#[tactic(auto, unfolding(crate::specs::ReadingFile::sizes_at, crate::specs::Reading::and_then))]
 fn read_sizes(version: Version, from: &mut Cursor<'_>) -> Sizes
     ensures { Takes (λ size. sizes_at size version) from.old result from.new }
 {
@@ -71,7 +70,6 @@ fn read_sizes(version: Version, from: &mut Cursor<'_>) -> Sizes
 }
 
 /// The message lengths of four links.
-#[tactic(auto, unfolding(crate::specs::ReadingFile::four_lengths_at, crate::specs::Reading::and_then))]
 fn read_four_lengths(from: &mut Cursor<'_>) -> (u32, u32, u32, u32)
     ensures { Takes four_lengths_at from.old result from.new }
 {
@@ -83,7 +81,6 @@ fn read_four_lengths(from: &mut Cursor<'_>) -> (u32, u32, u32, u32)
 }
 
 /// Those of the output links and of the input links.
-#[tactic(auto, unfolding(crate::specs::ReadingFile::lengths_at, crate::specs::Reading::and_then))]
 fn read_lengths(from: &mut Cursor<'_>) -> [u32; 8]
     ensures { Takes lengths_at from.old result from.new }
 {
@@ -103,7 +100,6 @@ pub struct RowCounts {
 }
 
 /// 0 or 1.
-#[tactic(auto, unfolding(crate::specs::ReadingFile::flag_at, crate::specs::Reading::and_then))]
 fn read_flag(from: &mut Cursor<'_>) -> bool
     ensures { Takes flag_at from.old result from.new }
 {
@@ -111,7 +107,6 @@ fn read_flag(from: &mut Cursor<'_>) -> bool
 }
 
 /// The flag and the number of table rows, which version 1 doesn't have.
-#[tactic(auto, unfolding(crate::specs::ReadingFile::extension_at, crate::specs::Reading::and_then))]
 fn read_extension(version: Version, from: &mut Cursor<'_>) -> (bool, u32)
     ensures { Takes (λ size. extension_at size version) from.old result from.new }
 {
@@ -124,7 +119,6 @@ fn read_extension(version: Version, from: &mut Cursor<'_>) -> (bool, u32)
     }
 }
 
-#[tactic(auto, unfolding(crate::specs::ReadingFile::counts_at, crate::specs::Reading::and_then))]
 fn read_counts(version: Version, from: &mut Cursor<'_>) -> RowCounts
     ensures { Takes (λ size. counts_at size version) from.old result from.new }
 {
@@ -150,7 +144,6 @@ pub struct Header {
     pub counts: RowCounts,
 }
 
-#[tactic(auto, unfolding(crate::specs::ReadingFile::header_at, crate::specs::Reading::and_then))]
 pub fn read_header(from: &mut Cursor<'_>) -> Header
     requires { from.old.size ≡ length from.old.rest.now }
     ensures { Takes (λ size. header_at) from.old result from.new }

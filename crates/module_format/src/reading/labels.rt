@@ -1,4 +1,5 @@
 //! Label rows.
+#![tactic(auto, unfolding(crate::proofs::Opening::reading_labels))]
 
 ghost use Rattle.std.specs.Prelude.{◌≡◌, None, map};
 ghost use Rattle.module_format.specs.Contents.{label_of, procedure_of};
@@ -14,7 +15,6 @@ use crate::reading::list::read_list;
 use crate::rows::{LabelRow, ProcedureRow};
 
 /// The offset of a label row, after a row at offset `low`.
-#[tactic(auto, unfolding(crate::specs::ReadingRows::label_offset_at, crate::specs::Reading::tested))]
 pub(crate) fn read_label_offset(
     code_len: usize,
     procedures: &[ProcedureRow],
@@ -33,7 +33,6 @@ pub(crate) fn read_label_offset(
 }
 
 /// As many label rows as a number says.
-#[tactic(auto, unfolding(crate::specs::ReadingRows::label_rows_at))]
 pub fn read_label_rows(
     code_len: usize,
     procedures: &[ProcedureRow],

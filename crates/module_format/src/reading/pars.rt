@@ -1,4 +1,5 @@
 //! PAR rows.
+#![tactic(auto, unfolding(crate::proofs::Opening::reading_pars))]
 
 ghost use Rattle.std.specs.Prelude.{◌≡◌, ◌<◌, ◌^◌, ℕ, map};
 ghost use Rattle.module_format.specs.Contents.{par_of, branch_of};
@@ -27,7 +28,6 @@ fn read_channels(count: u16, from: &mut Cursor<'_>) -> Vec<ChannelRow>
 }
 
 /// The number of a context, below `count`.
-#[tactic(auto, unfolding(crate::specs::ReadingPars::context_number_at, crate::specs::Reading::tested))]
 fn read_context_number(count: usize, from: &mut Cursor<'_>) -> u16
     ensures { Takes (λ size. context_number_at size count) from.old result from.new }
 {
@@ -38,7 +38,6 @@ fn read_context_number(count: usize, from: &mut Cursor<'_>) -> u16
 }
 
 /// A number of branches, at least 1.
-#[tactic(auto, unfolding(crate::specs::ReadingPars::branch_count_at, crate::specs::Reading::tested))]
 fn read_branch_count(from: &mut Cursor<'_>) -> u16
     ensures { Takes branch_count_at from.old result from.new }
 {
@@ -73,7 +72,6 @@ impl Reader for Pars {
         (λ r. record { low = r.branches.low; entries = r.branches.taken.entries.items })
         (listed_as par_of (λ f size. par_row_at size f.0 f.1) behind_par) };
 
-    #[tactic(auto, unfolding(crate::specs::ReadingPars::par_row_at, crate::specs::Reading::and_then))]
     fn read(&mut self, from: &mut Cursor<'_>) -> ParRow {
         let contexts = self.own + self.branches.taken.len();
         let context = read_context_number(contexts, from);
@@ -98,7 +96,6 @@ impl Reader for Pars {
 
 /// As many PAR rows as a number says, of a module in which the root and the procedures have the
 /// contexts below `own`.
-#[tactic(auto, unfolding(crate::specs::ReadingPars::par_rows_at))]
 pub fn read_par_rows(own: usize, code_len: usize, count: u32, from: &mut Cursor<'_>) -> Vec<ParRow>
     requires { own < 2 ^ 63 }
     ensures { Takes (λ size. par_rows_at size own code_len count) from.old (map par_of result.items) from.new }

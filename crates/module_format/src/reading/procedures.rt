@@ -1,4 +1,5 @@
 //! Procedure rows.
+#![tactic(auto, unfolding(crate::proofs::Opening::reading_procedures))]
 
 ghost use Rattle.std.specs.Prelude.{◌≡◌, None, map};
 ghost use Rattle.module_format.specs.Contents.{procedure_of};
@@ -22,7 +23,6 @@ use crate::tags::{KIND_CHANNELS, KIND_READ_REGION, KIND_VALUE, KIND_WRITTEN_REGI
 use bitflags::Flags;
 
 /// The range of a region's words, which is the whole word in version 1.
-#[tactic(auto, unfolding(crate::specs::ReadingRows::words_range_at))]
 fn read_words_range(version: Version, from: &mut Cursor<'_>) -> (i32, i32)
     ensures { Takes (λ size. words_range_at size version) from.old result from.new }
 {
@@ -33,7 +33,6 @@ fn read_words_range(version: Version, from: &mut Cursor<'_>) -> (i32, i32)
 }
 
 /// The bytes of a region of words, of which it has one at least.
-#[tactic(auto, unfolding(crate::specs::ReadingRows::region_size_at, crate::specs::Reading::tested))]
 fn read_region_size(from: &mut Cursor<'_>) -> u32
     ensures { Takes region_size_at from.old result from.new }
 {
@@ -63,7 +62,6 @@ impl Access {
 }
 
 /// A region: its bytes and the range of its words.
-#[tactic(auto, unfolding(crate::specs::ReadingRows::region_at, crate::specs::Reading::and_then))]
 #[inline(always)]
 fn read_region(version: Version, access: Access, from: &mut Cursor<'_>) -> ParameterKind
     ensures { Takes (λ size. region_at size version (region_kind access)) from.old result from.new }
@@ -74,7 +72,6 @@ fn read_region(version: Version, access: Access, from: &mut Cursor<'_>) -> Param
 }
 
 /// One end of channels or both.
-#[tactic(auto, unfolding(crate::specs::ReadingRows::ends_at, crate::specs::Reading::tested, crate::specs::Reading::and_then))]
 fn read_ends(from: &mut Cursor<'_>) -> Ends
     ensures { Takes ends_at from.old result from.new }
 {
@@ -85,7 +82,6 @@ fn read_ends(from: &mut Cursor<'_>) -> Ends
 }
 
 /// Channels: how many, the bytes of their messages, and their ends.
-#[tactic(auto, unfolding(crate::specs::ReadingRows::channels_at, crate::specs::Reading::and_then))]
 fn read_channels(from: &mut Cursor<'_>) -> ParameterKind
     ensures { Takes channels_at from.old result from.new }
 {
@@ -100,7 +96,6 @@ fn read_channels(from: &mut Cursor<'_>) -> ParameterKind
 }
 
 /// The bounds of a value.
-#[tactic(auto, unfolding(crate::specs::ReadingRows::value_at, crate::specs::Reading::and_then))]
 fn read_value(from: &mut Cursor<'_>) -> ParameterKind
     ensures { Takes value_at from.old result from.new }
 {
@@ -109,7 +104,6 @@ fn read_value(from: &mut Cursor<'_>) -> ParameterKind
 }
 
 /// What a parameter word holds.
-#[tactic(auto, unfolding(crate::specs::ReadingRows::kind_at, crate::specs::Reading::and_then))]
 pub(crate) fn read_parameter_kind(version: Version, from: &mut Cursor<'_>) -> ParameterKind
     ensures { Takes (λ size. kind_at size version) from.old result from.new }
 {
@@ -128,7 +122,6 @@ pub(crate) fn read_parameter_kind(version: Version, from: &mut Cursor<'_>) -> Pa
 }
 
 /// The word of a parameter: below word `hi`, and after the parameter before, in word `low`.
-#[tactic(auto, unfolding(crate::specs::ReadingRows::parameter_word_at, crate::specs::Reading::tested))]
 pub(crate) fn read_parameter_word(hi: i32, low: u16, from: &mut Cursor<'_>) -> u16
     ensures { Takes (λ size. parameter_word_at size hi low) from.old result from.new }
 {
@@ -144,7 +137,6 @@ pub(crate) fn read_parameter_word(hi: i32, low: u16, from: &mut Cursor<'_>) -> u
 }
 
 /// The parameters of a procedure, after their number.
-#[tactic(auto, unfolding(crate::specs::ReadingRows::parameters_at, crate::specs::Reading::and_then))]
 pub(crate) fn read_parameters(version: Version, hi: i32, from: &mut Cursor<'_>) -> Vec<Parameter>
     ensures { Takes (λ size. parameters_at size version hi) from.old result.items from.new }
 {
@@ -153,7 +145,6 @@ pub(crate) fn read_parameters(version: Version, hi: i32, from: &mut Cursor<'_>) 
 }
 
 /// The first word of a frame.
-#[tactic(auto, unfolding(crate::specs::ReadingRows::frame_start_at, crate::specs::Reading::tested))]
 pub(crate) fn read_frame_start(from: &mut Cursor<'_>) -> i32
     ensures { Takes frame_start_at from.old result from.new }
 {
@@ -164,7 +155,6 @@ pub(crate) fn read_frame_start(from: &mut Cursor<'_>) -> i32
 }
 
 /// The first word after a frame.
-#[tactic(auto, unfolding(crate::specs::ReadingRows::frame_end_at, crate::specs::Reading::tested))]
 pub(crate) fn read_frame_end(from: &mut Cursor<'_>) -> i32
     ensures { Takes frame_end_at from.old result from.new }
 {
@@ -175,7 +165,6 @@ pub(crate) fn read_frame_end(from: &mut Cursor<'_>) -> i32
 }
 
 /// An offset in the code after `low`.
-#[tactic(auto, unfolding(crate::specs::ReadingRows::rising_at, crate::specs::Reading::tested))]
 pub(crate) fn read_procedure_entry(code_len: usize, low: u32, from: &mut Cursor<'_>) -> u32
     ensures { Takes (λ size. rising_at size code_len low) from.old result from.new }
 {
@@ -186,7 +175,6 @@ pub(crate) fn read_procedure_entry(code_len: usize, low: u32, from: &mut Cursor<
 }
 
 /// As many procedure rows as a number says.
-#[tactic(auto, unfolding(crate::specs::ReadingRows::procedure_rows_at))]
 pub fn read_procedure_rows(code: &Code, count: u32, from: &mut Cursor<'_>) -> Vec<ProcedureRow>
     ensures takes { Takes (λ size. procedure_rows_at size code.now.version code.now.len count)
         from.old (map procedure_of result.items) from.new }

@@ -1,4 +1,5 @@
 //! Ends, and the front of branches.
+#![tactic(auto, unfolding(crate::specs::Spelling::counts_bytes, crate::specs::Spelling::branch_head))]
 
 ghost use Rattle.std.specs.Prelude.{◌++◌, ◌∷◌};
 ghost use Rattle.module_format.specs.Contents.{branch_of};
@@ -18,7 +19,6 @@ pub(crate) fn put_end_fields(out: &mut Writer, kind: u8, number: i32, element: u
 }
 
 /// How many intervals, parameters and ends a branch has.
-#[tactic(auto, unfolding(crate::specs::Spelling::counts_bytes))]
 fn put_counts(out: &mut Writer, counts: &BranchCounts)
     ensures { Writes out.old (counts_bytes counts.now) out.new }
 {
@@ -30,7 +30,6 @@ fn put_counts(out: &mut Writer, counts: &BranchCounts)
 }
 
 /// A branch's entry, workspace and numbers of items.
-#[tactic(auto, unfolding(crate::specs::Spelling::branch_head))]
 pub(crate) fn put_branch_head(out: &mut Writer, row: &BranchRow)
     requires { BranchIsWritable (branch_of row.now) }
     ensures { Writes out.old (branch_head (branch_of row.now)) out.new }

@@ -1,4 +1,5 @@
 //! Facts.
+#![tactic(auto, using(crate::proofs::RegionLaws::wrapped_number), unfolding(crate::specs::Spelling::fact_bytes))]
 
 ghost use Rattle.std.specs.Prelude.{◌≡◌};
 ghost use Rattle.module_format.specs.declared.fact.Fact.TheVariants.{Pointer};
@@ -23,7 +24,6 @@ fn step_size(step: Step) -> u8
 }
 
 /// The number of a region, of which a valid fact has one that is a u16.
-#[tactic(auto, using(crate::proofs::RegionLaws::wrapped_number))]
 fn put_region(out: &mut Writer, region: Region)
     ensures { Writes out.old (u16_bytes (region_number region)) out.new }
 {
@@ -35,7 +35,6 @@ fn put_region(out: &mut Writer, region: Region)
 }
 
 /// A pointer: its region, bounds and step, after the tag.
-#[tactic(auto, unfolding(crate::specs::Spelling::fact_bytes))]
 #[inline(always)]
 fn put_pointer(out: &mut Writer, region: Region, lo: i32, hi: i32, step: Step)
     ensures { Writes out.old (fact_bytes (Pointer region lo hi step)) out.new }
@@ -48,7 +47,6 @@ fn put_pointer(out: &mut Writer, region: Region, lo: i32, hi: i32, step: Step)
 }
 
 /// A tag, and what belongs to it.
-#[tactic(auto, unfolding(crate::specs::Spelling::fact_bytes))]
 #[inline(always)]
 pub(crate) fn put_fact(out: &mut Writer, fact: &Fact)
     ensures { Writes out.old (fact_bytes fact.now) out.new }

@@ -1,4 +1,5 @@
 //! Rows and their items, each field after the other.
+#![tactic(auto, unfolding(crate::proofs::Opening::writing_rows))]
 
 ghost use Rattle.std.specs.Prelude.{◌^◌, ◌<◌, ⊤, length};
 ghost use Rattle.module_format.specs.Contents.{procedure_of, label_of, branch_of, par_of};
@@ -38,7 +39,6 @@ impl Put for u32 {
 impl Put for Entry {
     ghost meaning = { plain entry_bytes };
 
-    #[tactic(auto, unfolding(crate::specs::Spelling::entry_bytes))]
     fn put(&self, _version: Version, out: &mut Writer) {
         out.i32(self.word);
         out.u32(self.span);
@@ -49,7 +49,6 @@ impl Put for Entry {
 impl Put for LabelRow {
     ghost meaning = { viewed label_of (λ _. label_bytes) (λ row. length row.entries < 2 ^ 16) };
 
-    #[tactic(auto, unfolding(crate::specs::Spelling::label_bytes))]
     fn put(&self, version: Version, out: &mut Writer) {
         out.u32(self.offset);
         out.u16(self.context);
@@ -66,7 +65,6 @@ impl Put for LabelRow {
 impl Put for Parameter {
     ghost meaning = { viewed (λ p. p) parameter_bytes (λ _. ⊤) };
 
-    #[tactic(auto, unfolding(crate::specs::Spelling::parameter_bytes))]
     fn put(&self, version: Version, out: &mut Writer) {
         out.u16(self.word);
         put_kind(out, version, &self.kind);
@@ -76,7 +74,6 @@ impl Put for Parameter {
 impl Put for ProcedureRow {
     ghost meaning = { viewed procedure_of procedure_bytes (λ row. length row.parameters < 2 ^ 16) };
 
-    #[tactic(auto, unfolding(crate::specs::Spelling::procedure_bytes))]
     fn put(&self, version: Version, out: &mut Writer) {
         out.u32(self.entry);
         out.i32(self.lo);
@@ -90,7 +87,6 @@ impl Put for ProcedureRow {
 impl Put for TableRow {
     ghost meaning = { plain table_row_bytes };
 
-    #[tactic(auto, unfolding(crate::specs::Spelling::table_row_bytes))]
     fn put(&self, _version: Version, out: &mut Writer) {
         out.u32(self.start);
         out.u32(self.end);
@@ -102,7 +98,6 @@ impl Put for TableRow {
 impl Put for ChannelRow {
     ghost meaning = { plain channel_bytes };
 
-    #[tactic(auto, unfolding(crate::specs::Spelling::channel_bytes))]
     fn put(&self, _version: Version, out: &mut Writer) {
         out.i32(self.word);
         out.u32(self.length);
@@ -112,7 +107,6 @@ impl Put for ChannelRow {
 impl Put for Interval {
     ghost meaning = { plain interval_bytes };
 
-    #[tactic(auto, unfolding(crate::specs::Spelling::interval_bytes))]
     fn put(&self, _version: Version, out: &mut Writer) {
         out.i32(self.lo);
         out.i32(self.hi);
@@ -122,7 +116,6 @@ impl Put for Interval {
 impl Put for EndRow {
     ghost meaning = { plain end_bytes };
 
-    #[tactic(auto, unfolding(crate::specs::Spelling::end_bytes))]
     fn put(&self, _version: Version, out: &mut Writer) {
         let key = self.key();
         put_end_fields(out, key.kind, key.number, key.element);
@@ -133,7 +126,6 @@ impl Put for EndRow {
 impl Put for BranchRow {
     ghost meaning = { viewed branch_of (λ _. branch_bytes) BranchIsWritable };
 
-    #[tactic(auto, unfolding(crate::specs::Spelling::branch_bytes))]
     fn put(&self, version: Version, out: &mut Writer) {
         put_branch_head(out, self);
         put_all(out, version, &self.writes);
@@ -147,7 +139,6 @@ impl Put for BranchRow {
 impl Put for ParRow {
     ghost meaning = { viewed par_of (λ _. par_bytes) ParIsWritable };
 
-    #[tactic(auto, unfolding(crate::specs::Spelling::par_bytes))]
     fn put(&self, version: Version, out: &mut Writer) {
         out.u16(self.context);
         out.i32(self.depth);

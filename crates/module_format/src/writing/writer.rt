@@ -1,4 +1,5 @@
 //! A writer that remembers that memory ran out, so that no caller asks before the end.
+#![tactic(auto, unfolding(crate::proofs::Opening::writing_writer))]
 
 ghost use Rattle.std.specs.Prelude.{◌≡◌, ◌∷◌, [], IfOk};
 ghost use Rattle.module_format.specs.Spelling.{u16_bytes, u32_bytes, u64_bytes, i32_bytes};
@@ -41,28 +42,24 @@ impl Writer {
         self.slice(&[value]);
     }
 
-    #[tactic(auto, unfolding(crate::specs::Spelling::u16_bytes))]
     pub fn u16(&mut self, value: u16)
         ensures { Writes self.old (u16_bytes value) self.new }
     {
         self.slice(&value.to_le_bytes());
     }
 
-    #[tactic(auto, unfolding(crate::specs::Spelling::u32_bytes))]
     pub fn u32(&mut self, value: u32)
         ensures { Writes self.old (u32_bytes value) self.new }
     {
         self.slice(&value.to_le_bytes());
     }
 
-    #[tactic(auto, unfolding(crate::specs::Spelling::u64_bytes))]
     pub fn u64(&mut self, value: u64)
         ensures { Writes self.old (u64_bytes value) self.new }
     {
         self.slice(&value.to_le_bytes());
     }
 
-    #[tactic(auto, unfolding(crate::specs::Spelling::i32_bytes))]
     pub fn i32(&mut self, value: i32)
         ensures { Writes self.old (i32_bytes value) self.new }
     {
