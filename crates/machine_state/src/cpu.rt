@@ -46,7 +46,7 @@ fn meet(one: u32, size: u32, other: u32, other_size: u32) -> bool
 }
 
 /// How a process goes on after an instruction, or what it asks of others.
-#[derive(Clone, Copy, Debug, PartialEq, Eq)]
+#[derive(Clone, Copy)]
 pub enum Flow {
     /// After the instruction.
     Next,

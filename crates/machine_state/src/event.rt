@@ -15,7 +15,7 @@ pub enum Event {
 }
 
 /// What an event did.
-#[derive(Clone, Copy, Debug, PartialEq, Eq)]
+#[derive(Clone, Copy)]
 pub enum Effect<'a> {
     /// A byte was executed.
     Ran,

@@ -8,7 +8,7 @@ use prefix_decoder::Fun;
 use word_arithmetic::Binary;
 
 /// What an instruction does with its operand.
-#[derive(Clone, Copy, Debug, PartialEq, Eq)]
+#[derive(Clone, Copy, Debug)]
 pub enum Instruction {
     /// `j`: the process continues at this distance from the next instruction.
     Jump,

@@ -15,7 +15,7 @@ pub const MOST_MOVED: u32 = 65_536;
 pub const MOST_SHIFT: u32 = 31;
 
 /// A shift of B by A.
-#[derive(Clone, Copy, Debug, PartialEq, Eq)]
+#[derive(Clone, Copy, Debug)]
 pub enum Shift {
     /// `shl`.
     Left,
@@ -37,7 +37,7 @@ impl Shift {
 }
 
 /// An operation of two words at a time.
-#[derive(Clone, Copy, Debug, PartialEq, Eq)]
+#[derive(Clone, Copy, Debug)]
 pub enum LongOp {
     /// `lsum`.
     Sum,
@@ -61,7 +61,7 @@ impl LongOp {
 }
 
 /// An operation.
-#[derive(Clone, Copy, Debug, PartialEq, Eq)]
+#[derive(Clone, Copy, Debug)]
 pub enum Op {
     /// `rev`: A and B change places.
     Reverse,

@@ -12,7 +12,7 @@ use module_format::{Stack, Tables};
 pub type Word = Option<i32>;
 
 /// The registers of one process.
-#[derive(Clone, Copy, Debug, PartialEq, Eq)]
+#[derive(Clone, Copy, PartialEq, Eq)]
 pub struct Registers {
     /// The address of its workspace, a multiple of 4.
     pub workspace: u32,
@@ -26,7 +26,7 @@ pub struct Registers {
 }
 
 /// What a process is in the middle of, apart from waiting.
-#[derive(Clone, Copy, Debug)]
+#[derive(Clone, Copy)]
 pub enum Mode {
     Plain,
     /// Between `alt` and `altwt`: whether something that is enabled is ready.
@@ -38,7 +38,7 @@ pub enum Mode {
 }
 
 /// A message that is being sent or received.
-#[derive(Clone, Copy, Debug, PartialEq, Eq)]
+#[derive(Clone, Copy)]
 pub struct Exchange {
     /// The channel's address.
     pub channel: u32,

@@ -4,7 +4,7 @@ use crate::process::Exchange;
 
 /// What a process asks of the others, by an instruction that it cannot complete alone. Who grants it takes the words of
 /// memory that it takes.
-#[derive(Clone, Copy, Debug, PartialEq, Eq)]
+#[derive(Clone, Copy)]
 pub enum Request {
     /// A message is to be received.
     Receive(Exchange),

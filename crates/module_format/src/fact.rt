@@ -4,7 +4,7 @@ ghost use Rattle.std.specs.Prelude.{◌≡◌, ◌+◌, ◌^◌, nat_lt};
 ghost use Rattle.module_format.specs.Regions.{region_number, region_numbered, is_frame, is_same_region};
 
 /// What a pointer leads to.
-#[derive(Clone, Copy, Debug, PartialEq, Eq)]
+#[derive(Clone, Copy, Debug)]
 pub enum Region {
     /// The frame, whose offsets count from its word 0.
     Frame,
@@ -72,7 +72,7 @@ pub enum Step {
 }
 
 /// What is known of a word of memory or a register. `At` is a place in the code: an offset in a file.
-#[derive(Clone, Copy, Debug, PartialEq, Eq)]
+#[derive(Clone, Copy, Debug)]
 pub enum Fact<At = u32> {
     /// Nothing; the word may be undefined.
     Unknown,

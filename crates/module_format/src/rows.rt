@@ -121,7 +121,7 @@ pub enum EndKind {
 }
 
 /// Which way an end is used.
-#[derive(Clone, Copy, Debug, PartialEq, Eq)]
+#[derive(Clone, Copy, PartialEq, Eq)]
 pub enum Direction {
     In,
     Out,

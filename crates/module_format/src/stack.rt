@@ -4,7 +4,7 @@ ghost use Rattle.std.specs.Prelude.{◌≡◌};
 ghost use Rattle.module_format.specs.Stack.{of_empty, pushed, popped, reversed};
 
 /// Three registers as a stack: A is on top.
-#[derive(Clone, Copy, Debug, PartialEq, Eq)]
+#[derive(Clone, Copy, PartialEq, Eq)]
 pub struct Stack<T> {
     pub a: T,
     pub b: T,

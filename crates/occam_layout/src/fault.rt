@@ -29,7 +29,7 @@ pub struct LayoutFault {
 }
 
 /// What is wrong within one line, or with the size of the source.
-#[derive(Clone, Copy, Debug, PartialEq, Eq)]
+#[derive(Clone, Copy)]
 pub(crate) enum Fault {
     OddIndentation,
     TooDeep,
@@ -79,7 +79,7 @@ const OUT_OF_MEMORY: LayoutFault = LayoutFault {
 };
 
 /// Why a line gave no tokens.
-#[derive(Debug, Drop)]
+#[derive(Drop)]
 pub(crate) enum ScanError {
     Memory,
     Fault(Fault),

@@ -7,7 +7,7 @@ ghost use Rattle.std.specs.Char.{is_ascii_hexdigit, digit_value};
 ghost use Rattle.occam_layout.specs.Characters.{escape, character_at, decoded, body_len};
 
 /// The bytes of a string: lent from the source as they are spelled, and seen as what they denote.
-#[derive(Clone, Copy, Debug)]
+#[derive(Clone, Copy)]
 pub struct Text<'a> {
     spelling: &'a [u8],
     ghost well_formed: { IsSome (decoded 0 spelling.now) },

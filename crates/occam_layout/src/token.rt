@@ -8,7 +8,7 @@ use crate::mark::Mark;
 use crate::text::Text;
 
 /// A line of a source that has tokens.
-#[derive(Debug, Drop)]
+#[derive(Drop)]
 pub struct Line<'a> {
     /// The line's number, counted from 1 over all lines of the source.
     pub number: u32,
@@ -19,7 +19,7 @@ pub struct Line<'a> {
 }
 
 /// A token, and its span in the source.
-#[derive(Clone, Copy, Debug)]
+#[derive(Clone, Copy)]
 pub struct Token<'a> {
     pub kind: TokenKind<'a>,
     /// The offset of the token's first byte in the source.
@@ -31,7 +31,7 @@ pub struct Token<'a> {
 }
 
 /// What a token is: a name, a literal, or a mark.
-#[derive(Clone, Copy, Debug)]
+#[derive(Clone, Copy)]
 pub enum TokenKind<'a> {
     /// A letter, then letters, digits and dots, and no keyword: the bytes of the source.
     Name(&'a [u8]),

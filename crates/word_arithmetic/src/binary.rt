@@ -12,7 +12,7 @@ use crate::ranges::Range;
 
 /// An operation of two operands. The first is the one that a process pushes first, which is in register B at the
 /// instruction, and the second is the one in A.
-#[derive(Clone, Copy, Debug, PartialEq, Eq)]
+#[derive(Clone, Copy, Debug)]
 pub enum Binary {
     /// The checked sum.
     Add,

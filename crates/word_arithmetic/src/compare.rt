@@ -4,7 +4,7 @@ ghost use Rattle.word_arithmetic.specs.Word.{is_below_unsigned};
 ghost use Rattle.word_arithmetic.specs.Comparison.{compares};
 
 /// A comparison of two words, both signed.
-#[derive(Clone, Copy, Debug, PartialEq, Eq, Hash)]
+#[derive(Clone, Copy, Debug)]
 pub enum Comparison {
     Equal,
     NotEqual,

@@ -5,7 +5,7 @@ ghost use Rattle.word_arithmetic.specs.Long.{two_words, borrowing, long_sum, lon
 
 /// The two words of a long operation. The high word is the carry of a sum, the borrow of a difference (0 or 1), or the
 /// high word of a product.
-#[derive(Clone, Copy, Debug, PartialEq, Eq, Hash)]
+#[derive(Clone, Copy)]
 pub struct LongResult {
     pub low: i32,
     pub high: i32,

@@ -9,7 +9,7 @@ mod narrowing;
 mod wide;
 
 /// The words from `lo` to `hi`, both included. There is at least one.
-#[derive(Clone, Copy, Debug, PartialEq, Eq, Hash)]
+#[derive(Clone, Copy, Debug, PartialEq, Eq)]
 pub struct Range {
     pub lo: i32,
     pub hi: i32,

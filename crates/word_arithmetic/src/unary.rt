@@ -8,7 +8,7 @@ use crate::bits::not;
 use crate::ranges::Range;
 
 /// An operation of one operand.
-#[derive(Clone, Copy, Debug, PartialEq, Eq)]
+#[derive(Clone, Copy, Debug)]
 pub enum Unary {
     /// The bits that the operand doesn't have.
     Not,
