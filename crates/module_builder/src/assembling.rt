@@ -14,12 +14,12 @@ use crate::draft::Draft;
 use crate::fault::GenFault;
 use crate::layouts::Layout;
 use crate::least::layout;
-use crate::limits::{is_within, max_code};
+use crate::limits::is_within;
 use crate::orders::Orders;
 use crate::placing::finish_offset;
 use crate::rows::{contexts_are_there, rows_in};
 use crate::spelling::spell;
-use module_format::{Tables, write};
+use module_format::{Tables, max_code, write};
 use std::alloc::{AllocError, Global};
 
 /// Whether the contexts that the rows of a draft name are there.

@@ -2,30 +2,18 @@
 
 ghost use Rattle.std.specs.Prelude.{◌≡◌, ◌↔◌, ◌≤◌, IsTrue, length};
 ghost use Rattle.std.specs.List.{AllByRecursion};
-ghost use Rattle.module_format.specs.Keeping.{max_code};
 ghost use Rattle.module_builder.specs.Limits.{KindIsWithin, ProcedureIsWithin, ParIsWithin, branch_count};
 ghost use Rattle.module_builder.specs.Limits.{HeaderIsWithin, CountsAreWithin, RowsAreWithin, DraftIsWithin};
 
 use crate::draft::{ContextName, Draft};
 use crate::item::Label;
 use module_format::{
-    MAX_BRANCHES, MAX_BUDGET, MAX_CODE, MAX_CONSTANTS, MAX_DATA_WORDS, MAX_LABELS, MAX_LONG_CODE,
-    MAX_MESSAGE, MAX_PARAMETERS, MAX_PARS, MAX_PROCEDURES, MAX_TABLES, ParRow, ParameterKind,
-    ProcedureRow, Version,
+    MAX_BRANCHES, MAX_BUDGET, MAX_CONSTANTS, MAX_DATA_WORDS, MAX_LABELS, MAX_MESSAGE,
+    MAX_PARAMETERS, MAX_PARS, MAX_PROCEDURES, MAX_TABLES, ParRow, ParameterKind, ProcedureRow,
 };
 
 /// Contexts: a row names one by a u16.
 pub const MAX_CONTEXTS: usize = 65_536;
-
-/// The most bytes of code in a version.
-pub(crate) fn max_code(version: Version) -> u32
-    ensures { result ≡ max_code version }
-{
-    match version {
-        Version::One => MAX_CODE,
-        Version::Two => MAX_LONG_CODE,
-    }
-}
 
 fn kind_is_within(kind: &ParameterKind) -> bool
     ensures { IsTrue result ↔ KindIsWithin kind.now }

@@ -34,7 +34,7 @@ pub use limits::{
 };
 pub use offsets::{AtOffset, row_at};
 pub use places::Place;
-pub use reading::read;
+pub use reading::{max_code, read};
 pub use rows::{
     BranchRow, ChannelRow, Direction, EndKey, EndKind, EndRow, Ends, Entry, Interval, LabelRow,
     ParRow, Parameter, ParameterKind, ProcedureRow, TableRow,

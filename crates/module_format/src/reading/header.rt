@@ -40,7 +40,7 @@ fn read_magic(from: &mut Cursor<'_>) -> Version
     Version::One
 }
 
-/// Bytes of code.
+/// The most bytes of code in a version.
 pub fn max_code(version: Version) -> u32
     ensures { result ≡ max_code version }
 {
