@@ -23,4 +23,5 @@ mod starts;
 mod written;
 
 pub use modules::{Module, ModuleFile};
+pub use rights::is_among;
 pub use runs::ChannelRun;

@@ -17,7 +17,7 @@ use module_format::{
 };
 
 /// Whether a word is one of the intervals', which rise. It takes time logarithmic in them.
-pub(crate) fn is_among(intervals: &[Interval], word: i64) -> bool
+pub fn is_among(intervals: &[Interval], word: i64) -> bool
     requires { InOrder IntervalKeeps behind_interval least_word intervals.now }
     ensures { result ≡ is_among intervals.now word }
 {
