@@ -5,7 +5,7 @@ use Rattle.std.specs.Int.{w32}
 use Rattle.std.specs.Option.{unwrap_or}
 use Rattle.module_format.specs.Contents.{Contents, Par}
 use Rattle.machine_state.specs.declared.process.Channel.{Channel}
-use Rattle.machine_state.specs.Apart.{AllApart, block_words, data_word}
+use Rattle.machine_state.specs.Apart.{AllApart, block_span, data_word}
 use Rattle.machine_state.specs.Holding.{Holding, nothing, may_write}
 use Rattle.machine_state.specs.JoinLookups.{opened_by}
 use Rattle.machine_state.specs.LocalStep.{address}
@@ -36,7 +36,7 @@ nobody_writes_block w apart o j is_open q x low high =
     on r here opened None is own = cc
     on r here opened (Some s) is own =
         let read = written_is_read (held s) x own in
-        let free = apart.blocks o q r s j here opened is x (covers_there (block_words j) x low high) in
+        let free = apart.blocks o q r s j here opened is x (covers_there (block_span j) x low high) in
         cc
 
 -- ---- word 1 of the block has this value then, and the join this record
@@ -76,7 +76,7 @@ module _ (m : Contents) (w : World) (owns : Owns w) (machine : PlainMachine) (ag
       let low = other.0 in
       let high = other.1 in
       let none = owns.apart.both_once o i r.0 j c r.1 r.2 there x
-      (covers_there (block_words j) x (omega (arith, low, second)) (omega (arith, high, second))) in
+      (covers_there (block_span j) x (omega (arith, low, second)) (omega (arith, high, second))) in
       let some = covers_there (data_word i) x one.0 one.1 in
       cc
 
@@ -89,8 +89,8 @@ module _ (m : Contents) (w : World) (owns : Owns w) (machine : PlainMachine) (ag
       let from = other.0 in
       let to = other.1 in
       let none = owns.apart.blocks_once o q r.0 s.0 j i differ r.1 s.1 r.2 s.2 x
-      (covers_there (block_words j) x (omega (arith, from, second)) (omega (arith, to, second))) in
-      let some = covers_there (block_words i) x low high in
+      (covers_there (block_span j) x (omega (arith, from, second)) (omega (arith, to, second))) in
+      let some = covers_there (block_span i) x low high in
       cc
 
   other_join : (q : ℕ) (i : Join) (par : Par) → o ≢ q → opened_by w q ≡ Some i → slice_get m.pars i.row ≡ Some par

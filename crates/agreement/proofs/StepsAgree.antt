@@ -365,7 +365,7 @@ module _ (site : Site) (original : Local) (state : PlainState) (start : agree.Fi
 
   moves : (own : (step.may_read_bytes s.holding (step.address found.c) (step.address found.a)
       && step.may_write_bytes s.holding (step.address found.b) (step.address found.a)
-      && not (step.meet (place_of (step.address found.c)) (step.address found.a)
+      && not (step.places_meet (place_of (step.address found.c)) (step.address found.a)
       (place_of (step.address found.b)) (step.address found.a))) ≡ true) → plain.HasMove state.memory found
   moves own =
       let both = and_parts _ _ (and_parts _ _ own).0 in

@@ -24,7 +24,7 @@ use Rattle.rulings.specs.Rulings as rule
 use Rattle.rulings.specs.Rulings.{Ruling, selects, breaks}
 use Rattle.rulings.specs.Meaning.{owed, label_turns, IsWellFormed, both_plain}
 use Rattle.rulings.specs.Guarding.{HasSelected}
-use Rattle.rulings.specs.Fitting.{Changes, Here, StandsAt, rule_site, step_site, IsOneOf, it_selects, it_breaks}
+use Rattle.rulings.specs.Fitting.{Changes, Situation, StandsAt, rule_site, step_site, IsOneOf, it_selects, it_breaks}
 use Rattle.rulings.proofs.Within.{Within, AreStill, whole_after, within_paid, in_other_mode}
 use Rattle.rulings.proofs.Combining.{FitsIf, on_rule_test, wants_fits, pays_fits}
 use Rattle.rulings.proofs.Entering.{below_tells, label_after}
@@ -92,7 +92,7 @@ leads_below site s g distance is t =
     on to None there holds = absurd (cc)
     on to (Some t) there holds = on_below to t there (below s t) refl holds
 
-module _ (x : Here) (wf : IsWellFormed x.m) (s : State) (l : Local) (a : Within AreStill x.m x.h x.mode x.act s l)
+module _ (x : Situation) (wf : IsWellFormed x.m) (s : State) (l : Local) (a : Within AreStill x.m x.h x.mode x.act s l)
     (same : s.context ≡ x.context) (changes : Changes x l.memory) (n : owed s x.act ≤ x.owed) (here : StandsAt x s l)
   where
     -- the process goes on where the selected guard leads

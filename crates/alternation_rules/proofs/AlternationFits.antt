@@ -9,7 +9,7 @@ use Rattle.states.specs.declared.known.Mode.TheVariants.{Plain, Enabling, Disabl
 use Rattle.states.specs.State.{State}
 use Rattle.rulings.specs.Meaning.{owed, IsWellFormed}
 use Rattle.rulings.specs.Guarding.{HasSelected}
-use Rattle.rulings.specs.Fitting.{After, Changes, Here, StandsAt, rule_site, step_site, it_breaks}
+use Rattle.rulings.specs.Fitting.{After, Changes, Situation, StandsAt, rule_site, step_site, it_breaks}
 use Rattle.rulings.proofs.Within.{Within, AreStill, within, which, in_plain_mode, in_alternation}
 use Rattle.rulings.proofs.Within.{among_starts}
 use Rattle.rulings.proofs.Within.{is_starting}
@@ -22,7 +22,7 @@ use Rattle.alternation_rules.proofs.AlternationOtherModes.{modes_are_asked}
 use Rattle.alternation_rules.proofs.AlternationsFit.{alt_fits, enbc_fits, enbs_fits, altwt_fits, disc_fits, diss_fits}
 use Rattle.alternation_rules.proofs.AlternationEndsFit.{altend_fits}
 
-module _ (x : Here) (wf : IsWellFormed x.m) (s : State) (l : Local) (a : After x.m x.h x.mode x.act s l)
+module _ (x : Situation) (wf : IsWellFormed x.m) (s : State) (l : Local) (a : After x.m x.h x.mode x.act s l)
     (same : s.context ≡ x.context) (changes : Changes x l.memory) (n : owed s x.act ≤ x.owed) (here : StandsAt x s l)
   where
     -- the state's mode is the one that an operation asks, with all that its context has, or it is another one

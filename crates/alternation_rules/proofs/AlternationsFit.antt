@@ -39,7 +39,7 @@ use Rattle.rulings.specs.Meaning.{both_plain, both_enabling, both_disabling, bot
 use Rattle.rulings.specs.Meaning.{frame_word, words_in}
 use Rattle.rulings.specs.Regions.{scope_of}
 use Rattle.rulings.specs.Guarding.{guard_value, IsTaken, GuardsFit}
-use Rattle.rulings.specs.Fitting.{Changes, Here, StandsAt, rule_site, step_site, Alters}
+use Rattle.rulings.specs.Fitting.{Changes, Situation, StandsAt, rule_site, step_site, Alters}
 use Rattle.rulings.specs.Fitting.{Enables, AwaitsGuards, Disables, IsAtChannel, Asks, to_begin, to_enable}
 use Rattle.rulings.specs.Fitting.{to_enable_skip}
 use Rattle.rulings.specs.Fitting.{to_wait, to_disable, to_disable_skip, it_asks, it_breaks}
@@ -62,7 +62,7 @@ use Rattle.rulings.specs.Channels.{channel_of}
 use Rattle.states.specs.declared.known.WordFact.TheVariants.{Alone}
 use Rattle.states.specs.declared.rule.Rule.{Rule}
 use Rattle.rulings.specs.Rulings.{breaks}
-use Rattle.states.specs.State.{is_word}
+use Rattle.states.specs.State.{is_same_number}
 use Rattle.rulings.proofs.Words.{same_word_by}
 use Rattle.alternation_rules.specs.Guards.{name_of, may_name, guard_channel, distance_of, is_guard, is_named_by}
 use Rattle.alternation_rules.specs.Guards.{is_new, has_room, enabled_guard, guard_at, disabled_guard, is_same_kind}
@@ -78,7 +78,7 @@ use Rattle.alternation_rules.proofs.GuardNames.{scheduled_elsewhere}
 -- ---- guards
 
 -- a value that stays where a word does
-value_stays : (old new : Memory) (x : Here) (name : GuardName)
+value_stays : (old new : Memory) (x : Situation) (name : GuardName)
     → ((word : ℤ) → name ≡ Word word → frame_word new x.act.layout.origin word ≡ frame_word old x.act.layout.origin
     word)
     → guard_value new x.act name ≡ guard_value old x.act name
@@ -87,7 +87,7 @@ value_stays old new x (Word word) same = same word refl
 
 -- ---- what goes on
 
-module _ (x : Here) where
+module _ (x : Situation) where
   -- the bytes of the instruction are paid
   abbrev pub paid_state : State → State
   paid_state t = record t { number = t.number - x.len }
@@ -159,7 +159,7 @@ module _ (x : Here) where
 
 -- ---- modes
 
-module _ (x : Here) (s : State) where
+module _ (x : Situation) (s : State) where
   in_enabling_rule : s.mode ≡ Enabling → (r : Ruling) (o : Outcome) → FitsIf x r o
       → FitsIf x (alternation.while_enabling s.mode r) o
   unfolding alternation.while_enabling
@@ -188,7 +188,7 @@ disabling_mode both_starting e = absurd (cc)
 
 -- ---- alt
 
-module _ (x : Here) (s : State) (l : Local) (a : Within ArePlain x.m x.h x.mode x.act s l) (same : s.context ≡
+module _ (x : Situation) (s : State) (l : Local) (a : Within ArePlain x.m x.h x.mode x.act s l) (same : s.context ≡
     x.context)
     (changes : Changes x l.memory) (n : owed s x.act ≤ x.owed) (here : StandsAt x s l) where
   pub alt_fits : FitsIf x (alternation.alt_rule (rule_site x) s) (step.operation_step (step_site x)
@@ -214,7 +214,7 @@ module _ (x : Here) (s : State) (l : Local) (a : Within ArePlain x.m x.h x.mode 
 
 -- ---- enbc, enbs
 
-module _ (x : Here) (s : State) (l : Local) (a : Within AreStill x.m x.h x.mode x.act s l) (same : s.context ≡
+module _ (x : Situation) (s : State) (l : Local) (a : Within AreStill x.m x.h x.mode x.act s l) (same : s.context ≡
     x.context)
     (changes : Changes x l.memory) (n : owed s x.act ≤ x.owed) (here : StandsAt x s l) where
   -- a guard more, by a name that it may have
@@ -476,7 +476,7 @@ module _ (x : Here) (s : State) (l : Local) (a : Within AreStill x.m x.h x.mode 
   distance_value : (fact : Fact) (d v : ℤ) → distance_of fact ≡ Ok d → Means x.m x.act.layout fact (Some v) → v ≡ d
   unfolding distance_of
   distance_value (Number lo hi) d v e (is_number low high fits) =
-      let p = ok_if (is_word lo hi) lo d _ e in
+      let p = ok_if (is_same_number lo hi) lo d _ e in
       let equal = same_word_by lo hi p.0 in
       omega (arith, ints, p.1, low, high, equal)
   distance_value Unknown d v e means = absurd (cc)

@@ -14,7 +14,7 @@ use Rattle.states.specs.declared.known.GuardKind.{GuardKind}
 use Rattle.states.specs.declared.known.GuardKind.TheVariants.{Channel, Skip}
 use Rattle.states.specs.declared.known.GuardName.{GuardName}
 use Rattle.states.specs.declared.known.GuardName.TheVariants.{Constant, Word}
-use Rattle.states.specs.State.{is_word}
+use Rattle.states.specs.State.{is_same_number}
 use Rattle.rulings.specs.Channels.{runs_meet, channels_meet}
 use Rattle.rulings.proofs.Words.{word_test, same_word_by}
 use Rattle.alternation_rules.specs.Guards.{is_same_kind, is_same_name, is_new, is_named_by}
@@ -46,7 +46,7 @@ number_itself x = elim (lt_tells x (x +ℤ pos 1)) [
   | inr p ↦ absurd (omega (arith, ints, p.1))
 ]
 
-word_itself : (k : ℤ) → is_word k k ≡ true
+word_itself : (k : ℤ) → is_same_number k k ≡ true
 word_itself k = elim (word_test k k) [ inl p ↦ p.0 | inr p ↦ absurd (p.1 refl) ]
 
 same_end : (kind other : EndKind) → channels_meet kind 1 other 1 ≡ true → kind ≡ other
@@ -55,7 +55,7 @@ same_end (FrameWord word) (Parameter number element) e = absurd (cc)
 same_end (FrameWord word) (Link link) e = absurd (cc)
 same_end (Parameter number element) (FrameWord word) e = absurd (cc)
 same_end (Parameter number element) (Parameter other place) e =
-    let parts = and_parts (is_word number other) (runs_meet (pos element) 1 (pos place) 1) e in
+    let parts = and_parts (is_same_number number other) (runs_meet (pos element) 1 (pos place) 1) e in
     let numbers : number ≡ other = same_word_by number other parts.0 in
     let places : pos element ≡ pos place = same_number (pos element) (pos place) parts.1 in
     let elements : element ≡ place = omega (arith, ints, places) in cc

@@ -23,11 +23,11 @@ use Rattle.states.specs.declared.known.GuardName.{GuardName}
 use Rattle.states.specs.declared.known.GuardName.TheVariants.{Constant, Word}
 use Rattle.states.specs.declared.rule.Rule.{Rule}
 use Rattle.states.specs.declared.rule.Rule.TheVariants as rules
-use Rattle.states.specs.State.{State, is_word}
+use Rattle.states.specs.State.{State, is_same_number}
 use Rattle.rulings.specs.Meaning.{Activation, Means, is_number, MeansKnown, ComesFrom, from_word}
 use Rattle.rulings.specs.Meaning.{frame_word}
 use Rattle.rulings.specs.Guarding.{guard_value, IsBelow}
-use Rattle.rulings.specs.Fitting.{Here}
+use Rattle.rulings.specs.Fitting.{Situation}
 use Rattle.rulings.proofs.Within.{Modes}
 use Rattle.rulings.proofs.Words.{same_word_by, word_elsewhere}
 use Rattle.rulings.proofs.Combining.{Scheduled, scheduled}
@@ -56,7 +56,7 @@ pub name_value : (m : Contents) (counts : ℤ → Bool) (act : Activation) (memo
 unfolding name_of
 name_value m counts act memory known v name means e = on known.fact means.fact e
   where
-    on_number : (lo hi : ℤ) → lo ≤ℤ v → v ≤ℤ hi → (b : Bool) → is_word lo hi ≡ b
+    on_number : (lo hi : ℤ) → lo ≤ℤ v → v ≤ℤ hi → (b : Bool) → is_same_number lo hi ≡ b
         → ◌≡◌ {A = Result GuardName Rule} (cond b (Ok (Constant lo)) (source_name known.source)) (Ok name)
         → guard_value memory act name ≡ Some v
     on_number lo hi low high true same e =
@@ -68,12 +68,12 @@ name_value m counts act memory known v name means e = on known.fact means.fact e
 
     on : (fact : Fact) → Means m act.layout fact (Some v)
         → ◌≡◌ {A = Result GuardName Rule} (elim fact as (λ f. Result GuardName Rule) [
-          | Number lo hi ↦ if is_word lo hi then Ok (Constant lo) else source_name known.source
+          | Number lo hi ↦ if is_same_number lo hi then Ok (Constant lo) else source_name known.source
           | _ ↦ Err rules.Alternation
         ]) (Ok name) → NamesValue memory act name v
     on Unknown means e = absurd (cc)
     on (Number lo hi) (is_number low high fits) e =
-        record { is = on_number lo hi low high (is_word lo hi) refl e; fits = fits }
+        record { is = on_number lo hi low high (is_same_number lo hi) refl e; fits = fits }
     on (Pointer region lo hi steps) means e = absurd (cc)
     on (CodeAddress offset) means e = absurd (cc)
     on (Loop base count weight) means e = absurd (cc)
@@ -104,7 +104,7 @@ off_is_not_below depth word t below = on (int_lt word (depth -ℤ pos 3)) refl t
     on false e t = let high = int_le-true depth word t in let to = below.1 in absurd (omega (arith, ints, high, to))
 
 -- scheduling leaves each word that is none of those that it takes
-pub scheduled_elsewhere : {x : Here} {E : Modes} {s : State} {l : Local} → Scheduled x E s l → (word : ℤ)
+pub scheduled_elsewhere : {x : Situation} {E : Modes} {s : State} {l : Local} → Scheduled x E s l → (word : ℤ)
     → (IsBelow s.depth word → ⊥)
     → frame_word (scheduled l) x.act.layout.origin word ≡ frame_word l.memory x.act.layout.origin word
 scheduled_elsewhere {x} {E} {s} {l} d word off =

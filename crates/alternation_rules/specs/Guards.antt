@@ -20,7 +20,7 @@ use Rattle.states.specs.declared.known.GuardKind.{GuardKind}
 use Rattle.states.specs.declared.known.GuardKind.TheVariants.{Channel, Skip}
 use Rattle.states.specs.declared.known.GuardName.{GuardName}
 use Rattle.states.specs.declared.known.GuardName.TheVariants.{Constant, Word}
-use Rattle.states.specs.State.{State, is_word}
+use Rattle.states.specs.State.{State, is_same_number}
 use Rattle.states.specs.Below.{below}
 use Rattle.rulings.specs.Rulings.{Site}
 use Rattle.rulings.specs.Channels.{channel_of, channels_meet}
@@ -35,8 +35,8 @@ is_same_kind Skip Skip = true
 is_same_kind _ _ = false
 
 abbrev pub is_same_name : GuardName → GuardName → Bool
-is_same_name (Constant value) (Constant other) = is_word value other
-is_same_name (Word word) (Word other) = is_word word other
+is_same_name (Constant value) (Constant other) = is_same_number value other
+is_same_name (Word word) (Word other) = is_same_number word other
 is_same_name _ _ = false
 
 -- the guard waits for this and has this name
@@ -65,7 +65,7 @@ may_name site s (Word word) = may_read_word site.contents s.context word && is_o
 -- what the truth of a number is known by: its value, if it is a constant, or the word that it comes from
 unfoldable pub name_of : Known → Result GuardName Rule
 name_of known = elim known.fact [
-  | Number lo hi ↦ if is_word lo hi then Ok (Constant lo) else source_name known.source
+  | Number lo hi ↦ if is_same_number lo hi then Ok (Constant lo) else source_name known.source
   | _ ↦ Err rules.Alternation
 ]
 
@@ -75,7 +75,7 @@ guard_channel fact = elim (channel_of (Alone fact)) [ None ↦ Err rules.Alterna
 
 -- how far after `altend` a guard leads: a constant
 unfoldable pub distance_of : Fact → Result ℤ Rule
-distance_of (Number lo hi) = if is_word lo hi then Ok lo else Err rules.Alternation
+distance_of (Number lo hi) = if is_same_number lo hi then Ok lo else Err rules.Alternation
 distance_of _ = Err rules.Alternation
 
 -- ---- the list

@@ -22,7 +22,7 @@ use Rattle.module_format.specs.Contents.{Contents, Procedure}
 use Rattle.module_format.specs.Keeping.{is_region}
 use Rattle.module_format.specs.Regions.{is_frame, is_same_region}
 use Rattle.certificate.specs.Starts.{Entered, procedure_from}
-use Rattle.machine_state.specs.Memory.{Memory, byte_at, word_at, joined}
+use Rattle.machine_state.specs.Memory.{Memory, byte_at, word_at, word_from_bytes}
 use Rattle.machine_state.specs.Holding.{Holding}
 use Rattle.machine_state.specs.World.{constants_start}
 use Rattle.states.specs.declared.known.WordFact.{WordFact}
@@ -161,7 +161,7 @@ constant_known m wf act memory has first start end lo hi place i at even low hig
     small : (j : ℕ) → get_or m.constants j 0 < 256
     small j = wf.constant_bytes j
 
-    word_is : joined (byte_at memory place) (byte_at memory (place + 1)) (byte_at memory (place + 2))
+    word_is : word_from_bytes (byte_at memory place) (byte_at memory (place + 1)) (byte_at memory (place + 2))
         (byte_at memory (place + 3))
         ≡ Some (word_in m.constants i)
     word_is = rw (
@@ -177,7 +177,7 @@ constant_known m wf act memory has first start end lo hi place i at even low hig
 
     of_word : lo ≤ℤ word_in m.constants i → word_in m.constants i ≤ℤ hi
         → Means m act.layout (Number lo hi)
-        (joined (byte_at memory place) (byte_at memory (place + 1)) (byte_at memory (place + 2))
+        (word_from_bytes (byte_at memory place) (byte_at memory (place + 1)) (byte_at memory (place + 2))
         (byte_at memory (place + 3)))
     of_word from to = subst (λ (v : Option ℤ). Means m act.layout (Number lo hi) v) (sym word_is)
         (is_number from to fits)
@@ -186,7 +186,7 @@ constant_known m wf act memory has first start end lo hi place i at even low hig
         → lies_within (unwrap_or (option_map range_of_row o) full).lo
         (unwrap_or (option_map range_of_row o) full).hi lo hi ≡ true
         → Means m act.layout (Number lo hi)
-        (joined (byte_at memory place) (byte_at memory (place + 1)) (byte_at memory (place + 2))
+        (word_from_bytes (byte_at memory place) (byte_at memory (place + 1)) (byte_at memory (place + 2))
         (byte_at memory (place + 3)))
     on_row None e h =
         let both = and_parts (int_le lo full.lo) (int_le full.hi hi) h in

@@ -33,20 +33,21 @@ use Rattle.machine_state.proofs.Frame.{write_is_own, changes_more}
 use Rattle.states.specs.declared.rule.Rule.TheVariants as rules
 use Rattle.states.specs.declared.known.WordFact.{WordFact}
 use Rattle.states.specs.declared.known.WordFact.TheVariants.{Alone, Index, Count}
-use Rattle.states.specs.State.{State, Facts, is_word, is_parted, by_itself, with_fact, changed, written}
+use Rattle.states.specs.State.{State, Facts, is_same_number, is_parted, by_itself, with_fact, changed, written}
 use Rattle.states.specs.State.{procedure_state, procedure_facts, parameter_facts, parameter_fact}
 use Rattle.rulings.specs.Regions.{scope_of, HoldsNamed}
 use Rattle.rulings.specs.Rulings as ruling
 use Rattle.rulings.specs.Rulings.{Ruling, calls, returns, breaks}
 use Rattle.call_rules.specs.CallRules as rule
 use Rattle.call_rules.specs.declared.lent.Lent.{Lent}
-use Rattle.call_rules.specs.CallRules.{Calling, passes, passing, callee_word, frame_is_own, frame_size, with_lent}
+use Rattle.call_rules.specs.CallRules.{Calling, learns_word, passing, callee_word, frame_is_own, frame_size, with_lent}
 use Rattle.call_rules.specs.CallRules.{with_all_lent, lent, ends_are_given, callee_span, behind_call, spends}
 use Rattle.call_rules.specs.CallRules.{calls_procedure, call_rule, return_rule, may_return}
 use Rattle.rulings.specs.Meaning.{Layout, Activation, Means, says_nothing, is_return_address, MeansWord, is_fact}
 use Rattle.rulings.specs.Meaning.{word_of, code_address, place_in, frame_word, IsWellFormed, SameMode, both_plain}
 use Rattle.rulings.specs.Meaning.{dues, dues_from, loop_due, owed}
-use Rattle.rulings.specs.Fitting.{After, Here, Changes, rule_site, step_site, it_calls, it_returns, it_breaks, Waits}
+use Rattle.rulings.specs.Fitting.{After, Situation, Changes, rule_site, step_site, it_calls, it_returns, it_breaks}
+use Rattle.rulings.specs.Fitting.{Waits}
 use Rattle.rulings.proofs.Within.{Within, ArePlain}
 use Rattle.rulings.proofs.Words.{word_test, frame_word_is, stored_means, local_place, same_word_by}
 use Rattle.rulings.proofs.Dues.{changed_dues, written_owed}
@@ -68,7 +69,7 @@ use Rattle.rulings.proofs.Offsets.{address_of_word, all_words_at}
 fact_here : (j k : ℤ) (fact : Fact) (facts : Facts) → k ≡ j → with_fact j fact facts k ≡ Alone fact
 fact_here j k fact facts e = elim (word_test k j) [
   | inl p ↦ ap (λ (b : Bool). cond b (Alone fact)
-      (cond (is_parted (λ i. is_word i j) k (facts k)) (Alone (by_itself (facts k))) (facts k))) p.0
+      (cond (is_parted (λ i. is_same_number i j) k (facts k)) (Alone (by_itself (facts k))) (facts k))) p.0
   | inr p ↦ absurd (p.1 e)
 ]
 
@@ -77,8 +78,8 @@ fact_stays : (j k : ℤ) (fact other : Fact) (facts : Facts) → (k ≡ j → �
 fact_stays j k fact other facts differ e = elim (word_test k j) [
   | inl p ↦ absurd (differ p.1)
   | inr p ↦ ap (λ (b : Bool). cond b (Alone fact)
-      (cond (is_parted (λ i. is_word i j) k (facts k)) (Alone (by_itself (facts k))) (facts k))) p.0
-      ∙ ap (λ (f : WordFact). cond (is_parted (λ i. is_word i j) k f) (Alone (by_itself f)) f) e
+      (cond (is_parted (λ i. is_same_number i j) k (facts k)) (Alone (by_itself (facts k))) (facts k))) p.0
+      ∙ ap (λ (f : WordFact). cond (is_parted (λ i. is_same_number i j) k f) (Alone (by_itself f)) f) e
 ]
 
 -- the state in which all four words are written
@@ -114,8 +115,8 @@ has_passed s =
 -- where a word may be written, it is passed
 passes_is : (m : Contents) (e : ℤ) (fact : Fact) (s t : State) → s ≡ t
     → rights.may_write_word m t.context (t.depth +ℤ e) ≡ true
-    → passes m e fact s ≡ written (t.depth +ℤ e) fact t
-unfolding passes
+    → learns_word m e fact s ≡ written (t.depth +ℤ e) fact t
+unfolding learns_word
 passes_is m e fact s t same may =
     ap (λ (u : State). cond (rights.may_write_word m u.context (u.depth +ℤ e)) (written (u.depth +ℤ e) fact u) u) same
     ∙ ap (λ (b : Bool). cond b (written (t.depth +ℤ e) fact t) t) may
@@ -171,7 +172,7 @@ alone_from facts turns word (suc more) alone =
 
 parameters_alone : (number : ℕ) (ps : List Parameter) (k : ℤ) → (f : Fact) × (parameter_facts number ps k ≡ Alone f)
 parameters_alone number [] k = (Unknown, refl)
-parameters_alone number (q ∷ ps) k = on_test (is_word k (pos q.word)) (parameters_alone (number + 1) ps k)
+parameters_alone number (q ∷ ps) k = on_test (is_same_number k (pos q.word)) (parameters_alone (number + 1) ps k)
   where
     on_test : (b : Bool) → (f : Fact) × (parameter_facts (number + 1) ps k ≡ Alone f)
         → (f : Fact) × (cond b (Alone (parameter_fact number q.kind)) (parameter_facts (number + 1) ps k) ≡ Alone f)
@@ -179,7 +180,7 @@ parameters_alone number (q ∷ ps) k = on_test (is_word k (pos q.word)) (paramet
     on_test false rest = rest
 
 procedure_alone : (p : Procedure) (k : ℤ) → (f : Fact) × (procedure_facts p k ≡ Alone f)
-procedure_alone p k = on_test (is_word k (pos 0))
+procedure_alone p k = on_test (is_same_number k (pos 0))
   where
     on_test : (b : Bool) → (f : Fact) × (cond b (Alone ReturnAddress) (parameter_facts 0 p.parameters k) ≡ Alone f)
     on_test true = (ReturnAddress, refl)
@@ -232,7 +233,7 @@ procedure_row [] i low = absurd (omega arith)
 procedure_row (p ∷ ps) zero low = (p, refl)
 procedure_row (p ∷ ps) (suc i) low = procedure_row ps i (omega arith)
 
-module _ (x : Here) where
+module _ (x : Situation) where
   spends_fits : (price : ℕ) (s : State) (r : State → Ruling) (o : Outcome)
       → (ltb s.number price ≡ false → FitsIf x (r (record s { number = s.number - price })) o)
       → FitsIf x (spends price s r) o
@@ -532,9 +533,10 @@ module _ (x : Here) where
 
     returning : may_return x.m s ≡ true → Returning
     returning h =
-        let p = and_parts (nat_lt 0 s.context && nat_lt s.context (first_branch x.m) && is_word s.depth (pos 0))
+        let p = and_parts (nat_lt 0 s.context && nat_lt s.context (first_branch x.m) && is_same_number s.depth (pos 0))
         (rule.is_return_address (s.frame (pos 0))) h in
-        let q = and_parts (nat_lt 0 s.context && nat_lt s.context (first_branch x.m)) (is_word s.depth (pos 0)) p.0 in
+        let q = and_parts (nat_lt 0 s.context && nat_lt s.context (first_branch x.m)) (is_same_number s.depth (pos 0))
+        p.0 in
         let r = and_parts (nat_lt 0 s.context) (nat_lt s.context (first_branch x.m)) q.0 in
         let some : 1 ≤ s.context = less 0 s.context r.0 in
         let few : s.context ≤ length x.m.procedures = let u = less s.context (first_branch x.m) r.1 in omega arith in

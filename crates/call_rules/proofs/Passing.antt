@@ -33,14 +33,14 @@ use Rattle.machine_state.specs.World.{constants_start}
 use Rattle.machine_state.specs.Site.{Local}
 use Rattle.states.specs.declared.known.WordFact.{WordFact}
 use Rattle.states.specs.declared.known.WordFact.TheVariants.{Alone}
-use Rattle.states.specs.State.{State, is_word, plain, parameter_fact, parameter_facts, procedure_facts}
+use Rattle.states.specs.State.{State, is_same_number, plain, parameter_fact, parameter_facts, procedure_facts}
 use Rattle.states.specs.Below.{lies_within}
 use Rattle.states.proofs.Procedures.{procedure-at}
 use Rattle.rulings.specs.Meaning.{Layout, Activation, Means, MeansWord, is_pointer, is_fact, is_return_address}
 use Rattle.rulings.specs.Meaning.{word_of, region_start, code_address, place_in, frame_word, word_at_place}
 use Rattle.rulings.specs.Meaning.{IsReadableWord, HasFrame, words_in, frame_lo, frame_hi, IsWellFormed, says_nothing}
 use Rattle.module_format.specs.declared.contexts.Context.{Context}
-use Rattle.rulings.specs.Regions.{IsByteOf, Scope, scope_of, IsRegion, IsNamed, HoldsNamed, channel_address}
+use Rattle.rulings.specs.Regions.{IsByteOf, Scope, scope_of, IsHeldRegion, IsNamed, HoldsNamed, channel_address}
 use Rattle.rulings.specs.Regions.{IsWrittenAt, IsNamedAt}
 use Rattle.certificate.specs.Words.{all_words}
 use Rattle.states.specs.Spans.{together}
@@ -50,7 +50,7 @@ use Rattle.call_rules.specs.CallRules as rule
 use Rattle.call_rules.specs.declared.lent.Lent.{Lent}
 use Rattle.call_rules.specs.CallRules.{Calling, callee_word, given, lent_from, lent, suits, parameter_suits}
 use Rattle.call_rules.specs.CallRules.{numbers_suit, numbers_fit, is_off_callee, may_use, may_lend}
-use Rattle.call_rules.specs.CallRules.{pointers_fit, frame_size, frame_is_own, end_of, ends_are_held, holds_ends}
+use Rattle.call_rules.specs.CallRules.{pointers_fit, frame_size, frame_is_own, lent_end, ends_are_held, holds_ends}
 use Rattle.call_rules.specs.CallRules.{clash, are_apart, regions_are_apart, all_below, lengths_fit, give_other_ends}
 use Rattle.rulings.specs.Channels.{channel_of, has_direction, further, is_length, channels_meet, message_length}
 use Rattle.rulings.specs.Remaining.{only_read, not_used}
@@ -222,7 +222,7 @@ module _ (m : Contents) (h : Holding) (mode : machine.Mode) (act : Activation) (
   -- a region that is lent: it is the caller's, and the callee has it
   record IsPassed (size : ℕ) (lo hi : ℤ) (w : Bool) (region : Region) (first : ℤ) (start : ℕ) : Type 0 where
     part : IsPart m caller callee base region first (size / 4) lo hi w (place_of start)
-    has : IsRegion m (may_use_place h w) callee l.memory (place_of start) size lo hi
+    has : IsHeldRegion m (may_use_place h w) callee l.memory (place_of start) size lo hi
 
   abbrev a_lent : Region → ℤ → ℕ → ℤ → ℤ → Bool → Lent
   a_lent region first size lo hi w =
@@ -295,7 +295,7 @@ module _ (m : Contents) (h : Holding) (mode : machine.Mode) (act : Activation) (
       part = subst (λ (n : ℕ). IsPart m caller callee base regions.Frame first n lo hi w (place_of start))
           (omega (arith, whole))
           (of_frame word refl f (omega (arith, ints, at, place_is)) reads writes apart_from);
-      has = subst (λ (n : ℕ). IsRegion m (may_use_place h w) callee l.memory n size lo hi) (sym at) (record {
+      has = subst (λ (n : ℕ). IsHeldRegion m (may_use_place h w) callee l.memory n size lo hi) (sym at) (record {
         whole = whole_words size count whole;
         aligned = even_place act.layout.origin word first_place.place a.named.even place_is;
         held = λ i low.
@@ -325,12 +325,12 @@ module _ (m : Contents) (h : Holding) (mode : machine.Mode) (act : Activation) (
 
   -- a region of another size and range is the same where these are equal
   same_region : {may : ℕ → Bool} {place size total : ℕ} {lo hi low high : ℤ}
-      → (size ≡ total) × (lo ≡ low) × (hi ≡ high) → IsRegion m may caller l.memory place size lo hi
-      → IsRegion m may caller l.memory place total low high
+      → (size ≡ total) × (lo ≡ low) × (hi ≡ high) → IsHeldRegion m may caller l.memory place size lo hi
+      → IsHeldRegion m may caller l.memory place total low high
   same_region {may} {place} {size} {total} {lo} {hi} {low} {high} same region =
-      subst (λ (z : ℤ). IsRegion m may caller l.memory place total low z) same.2
-      (subst (λ (z : ℤ). IsRegion m may caller l.memory place total z hi) same.1
-      (subst (λ (n : ℕ). IsRegion m may caller l.memory place n lo hi) same.0 region))
+      subst (λ (z : ℤ). IsHeldRegion m may caller l.memory place total low z) same.2
+      (subst (λ (z : ℤ). IsHeldRegion m may caller l.memory place total z hi) same.1
+      (subst (λ (n : ℕ). IsHeldRegion m may caller l.memory place n lo hi) same.0 region))
 
   -- of the caller's parameter of this number
   module _ (size count : ℕ) (whole : size ≡ 4 * count) (at_least : 1 ≤ count) (lo hi : ℤ) (w : Bool) (q n : ℕ)
@@ -338,7 +338,7 @@ module _ (m : Contents) (h : Holding) (mode : machine.Mode) (act : Activation) (
       (found : caller.parameters q ≡ Some r) (start : ℕ)
       (at : start ≡ (act.layout.starts q + 4 * n) % 4294967296) where
     module _ (total : ℕ) (low high : ℤ) (kind : IsRegionKind r.kind total low high)
-        (may : ℕ → Bool) (region : IsRegion m may caller l.memory (place_of (act.layout.starts q)) total low high)
+        (may : ℕ → Bool) (region : IsHeldRegion m may caller l.memory (place_of (act.layout.starts q)) total low high)
         (may_so : (place : ℕ) → may place ≡ true → may_use_place h w place ≡ true)
         (writes : w ≡ true → r.kind ≡ WrittenRegion total lo hi) (below : lo ≤ℤ low) (above : high ≤ℤ hi)
         (fits : 4 * n + 4 * count ≤ total) where
@@ -363,7 +363,7 @@ module _ (m : Contents) (h : Holding) (mode : machine.Mode) (act : Activation) (
             (λ (c : ℕ). IsPart m caller callee base (regions.Parameter q) first c lo hi w (place_of start))
             (omega (arith, whole))
             (of_parameter q r n total low high refl f found kind writes below above part_place fits);
-        has = subst (λ (place : ℕ). IsRegion m (may_use_place h w) callee l.memory place size lo hi)
+        has = subst (λ (place : ℕ). IsHeldRegion m (may_use_place h w) callee l.memory place size lo hi)
             (sym part_place) (record {
               whole = whole_words size count whole;
               aligned = more_words (place_of (act.layout.starts q)) n region.aligned;
@@ -390,7 +390,7 @@ module _ (m : Contents) (h : Holding) (mode : machine.Mode) (act : Activation) (
       part = subst (λ (c : ℕ). IsPart m caller callee base regions.Constants first c lo hi false (place_of start))
           (omega (arith, whole))
           (of_constants n refl f refl at fits);
-      has = subst (λ (place : ℕ). IsRegion m (may_read h) callee l.memory place size lo hi) (sym at) (record {
+      has = subst (λ (place : ℕ). IsHeldRegion m (may_read h) callee l.memory place size lo hi) (sym at) (record {
         whole = whole_words size count whole;
         aligned = constants_aligned m n aligned;
         held = λ i low. subst (λ (place : ℕ). may_read h place ≡ true) (omega arith)
@@ -495,7 +495,7 @@ module _ (m : Contents) (h : Holding) (mode : machine.Mode) (act : Activation) (
   ranges_of : (region : Region) (first : ℤ) (size : ℕ) (lo hi low high : ℤ) (w : Bool)
       → suits (a_lent region first size lo hi w) low high ≡ true → Ranges lo hi low high w
   ranges_of region first size lo hi low high true h =
-      let both = and_parts (is_word low lo) (is_word high hi) h in
+      let both = and_parts (is_same_number low lo) (is_same_number high hi) h in
       let l : low ≡ lo = same_word_by low lo both.0 in
       let u : high ≡ hi = same_word_by high hi both.1 in
       record { below = omega (arith, ints, l); above = omega (arith, ints, u); same = λ e. (l, u) }
@@ -518,7 +518,7 @@ module _ (m : Contents) (h : Holding) (mode : machine.Mode) (act : Activation) (
     unfolding numbers_suit may_read_bytes may_write_bytes
     of_own k first lends =
         let used = (lend_parts call (a_lent (regions.Parameter k) first size lo hi w) lends.may).0 in
-        let u = uses_bytes w k first (end_of (a_lent (regions.Parameter k) first size lo hi w)) (on_use w used) in
+        let u = uses_bytes w k first (lent_end (a_lent (regions.Parameter k) first size lo hi w)) (on_use w used) in
         let n = pos_from first u.from in
         let ranges = ranges_of (regions.Parameter k) first size lo hi u.low u.high w
         (of_kind (a_lent (regions.Parameter k) first size lo hi w) u.r u.total u.low u.high u.kind
@@ -537,7 +537,7 @@ module _ (m : Contents) (h : Holding) (mode : machine.Mode) (act : Activation) (
       where
         on_use : (w : Bool) → rule.may_use call (a_lent (regions.Parameter k) first size lo hi w) ≡ true
             → lie_in (if w then writable_bytes m s.context k else readable_bytes m s.context k) first
-            (end_of (a_lent (regions.Parameter k) first size lo hi w)) ≡ true
+            (lent_end (a_lent (regions.Parameter k) first size lo hi w)) ≡ true
         on_use true used = used
         on_use false used = used
 
@@ -589,7 +589,7 @@ module _ (m : Contents) (h : Holding) (mode : machine.Mode) (act : Activation) (
         let size_is : size / 4 ≡ count = omega (arith, whole) in
         let both = lend_parts call (a_lent regions.Frame first size lo hi w) lends.may in
         let parts = words_parts call (a_lent regions.Frame first size lo hi w) both.1 in
-        let many : words_touched first (end_of (a_lent regions.Frame first size lo hi w)) ≡ count =
+        let many : words_touched first (lent_end (a_lent regions.Frame first size lo hi w)) ≡ count =
         ap (λ (z : ℤ). words_touched z (z +ℤ pos size)) f
         ∙ ap (λ (n : ℕ). words_touched (pos 4 *ℤ word) (pos 4 *ℤ word +ℤ pos n)) whole
         ∙ words_of_region word count at_least in
@@ -612,7 +612,7 @@ module _ (m : Contents) (h : Holding) (mode : machine.Mode) (act : Activation) (
         on_use : (w : Bool) (first : ℤ)
             → rule.may_use call (a_lent regions.Frame first size lo hi w) ≡ true
             → all_words (if w then caller.words.writes else caller.words.reads) (word_of_byte first)
-            (words_touched first (end_of (a_lent regions.Frame first size lo hi w))) ≡ true
+            (words_touched first (lent_end (a_lent regions.Frame first size lo hi w))) ≡ true
         on_use true first used = used
         on_use false first used = used
 
@@ -625,7 +625,7 @@ module _ (m : Contents) (h : Holding) (mode : machine.Mode) (act : Activation) (
       where
         inside : (lo hi : ℤ) (w : Bool) → w ≡ false
             → rule.may_use call (a_lent regions.Constants first size lo hi w) ≡ true
-            → lie_in (Some (length m.constants)) first (end_of (a_lent regions.Constants first size lo hi w)) ≡ true
+            → lie_in (Some (length m.constants)) first (lent_end (a_lent regions.Constants first size lo hi w)) ≡ true
         inside lo hi true no' used = absurd (cc)
         inside lo hi false no' used = used
 
@@ -641,11 +641,11 @@ module _ (m : Contents) (h : Holding) (mode : machine.Mode) (act : Activation) (
         on_written true e suit used = let no' : true ≡ false = sym e ∙ not_written lo hi w used in absurd (cc)
         on_written false e suit used =
             let both = and_parts (int_le (pos 0) first)
-            (int_le (end_of (a_lent regions.Constants first size lo hi w)) (pos (length m.constants)))
+            (int_le (lent_end (a_lent regions.Constants first size lo hi w)) (pos (length m.constants)))
             (inside lo hi w e used) in
             let n = pos_from first (int_le-true (pos 0) first both.0) in
             let to =
-            int_le-true (end_of (a_lent regions.Constants first size lo hi w)) (pos (length m.constants)) both.1 in
+            int_le-true (lent_end (a_lent regions.Constants first size lo hi w)) (pos (length m.constants)) both.1 in
             let fits : n.0 + 4 * count ≤ length m.constants = omega (arith, ints, to, n.1, whole) in
             let start : pos (data_start + constants_start m) +ℤ first ≡ pos (data_start + (constants_start m + n.0)) =
             let f = n.1 in omega (arith, ints, f) in
@@ -655,7 +655,7 @@ module _ (m : Contents) (h : Holding) (mode : machine.Mode) (act : Activation) (
             (constants_passed size count whole at_least lo hi n.0 (layout.starts j)
             (stepped_natural first n.0 n.1 lends.held.stepped) at fits
             (λ i low. constant_known m wf act l.memory a.named.constants first n.0
-            (end_of (a_lent regions.Constants first size lo hi w)) lo hi
+            (lent_end (a_lent regions.Constants first size lo hi w)) lo hi
             (constants_start m + n.0 + 4 * i) (n.0 + 4 * i) (omega arith)
             (let q = stepped_natural first n.0 n.1 lends.held.stepped in omega arith)
             (let f = n.1 in omega (arith, ints, f)) (let f = n.1 in omega (arith, ints, f, whole))
@@ -1013,11 +1013,12 @@ module _ (m : Contents) (h : Holding) (mode : machine.Mode) (act : Activation) (
 
     -- two that are lent, of which one may be written, do not meet
     no_clash : (o u : Option Lent) (l k : Lent) → o ≡ Some l → u ≡ Some k → are_apart o u ≡ true
-        → (l.is_written || k.is_written) ≡ true → l.region ≡ k.region → l.first <ℤ end_of k → k.first <ℤ end_of l → ⊥
+        → (l.is_written || k.is_written) ≡ true → l.region ≡ k.region → l.first <ℤ lent_end k → k.first <ℤ lent_end l
+        → ⊥
     no_clash o u l k e f apart written same before behind =
         let yes : clash l k ≡ true = and_from _ _ (and_from _ _ (and_from _ _ written
-        (same_as_equal l.region k.region same)) (lt-int_lt l.first (end_of k) before))
-        (lt-int_lt k.first (end_of l) behind) in
+        (same_as_equal l.region k.region same)) (lt-int_lt l.first (lent_end k) before))
+        (lt-int_lt k.first (lent_end l) behind) in
         let no' : false ≡ true = sym (ap not yes) ∙ sym (ap (λ (x : Option Lent). are_apart x (Some k)) e
         ∙ refl) ∙ ap (λ (x : Option Lent). are_apart o x) (sym f) ∙ apart in
         (cc)

@@ -20,8 +20,8 @@ use Rattle.states.specs.declared.known.WordFact.TheVariants.{Alone}
 use Rattle.states.specs.State.{State, Facts, Change, by_itself, is_parted, changed}
 use Rattle.rulings.specs.Meaning.{Layout, Activation, Means, says_nothing, MeansWord, is_fact, place_in, frame_word}
 use Rattle.rulings.specs.Meaning.{IsReadableWord}
-use Rattle.rulings.specs.Regions.{IsByteOf, Scope, scope_of, IsRegion, IsNamed, HoldsNamed, MayChange, in_frame}
-use Rattle.rulings.specs.Regions.{in_region, Keeps, parameter_used}
+use Rattle.rulings.specs.Regions.{IsByteOf, Scope, scope_of, IsHeldRegion, IsNamed, HoldsNamed, MayChange, in_frame}
+use Rattle.rulings.specs.Regions.{in_region, KeepsMemory, parameter_used}
 use Rattle.states.specs.declared.span.Leaving.TheVariants.{Become}
 use Rattle.states.specs.Spans.{on_span}
 use Rattle.rulings.specs.Reach.{word_of_byte}
@@ -167,7 +167,7 @@ module _ (m : Contents) (act : Activation) (c : Calling) (k : ℤ) (v : Option �
 
 module _ (m : Contents) (h : Holding) (act : Activation) (s : State) (p : Procedure) (context : ℕ) (layout : Layout)
     (lends : Lends m (scope_of m s.context act.layout) (scope_of m context layout) (s.depth +ℤ negsuc 3))
-    (memory later : Memory) (keeps : Keeps m h (scope_of m context layout) memory later)
+    (memory later : Memory) (keeps : KeepsMemory m h (scope_of m context layout) memory later)
     (has : HoldsNamed m h (scope_of m s.context act.layout) memory)
     (mine : HoldsNamed m h (scope_of m context layout) later)
     (parameters_are : (j : ℕ) → parameter_used m context j ≡ slice_get p.parameters j) where
@@ -202,7 +202,7 @@ module _ (m : Contents) (h : Holding) (act : Activation) (s : State) (p : Proced
         (count : ℕ)
         → l ≡ record { region = region; first = first; size = size; lo = lo; hi = hi; is_written = true }
         → l.region ≡ regions.Frame → (lent_span l).touches k ≡ true → size ≡ 4 * count
-        → IsRegion m (may_write h) callee later (place_of start) size lo hi
+        → IsHeldRegion m (may_write h) callee later (place_of start) size lo hi
         → IsPart m caller callee base region first count lo hi true (place_of start)
         → Means m act.layout (Number l.lo l.hi) (frame_word later act.layout.origin k)
     lent_part k q l start size lo hi region first count is at_frame touches whole has

@@ -37,8 +37,8 @@ use Rattle.states.proofs.OwnWords.{written-own}
 use Rattle.call_rules.specs.declared.lent.Lent.{Lent}
 use Rattle.rulings.specs.Reach.{word_of_byte, may_write_bytes, may_read_bytes}
 use Rattle.call_rules.specs.CallRules as rule
-use Rattle.call_rules.specs.CallRules.{Calling, given, lent, lent_to, lent_from, pointers_fit, may_lend, end_of}
-use Rattle.call_rules.specs.CallRules.{frame_size, with_all_lent, passes, passing, callee_word, frame_is_own}
+use Rattle.call_rules.specs.CallRules.{Calling, given, lent, lent_to, lent_from, pointers_fit, may_lend, lent_end}
+use Rattle.call_rules.specs.CallRules.{frame_size, with_all_lent, learns_word, passing, callee_word, frame_is_own}
 use Rattle.call_rules.specs.CallRules.{is_off_callee, each_two, behind_call, callee_span, calls_procedure, passes_all}
 use Rattle.call_rules.specs.CallRules.{spends, may_call}
 use Rattle.rulings.specs.Rulings.{wants, Ruling, Site, alone, calls}
@@ -71,9 +71,9 @@ words_owned m context first size some may = record {
 lent_owned : (c : Calling) (l : Lent) → 4 ≤ l.size → may_lend c l ≡ true → OwnsLent c.contents c.state.context (Some l)
 lent_owned c l some may writes frame =
     words_owned c.contents c.state.context l.first l.size some
-    (subst (λ (r : Region). may_write_bytes c.contents c.state.context r l.first (end_of l) ≡ true) frame
-    (sym (ap (λ (b : Bool). cond b (may_write_bytes c.contents c.state.context l.region l.first (end_of l))
-    (may_read_bytes c.contents c.state.context l.region l.first (end_of l))) writes) ∙ (lend_parts c l may).0))
+    (subst (λ (r : Region). may_write_bytes c.contents c.state.context r l.first (lent_end l) ≡ true) frame
+    (sym (ap (λ (b : Bool). cond b (may_write_bytes c.contents c.state.context l.region l.first (lent_end l))
+    (may_read_bytes c.contents c.state.context l.region l.first (lent_end l))) writes) ∙ (lend_parts c l may).0))
 
 option_owned : (c : Calling) (size : ℕ) (lo hi : ℤ) (w : Bool) (fact : WordFact) (o : Option Lent) → 4 ≤ size
     → lent_from size lo hi w fact ≡ o
@@ -160,8 +160,8 @@ pub record SameRest (s t : State) : Type 0 where
   pub depth : t.depth ≡ s.depth
   pub mode : t.mode ≡ s.mode
 
-passes_rest : (m : Contents) (e : ℤ) (fact : Fact) (s t : State) → SameRest s t → SameRest s (passes m e fact t)
-unfolding passes written
+passes_rest : (m : Contents) (e : ℤ) (fact : Fact) (s t : State) → SameRest s t → SameRest s (learns_word m e fact t)
+unfolding learns_word written
 passes_rest m e fact s t same = on_test (rights.may_write_word m t.context (t.depth +ℤ e))
   where
     on_test : (b : Bool) → SameRest s (cond b (written (t.depth +ℤ e) fact t) t)
@@ -223,16 +223,17 @@ two_more test p rest others whole is all h =
 -- ---- the code's steps
 
 pub passes_may : (m : Contents) (s t : State) (e z w k : ℤ) (fact : Fact) (o : Option ℤ) → o ≡ Some k → w ≡ s.depth +ℤ e
-    → is_some o ≡ rights.may_write_word m s.context w → z ≡ s.depth +ℤ e → t ≡ written z fact s → t ≡ passes m e fact s
-unfolding passes
+    → is_some o ≡ rights.may_write_word m s.context w → z ≡ s.depth +ℤ e → t ≡ written z fact s
+    → t ≡ learns_word m e fact s
+unfolding learns_word
 passes_may m s t e z w k fact o o_is w_is allowed z_is t_is =
     t_is ∙ ap (λ (y : ℤ). written y fact s) z_is
     ∙ sym (ap (λ (b : Bool). cond b (written (s.depth +ℤ e) fact s) s)
     (sym (ap (rights.may_write_word m s.context) w_is) ∙ sym allowed ∙ ap is_some o_is))
 
 pub passes_not : (m : Contents) (s : State) (e w : ℤ) (fact : Fact) (o : Option ℤ) → o ≡ None → w ≡ s.depth +ℤ e
-    → is_some o ≡ rights.may_write_word m s.context w → s ≡ passes m e fact s
-unfolding passes
+    → is_some o ≡ rights.may_write_word m s.context w → s ≡ learns_word m e fact s
+unfolding learns_word
 passes_not m s e w fact o o_is w_is allowed =
     sym (ap (λ (b : Bool). cond b (written (s.depth +ℤ e) fact s) s)
     (sym (ap (rights.may_write_word m s.context) w_is) ∙ sym allowed ∙ ap is_some o_is))

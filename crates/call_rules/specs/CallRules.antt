@@ -24,7 +24,7 @@ use Rattle.machine_state.specs.LocalStep.{target}
 use Rattle.states.specs.declared.rule.Rule.TheVariants as rules
 use Rattle.states.specs.declared.known.WordFact.{WordFact}
 use Rattle.states.specs.declared.known.WordFact.TheVariants.{Alone}
-use Rattle.states.specs.State.{State, Facts, Change, unknown, is_word, plain, changed, written}
+use Rattle.states.specs.State.{State, Facts, Change, unknown, is_same_number, plain, changed, written}
 use Rattle.states.specs.Below.{lies_within, implies}
 use Rattle.states.specs.declared.span.Together.{Together}
 use Rattle.states.specs.declared.span.Leaving.TheVariants.{Become}
@@ -43,13 +43,13 @@ abbrev pub callee_word : State → ℤ → ℤ
 callee_word s k = (s.depth +ℤ negsuc 3) +ℤ k
 
 -- the word at this distance from the workspace has this fact from now on, if the context may write it
-unfoldable pub passes : Contents → ℤ → Fact → State → State
-passes m e fact s = if may_write_word m s.context (s.depth +ℤ e) then written (s.depth +ℤ e) fact s else s
+unfoldable pub learns_word : Contents → ℤ → Fact → State → State
+learns_word m e fact s = if may_write_word m s.context (s.depth +ℤ e) then written (s.depth +ℤ e) fact s else s
 
 -- the state once C, B, A and the return address lie in the four words below the workspace: of the last nothing is known
 abbrev pub passing : Contents → State → State
-passing m s = passes m (negsuc 3) Unknown (passes m (negsuc 2) s.stack.a.fact
-    (passes m (negsuc 1) s.stack.b.fact (passes m (negsuc 0) s.stack.c.fact s)))
+passing m s = learns_word m (negsuc 3) Unknown (learns_word m (negsuc 2) s.stack.a.fact
+    (learns_word m (negsuc 1) s.stack.b.fact (learns_word m (negsuc 0) s.stack.c.fact s)))
 
 -- A call: the module, the state in which parameters are read, and the procedure.
 pub record Calling : Type 0 where
@@ -68,12 +68,12 @@ given c p =
 -- ---- regions that are lent
 
 -- where what is lent ends, which is not included
-abbrev pub end_of : Lent → ℤ
-end_of l = l.first +ℤ pos l.size
+abbrev pub lent_end : Lent → ℤ
+lent_end l = l.first +ℤ pos l.size
 
 -- what an exact pointer to a word lends
 unfoldable pub lent_from : ℕ → ℤ → ℤ → Bool → WordFact → Option Lent
-lent_from size lo hi is_written (Alone (Pointer region low high Word)) = if is_word low high then Some (record {
+lent_from size lo hi is_written (Alone (Pointer region low high Word)) = if is_same_number low high then Some (record {
   region = region;
   first = low;
   size = size;
@@ -98,7 +98,8 @@ lent c p = lent_to p.kind (given c p)
 -- a range of a region's words suits the callee: if it reads, the range lies within the callee's, and if it writes, it
 -- is the same
 abbrev pub suits : Lent → ℤ → ℤ → Bool
-suits l low high = if l.is_written then is_word low l.lo && is_word high l.hi else lies_within low high l.lo l.hi
+suits l low high = if l.is_written then is_same_number low l.lo
+    && is_same_number high l.hi else lies_within low high l.lo l.hi
 
 -- the range of a parameter's region suits
 abbrev pub parameter_suits : Lent → Option Parameter → Bool
@@ -118,8 +119,8 @@ lent_words c l = together c.state.frame (word_of_byte l.first) (l.size / 4)
 unfoldable pub numbers_suit : Calling → Lent → Bool
 numbers_suit c l = elim l.region [
   | regions.Frame ↦ lies_within (lent_words c l).lo (lent_words c l).hi l.lo l.hi
-  | regions.Constants ↦ lies_within (constant_range c.contents l.first (end_of l)).lo
-      (constant_range c.contents l.first (end_of l)).hi l.lo l.hi
+  | regions.Constants ↦ lies_within (constant_range c.contents l.first (lent_end l)).lo
+      (constant_range c.contents l.first (lent_end l)).hi l.lo l.hi
   | regions.Parameter j ↦ parameter_suits l (slice_get (parameters_at c.contents c.state.context) j)
 ]
 
@@ -145,8 +146,8 @@ is_off_callee c first count =
 -- the caller may use what is lent so
 abbrev pub may_use : Calling → Lent → Bool
 may_use c l =
-    if l.is_written then may_write_bytes c.contents c.state.context l.region l.first (end_of l)
-    else may_read_bytes c.contents c.state.context l.region l.first (end_of l)
+    if l.is_written then may_write_bytes c.contents c.state.context l.region l.first (lent_end l)
+    else may_read_bytes c.contents c.state.context l.region l.first (lent_end l)
 
 -- words of the frame are numbers, where they are written in no loop, and none of the callee's frame
 unfoldable pub words_fit : Calling → Lent → Bool
@@ -171,8 +172,8 @@ pointers_fit c p = elim p.kind [
 -- two are lent so that one may be written that the other has bytes of
 abbrev pub clash : Lent → Lent → Bool
 clash l k =
-    (l.is_written || k.is_written) && is_same_region l.region k.region && int_lt l.first (end_of k)
-    && int_lt k.first (end_of l)
+    (l.is_written || k.is_written) && is_same_region l.region k.region && int_lt l.first (lent_end k)
+    && int_lt k.first (lent_end l)
 
 abbrev pub are_apart : Option Lent → Option Lent → Bool
 are_apart None other = true
@@ -325,7 +326,7 @@ is_return_address _ = false
 
 abbrev pub may_return : Contents → State → Bool
 may_return m s =
-    nat_lt 0 s.context && nat_lt s.context (first_branch m) && is_word s.depth (pos 0)
+    nat_lt 0 s.context && nat_lt s.context (first_branch m) && is_same_number s.depth (pos 0)
     && is_return_address (s.frame (pos 0))
 
 unfoldable pub return_rule : Site → State → Ruling

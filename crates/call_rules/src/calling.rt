@@ -78,7 +78,7 @@ impl Calling<'_, '_, '_, '_> {
     ghost use Rattle.rulings.specs.Reach.{word_of_byte};
     ghost use Rattle.call_rules.specs.CallRules.{callee_word, given, lent, lent_words, numbers_suit, numbers_fit};
     ghost use Rattle.call_rules.specs.CallRules.{is_off_callee, may_use, words_fit, may_lend, pointers_fit, each_two};
-    ghost use Rattle.call_rules.specs.CallRules.{end_of, frame_size, frame_is_own, passes_all, parameter_suits};
+    ghost use Rattle.call_rules.specs.CallRules.{lent_end, frame_size, frame_is_own, passes_all, parameter_suits};
     ghost use Rattle.rulings.specs.Rulings.{wants};
     ghost use Rattle.states.specs.declared.rule.Rule.TheVariants.{OwnWord};
     ghost use Rattle.call_rules.specs.Callings.{calling_of, admits, Touches, are_apart_from, fits, fit_together};

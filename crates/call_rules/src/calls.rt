@@ -11,7 +11,7 @@ ghost use Rattle.module_format.specs.Stack.{of_empty};
 ghost use Rattle.states.specs.State.{changed, unknown};
 ghost use Rattle.states.specs.Spans.{on_span};
 ghost use Rattle.states.specs.Views.{state_of, BelongsTo, CanWriteSpan};
-ghost use Rattle.call_rules.specs.CallRules.{call_rule, return_rule, passes, passing, may_call, may_return, spends};
+ghost use Rattle.call_rules.specs.CallRules.{call_rule, return_rule, learns_word, passing, may_call, may_return, spends};
 ghost use Rattle.call_rules.specs.CallRules.{with_lent, calls_procedure};
 ghost use Rattle.call_rules.specs.Callings.{with_each, OwnsLent, admits, Touches, call_in, entered};
 ghost use Rattle.rulings.specs.Places.{site_of};
@@ -25,10 +25,10 @@ use rulings::{Continuation, Place};
 use states::{Known, Leaving, Rule, State, WordFact};
 
 /// The word at this distance from the workspace has this fact from now on, if the context may write it.
-#[tactic(auto, unfolding(crate::specs::CallRules::passes))]
-fn passes(place: &Place, state: &mut State, distance: i32, fact: Fact)
+#[tactic(auto, unfolding(crate::specs::CallRules::learns_word))]
+fn learns_word(place: &Place, state: &mut State, distance: i32, fact: Fact)
     requires { BelongsTo place.now.module.now state.old }
-    ensures state { state_of state.new ≡ passes place.now.module.now distance fact (state_of state.old) }
+    ensures state { state_of state.new ≡ learns_word place.now.module.now distance fact (state_of state.old) }
     ensures belongs { BelongsTo place.now.module.now state.new }
 {
     let word = i64::from(state.depth) + i64::from(distance);
@@ -45,10 +45,10 @@ fn passing(place: &Place, state: &mut State)
     ensures belongs { BelongsTo place.now.module.now state.new }
 {
     let Stack { a, b, c } = state.stack;
-    passes(place, state, -1, c.fact);
-    passes(place, state, -2, b.fact);
-    passes(place, state, -3, a.fact);
-    passes(place, state, -4, Fact::Unknown);
+    learns_word(place, state, -1, c.fact);
+    learns_word(place, state, -2, b.fact);
+    learns_word(place, state, -3, a.fact);
+    learns_word(place, state, -4, Fact::Unknown);
 }
 
 /// Whether a context may call the procedure of a context: the root and its branches any, a procedure and its

@@ -5,7 +5,7 @@ ghost use Rattle.module_format.specs.declared.fact.Fact.TheVariants.{Number};
 ghost use Rattle.states.specs.declared.span.Leaving.TheVariants.{Become};
 ghost use Rattle.states.specs.Below.{lies_within};
 ghost use Rattle.rulings.specs.Reach.{word_of_byte, words_touched, lie_in};
-ghost use Rattle.call_rules.specs.CallRules.{end_of, lent_from, lent_to, suits, parameter_suits, clash};
+ghost use Rattle.call_rules.specs.CallRules.{lent_end, lent_from, lent_to, suits, parameter_suits, clash};
 
 use module_format::{Fact, Parameter, ParameterKind, Region, Step};
 use rulings::reach::{word_of_byte, word_of_offset};
@@ -26,7 +26,7 @@ pub(crate) struct Lent {
 impl Lent {
     /// Where the bytes end, which is not included.
     pub fn end(self) -> i64
-        ensures { result ≡ end_of self }
+        ensures { result ≡ lent_end self }
     {
         i64::from(self.first) + i64::from(self.size)
     }
@@ -47,7 +47,7 @@ impl Lent {
 
     /// How many words of the frame have one of the bytes.
     pub fn words_touched(self) -> u32
-        ensures { result ≡ words_touched self.first (end_of self) }
+        ensures { result ≡ words_touched self.first (lent_end self) }
     {
         let last = word_of_offset(self.end() - 1);
         last.abs_diff(i64::from(self.first_word())) as u32 + 1
@@ -55,7 +55,7 @@ impl Lent {
 
     /// Whether the bytes lie in a region of this size, if there is one.
     pub fn lies_in(self, size: Option<u32>) -> bool
-        ensures { result ≡ lie_in size self.first (end_of self) }
+        ensures { result ≡ lie_in size self.first (lent_end self) }
     {
         match size {
             Some(size) => 0 <= self.first && self.end() <= i64::from(size),
@@ -105,7 +105,7 @@ impl Lent {
 
     /// Whether the bytes begin before the other's end.
     fn begins_before_end(self, other: Lent) -> bool
-        ensures { result ≡ int_lt self.first (end_of other) }
+        ensures { result ≡ int_lt self.first (lent_end other) }
     {
         i64::from(self.first) < other.end()
     }

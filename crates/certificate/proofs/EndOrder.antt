@@ -21,7 +21,7 @@ use Rattle.module_format.specs.declared.rows.Direction.TheVariants as directions
 use Rattle.module_format.specs.declared.tags.TheConstants.{END_FRAME_WORD}
 use Rattle.module_format.specs.Order.{InOrder}
 use Rattle.module_format.specs.Pars.{EndKeeps, EndKindKeeps, behind_end, first_key, key_of, is_below, kind_of}
-use Rattle.module_format.specs.Pars.{number_of, direction_number}
+use Rattle.module_format.specs.Pars.{end_number_of, direction_number}
 use Rattle.certificate.specs.Rights.{is_same_end}
 use Rattle.certificate.specs.Runs.{word_end}
 
@@ -211,7 +211,7 @@ same_direction directions.In directions.Out h = absurd cc
 same_direction directions.Out directions.In h = absurd cc
 
 frame_word : (e : EndKind) (k : ℤ) → eqb (kind_of e) END_FRAME_WORD ≡ true
-    → (int_le (number_of e) k && int_le k (number_of e)) ≡ true → e ≡ ends.FrameWord k
+    → (int_le (end_number_of e) k && int_le k (end_number_of e)) ≡ true → e ≡ ends.FrameWord k
 frame_word (ends.FrameWord w) k kind number = ap (λ (z : ℤ). ends.FrameWord z) (int_same w k number)
 frame_word (ends.Parameter j a) k kind number = absurd cc
 frame_word (ends.Link l) k kind number = absurd cc
@@ -258,7 +258,7 @@ word_before es i j k d h here next = elim (cases_lt i j) [
         let both : Some (word_end k d) ≡ Some (word_end (k +ℤ pos 1) d) =
         sym here ∙ ap (slice_get es) (sym same) ∙ next in
         let same_end : word_end k d ≡ word_end (k +ℤ pos 1) d = cc in
-        let word : k ≡ k +ℤ pos 1 = ap (λ (x : EndRow). number_of x.kind) same_end in
+        let word : k ≡ k +ℤ pos 1 = ap (λ (x : EndRow). end_number_of x.kind) same_end in
         absurd (omega (arith, ints))
   ]
 ]

@@ -15,7 +15,8 @@ use Rattle.module_format.specs.declared.rows.ChannelRow.{ChannelRow}
 use Rattle.module_format.specs.Contents.{Branch, Par, Contents}
 use Rattle.module_format.specs.Contexts.{first_branch}
 use Rattle.module_format.specs.Order.{InOrder, least_word}
-use Rattle.module_format.specs.Pars.{ChannelKeeps, behind_channel, IntervalKeeps, behind_interval, meet, ReadKeeps}
+use Rattle.module_format.specs.Pars.{ChannelKeeps, behind_channel, IntervalKeeps, behind_interval, intervals_meet}
+use Rattle.module_format.specs.Pars.{ReadKeeps}
 use Rattle.module_format.specs.Pars.{GiftsKeep, BranchKeeps, behind_branch, ParKeeps, behind_par, no_branches}
 use Rattle.module_format.specs.Keeping.{Keeps}
 use Rattle.module_format.specs.Places.{branches_of}
@@ -80,10 +81,10 @@ word_lt a k = elim (int_le a k) as (λ b. int_le a k ≡ b → int_lt a (k +ℤ 
   | false ↦ λ e. let gt = int_le-false a k e in le-int_lt a (k +ℤ pos 1) (grind (arith, ints))
 ] refl
 
-meets_word : (k : ℤ) (i : Interval) → meet (single k) i ≡ (int_le i.lo k && int_lt k i.hi)
+meets_word : (k : ℤ) (i : Interval) → intervals_meet (single k) i ≡ (int_le i.lo k && int_lt k i.hi)
 meets_word k i = rw (word_lt i.lo k) (and_comm (int_lt k i.hi) (int_le i.lo k))
 
-pub meets_words : (k : ℤ) (is : List Interval) → list_any (meet (single k)) is ≡ is_among is k
+pub meets_words : (k : ℤ) (is : List Interval) → list_any (intervals_meet (single k)) is ≡ is_among is k
 meets_words k [] = refl
 meets_words k (i ∷ is) = rw (meets_word k i, meets_words k is) refl
 

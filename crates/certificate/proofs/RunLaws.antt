@@ -11,7 +11,7 @@ use Rattle.std.proofs.lemmas.Option.{slice_get_within, get_or_from_slice_get}
 use Rattle.module_format.specs.declared.rows.Direction.{Direction}
 use Rattle.module_format.specs.declared.rows.EndRow.{EndRow}
 use Rattle.module_format.specs.Order.{InOrder}
-use Rattle.module_format.specs.Pars.{EndKeeps, behind_end, first_key, key_of, number_of}
+use Rattle.module_format.specs.Pars.{EndKeeps, behind_end, first_key, key_of, end_number_of}
 use Rattle.certificate.specs.declared.runs.ChannelRun.{ChannelRun}
 use Rattle.certificate.specs.Runs.{word_end, lists_word, held_length, IsRun, AreRuns, HasRun, IsCount}
 use Rattle.certificate.specs.Rights.{is_same_end}
@@ -73,7 +73,7 @@ module _ (length_of : ℤ → Option ℕ) (listed : List EndRow) (runs : List Ch
       | inl e ↦
           let same : Some (word_end m other) ≡ Some (word_end k direction) = sym is ∙ ap (slice_get listed) e ∙ here in
           let same_end : word_end m other ≡ word_end k direction = cc in
-          let word : m ≡ k = ap (λ (x : EndRow). number_of x.kind) same_end in
+          let word : m ≡ k = ap (λ (x : EndRow). end_number_of x.kind) same_end in
           let way : other ≡ direction = ap (λ (x : EndRow). x.direction) same_end in
           rw (get_or-set_at runs i j run d e within, word, way) right
       | inr ne ↦ rw (get_or-set_other runs i j run d ne) (h.each j m other d (omega arith) is)

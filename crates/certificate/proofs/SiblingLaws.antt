@@ -15,7 +15,7 @@ use Rattle.module_format.specs.declared.tables.Tables.{Tables}
 use Rattle.module_format.specs.Contents.{Par, Contents, branch_of, par_of, contents_of}
 use Rattle.module_format.specs.Contexts.{first_branch}
 use Rattle.module_format.specs.Order.{InOrder}
-use Rattle.module_format.specs.Pars.{IntervalKeeps, behind_interval, meet}
+use Rattle.module_format.specs.Pars.{IntervalKeeps, behind_interval, intervals_meet}
 use Rattle.module_format.specs.Pars.{EndKeeps, behind_end, key_of, is_below}
 use Rattle.module_format.specs.Pars.{GiftsKeep, BranchKeeps, behind_branch, ParKeeps, behind_par, no_branches}
 use Rattle.module_format.specs.Keeping.{Keeps}
@@ -43,7 +43,7 @@ rise_after i is h = record { low = i.hi; order = h.order.1 }
 
 -- an interval that ends where others begin has no word of them
 none_meets : (i : Interval) (low : ℤ) (is : List Interval) → InOrder IntervalKeeps behind_interval low is → i.hi ≤ℤ low
-    → list_any (meet i) is ≡ false
+    → list_any (intervals_meet i) is ≡ false
 none_meets i low [] h le = refl
 none_meets i low (x ∷ is) h le =
     let a = h.0.apart in

@@ -13,7 +13,7 @@ use Rattle.module_format.specs.declared.rows.Interval.{Interval}
 use Rattle.module_format.specs.Order.{InOrder, least_word}
 use Rattle.module_format.specs.Pars.{IntervalKeeps, behind_interval}
 use Rattle.certificate.specs.Rights.{is_among}
-use Rattle.certificate.specs.Words.{all_words, is_within, beyond_interval, BeginBy, BeginsFrom, from_begin}
+use Rattle.certificate.specs.Words.{all_words, is_in_interval, beyond_interval, BeginBy, BeginsFrom, from_begin}
 use Rattle.certificate.specs.Words.{BeginInOrder}
 use Rattle.certificate.specs.Words.{IsAdded}
 
@@ -128,21 +128,22 @@ or_last false true = refl
 or_last false false = refl
 
 words_widened : (k : ℤ) (is : List Interval) (last other wide : Interval)
-    → is_within wide k ≡ (is_within last k || is_within other k)
-    → is_among (is ++ wide ∷ []) k ≡ (is_among (is ++ last ∷ []) k || is_within other k)
+    → is_in_interval wide k ≡ (is_in_interval last k || is_in_interval other k)
+    → is_among (is ++ wide ∷ []) k ≡ (is_among (is ++ last ∷ []) k || is_in_interval other k)
 words_widened k is last other wide e =
     rw (
-      list_any-append (λ (i : Interval). is_within i k) is (wide ∷ []),
-      list_any-append (λ (i : Interval). is_within i k) is (last ∷ []),
-    ) (or_moved (is_among is k) (is_within last k) (is_within other k) (is_within wide k) e)
+      list_any-append (λ (i : Interval). is_in_interval i k) is (wide ∷ []),
+      list_any-append (λ (i : Interval). is_in_interval i k) is (last ∷ []),
+    ) (or_moved (is_among is k) (is_in_interval last k) (is_in_interval other k) (is_in_interval wide k) e)
 
 words_more : (k : ℤ) (is : List Interval) (next : Interval)
-    → is_among (is ++ next ∷ []) k ≡ (is_among is k || is_within next k)
+    → is_among (is ++ next ∷ []) k ≡ (is_among is k || is_in_interval next k)
 words_more k is next =
-    list_any-append (λ (i : Interval). is_within i k) is (next ∷ []) ∙ or_last (is_among is k) (is_within next k)
+    list_any-append (λ (i : Interval). is_in_interval i k) is (next ∷ [])
+    ∙ or_last (is_among is k) (is_in_interval next k)
 
 -- an empty interval has no word
-pub no_word : (i : Interval) (k : ℤ) → i.hi ≤ℤ i.lo → is_within i k ≡ false
+pub no_word : (i : Interval) (k : ℤ) → i.hi ≤ℤ i.lo → is_in_interval i k ≡ false
 no_word i k le = grind (arith, ints)
 
 -- ---- neighbouring words
@@ -193,7 +194,7 @@ before_all k low [] h lt = refl
 before_all k low (i ∷ is) h lt =
     let a = h.0.apart in
     let some = h.0.some in
-    let here : is_within i k ≡ false = grind (arith, ints) in
+    let here : is_in_interval i k ≡ false = grind (arith, ints) in
     let later : k <ℤ (i.hi +ℤ pos 1) = grind (arith, ints) in
     rw here (before_all k (i.hi +ℤ pos 1) is h.1 later)
 
@@ -203,7 +204,7 @@ pub behind_them : (k : ℤ) (is : List Interval) (d : Interval)
 behind_them k [] d past = refl
 behind_them k (i ∷ is) d past =
     let here = int_le-true i.hi k (past 0 (omega arith)) in
-    let none : is_within i k ≡ false = grind (arith, ints) in
+    let none : is_in_interval i k ≡ false = grind (arith, ints) in
     rw none (behind_them k is d (λ j lt. past (suc j) (omega arith)))
 
 module _ (first : ℤ) (count : ℕ) (some : 1 ≤ count) where
@@ -216,7 +217,7 @@ module _ (first : ℤ) (count : ℕ) (some : 1 ≤ count) where
       let nonempty = h.0.some in
       by_lt_z first i.lo
       (λ before.
-      let none : is_within i first ≡ false = grind (arith, ints) in
+      let none : is_in_interval i first ≡ false = grind (arith, ints) in
       let later : first <ℤ (i.hi +ℤ pos 1) = grind (arith, ints) in
       let other : is_among is first ≡ false = before_all first (i.hi +ℤ pos 1) is h.1 later in
       let missing : is_among (i ∷ is) first ≡ false = rw (none, other) refl in
@@ -224,7 +225,7 @@ module _ (first : ℤ) (count : ℕ) (some : 1 ≤ count) where
       rw (at, one_fails (is_among (i ∷ is)) first count first (omega (arith, ints)) (omega (arith, ints)) missing) refl)
       (λ from. by_lt_z i.hi (first +ℤ pos count)
       (λ short.
-      let none : is_within i i.hi ≡ false = grind (arith, ints) in
+      let none : is_in_interval i i.hi ≡ false = grind (arith, ints) in
       let later : i.hi <ℤ (i.hi +ℤ pos 1) = grind (arith, ints) in
       let other : is_among is i.hi ≡ false = before_all i.hi (i.hi +ℤ pos 1) is h.1 later in
       let missing : is_among (i ∷ is) i.hi ≡ false = rw (none, other) refl in
@@ -239,7 +240,7 @@ module _ (first : ℤ) (count : ℕ) (some : 1 ≤ count) where
         le-int_le i.lo first from,
         le-int_le (first +ℤ pos count) i.hi long,
         all_pass (is_among (i ∷ is)) first count (λ k low_k high_k.
-            let inside : is_within i k ≡ true = grind (arith, ints) in
+            let inside : is_in_interval i k ≡ true = grind (arith, ints) in
             rw inside refl),
       ) refl))
 
@@ -255,7 +256,7 @@ module _ (first : ℤ) (count : ℕ) (some : 1 ≤ count) where
       let past = int_le-true i.hi first (before 0 (omega arith)) in
       one_has (i.hi +ℤ pos 1) is n d h.1 (omega arith) (λ j less. before (suc j) (omega arith)) here
       ∙ same_words (is_among is) (is_among (i ∷ is)) first count (λ k low_k high_k.
-      let none : is_within i k ≡ false = grind (arith, ints) in
+      let none : is_in_interval i k ≡ false = grind (arith, ints) in
       rw none refl)
 
   -- the same of one that a search found
@@ -298,7 +299,7 @@ module _ (is : List Interval) (last i : Interval)
     (begun : BeginBy i.lo (is ++ last ∷ [])) where
   -- an interval that begins in the last one, or where it ends, widens it
   pub added_wide : (wide : Interval) → wide.lo ≡ last.lo → last.hi ≤ℤ wide.hi → FitsSigned w32 wide.hi
-      → ((k : ℤ) → is_within wide k ≡ (is_within last k || is_within i k))
+      → ((k : ℤ) → is_in_interval wide k ≡ (is_in_interval last k || is_in_interval i k))
       → IsAdded (is ++ last ∷ []) i (is ++ wide ∷ [])
   added_wide wide lo hi fits words = record {
     apart = apart_widened least_word is last wide h lo hi fits;
@@ -318,10 +319,10 @@ module _ (is : List Interval) (last i : Interval)
 
 -- a word of the one that is joined
 pub word_goes_on : (k : ℤ) (joined rest after now : List Interval) (i : Interval) → rest ≡ i ∷ after
-    → is_among now k ≡ (is_among joined k || is_within i k)
+    → is_among now k ≡ (is_among joined k || is_in_interval i k)
     → (is_among now k || is_among after k) ≡ (is_among joined k || is_among rest k)
 word_goes_on k joined rest after now i is e =
-    rw (is, e) (or_assoc (is_among joined k) (is_within i k) (is_among after k))
+    rw (is, e) (or_assoc (is_among joined k) (is_in_interval i k) (is_among after k))
 
 -- at the end nothing is left
 pub no_rest : (k : ℤ) (joined rest : List Interval) → length rest ≡ 0

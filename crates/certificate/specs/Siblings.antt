@@ -8,7 +8,7 @@ use Rattle.module_format.specs.declared.rows.EndKind.{EndKind}
 use Rattle.module_format.specs.declared.rows.EndKind.TheVariants as ends
 use Rattle.module_format.specs.declared.rows.Interval.{Interval}
 use Rattle.module_format.specs.Contents.{Contents, Par, Branch}
-use Rattle.module_format.specs.Pars.{meet, key_of}
+use Rattle.module_format.specs.Pars.{intervals_meet, key_of}
 use Rattle.certificate.specs.Branches.{numbered_branch}
 use Rattle.certificate.specs.Rights.{may_read_word, has_end, listed_length, is_same_end}
 
@@ -16,7 +16,7 @@ use Rattle.certificate.specs.Rights.{may_read_word, has_end, listed_length, is_s
 
 -- one of the other intervals has a word of these
 abbrev pub have_common_word : List Interval → List Interval → Bool
-have_common_word intervals others = list_any (λ other. list_any (meet other) intervals) others
+have_common_word intervals others = list_any (λ other. list_any (intervals_meet other) intervals) others
 
 -- one of the other parameters is among these
 abbrev pub have_common_number : List ℕ → List ℕ → Bool

@@ -49,13 +49,13 @@ abbrev pub is_scheduling_word : ℤ → ℤ → Bool
 is_scheduling_word workspace k = int_lt k workspace && int_le workspace (k +ℤ pos 3)
 
 -- the context may read word k, which is none that scheduling takes below its workspace
-abbrev pub is_seen : Contents → ℕ → ℤ → ℤ → Bool
-is_seen m context workspace k = may_read_word m context k && not (is_scheduling_word workspace k)
+abbrev pub is_read_beside_scheduling : Contents → ℕ → ℤ → ℤ → Bool
+is_read_beside_scheduling m context workspace k = may_read_word m context k && not (is_scheduling_word workspace k)
 
 -- so it is with each word of which the entry says something
 abbrev pub entry_is_seen : Contents → ℕ → ℤ → Entry → Bool
 entry_is_seen m context workspace entry =
-    is_unknown entry.fact || all_words (is_seen m context workspace) entry.word entry.span
+    is_unknown entry.fact || all_words (is_read_beside_scheduling m context workspace) entry.word entry.span
 
 -- so it is with each entry of the label of the branch that is context n, if there is that label
 abbrev pub label_is_seen : Contents → ℕ → Bool

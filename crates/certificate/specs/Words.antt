@@ -17,8 +17,8 @@ abbrev pub all_within : (ℤ → Bool) → Interval → Bool
 all_within test i = all_words test i.lo (nat_abs (i.hi -ℤ i.lo))
 
 -- word k is one of the interval's
-abbrev pub is_within : Interval → ℤ → Bool
-is_within i k = int_le i.lo k && int_lt k i.hi
+abbrev pub is_in_interval : Interval → ℤ → Bool
+is_in_interval i k = int_le i.lo k && int_lt k i.hi
 
 -- ---- joined intervals
 
@@ -39,7 +39,7 @@ BeginBy k is = AllByRecursion (λ i. i.lo ≤ℤ k) is
 pub record IsAdded (old : List Interval) (i : Interval) (new : List Interval) : Type 0 where
   pub apart : InOrder IntervalKeeps beyond_interval least_word new
   pub begun : BeginBy i.lo new
-  pub words : (k : ℤ) → is_among new k ≡ (is_among old k || is_within i k)
+  pub words : (k : ℤ) → is_among new k ≡ (is_among old k || is_in_interval i k)
 
 -- an interval that begins at a word or after it
 abbrev pub BeginsFrom : ℤ → Interval → Type 0

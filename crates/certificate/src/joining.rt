@@ -4,7 +4,7 @@ ghost use Rattle.std.specs.Prelude.{◌≡◌, ◌||◌, ◌≤ℤ◌, ℤ, IfOk
 ghost use Rattle.module_format.specs.Order.{InOrder, least_word};
 ghost use Rattle.module_format.specs.Pars.{IntervalKeeps};
 ghost use Rattle.certificate.specs.Rights.{is_among};
-ghost use Rattle.certificate.specs.Words.{all_words, is_within, beyond_interval, AreJoined, IsAdded, BeginBy};
+ghost use Rattle.certificate.specs.Words.{all_words, is_in_interval, beyond_interval, AreJoined, IsAdded, BeginBy};
 ghost use Rattle.certificate.specs.Words.{BeginInOrder};
 
 use module_format::Interval;
@@ -22,7 +22,7 @@ fn sort(intervals: &mut Vec<Interval>)
 fn widened(interval: Interval, other: Interval) -> Interval
     requires begins { interval.lo ≤ℤ other.lo }
     requires touches { other.lo ≤ℤ interval.hi }
-    ensures words { (k : ℤ) → is_within result k ≡ (is_within interval k || is_within other k) }
+    ensures words { (k : ℤ) → is_in_interval result k ≡ (is_in_interval interval k || is_in_interval other k) }
     ensures lo { result.lo ≡ interval.lo }
     ensures hi { interval.hi ≤ℤ result.hi }
 {

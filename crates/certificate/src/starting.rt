@@ -8,7 +8,7 @@ use module_format::Entry;
 impl Module<'_> {
     ghost use Rattle.std.specs.Prelude.{◌≡◌};
     ghost use Rattle.std.specs.List.{list_all};
-    ghost use Rattle.certificate.specs.Starting.{gives_words, is_seen, entry_is_seen, label_is_seen};
+    ghost use Rattle.certificate.specs.Starting.{gives_words, is_read_beside_scheduling, entry_is_seen, label_is_seen};
     ghost use Rattle.certificate.specs.Words.{all_words};
 
     /// Whether a context may write the words that a branch writes, and read those that it reads.
@@ -26,7 +26,7 @@ impl Module<'_> {
 
     /// Whether a context may read `count` words from the first one on, and scheduling takes none of them.
     fn sees_words(&self, context: u32, workspace: i32, first: i32, count: u32) -> bool
-        ensures { result ≡ all_words (is_seen self.now context workspace) first count }
+        ensures { result ≡ all_words (is_read_beside_scheduling self.now context workspace) first count }
     {
         self.may_read_words(context, first, count) && leaves_scheduling(workspace, first, count)
     }

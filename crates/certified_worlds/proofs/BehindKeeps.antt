@@ -7,14 +7,14 @@ use Rattle.states.specs.declared.known.Mode.{Mode}
 use Rattle.states.specs.declared.known.Mode.TheVariants.{Plain, Enabling, Disabling, Starting}
 use Rattle.rulings.specs.Meaning.{Layout}
 use Rattle.rulings.specs.Fitting.{Caller}
-use Rattle.rulings.specs.Regions.{scope_of, scope_among, Keeps, HoldsNamed}
+use Rattle.rulings.specs.Regions.{scope_of, scope_among, KeepsMemory, HoldsNamed}
 use Rattle.rulings.proofs.Lending.{lift}
 use Rattle.rulings.proofs.Regions.{keeps_all, keeps_more}
 use Rattle.rulings.proofs.Within.{is_starting}
 use Rattle.certified_worlds.specs.Point.{Began, Behind, nobody_waits, one_waits, BehindIn}
 
 pub behind_keeps : {m : Contents} {h : Holding} {began : Began} {context : ℕ} {layout : Layout} {old new : Memory}
-    {callers : List Caller} → Keeps m h (scope_of m context layout) old new
+    {callers : List Caller} → KeepsMemory m h (scope_of m context layout) old new
     → Behind m h began context layout old callers → Behind m h began context layout new callers
 behind_keeps keeps (nobody_waits same there procedure) = nobody_waits same there procedure
 behind_keeps keeps (one_waits some few reached going lengths base lends resumes rest) =
@@ -31,12 +31,12 @@ behind_lengths {memory = memory} (one_waits some few reached going lengths base 
 -- whatever keeps what an activation has keeps what its process began with
 pub behind_lifts : {m : Contents} {h : Holding} {began : Began} {context : ℕ} {layout : Layout} {old new : Memory}
     {callers : List Caller} → Behind m h began context layout old callers
-    → HoldsNamed m h (scope_of m context layout) old → Keeps m h (scope_of m context layout) old new
-    → Keeps m h (scope_of m began.context began.layout) old new
+    → HoldsNamed m h (scope_of m context layout) old → KeepsMemory m h (scope_of m context layout) old new
+    → KeepsMemory m h (scope_of m began.context began.layout) old new
 behind_lifts {m} {h} {began} {context = context} {layout = layout} {old = old} {new = new}
     (nobody_waits same there procedure) named keeps =
-    subst (λ (layout : Layout). Keeps m h (scope_of m began.context layout) old new) there
-    (subst (λ (n : ℕ). Keeps m h (scope_of m n layout) old new) same keeps)
+    subst (λ (layout : Layout). KeepsMemory m h (scope_of m began.context layout) old new) there
+    (subst (λ (n : ℕ). KeepsMemory m h (scope_of m n layout) old new) same keeps)
 behind_lifts {m} {h} {context = context} {layout = layout} {old = old} {new = new} {callers = caller ∷ callers}
     (one_waits some few reached going lengths base lends resumes rest) named keeps =
     behind_lifts (rest old keeps_all) (resumes old keeps_all).named
@@ -56,7 +56,7 @@ behind_named {memory = memory} {callers = caller ∷ callers}
 
 -- so it is in each mode, by what the activation has in it
 pub behind_in_keeps : {m : Contents} {h : Holding} (began : Began) (mode : Mode) (context : ℕ) (layout : Layout)
-    (callers : List Caller) {old new : Memory} → Keeps m h (scope_among m context mode layout) old new
+    (callers : List Caller) {old new : Memory} → KeepsMemory m h (scope_among m context mode layout) old new
     → BehindIn m h began mode context layout old callers → BehindIn m h began mode context layout new callers
 behind_in_keeps began Plain context layout callers keeps behind = behind_keeps keeps behind
 behind_in_keeps began Enabling context layout callers keeps behind = behind_keeps keeps behind

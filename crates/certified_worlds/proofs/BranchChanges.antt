@@ -16,7 +16,7 @@ use Rattle.machine_state.proofs.Reading.{word_at_same}
 use Rattle.rulings.specs.Buffers.{IsByte}
 use Rattle.rulings.specs.Fitting.{Caller}
 use Rattle.rulings.specs.Meaning.{Layout, words_in, frame_word, word_at_place}
-use Rattle.rulings.specs.Regions.{Scope, scope_of, scope_in, Keeps, HoldsNamed}
+use Rattle.rulings.specs.Regions.{Scope, scope_of, scope_in, KeepsMemory, HoldsNamed}
 use Rattle.rulings.proofs.Agreeing.{agree_keeps}
 use Rattle.rulings.proofs.Combining.{same_frame}
 use Rattle.rulings.proofs.Regions.{bytes_read}
@@ -63,7 +63,7 @@ module _ {m : Contents} {h : Holding} {began : Began} {memory : Memory} {t : Tas
   has_began = behind_named behind_now named_now
 
   -- What its activation changes is within what it began with.
-  pub step_within : (new : Memory) → ChangesOwn h memory new → Keeps m h whole memory new
+  pub step_within : (new : Memory) → ChangesOwn h memory new → KeepsMemory m h whole memory new
       → ChangesWithin m h (scope_began m began) memory new
   step_within new own keeps = within_began behind_now named_now (record { own = own; keeps = keeps })
 
@@ -79,7 +79,7 @@ module _ {m : Contents} {h : Holding} {began : Began} {memory : Memory} {t : Tas
       | inl awaited ↦ let no' : false ≡ true = sym other ∙ (l.room place awaited).0 in absurd (cc)
       | inr free ↦ others place free
     ];
-  }) (subst (λ (scope : Scope). Keeps m h scope memory new) same_scope (l.fills memory new (record {
+  }) (subst (λ (scope : Scope). KeepsMemory m h scope memory new) same_scope (l.fills memory new (record {
     size = size;
     others = λ place held free. others place free;
     come = λ place held awaited. come place awaited;
@@ -101,7 +101,7 @@ module _ {m : Contents} {own : Holding} {o : ℕ} {began : Began} {all : List Be
   opener_scope = scope_of m after.par.context after.act.layout
 
   -- whatever keeps what the opener has, and the words that no branch has still
-  pub pending_by : (new : Memory) → Keeps m own opener_scope old new
+  pub pending_by : (new : Memory) → KeepsMemory m own opener_scope old new
       → ((k : ℤ) → (words_in m after.par.context).reads k ≡ true → (IsOut m o all after.par j k → ⊥)
       → frame_word new after.act.layout.origin k ≡ frame_word old after.act.layout.origin k)
       → Pending m own o began all new j due after

@@ -19,7 +19,7 @@ use Rattle.machine_state.specs.Memory.{Memory}
 use Rattle.machine_state.specs.Moves.{cell_of}
 use Rattle.machine_state.specs.Ownership.{IsAmong}
 use Rattle.machine_state.proofs.Shares.{end_among}
-use Rattle.states.specs.State.{is_word}
+use Rattle.states.specs.State.{is_same_number}
 use Rattle.rulings.specs.Channels.{message_length}
 use Rattle.rulings.specs.Meaning.{Layout}
 use Rattle.rulings.specs.Regions.{scope_of, channel_address, length_left, HoldsNamed}
@@ -40,7 +40,7 @@ use Rattle.certified_worlds.proofs.StartsKeepPars.{began_by}
 data Listing (rows : List ChannelRow) (word : ℤ) : Type 0 where
   of_row : (n : ℕ) (row : ChannelRow) → slice_get rows n ≡ Some row → row.word ≡ word
       → listed_length rows word ≡ Some row.length → Listing rows word
-  of_none : listed_length rows word ≡ None → list_any (λ (c : ChannelRow). is_word c.word word) rows ≡ false
+  of_none : listed_length rows word ≡ None → list_any (λ (c : ChannelRow). is_same_number c.word word) rows ≡ false
       → Listing rows word
 
 -- the length that is listed, by whether the first channel is in the word
@@ -55,7 +55,7 @@ listing (c ∷ cs) word = elim (word_test c.word word) [
   | inr other ↦ elim (listing cs word) [
     | of_row n row at is listed ↦ of_row (suc n) row at is (ap (length_if c cs word) other.0 ∙ listed)
     | of_none none beside ↦ of_none (ap (length_if c cs word) other.0 ∙ none)
-        (ap (λ (b : Bool). b || list_any (λ (c : ChannelRow). is_word c.word word) cs) other.0 ∙ beside)
+        (ap (λ (b : Bool). b || list_any (λ (c : ChannelRow). is_same_number c.word word) cs) other.0 ∙ beside)
   ]
 ]
 

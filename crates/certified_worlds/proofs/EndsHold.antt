@@ -22,7 +22,7 @@ use Rattle.module_format.specs.declared.rows.Direction.TheVariants.{In}
 use Rattle.machine_state.specs.Holding.{Holding, nothing, has_end}
 use Rattle.machine_state.specs.Memory.{Memory}
 use Rattle.machine_state.specs.JoinLookups.{opened_by, opener_of}
-use Rattle.machine_state.specs.Joins.{closed, ended, given_back, joined}
+use Rattle.machine_state.specs.Joins.{closed, ended, given_back, member_joined}
 use Rattle.machine_state.specs.Moves.{counted, dispatch, leave, picked}
 use Rattle.machine_state.specs.Ownership.{HoldersIn}
 use Rattle.machine_state.specs.Roles.{with_join, without_join, without_own}
@@ -35,7 +35,7 @@ use Rattle.machine_state.proofs.Waiting.{has_role}
 use Rattle.machine_state.proofs.MovesLeaveAlone.{is_last, member_gone, joined_either, on_role_is, with_opened, without}
 use Rattle.states.specs.declared.known.Mode.TheVariants as states_modes
 use Rattle.states.specs.declared.rule.Rule.{Rule}
-use Rattle.rulings.specs.Fitting.{Here}
+use Rattle.rulings.specs.Fitting.{Situation}
 use Rattle.rulings.specs.Regions.{channel_address}
 use Rattle.rulings.specs.Rulings.{Ruling, breaks}
 use Rattle.rulings.specs.Meaning.{Layout, Activation, IsWellFormed}
@@ -94,7 +94,7 @@ module _ (m : Contents) (d : Decodes m) (wf : IsWellFormed m) (c : IsCertified m
   abbrev point : Point m t
   point = l.point
 
-  abbrev x : Here
+  abbrev x : Situation
   x = here_of m d wf c (held row.role) point.act w.memory t point.state point.instr
 
   abbrev local : Local
@@ -213,7 +213,7 @@ module _ (m : Contents) (d : Decodes m) (wf : IsWellFormed m) (c : IsCertified m
           (closed_others m (reduced_world w.queue) held_now o role_then (join_without p j) par resumes.0 resumes.1
           (rests last resumes.0 resumes.1) (survives ordered_then)))
 
-      ends_hold : HoldsThen (joined (at_here m p t pick) o j par v)
+      ends_hold : HoldsThen (member_joined (at_here m p t pick) o j par v)
       ends_hold = joined_either HoldsThen (at_here m p t pick) o j par v is_over still_open
 
   abbrev ended_world : World
@@ -283,9 +283,9 @@ module _ (m : Contents) (d : Decodes m) (wf : IsWellFormed m) (c : IsCertified m
     }
 
     -- Where holders are in order afterwards, the invariant holds.
-    pub own_end_holds : HoldersIn m (joined (at_here m p t pick) p j row_par ended_world).roles
-        (joined (at_here m p t pick) p j row_par ended_world).channels
-        → Holds m (counted (joined (at_here m p t pick) p j row_par ended_world))
+    pub own_end_holds : HoldersIn m (member_joined (at_here m p t pick) p j row_par ended_world).roles
+        (member_joined (at_here m p t pick) p j row_par ended_world).channels
+        → Holds m (counted (member_joined (at_here m p t pick) p j row_par ended_world))
     own_end_holds = ends_hold p row.role j row_par at_row row.has_role own_roles own_shows
         (λ last. all_started row_par at_row)
         (λ last u at. ap (λ (x : Task). x.condition)
@@ -408,7 +408,7 @@ module _ (m : Contents) (d : Decodes m) (wf : IsWellFormed m) (c : IsCertified m
         (got_other w.tasks p o over (λ same. differ (sym same)) ∙ gone.here)) ∙ gone.over
 
     abbrev joined_world : World
-    joined_world = joined (at_here m p t pick) o j row_par (given_back (at_here m p t pick) ended_world)
+    joined_world = member_joined (at_here m p t pick) o j row_par (given_back (at_here m p t pick) ended_world)
 
     -- Where holders are in order afterwards, the invariant holds.
     pub branch_end_holds : HoldersIn m joined_world.roles joined_world.channels → Holds m (counted joined_world)

@@ -35,15 +35,15 @@ use Rattle.machine_state.proofs.Shares.{left_claims}
 use Rattle.machine_state.proofs.Starting.{first_tests}
 use Rattle.states.specs.declared.known.Mode.TheVariants as states_modes
 use Rattle.states.specs.State.{State, label_state}
-use Rattle.rulings.specs.Fitting.{After, Here}
+use Rattle.rulings.specs.Fitting.{After, Situation}
 use Rattle.rulings.specs.Meaning.{Activation, IsWellFormed, HasFrame, with_turns, words_in}
-use Rattle.rulings.specs.Regions.{Scope, scope_of, Keeps}
+use Rattle.rulings.specs.Regions.{Scope, scope_of, KeepsMemory}
 use Rattle.rulings.proofs.Within.{is_starting, scope_still}
 use Rattle.share_laws.specs.GoingOn.{act_with}
 use Rattle.share_laws.specs.Opening.{CanOpen, HasNoEndsInside, layout_with, held_by_opener}
 use Rattle.share_laws.specs.Shares.{IsLaidOut}
 use Rattle.share_laws.specs.Starts.{CanStart, held_by_branch}
-use Rattle.share_laws.specs.Taking.{after_start, after_opening}
+use Rattle.share_laws.specs.Taking.{memory_after_start, after_opening}
 use Rattle.share_laws.proofs.Bases.{bases_are_frames}
 use Rattle.share_laws.proofs.GoingOn.{openers_go_on, openings_can_start}
 use Rattle.share_laws.proofs.Prepared.{plans_are_laid_out, first_starts_pass}
@@ -86,7 +86,7 @@ module _ (m : Contents) (d : Decodes m) (wf : IsWellFormed m) (keeps : formats.K
   abbrev point : Point m t
   point = l.point
 
-  abbrev x : Here
+  abbrev x : Situation
   x = here_of m d wf c (held row.role) point.act w.memory t point.state point.instr
 
   abbrev local : Local
@@ -159,7 +159,7 @@ module _ (m : Contents) (d : Decodes m) (wf : IsWellFormed m) (keeps : formats.K
     opened_memory = after_opening found.par base w.memory
 
     abbrev new_memory : Memory
-    new_memory = after_start found base opened_memory
+    new_memory = memory_after_start found base opened_memory
 
     abbrev act : Activation
     act = act_with point.act found
@@ -340,9 +340,9 @@ module _ (m : Contents) (d : Decodes m) (wf : IsWellFormed m) (keeps : formats.K
         (scheduling_is_own row.role.own (length w.memory) plan found branch_workspace opened_memory
         (λ q mine. left_claims (length w.memory) row.role.own (hidden base found.par) (to_write q) mine) both.0.share))
 
-    keeps_own : Keeps m (held row.role) (scope_of m point.state.context point.act.layout) w.memory new_memory
-    keeps_own = subst (λ (k : ℕ). Keeps m (held row.role) (scope_of m k point.act.layout) w.memory new_memory)
-        b.context (subst (λ (g : Holding). Keeps m g (scope_of m found.par.context point.act.layout) w.memory
+    keeps_own : KeepsMemory m (held row.role) (scope_of m point.state.context point.act.layout) w.memory new_memory
+    keeps_own = subst (λ (k : ℕ). KeepsMemory m (held row.role) (scope_of m k point.act.layout) w.memory new_memory)
+        b.context (subst (λ (g : Holding). KeepsMemory m g (scope_of m found.par.context point.act.layout) w.memory
         new_memory) (sym held_is) (opening_keeps can b.is b.left n.first label first))
 
     changer : Changer m w h.began p new_memory

@@ -5,20 +5,21 @@ use Rattle.small_laws.proofs.Options.{none_from_is_some}
 use Rattle.module_format.specs.Contents.{Contents, Label, label_at}
 use Rattle.certificate.specs.Starts.{Entered, procedure_at, is_start}
 use Rattle.states.specs.State.{State, label_state, procedure_state}
-use Rattle.certified_worlds.specs.Certified.{first_state, given, state_at}
+use Rattle.certified_worlds.specs.Certified.{first_state, table_state, state_at}
 
-pub nothing_given : (m : Contents) (at : ℕ) (before : Option State) → given m at ≡ None → state_at m at before ≡ before
+pub nothing_given : (m : Contents) (at : ℕ) (before : Option State) → table_state m at ≡ None
+    → state_at m at before ≡ before
 nothing_given m at before g = ap (λ (o : Option State). elim o [ None ↦ before | Some s ↦ Some s ]) g
 
-pub is_given : (m : Contents) (at : ℕ) (before : Option State) (s : State) → given m at ≡ Some s
+pub is_given : (m : Contents) (at : ℕ) (before : Option State) (s : State) → table_state m at ≡ Some s
     → state_at m at before ≡ Some s
 is_given m at before s g = ap (λ (o : Option State). elim o [ None ↦ before | Some s ↦ Some s ]) g
 
-pub given_label : (m : Contents) (at : ℕ) (t : Label) → label_at m at ≡ Some t → given m at ≡ Some (label_state t)
+pub given_label : (m : Contents) (at : ℕ) (t : Label) → label_at m at ≡ Some t → table_state m at ≡ Some (label_state t)
 given_label m at t l =
     ap (λ (o : Option Label). elim o [ None ↦ first_state (procedure_at m at) | Some t ↦ Some (label_state t) ]) l
 
-pub given_none : (m : Contents) (at : ℕ) → label_at m at ≡ None → procedure_at m at ≡ None → given m at ≡ None
+pub given_none : (m : Contents) (at : ℕ) → label_at m at ≡ None → procedure_at m at ≡ None → table_state m at ≡ None
 given_none m at l p = ap (λ (o : Option Label). elim o [
   | None ↦ first_state (procedure_at m at)
   | Some t ↦ Some
@@ -26,7 +27,7 @@ given_none m at l p = ap (λ (o : Option Label). elim o [
 ]) l ∙ ap first_state p
 
 pub given_procedure : (m : Contents) (at : ℕ) (e : Entered) → label_at m at ≡ None → procedure_at m at ≡ Some e
-    → given m at ≡ Some (procedure_state e.context e.procedure)
+    → table_state m at ≡ Some (procedure_state e.context e.procedure)
 given_procedure m at e l p =
     ap (λ (o : Option Label). elim o [ None ↦ first_state (procedure_at m at) | Some t ↦ Some (label_state t) ]) l
     ∙ ap first_state p

@@ -29,12 +29,12 @@ use Rattle.machine_state.proofs.FoundContexts.{branches_are_contexts}
 use Rattle.machine_state.proofs.Starting.{later_tests}
 use Rattle.states.specs.declared.known.Mode.TheVariants as states_modes
 use Rattle.states.specs.State.{State, label_state}
-use Rattle.rulings.specs.Fitting.{After, Here}
+use Rattle.rulings.specs.Fitting.{After, Situation}
 use Rattle.rulings.specs.Meaning.{IsWellFormed, with_turns}
 use Rattle.rulings.specs.Regions.{scope_of, HoldsNamed}
 use Rattle.share_laws.specs.Shares.{IsLaidOut}
 use Rattle.share_laws.specs.Starts.{CanStart, held_by_branch, held_by_starter}
-use Rattle.share_laws.specs.Taking.{after_start}
+use Rattle.share_laws.specs.Taking.{memory_after_start}
 use Rattle.share_laws.proofs.GoingOn.{starters_go_on}
 use Rattle.share_laws.proofs.Prepared.{later_starts_pass}
 use Rattle.start_laws.specs.BranchLabels.{owed_at_label}
@@ -71,7 +71,7 @@ module _ (m : Contents) (d : Decodes m) (wf : IsWellFormed m) (keeps : formats.K
   abbrev point : Point m t
   point = l.point
 
-  abbrev x : Here
+  abbrev x : Situation
   x = here_of m d wf c (held row.role) point.act w.memory t point.state point.instr
 
   abbrev local : Local
@@ -143,7 +143,7 @@ module _ (m : Contents) (d : Decodes m) (wf : IsWellFormed m) (keeps : formats.K
     next = join_after (length w.memory) plan found new
 
     abbrev new_memory : Memory
-    new_memory = after_start found j.base w.memory
+    new_memory = memory_after_start found j.base w.memory
 
     abbrev own : Holding
     own = held_by_branch m found j.base j.parameters (length w.memory)

@@ -22,7 +22,7 @@ use Rattle.machine_state.proofs.FoundContexts.{branches_are_contexts}
 use Rattle.states.specs.State.{entry_fact}
 use Rattle.rulings.specs.Fitting.{Caller}
 use Rattle.rulings.specs.Meaning.{Activation, HasFrame, words_in, frame_word, place_in, dues}
-use Rattle.rulings.specs.Regions.{scope_of, Keeps}
+use Rattle.rulings.specs.Regions.{scope_of, KeepsMemory}
 use Rattle.rulings.specs.Remaining.{is_hidden, word_given_to_write}
 use Rattle.rulings.proofs.Combining.{same_frame}
 use Rattle.rulings.proofs.Regions.{keeps_more}
@@ -31,7 +31,7 @@ use Rattle.share_laws.specs.Opening.{CanOpen, layout_with}
 use Rattle.share_laws.specs.Shares as shares
 use Rattle.share_laws.specs.Shares.{IsLaidOut}
 use Rattle.share_laws.specs.Starts.{IsLeft}
-use Rattle.share_laws.specs.Taking.{IsScheduling, OpenerKeeps, OpeningTakes, after_start, after_opening}
+use Rattle.share_laws.specs.Taking.{IsScheduling, OpenerKeeps, OpeningTakes, memory_after_start, after_opening}
 use Rattle.share_laws.proofs.HiddenWords.{fits_words, hidden_word, block_hides}
 use Rattle.share_laws.proofs.OpenerHolds.{none_started}
 use Rattle.share_laws.proofs.ShareBytes.{frame_channel}
@@ -101,7 +101,7 @@ module _ {m : Contents} {own : Holding} {found : Found} {act : Activation} {base
   opened_memory = after_opening par base memory
 
   abbrev new_memory : Memory
-  new_memory = after_start found base opened_memory
+  new_memory = memory_after_start found base opened_memory
 
   taken : OpeningTakes m found.row par act.layout base own memory opened_memory depth workspace
   taken = openings_take_their_words m found.row par act.layout base own memory depth workspace can
@@ -110,7 +110,7 @@ module _ {m : Contents} {own : Holding} {found : Found} {act : Activation} {base
   opener_keeps = starts_keep_openers m found act.layout base own opened_memory depth workspace can.keeps is left
       can.origin taken.can.frame
 
-  pub opening_keeps : Keeps m own (scope_of m par.context act.layout) memory new_memory
+  pub opening_keeps : KeepsMemory m own (scope_of m par.context act.layout) memory new_memory
   opening_keeps = keeps_more taken.keeps opener_keeps.keeps
 
   -- the block is a word of the frame

@@ -22,7 +22,7 @@ use Rattle.rulings.specs.Buffers.{message_place, IsByte}
 use Rattle.rulings.specs.Fitting.{After}
 use Rattle.rulings.specs.Guarding.{guard_value}
 use Rattle.rulings.specs.Meaning.{HasFrame, IsReadableWord, frame_word, words_in, word_at_place}
-use Rattle.rulings.specs.Regions.{Scope, scope_in, Keeps}
+use Rattle.rulings.specs.Regions.{Scope, scope_in, KeepsMemory}
 use Rattle.rulings.proofs.Agreeing.{agree_keeps}
 use Rattle.rulings.proofs.Regions.{bytes_read}
 use Rattle.rulings.proofs.Within.{scope_still}
@@ -72,7 +72,7 @@ module _ (m : Contents) (w after : World) (g : Holding) (changes : ChangesOwn g 
 
     module _ {start : Began} {u : Task} {due : ℕ} where
       kept : (l : Lives m h start w.memory u due)
-          → Keeps m h (scope_in m l.point.state l.point.act.layout) w.memory after.memory
+          → KeepsMemory m h (scope_in m l.point.state l.point.act.layout) w.memory after.memory
       kept l = agree_keeps h w.memory after.memory changes.size same m (scope_in m l.point.state l.point.act.layout)
 
       -- it lives on where it was

@@ -17,7 +17,7 @@ use Rattle.machine_state.specs.Waiting.{Branches, IsGone, IsCounted, is_member}
 use Rattle.machine_state.specs.World.{World, Role, Join, held}
 use Rattle.machine_state.proofs.Holders.{is_idle, held_write}
 use Rattle.rulings.specs.Buffers.{IsByte}
-use Rattle.rulings.specs.Regions.{scope_of, Keeps, HoldsNamed}
+use Rattle.rulings.specs.Regions.{scope_of, KeepsMemory, HoldsNamed}
 use Rattle.rulings.proofs.Within.{is_starting}
 use Rattle.share_laws.specs.Climbing.{ChangesWithin}
 use Rattle.certified_worlds.specs.Point.{Began}
@@ -106,7 +106,7 @@ module _ (m : Contents) (w : World) (all : List Began) (p : ℕ) (t : Task) (her
   }
 
   pub step_changes : (new : Memory) → ChangesOwn (held role) w.memory new
-      → Keeps m (held role) (scope_of m l.point.state.context l.point.act.layout) w.memory new
+      → KeepsMemory m (held role) (scope_of m l.point.state.context l.point.act.layout) w.memory new
       → Changer m w all p new
   step_changes new own keeps = changer new (step_within l still new own keeps)
 
@@ -223,7 +223,7 @@ module _ (m : Contents) (w : World) (h : Holds m w) (branches : Branches w.tasks
   -- A process that has a join open changes what its own scope allows, of what it has not given.
   pub starter_changes : HoldersIn m w.roles w.channels → (o : ℕ) (role : Role) (j : Join)
       (here : slice_get w.roles o ≡ Some role) (is : role.opened ≡ Some j) → ChangesOwn j.rest w.memory new
-      → Keeps m role.own (scope_of m (h.pending o role j here is).after.par.context
+      → KeepsMemory m role.own (scope_of m (h.pending o role j here is).after.par.context
       (h.pending o role j here is).after.act.layout) w.memory new
       → Changer m w h.began o new
   starter_changes holders o role j here is changes keeps =

@@ -5,7 +5,7 @@ use Rattle.module_format.specs.Contents.{Contents, Par, Label, label_at}
 use Rattle.machine_state.specs.Memory.{Memory}
 use Rattle.machine_state.specs.Site.{Local}
 use Rattle.states.specs.State.{State}
-use Rattle.rulings.specs.Fitting.{Here}
+use Rattle.rulings.specs.Fitting.{Situation}
 use Rattle.rulings.specs.Meaning.{Activation, with_turns}
 use Rattle.rulings.specs.Regions.{channel_address}
 use Rattle.start_laws.specs.BranchLabels.{LabelAfter}
@@ -26,7 +26,7 @@ label_stands after = record {
   words = λ k reads shown none. after.words k reads none;
 }
 
-module _ {x : Here} {s : State} {par : Par} where
+module _ {x : Situation} {s : State} {par : Par} where
   -- A process that has started all branches of a PAR ends it at its block,
   pub started_all_ends : StartedAll x s par
       → EndsAPar x.m s x.act.layout (channel_address x.act.layout (FrameWord par.block))

@@ -22,7 +22,7 @@ use Rattle.machine_state.specs.Turn.{at_here}
 use Rattle.machine_state.specs.World.{World, Join, held, holding_at}
 use Rattle.states.specs.declared.rule.Rule.{Rule}
 use Rattle.states.specs.State.{State}
-use Rattle.rulings.specs.Fitting.{Here}
+use Rattle.rulings.specs.Fitting.{Situation}
 use Rattle.rulings.specs.Meaning.{IsWellFormed}
 use Rattle.rulings.specs.Rulings.{Ruling, breaks, falling}
 use Rattle.start_laws.specs.Starting.{StartsBranch, StartsNext, StartsFirst, StartFits, to_start_next, to_start_first}
@@ -49,7 +49,7 @@ module _ (m : Contents) (d : Decodes m) (wf : IsWellFormed m) (keeps : formats.K
   abbrev point : Point m t
   point = l.point
 
-  abbrev x : Here
+  abbrev x : Situation
   x = here_of m d wf c (held row.role) point.act w.memory t point.state point.instr
 
   abbrev local : Local

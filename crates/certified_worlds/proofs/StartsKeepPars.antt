@@ -24,14 +24,14 @@ use Rattle.machine_state.specs.World.{Join}
 use Rattle.machine_state.proofs.FoundContexts.{branches_are_contexts}
 use Rattle.states.specs.declared.known.Mode.TheVariants.{Starting}
 use Rattle.rulings.specs.Meaning.{Layout, Activation, HasFrame, words_in}
-use Rattle.rulings.specs.Regions.{scope_of, Keeps}
+use Rattle.rulings.specs.Regions.{scope_of, KeepsMemory}
 use Rattle.rulings.proofs.Combining.{same_frame}
 use Rattle.rulings.proofs.Words.{means_same}
 use Rattle.share_laws.specs.Climbing.{LieAlike}
 use Rattle.share_laws.specs.Shares as shares
 use Rattle.share_laws.specs.Shares.{IsLaidOut}
 use Rattle.share_laws.specs.Starts.{IsLeft}
-use Rattle.share_laws.specs.Taking.{IsScheduling, OpenerKeeps, after_start}
+use Rattle.share_laws.specs.Taking.{IsScheduling, OpenerKeeps, memory_after_start}
 use Rattle.share_laws.proofs.BranchLent.{branches_are_lent}
 use Rattle.share_laws.proofs.TakenWords.{starts_keep_openers}
 use Rattle.certified_worlds.specs.Point.{Began, Point}
@@ -168,7 +168,7 @@ module _ {m : Contents} {own : Holding} {o : ℕ} {began : Began} {all : List Be
       (subst (λ (n : ℕ). slice_get m.pars n ≡ Some found.par) row is.row) after.row
 
   abbrev new_memory : Memory
-  new_memory = after_start found j.base memory
+  new_memory = memory_after_start found j.base memory
 
   -- the start keeps what the opener has for good
   opener_keeps : OpenerKeeps m found after.act.layout own memory new_memory
@@ -177,8 +177,9 @@ module _ {m : Contents} {own : Holding} {o : ℕ} {began : Began} {all : List Be
       (subst (λ (par : Par). HasFrame own (length memory) (words_in m par.context) after.act.layout.origin
       after.par.block j.block) (sym same_par) pending.frame)
 
-  pub start_keeps : Keeps m own (scope_of m after.par.context after.act.layout) memory new_memory
-  start_keeps = subst (λ (par : Par). Keeps m own (scope_of m par.context after.act.layout) memory new_memory) same_par
+  pub start_keeps : KeepsMemory m own (scope_of m after.par.context after.act.layout) memory new_memory
+  start_keeps = subst (λ (par : Par). KeepsMemory m own (scope_of m par.context after.act.layout) memory new_memory)
+      same_par
       opener_keeps.keeps
 
   -- Afterwards it goes on with the same.

@@ -62,7 +62,8 @@ use Rattle.rulings.specs.Channels.{message_length}
 use Rattle.module_format.specs.declared.rows.Direction.{Direction}
 use Rattle.module_format.specs.declared.rows.Direction.TheVariants.{In, Out}
 use Rattle.rulings.proofs.Agreeing.{agree_keeps, after_agrees}
-use Rattle.rulings.specs.Fitting.{Described, After, Here, step_site, GoesTo, goes_behind, is_jump, is_landing, Fits}
+use Rattle.rulings.specs.Fitting.{Described, After, Situation, step_site, GoesTo, goes_behind, is_jump, is_landing}
+use Rattle.rulings.specs.Fitting.{Fits}
 use Rattle.rulings.specs.Fitting.{it_falls, it_leads, it_calls, it_returns, it_ends, it_asks, it_breaks, Caller}
 use Rattle.rulings.specs.Fitting.{GoesOver, Receives, Sends, Exchanges, to_receive, to_send, Changes, Stays, it_selects}
 use Rattle.rulings.specs.Fitting.{Alters, Begins, Enables, AwaitsGuards, Disables, IsAtChannel, to_begin, to_enable}
@@ -72,7 +73,7 @@ use Rattle.facts.proofs.Local.{function_fits}
 use Rattle.rulings.proofs.Entering.{below_tells, label_after}
 use Rattle.rulings.proofs.Dues.{label_owed}
 use Rattle.rulings.proofs.Regions.{keeps_all}
-use Rattle.rulings.specs.Regions.{Scope, scope_of, scope_in, scope_among, Keeps, HoldsNamed}
+use Rattle.rulings.specs.Regions.{Scope, scope_of, scope_in, scope_among, KeepsMemory, HoldsNamed}
 use Rattle.rulings.proofs.Lending.{lift}
 use Rattle.certified_worlds.proofs.GivenStates.{nothing_given, is_given, given_label, given_none, label_is_start}
 use Rattle.certified_worlds.proofs.GivenStates.{given_procedure}
@@ -197,7 +198,7 @@ after_some (Some f) g e n rest i some h =
     let fg : f ≡ g = cc in
     (sym fg ∙ ap (λ (j : Instr). j.fun) is, ap (λ (j : Instr). j.operand) is, ap (λ (j : Instr). j.len) is)
 
-fits_pays : (x : Here) {r : Ruling} {o : Outcome} → Fits x r o → ((v : Rule) → r ≡ breaks v → ⊥) → x.len ≤ x.owed
+fits_pays : (x : Situation) {r : Ruling} {o : Outcome} → Fits x r o → ((v : Rule) → r ≡ breaks v → ⊥) → x.len ≤ x.owed
 fits_pays x (it_falls fallen gone low after same changes pay stays) whole = omega arith
 fits_pays x (it_leads turns led gone label low after same changes pay) whole = omega arith
 fits_pays x (it_calls act workspace found low after back called same changes pay one few) whole = omega arith
@@ -210,19 +211,20 @@ fits_pays x (it_breaks {broken = v}) whole = absurd (whole v refl)
 owed_more : (s : State) (act : Activation) → s.number ≤ owed s act
 owed_more s act = omega arith
 
-start_pays : (x : Here) {s : State} {l : Local} {r : Ruling} {o : Outcome} → s.number ≤ x.owed → owed s x.act ≤ x.owed
+start_pays : (x : Situation) {s : State} {l : Local} {r : Ruling} {o : Outcome} → s.number ≤ x.owed
+    → owed s x.act ≤ x.owed
     → StartFits x s l r o → ((v : Rule) → r ≡ breaks v → ⊥) → x.len ≤ x.owed
 start_pays x most all (to_start_next found starts next) whole = let pay = next.paid in omega arith
 start_pays x most all (to_start_first found starts first) whole = let pay = first.paid in omega arith
 start_pays x most all (start_breaks {broken = v}) whole = absurd (whole v refl)
 
-end_pays : (x : Here) {s : State} {l : Local} {r : Ruling} {o : Outcome} → s.number ≤ x.owed → EndFits x s l r o
+end_pays : (x : Situation) {s : State} {l : Local} {r : Ruling} {o : Outcome} → s.number ≤ x.owed → EndFits x s l r o
     → ((v : Rule) → r ≡ breaks v → ⊥) → x.len ≤ x.owed
 end_pays x most (to_end_own par started pay) whole = omega arith
 end_pays x most (to_end_branch par leaves pay) whole = omega arith
 end_pays x most (end_breaks {broken = v}) whole = absurd (whole v refl)
 
-step_pays : (x : Here) {s : State} {l : Local} {i : Option Instruction} {r : Ruling} {o : Outcome}
+step_pays : (x : Situation) {s : State} {l : Local} {i : Option Instruction} {r : Ruling} {o : Outcome}
     → s.number ≤ x.owed → owed s x.act ≤ x.owed → FitsStep x s l i r o → ((v : Rule) → r ≡ breaks v → ⊥)
     → x.len ≤ x.owed
 step_pays x most all (it_starts fits) whole = start_pays x most all fits whole
@@ -261,26 +263,26 @@ module _ (m : Contents) where
   task_at t mode to l = record { registers = between to l.registers; mode = mode; condition = Ready }
 
   -- Where the process goes on, in the middle of something only registers have changed.
-  pub record GoesOnAs (x : Here) (began : Began) (t u : Task) (l : Local) (later : ℕ) : Type 0 where
+  pub record GoesOnAs (x : Situation) (began : Began) (t u : Task) (l : Local) (later : ℕ) : Type 0 where
     pub state : State
     pub act : Activation
     pub lives : LivesAs x.m x.h began l.memory u later state act
     pub stays : (t.mode ≡ machine_modes.Plain → ⊥) → Stays x state l × (state.context ≡ x.context) × (act ≡ x.act)
 
   -- an instruction of an alternation: the state after it is that in which the process goes on
-  pub record AltersTo (x : Here) (t : Task) (due later : ℕ) (l : Local) : Type 0 where
+  pub record AltersTo (x : Situation) (t : Task) (due later : ℕ) (l : Local) : Type 0 where
     pub own : ChangesOwn x.h x.memory l.memory
     pub less : later + 1 ≤ due
     pub low : t.registers.at + 1 < length x.m.code
 
   -- the process holds the end of the channel of a guard
-  pub record HoldsChannel (x : Here) (kind : EndKind) (address : ℕ) : Type 0 where
+  pub record HoldsChannel (x : Situation) (kind : EndKind) (address : ℕ) : Type 0 where
     pub end : (scope_of x.m x.context x.act.layout).ends kind In ≡ true
     pub held : has_end x.h (record { address = address; direction = In }) ≡ true
     pub address_is : channel_address x.act.layout kind ≡ address
 
   -- what the last byte of an instruction comes to
-  pub data Comes (x : Here) (began : Began) (t : Task) (due : ℕ) : Outcome → Type 0 where
+  pub data Comes (x : Situation) (began : Began) (t : Task) (due : ℕ) : Outcome → Type 0 where
     -- it goes on after it
     comes_on : {l : Local} (later : ℕ) → ChangesOwn x.h x.memory l.memory
         → GoesOnAs x began t (task_at t t.mode (t.registers.at + 1) l) l later → later + 1 ≤ due
@@ -435,7 +437,7 @@ module _ (m : Contents) (d : Decodes m) (wf : IsWellFormed m) (c : IsCertified m
     pub sends : (e : Exchange) → condition ≡ Sending e → (j : ℕ) → j < e.length
         → (may_read h (message_place e j) ≡ true) × IsByte (byte_at l.memory (message_place e j))
     pub fills : (old new : Memory) → Fills h (awaits condition) old new
-        → Keeps m h (scope_of m s.context act.layout) old new
+        → KeepsMemory m h (scope_of m s.context act.layout) old new
     pub named : HoldsNamed m h (scope_of m s.context act.layout) l.memory
     pub known_length : (e : Exchange) → IsExchanging condition e → e.length ≡ began.layout.lengths e.channel
 
@@ -491,7 +493,7 @@ module _ (m : Contents) (d : Decodes m) (wf : IsWellFormed m) (c : IsCertified m
           };
           room = meanwhile.room;
           sends = meanwhile.sends;
-          fills = λ old new fills. subst (λ (scope : Scope). Keeps m h scope old new)
+          fills = λ old new fills. subst (λ (scope : Scope). KeepsMemory m h scope old new)
               (sym (whole_scope s act.layout still)) (meanwhile.fills old new fills);
           named = subst (λ (scope : Scope). HoldsNamed m h scope l.memory) (sym (whole_scope s act.layout still))
               meanwhile.named;
@@ -545,7 +547,7 @@ module _ (m : Contents) (d : Decodes m) (wf : IsWellFormed m) (c : IsCertified m
       lives_quietly h began mode act at before s l callers Ready (inl refl) r low st still a behind
 
   -- how the rule at the process's point and the step fit, with the whole instruction read
-  abbrev pub here_of : Holding → Activation → Memory → Task → State → Instr → Here
+  abbrev pub here_of : Holding → Activation → Memory → Task → State → Instr → Situation
   here_of h act memory t s i =
       record {
         m = m;
@@ -564,7 +566,7 @@ module _ (m : Contents) (d : Decodes m) (wf : IsWellFormed m) (c : IsCertified m
   module _ (kept : IsKept m) (h : Holding) (began : Began) (memory : Memory) (t : Task) (p : Point m t)
       (meets : MeetsPoint m t h began p memory) (selected : p.state.mode
       ≡ states_modes.Disabling (length p.state.guards) → HasSelected t.mode p.state.guards) where
-    abbrev pub at_point : Here
+    abbrev pub at_point : Situation
     at_point = here_of h p.act memory t p.state p.instr
 
     abbrev pub registers_here : Local
@@ -637,7 +639,7 @@ module _ (m : Contents) (d : Decodes m) (wf : IsWellFormed m) (c : IsCertified m
       (calm : t.mode ≡ machine_modes.Starting → ⊥)
       (selected : p.state.mode ≡ states_modes.Disabling (length p.state.guards)
       → HasSelected t.mode p.state.guards) where
-    abbrev x : Here
+    abbrev x : Situation
     x = here_of h p.act memory t p.state p.instr
 
     still : is_starting p.state.mode ≡ false
@@ -716,7 +718,7 @@ module _ (m : Contents) (d : Decodes m) (wf : IsWellFormed m) (c : IsCertified m
 
     -- the callers that wait still wait after an instruction of this activation
     still_behind : (n : ℕ) (new : Memory) → n ≡ p.state.context
-        → Keeps m h (scope_of m p.state.context p.act.layout) memory new
+        → KeepsMemory m h (scope_of m p.state.context p.act.layout) memory new
         → Behind m h began n p.act.layout new p.callers
     still_behind n new same keeps = rw same (behind_keeps keeps behind)
 
@@ -755,7 +757,7 @@ module _ (m : Contents) (d : Decodes m) (wf : IsWellFormed m) (c : IsCertified m
         after = wants.after;
         room = wants.room;
         sends = λ other no'. absurd (cc);
-        fills = λ old new fills. subst (λ (scope : Scope). Keeps m h scope old new)
+        fills = λ old new fills. subst (λ (scope : Scope). KeepsMemory m h scope old new)
             (whole_scope s' p.act.layout (ap is_starting asks.plain)) (wants.fills old new fills);
         named = subst (λ (n : ℕ). HoldsNamed m h (scope_of m n p.act.layout) l.memory) (sym asks.same) named_after;
         known_length = λ other is. elim is [
@@ -817,7 +819,7 @@ module _ (m : Contents) (d : Decodes m) (wf : IsWellFormed m) (c : IsCertified m
                 (meanwhile.after later size agree bytes);
             room = meanwhile.room;
             sends = meanwhile.sends;
-            fills = λ old new fills. subst (λ (scope : Scope). Keeps m h scope old new) (sym (entered_scope en))
+            fills = λ old new fills. subst (λ (scope : Scope). KeepsMemory m h scope old new) (sym (entered_scope en))
                 (meanwhile.fills old new fills);
             named = subst (λ (scope : Scope). HoldsNamed m h scope l.memory) (sym (entered_scope en)) meanwhile.named;
             known_length = meanwhile.known_length;

@@ -19,12 +19,12 @@ first_state None = None
 first_state (Some e) = Some (procedure_state e.context e.procedure)
 
 -- the state that the tables give at an offset: a label's, or a procedure's first
-abbrev pub given : Contents → ℕ → Option State
-given m at = elim (label_at m at) [ None ↦ first_state (procedure_at m at) | Some t ↦ Some (label_state t) ]
+abbrev pub table_state : Contents → ℕ → Option State
+table_state m at = elim (label_at m at) [ None ↦ first_state (procedure_at m at) | Some t ↦ Some (label_state t) ]
 
 -- the state at an offset into which `before` falls: the one that the tables give, if they give one
 abbrev pub state_at : Contents → ℕ → Option State → Option State
-state_at m at before = elim (given m at) [ None ↦ before | Some s ↦ Some s ]
+state_at m at before = elim (table_state m at) [ None ↦ before | Some s ↦ Some s ]
 
 -- what it costs this state to fall into the offset, or the rule that it breaks: nothing falls into a procedure
 abbrev pub falling_into : Contents → ℕ → State → Result ℕ Rule
@@ -80,7 +80,7 @@ pub data IsBroken (m : Contents) : Rule → ℕ → Type 0 where
       → ((before : Option State) → Reaches m at before → ⊥) → IsBroken m rule at
   -- it is one, and nothing leads there
   unreached : {rule : Rule} {at : ℕ} {i : Instr} → rule ≡ rules.Flow → Reaches m at None → at < length m.code
-      → fetched m.code at ≡ Ok i → is_instruction m i ≡ true → given m at ≡ None → IsBroken m rule at
+      → fetched m.code at ≡ Ok i → is_instruction m i ≡ true → table_state m at ≡ None → IsBroken m rule at
   -- a state falls off the code
   fallen_off : {rule : Rule} {at : ℕ} {s : State} → rule ≡ rules.Flow → at ≡ length m.code → Reaches m at (Some s)
       → IsBroken m rule at

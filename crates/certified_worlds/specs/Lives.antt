@@ -10,7 +10,7 @@ use Rattle.machine_state.specs.Memory.{Memory, byte_at}
 use Rattle.machine_state.specs.Holding.{Holding, may_write, may_read}
 use Rattle.machine_state.specs.World.{input_word}
 use Rattle.rulings.specs.Buffers.{message_place, is_filled, IsByte, Fills}
-use Rattle.rulings.specs.Regions.{scope_in, HoldsNamed, Keeps}
+use Rattle.rulings.specs.Regions.{scope_in, HoldsNamed, KeepsMemory}
 use Rattle.certified_worlds.specs.Point.{Began, Point, MeetsPoint, BehindIn, owed_at}
 
 -- the place is filled before a waiting process goes on
@@ -42,7 +42,7 @@ pub record Lives (m : Contents) (h : Holding) (began : Began) (memory : Memory) 
   pub sends : (e : Exchange) → t.condition ≡ Sending e → (j : ℕ) → j < e.length
       → (may_read h (message_place e j) ≡ true) × IsByte (byte_at memory (message_place e j))
   pub fills : (old new : Memory) → Fills h (awaits t.condition) old new
-      → Keeps m h (scope_in m point.state point.act.layout) old new
+      → KeepsMemory m h (scope_in m point.state point.act.layout) old new
   pub named : HoldsNamed m h (scope_in m point.state point.act.layout) memory
   pub behind : BehindIn m h began point.state.mode point.state.context point.act.layout memory point.callers
   pub known_length : (e : Exchange) → IsExchanging t.condition e → e.length ≡ began.layout.lengths e.channel

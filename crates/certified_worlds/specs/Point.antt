@@ -13,7 +13,7 @@ use Rattle.states.specs.declared.known.Mode.{Mode}
 use Rattle.states.specs.declared.known.Mode.TheVariants.{Starting}
 use Rattle.states.specs.State.{State}
 use Rattle.rulings.specs.Meaning.{Layout, Activation, owed}
-use Rattle.rulings.specs.Regions.{scope_of, Keeps}
+use Rattle.rulings.specs.Regions.{scope_of, KeepsMemory}
 use Rattle.rulings.specs.Lends.{Lends}
 use Rattle.rulings.specs.Fitting.{After, Caller, Resumes, GoesOn}
 use Rattle.certified_worlds.specs.Certified.{Reaches, state_at}
@@ -43,8 +43,8 @@ pub data Behind (m : Contents) (h : Holding) (began : Began) : ℕ → Layout �
       → 1 ≤ context → context ≤ length m.procedures → Reaches m layout.back (Some c.state) → GoesOn layout c
       → layout.lengths ≡ c.act.layout.lengths → (base : ℤ)
       → Lends m (scope_of m c.state.context c.act.layout) (scope_of m context layout) base
-      → ((later : Memory) → Keeps m h (scope_of m context layout) memory later → Resumes m h c later)
-      → ((later : Memory) → Keeps m h (scope_of m context layout) memory later
+      → ((later : Memory) → KeepsMemory m h (scope_of m context layout) memory later → Resumes m h c later)
+      → ((later : Memory) → KeepsMemory m h (scope_of m context layout) memory later
       → Behind m h began c.state.context c.act.layout later cs)
       → Behind m h began context layout memory (c ∷ cs)
 

@@ -18,7 +18,7 @@ use Rattle.rulings.proofs.OtherModes.{Breaks, IsBusy, starting_is_busy}
 use Rattle.rulings.proofs.Within.{is_starting}
 use Rattle.rulings.proofs.Combining.{enough}
 use Rattle.local_rules.specs.LocalRules.{local_rule}
-use Rattle.local_rules.specs.WordRules.{constant}
+use Rattle.local_rules.specs.WordRules.{known_constant}
 use Rattle.local_rules.proofs.LocalOtherModes.{operation_breaks, instruction_breaks, mint_breaks, ldl_breaks}
 use Rattle.local_rules.proofs.LocalOtherModes.{ldnlp_breaks}
 use Rattle.call_rules.proofs.CallOtherModes.{call_breaks, return_breaks}
@@ -80,7 +80,7 @@ module _ (site : Site) (s : State) (starting : is_starting s.mode ≡ true) wher
   unfolding instruction_rule local_rule near
   instruction_pushes instructions.Call e other = it_breaks_one (call_breaks site s busy e)
   instruction_pushes (instructions.Operate op) e other = operation_pushes op other
-  instruction_pushes instructions.LoadConstant e other = push_pushes (constant e)
+  instruction_pushes instructions.LoadConstant e other = push_pushes (known_constant e)
   instruction_pushes instructions.LoadLocalPointer e other = near_pushes _ _
   instruction_pushes instructions.LoadLocal e other = it_breaks_one (ldl_breaks site s busy starting e)
   instruction_pushes instructions.LoadNonLocalPointer e other = it_breaks_one (ldnlp_breaks site s busy starting e)

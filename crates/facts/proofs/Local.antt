@@ -17,7 +17,7 @@ use Rattle.facts.specs.Rules.{has_pars}
 use Rattle.rulings.specs.Meaning.{owed, IsWellFormed}
 use Rattle.states.specs.declared.known.Mode.TheVariants.{Disabling}
 use Rattle.rulings.specs.Guarding.{HasSelected}
-use Rattle.rulings.specs.Fitting.{Changes, After, HasNext, Here, StandsAt, rule_site, step_site, it_breaks}
+use Rattle.rulings.specs.Fitting.{Changes, After, HasNext, Situation, StandsAt, rule_site, step_site, it_breaks}
 use Rattle.rulings.specs.Rulings.{Ruling}
 use Rattle.facts.specs.RulesFit.{RulesFitSteps, FitsStep, it_starts, it_joins, it_fits}
 use Rattle.start_laws.proofs.StartsFit.{start_fits_step}
@@ -31,10 +31,10 @@ use Rattle.message_rules.proofs.MessageFits.{input_fits_step, output_fits_step}
 use Rattle.alternation_rules.proofs.AlternationFits.{alternation_fits_step, alternation_end_fits_step}
 
 -- they fit, if what falls through has code after it
-abbrev FitsStepIf : Here → State → Local → Option Instruction → Ruling → Outcome → Type 0
+abbrev FitsStepIf : Situation → State → Local → Option Instruction → Ruling → Outcome → Type 0
 FitsStepIf x s l i r o = HasNext x r → FitsStep x s l i r o
 
-module _ (x : Here) (wf : IsWellFormed x.m) (keeps : Keeps x.m) (s : State) (l : Local)
+module _ (x : Situation) (wf : IsWellFormed x.m) (keeps : Keeps x.m) (s : State) (l : Local)
     (a : After x.m x.h x.mode x.act s l) (same : s.context ≡ x.context) (changes : Changes x l.memory)
     (n : owed s x.act ≤ x.owed) (here : StandsAt x s l)
     (selected : s.mode ≡ Disabling (length s.guards) → HasSelected x.mode s.guards) where

@@ -13,8 +13,8 @@ use Rattle.facts.specs.declared.following.Successors.{Successors}
 use Rattle.rulings.specs.Rulings.{Ruling, breaks, falling, leading}
 
 -- the fault is that of the rule that is broken
-abbrev pub Reports : RuleFault → Ruling → Type 0
-Reports fault ruling = (broken : Rule) × (ruling ≡ breaks broken) × (fault ≡ fault_of broken)
+abbrev pub ReportsBroken : RuleFault → Ruling → Type 0
+ReportsBroken fault ruling = (broken : Rule) × (ruling ≡ breaks broken) × (fault ≡ fault_of broken)
 
 -- whether a ruling breaks no rule
 abbrev pub obeys : Ruling → Bool
@@ -47,7 +47,7 @@ pub record AreOf (m : Contents) (next : ℕ) (successors : Successors) (ruling :
 -- the states that follow are those of the ruling, unless memory ran out
 abbrev pub Succeeds : Contents → ℕ → Result Successors RuleFault → Ruling → Type 0
 Succeeds m next (Ok successors) ruling = AreOf m next successors ruling
-Succeeds m next (Err fault) ruling = (fault ≡ out_of_memory) ⊎ Reports fault ruling
+Succeeds m next (Err fault) ruling = (fault ≡ out_of_memory) ⊎ ReportsBroken fault ruling
 
 -- a state that follows is one of the module
 pub record Follow (m : Contents) (successors : Successors) : Type 0 where

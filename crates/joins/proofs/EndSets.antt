@@ -13,7 +13,7 @@ use Rattle.module_format.specs.declared.rows.ChannelRow.{ChannelRow}
 use Rattle.machine_state.specs.declared.holding.End.{End}
 use Rattle.machine_state.specs.Holding.{same_direction}
 use Rattle.machine_state.specs.StartPlans.{with_ends}
-use Rattle.machine_state.specs.Spans.{differ, is_listed, is_same_end}
+use Rattle.machine_state.specs.Spans.{differ, is_among_ends, is_same_end}
 
 -- ---- one end
 
@@ -48,14 +48,14 @@ is_same_end-true a b h =
 
 -- ends with one after them differ where they do and it is none of them
 differ_push : (ends : List End) (end : End)
-    → differ (ends ++ end ∷ []) ≡ (differ ends && not (is_listed ends end))
+    → differ (ends ++ end ∷ []) ≡ (differ ends && not (is_among_ends ends end))
 differ_push [] end = refl
 differ_push (first ∷ ends) end =
     ap (λ (t : Bool). not t && differ (ends ++ end ∷ [])) (list_any-append (is_same_end first) ends (end ∷ []))
-    ∙ (ap (λ (t : Bool). not (is_listed ends first || (t || false)) && differ (ends ++ end ∷ []))
+    ∙ (ap (λ (t : Bool). not (is_among_ends ends first || (t || false)) && differ (ends ++ end ∷ []))
     (is_same_end-sym first end)
-    ∙ (ap (λ (t : Bool). not (is_listed ends first || (is_same_end end first || false)) && t) (differ_push ends end)
-    ∙ regroup (is_listed ends first) (is_same_end end first) (differ ends) (is_listed ends end)))
+    ∙ (ap (λ (t : Bool). not (is_among_ends ends first || (is_same_end end first || false)) && t) (differ_push ends end)
+    ∙ regroup (is_among_ends ends first) (is_same_end end first) (differ ends) (is_among_ends ends end)))
   where
     regroup : (a b c d : Bool) → (not (a || (b || false)) && (c && not d)) ≡ ((not a && c) && not (b || d))
     regroup true b c d = refl
@@ -65,12 +65,12 @@ differ_push (first ∷ ends) end =
 
 -- the same of the next end of a list
 differ_more : (ends : List End) (i : ℕ) (d : End) → i < length ends
-    → differ (take (i + 1) ends) ≡ (differ (take i ends) && not (is_listed (take i ends) (get_or ends i d)))
+    → differ (take (i + 1) ends) ≡ (differ (take i ends) && not (is_among_ends (take i ends) (get_or ends i d)))
 differ_more ends i d h = ap differ (take_more ends i d h) ∙ differ_push (take i ends) (get_or ends i d)
 
 -- the next end is none of those in front
 pub differ_with : (ends : List End) (i : ℕ) (d : End) → i < length ends → differ (take i ends) ≡ true
-    → is_listed (take i ends) (get_or ends i d) ≡ false → differ (take (i + 1) ends) ≡ true
+    → is_among_ends (take i ends) (get_or ends i d) ≡ false → differ (take (i + 1) ends) ≡ true
 differ_with ends i d h front new =
     differ_more ends i d h ∙ and_from _ _ front (not_from_false _ new)
 
@@ -79,13 +79,13 @@ differ_front : (ends others : List End) → differ ends ≡ false → differ (en
 differ_front [] others h = absurd (cc)
 differ_front (end ∷ ends) others h =
     ap (λ (t : Bool). not t && differ (ends ++ others)) (list_any-append (is_same_end end) ends others)
-    ∙ on (is_listed ends end) h (differ_front ends others)
+    ∙ on (is_among_ends ends end) h (differ_front ends others)
   where
     on : (listed : Bool) → (not listed && differ ends) ≡ false
         → (differ ends ≡ false → differ (ends ++ others) ≡ false)
-        → (not (listed || is_listed others end) && differ (ends ++ others)) ≡ false
+        → (not (listed || is_among_ends others end) && differ (ends ++ others)) ≡ false
     on true h rest = refl
-    on false h rest = last (is_listed others end) (rest h)
+    on false h rest = last (is_among_ends others end) (rest h)
       where
         last : (t : Bool) → differ (ends ++ others) ≡ false → (not t && differ (ends ++ others)) ≡ false
         last true e = refl
@@ -93,7 +93,7 @@ differ_front (end ∷ ends) others h =
 
 -- the next end is among those in front
 pub differ_stops : (ends : List End) (i : ℕ) (d : End) → i < length ends
-    → is_listed (take i ends) (get_or ends i d) ≡ true → differ ends ≡ false
+    → is_among_ends (take i ends) (get_or ends i d) ≡ true → differ ends ≡ false
 differ_stops ends i d h old =
     ap differ (sym (take-append-drop (i + 1) ends))
     ∙ differ_front (take (i + 1) ends) (drop (i + 1) ends)
@@ -109,13 +109,13 @@ output a = record { address = a; direction = Out }
 
 -- with both ends of a channel, as many that receive are listed as with the one of them that does
 pub with_channel : (ends : List End) (a b : ℕ)
-    → is_listed ((ends ++ input b ∷ []) ++ output b ∷ []) (input a)
-    ≡ (is_listed ends (input a) || is_same_end (input a) (input b))
+    → is_among_ends ((ends ++ input b ∷ []) ++ output b ∷ []) (input a)
+    ≡ (is_among_ends ends (input a) || is_same_end (input a) (input b))
 with_channel ends a b =
     list_any-append (is_same_end (input a)) (ends ++ input b ∷ []) (output b ∷ [])
     ∙ (ap (λ (t : Bool). t || (((a == b) && false) || false))
     (list_any-append (is_same_end (input a)) ends (input b ∷ []))
-    ∙ on (is_listed ends (input a)) (a == b))
+    ∙ on (is_among_ends ends (input a)) (a == b))
   where
     on : (t u : Bool) → ((t || ((u && true) || false)) || ((u && false) || false)) ≡ (t || (u && true))
     on true u = refl
@@ -123,38 +123,38 @@ with_channel ends a b =
     on false false = refl
 
 -- where an end is listed already, it adds none
-pub with_listed : (ends : List End) (a b : End) → is_listed ends b ≡ true
-    → (is_listed ends a || is_same_end a b) ≡ is_listed ends a
+pub with_listed : (ends : List End) (a b : End) → is_among_ends ends b ≡ true
+    → (is_among_ends ends a || is_same_end a b) ≡ is_among_ends ends a
 with_listed ends a b listed = on (is_same_end a b) refl
   where
     plain : (t : Bool) → (t || false) ≡ t
     plain true = refl
     plain false = refl
 
-    on : (t : Bool) → is_same_end a b ≡ t → (is_listed ends a || t) ≡ is_listed ends a
+    on : (t : Bool) → is_same_end a b ≡ t → (is_among_ends ends a || t) ≡ is_among_ends ends a
     on true e =
-        let here : is_listed ends a ≡ true = ap (is_listed ends) (is_same_end-true a b e) ∙ listed in
-        or_left (is_listed ends a) true here ∙ sym here
-    on false e = plain (is_listed ends a)
+        let here : is_among_ends ends a ≡ true = ap (is_among_ends ends) (is_same_end-true a b e) ∙ listed in
+        or_left (is_among_ends ends a) true here ∙ sym here
+    on false e = plain (is_among_ends ends a)
 
 -- the ends of one more channel, which has this address
 module _ (channels : List ChannelRow) (address : ChannelRow → ℕ) (i : ℕ) (d : ChannelRow) (h : i < length channels)
     (ends : List End) (a : ℕ) (e : a ≡ address (get_or channels i d)) where
   next : with_ends (map address (drop i channels)) ends ≡ with_ends (map address (drop (i + 1) channels))
-      (cond (is_listed ends (input a)) ends (ends ++ input a ∷ output a ∷ []))
+      (cond (is_among_ends ends (input a)) ends (ends ++ input a ∷ output a ∷ []))
   next =
       ap (λ (l : List ChannelRow). with_ends (map address l) ends) (drop_more channels i d h)
       ∙ ap (λ (b : ℕ). with_ends (map address (drop (i + 1) channels))
-      (cond (is_listed ends (input b)) ends (ends ++ input b ∷ output b ∷ []))) (sym e)
+      (cond (is_among_ends ends (input b)) ends (ends ++ input b ∷ output b ∷ []))) (sym e)
 
-  pub channel_is_new : is_listed ends (input a) ≡ false
+  pub channel_is_new : is_among_ends ends (input a) ≡ false
       → with_ends (map address (drop (i + 1) channels)) ((ends ++ input a ∷ []) ++ output a ∷ [])
       ≡ with_ends (map address (drop i channels)) ends
   channel_is_new new =
       ap (with_ends (map address (drop (i + 1) channels)))
       (append_assoc ends (input a ∷ []) (output a ∷ []) ∙ sym (cond-false _ ends _ new)) ∙ sym next
 
-  pub channel_is_there : is_listed ends (input a) ≡ true
+  pub channel_is_there : is_among_ends ends (input a) ≡ true
       → with_ends (map address (drop (i + 1) channels)) ends ≡ with_ends (map address (drop i channels)) ends
   channel_is_there there =
       ap (with_ends (map address (drop (i + 1) channels))) (sym (cond-true _ ends _ there)) ∙ sym next

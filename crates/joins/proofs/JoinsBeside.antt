@@ -12,7 +12,8 @@ use Rattle.machine_state.specs.Site.{Local}
 use Rattle.machine_state.specs.Turn.{Here, Turn, answered, between, failed, followed, ran}
 use Rattle.machine_state.specs.World.{World, Role, Join, Counters, holding_at}
 use Rattle.machine_state.specs.Joins.{start_or_fail, on_role, started, opened, first_start_turn, later_start_turn}
-use Rattle.machine_state.specs.Joins.{start_turn, on_row, own_end, branch_end, join_turn, joined, closed, closed_task}
+use Rattle.machine_state.specs.Joins.{start_turn, on_row, own_end, branch_end, join_turn, member_joined, closed}
+use Rattle.machine_state.specs.Joins.{closed_task}
 use Rattle.machine_state.specs.Joins.{ended, given_back, without_words, join_after, new_task, without_channels}
 use Rattle.machine_state.specs.StartPlans.{Plan, first_fault, first_plan, first_faults, later_plan, later_faults}
 use Rattle.machine_state.specs.StartPlans.{no_row_faults, scheduling_addresses, share_by}
@@ -111,13 +112,13 @@ module _ (c : Counters) (f : Option Fault) where
       ∙ on_role-beside opener without_join there)
 
   joined-beside : (h : Here) (opener : ℕ) (join : Join) (par : Par) (w : World) {v : World} → v ≡ beside c f w
-      → joined h opener join par v ≡ beside c f (joined h opener join par w)
+      → member_joined h opener join par v ≡ beside c f (member_joined h opener join par w)
   joined-beside h opener join par w same =
       let members = members_without h.process join.members in
       let left : Role → Role = λ role. record role { opened = Some (record join { members = members }) } in
       let there : World = on_role opener left w in
       let moved = on_role-beside opener left w in
-      ap (joined h opener join par) same
+      ap (member_joined h opener join par) same
       ∙ either c f (length members == 0) (closed opener join par there) (dispatch h.pick (leave there))
       (ap (closed opener join par) moved ∙ closed-beside opener join par there) (left-beside c f h there moved)
 
@@ -125,7 +126,7 @@ module _ (c : Counters) (f : Option Fault) where
       → own_end h join block l (beside c f w) ≡ counted_beside c f (own_end h join block l w)
   own_end-beside h join block l w =
       let there : World = ended h l w in
-      let after : Par → World = λ par. joined h h.process join par there in
+      let after : Par → World = λ par. member_joined h h.process join par there in
       let is_whole : Par → Bool = λ par. (join.block == block) && (join.started == length par.branches) in
       on_row-beside h join w
       (λ par. if is_whole par then answered ran (counted (after par)) else failed h JoinOrder w)
@@ -136,7 +137,7 @@ module _ (c : Counters) (f : Option Fault) where
       → branch_end h opener join block l (beside c f w) ≡ counted_beside c f (branch_end h opener join block l w)
   branch_end-beside h opener join block l w =
       let there : World = given_back h (ended h l w) in
-      let after : Par → World = λ par. joined h opener join par there in
+      let after : Par → World = λ par. member_joined h opener join par there in
       on_row-beside h join w
       (λ par. if join.block == block then answered ran (counted (after par)) else failed h JoinOrder w)
       (λ par. either_turn c f (join.block == block) (answered ran (counted (after par))) (failed h JoinOrder w)

@@ -13,7 +13,7 @@ use Rattle.machine_state.specs.Faults.{fault_in}
 use Rattle.machine_state.specs.Moves.{counted, faulty}
 use Rattle.machine_state.specs.Site.{Local}
 use Rattle.machine_state.specs.Turn.{Here, Turn, answered, failed, ran}
-use Rattle.machine_state.specs.Joins.{on_role, on_row, own_end, branch_end, joined, closed, ended, given_back}
+use Rattle.machine_state.specs.Joins.{on_role, on_row, own_end, branch_end, member_joined, closed, ended, given_back}
 use Rattle.machine_state.specs.JoinLookups.{opened_by}
 use Rattle.machine_state.specs.Roles.{members_without, without_member, without_own}
 
@@ -91,7 +91,7 @@ module _ (h : Here) (w : World) where
   pub closes : (opener : ℕ) (join : Join) (par : Par) (v after : World) → opened_by w opener ≡ Some join
       → v ≡ on_role opener (without_member h.process) w
       → (length (members_without h.process join.members) == 0) ≡ true → after ≡ closed opener join par v
-      → after ≡ joined h opener join par w
+      → after ≡ member_joined h opener join par w
   closes opener join par v after opened left last is =
       is ∙ (ap (closed opener join par) (left ∙ leaves w opener h.process join opened) ∙ sym (cond-true _ _ _ last))
 
@@ -122,7 +122,7 @@ module _ (h : Here) (w : World) where
 
     pub own_done : (par : Par) (after : World) → slice_get h.contents.pars join.row ≡ Some par
         → ((join.block == block) && (join.started == length par.branches)) ≡ true
-        → after ≡ joined h h.process join par (ended h l w)
+        → after ≡ member_joined h h.process join par (ended h l w)
         → own_end h join block l w ≡ answered ran (counted after)
     own_done par after row test is =
         on_row_is join _ (Some par) row
@@ -140,7 +140,7 @@ module _ (h : Here) (w : World) where
         fault_is _ fault (on_row_is join _ (Some par) row ∙ cond-false _ _ _ test) is
 
     pub branch_done : (opener : ℕ) (par : Par) (after : World) → slice_get h.contents.pars join.row ≡ Some par
-        → (join.block == block) ≡ true → after ≡ joined h opener join par (given_back h (ended h l w))
+        → (join.block == block) ≡ true → after ≡ member_joined h opener join par (given_back h (ended h l w))
         → branch_end h opener join block l w ≡ answered ran (counted after)
     branch_done opener par after row test is =
         on_row_is join _ (Some par) row

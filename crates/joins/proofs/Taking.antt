@@ -12,7 +12,8 @@ use Rattle.machine_state.specs.Holding.{Holding, covers, may_write, may_read}
 use Rattle.machine_state.specs.Covering.{covered}
 use Rattle.machine_state.specs.declared.spans.Stretch.{Stretch as Kept}
 use Rattle.machine_state.specs.Stretches.{stretch_view}
-use Rattle.machine_state.specs.Spans.{Stretch, stretches_over, Share, runs, less, writes_place, reads_place, is_listed}
+use Rattle.machine_state.specs.Spans.{Stretch, stretches_over, Share, runs, less, writes_place, reads_place}
+use Rattle.machine_state.specs.Spans.{is_among_ends}
 use Rattle.machine_state.proofs.NormalSpans.{same_runs}
 use Rattle.machine_state.proofs.SpanLaws.{runs_cover_the_test}
 
@@ -78,7 +79,7 @@ pub less_is : (end : ℕ) (h left : Holding) (share : Share) (writes reads : Lis
     → left.writes ≡ runs (λ p. may_write h p && not (covered writes p) && not (covered reads p)) 0 end
     → left.reads ≡ runs (λ p. may_read h p && not (covered writes p)
     && (not (may_write h p) || covered reads p)) 0 end
-    → left.ends ≡ filter (λ (e : End). not (is_listed share.ends e)) h.ends
+    → left.ends ≡ filter (λ (e : End). not (is_among_ends share.ends e)) h.ends
     → left ≡ less end h share
 unfolding less
 less_is end h left share writes reads w r one two three = same_holding left _
@@ -126,7 +127,7 @@ module _ (end : ℕ) (h left : Holding) (share : Share) (writes reads w1 r1 w2 r
       → w1 ≡ writes → r1 ≡ reads → w2 ≡ writes → r2 ≡ reads → ends ≡ h.ends → taken ≡ share.ends
       → left.writes ≡ runs (λ p. may_write h p && not (covered w1 p) && not (covered r1 p)) 0 end
       → left.reads ≡ runs (λ p. may_read h p && not (covered w2 p) && (not (may_write h p) || covered r2 p)) 0 end
-      → left.ends ≡ filter (λ (e : End). not (is_listed taken e)) ends → left ≡ less end h share
+      → left.ends ≡ filter (λ (e : End). not (is_among_ends taken e)) ends → left ≡ less end h share
   less_by w r a b c d e f one two three = less_is end h left share writes reads w r
       (one ∙ (ap (λ (l : List Span). runs (λ p. may_write h p && not (covered l p) && not (covered r1 p)) 0 end) a
       ∙ ap (λ (l : List Span). runs (λ p. may_write h p && not (covered writes p) && not (covered l p)) 0 end) b))
@@ -134,8 +135,8 @@ module _ (end : ℕ) (h left : Holding) (share : Share) (writes reads w1 r1 w2 r
       && (not (may_write h p) || covered r2 p)) 0 end) c
       ∙ ap (λ (l : List Span). runs (λ p. may_read h p && not (covered writes p)
       && (not (may_write h p) || covered l p)) 0 end) d))
-      (three ∙ (ap (λ (l : List End). filter (λ (x : End). not (is_listed taken x)) l) e
-      ∙ ap (λ (l : List End). filter (λ (x : End). not (is_listed l x)) h.ends) f))
+      (three ∙ (ap (λ (l : List End). filter (λ (x : End). not (is_among_ends taken x)) l) e
+      ∙ ap (λ (l : List End). filter (λ (x : End). not (is_among_ends l x)) h.ends) f))
 
 -- nothing is missing of stretches, where it is counted on the spans that they are in memory
 pub missing_is : (end : ℕ) (held places seen other : List Span) (stretches : List Stretch)

@@ -8,7 +8,7 @@ use Rattle.std.specs.List.{list_any, list_all}
 use Rattle.small_laws.proofs.Connectives.{same_tests}
 use Rattle.machine_state.specs.declared.holding.Span.{Span}
 use Rattle.machine_state.specs.Covering.{covered}
-use Rattle.machine_state.specs.Spans.{Stretch, runs, lies_in, stretches_over, all_places, is_within}
+use Rattle.machine_state.specs.Spans.{Stretch, runs, lies_in, stretches_over, all_places, all_pass_within}
 use Rattle.machine_state.proofs.NormalSpans.{is_runs}
 use Rattle.machine_state.proofs.SpanLaws.{runs_cover_the_test}
 
@@ -67,29 +67,29 @@ over stretches p = list_any (λ s. stretches_over s p) stretches
 
 module _ (n : ℕ) (test : ℕ → Bool) where
   each_within : (stretches : List Stretch) → list_all (lies_in n) stretches ≡ true
-      → ((p : ℕ) → p < n → over stretches p ≡ true → test p ≡ true) → list_all (is_within n test) stretches ≡ true
+      → ((p : ℕ) → p < n → over stretches p ≡ true → test p ≡ true) → list_all (all_pass_within n test) stretches ≡ true
   each_within [] lie passes = refl
   each_within (s ∷ stretches) lie passes =
       let both = and_parts (lies_in n s) (list_all (lies_in n) stretches) lie in
-      and_from (is_within n test s) (list_all (is_within n test) stretches)
+      and_from (all_pass_within n test s) (list_all (all_pass_within n test) stretches)
       (and_from (lies_in n s) (all_places test (nat_abs s.start) s.size) both.0
       (all_from test (nat_abs s.start) s.size (λ p x y.
       let o = over_there n p s both.0 x y in
       passes p o.1 (or_left (stretches_over s p) (over stretches p) o.0))))
       (each_within stretches both.1 (λ p x y. passes p x (or_right (stretches_over s p) (over stretches p) y)))
 
-  within_lie : (stretches : List Stretch) → list_all (is_within n test) stretches ≡ true
+  within_lie : (stretches : List Stretch) → list_all (all_pass_within n test) stretches ≡ true
       → list_all (lies_in n) stretches ≡ true
   within_lie [] within = refl
   within_lie (s ∷ stretches) within =
-      let both = and_parts (is_within n test s) (list_all (is_within n test) stretches) within in
+      let both = and_parts (all_pass_within n test s) (list_all (all_pass_within n test) stretches) within in
       and_from (lies_in n s) (list_all (lies_in n) stretches) (and_parts _ _ both.0).0 (within_lie stretches both.1)
 
-  within_pass : (stretches : List Stretch) → list_all (is_within n test) stretches ≡ true → (p : ℕ)
+  within_pass : (stretches : List Stretch) → list_all (all_pass_within n test) stretches ≡ true → (p : ℕ)
       → over stretches p ≡ true → test p ≡ true
   within_pass [] within p o = absurd (cc)
   within_pass (s ∷ stretches) within p o =
-      let both = and_parts (is_within n test s) (list_all (is_within n test) stretches) within in
+      let both = and_parts (all_pass_within n test s) (list_all (all_pass_within n test) stretches) within in
       let here = and_parts (lies_in n s) (all_places test (nat_abs s.start) s.size) both.0 in
       elim (or_cases (stretches_over s p) (over stretches p) o) [
         | inl k ↦
@@ -102,7 +102,7 @@ module _ (n : ℕ) (test : ℕ → Bool) where
   abbrev missing : List Stretch → List Span
   missing stretches = runs (λ p. over stretches p && not (test p)) 0 n
 
-  nothing_missing : (stretches : List Stretch) → list_all (is_within n test) stretches ≡ true
+  nothing_missing : (stretches : List Stretch) → list_all (all_pass_within n test) stretches ≡ true
       → missing stretches ≡ []
   nothing_missing stretches within =
       sym (is_runs (λ p. over stretches p && not (test p)) n 0 [] tt (λ p. none p (over stretches p) refl))
@@ -133,7 +133,7 @@ module _ (n : ℕ) (test : ℕ → Bool) where
       cc)
 
   pub all_within : (stretches : List Stretch) (b : Bool) → list_all (lies_in n) stretches ≡ true
-      → b ≡ (length (missing stretches) == 0) → b ≡ list_all (is_within n test) stretches
+      → b ≡ (length (missing stretches) == 0) → b ≡ list_all (all_pass_within n test) stretches
   all_within stretches b lie e = e ∙ same_tests _ _
       (λ h. each_within stretches lie (nothing_left stretches (empty (missing stretches) h)))
       (λ h. ap (λ (l : List Span). length l == 0) (nothing_missing stretches h))
@@ -143,8 +143,8 @@ module _ (n : ℕ) (test : ℕ → Bool) where
       empty (s ∷ l) h = absurd (let e = eqb-true (length (s ∷ l)) 0 h in omega (arith, e))
 
   pub not_all_lie : (stretches : List Stretch) → list_all (lies_in n) stretches ≡ false
-      → false ≡ list_all (is_within n test) stretches
-  not_all_lie stretches h = sym (false_from_ne_true (list_all (is_within n test) stretches) (λ e.
+      → false ≡ list_all (all_pass_within n test) stretches
+  not_all_lie stretches h = sym (false_from_ne_true (list_all (all_pass_within n test) stretches) (λ e.
       let k : true ≡ false = sym (within_lie stretches e) ∙ h in cc))
 
 -- a test may be said in another way
@@ -156,9 +156,9 @@ same_places f g same a (suc k) =
     ∙ ap (λ (b : Bool). g a && b) (same_places f g same (a + 1) k)
 
 pub same_within : (n : ℕ) (f g : ℕ → Bool) → ((p : ℕ) → f p ≡ g p) → (stretches : List Stretch)
-    → list_all (is_within n f) stretches ≡ list_all (is_within n g) stretches
+    → list_all (all_pass_within n f) stretches ≡ list_all (all_pass_within n g) stretches
 same_within n f g same [] = refl
 same_within n f g same (s ∷ stretches) =
-    ap (λ (b : Bool). (lies_in n s && b) && list_all (is_within n f) stretches)
+    ap (λ (b : Bool). (lies_in n s && b) && list_all (all_pass_within n f) stretches)
     (same_places f g same (nat_abs s.start) s.size)
-    ∙ ap (λ (b : Bool). is_within n g s && b) (same_within n f g same stretches)
+    ∙ ap (λ (b : Bool). all_pass_within n g s && b) (same_within n f g same stretches)

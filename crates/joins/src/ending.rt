@@ -5,7 +5,7 @@ ghost use Rattle.std.specs.Prelude.{MatchResult};
 ghost use Rattle.module_format.specs.Contents.{Contents, Par, contents_of, par_of};
 ghost use Rattle.machine_state.specs.World.{Join};
 ghost use Rattle.machine_state.specs.Turn.{ran};
-ghost use Rattle.machine_state.specs.Joins.{closed, joined, ended, own_end, branch_end, join_turn};
+ghost use Rattle.machine_state.specs.Joins.{closed, member_joined, ended, own_end, branch_end, join_turn};
 ghost use Rattle.machine_state.specs.JoinLookups.{opened_by};
 ghost use Rattle.traffic.specs.Moment.{IsSteady, HoldsAs, HoldsAlike};
 ghost use Rattle.traffic.specs.Settling.{here_in, Settles};
@@ -58,7 +58,7 @@ fn close(traffic: &mut Processes, opener: u64, block: u32, successor: u32)
 fn leave(traffic: &mut Processes, here: &Here, opener: u64, seen: Open, successor: u32)
     ensures world { (m : Contents) (join : Join) (par : Par) → opened_by traffic.old.world opener ≡ Some join →
         seen ≡ summary here.now.process join → successor ≡ par.successor →
-        traffic.new.world ≡ joined (here_in m here.now) opener join par traffic.old.world }
+        traffic.new.world ≡ member_joined (here_in m here.now) opener join par traffic.old.world }
     ensures holding { HoldsAs traffic.old.holder traffic.new }
 {
     traffic.leave_join(opener, here.process);

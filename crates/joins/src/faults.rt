@@ -12,10 +12,10 @@ ghost use Rattle.machine_state.specs.Stretches.{stretch_view};
 ghost use Rattle.module_format.specs.Contents.{contents_of};
 ghost use Rattle.machine_state.specs.Holding.{may_write, may_read_word, may_write_word};
 ghost use Rattle.machine_state.specs.StartPlans.{scheduling_places, word_passes, block_addresses, channel_addresses};
-ghost use Rattle.machine_state.specs.StartPlans.{word_is_defined, is_word, is_prepared, is_next};
+ghost use Rattle.machine_state.specs.StartPlans.{word_is_defined, holds_word, is_prepared, is_next};
 ghost use Rattle.machine_state.specs.BranchShares.{frame_address};
 ghost use Rattle.machine_state.specs.Memory.{place_of, data_start};
-ghost use Rattle.machine_state.specs.Spans.{is_listed, differ, writes_place, stretches_over};
+ghost use Rattle.machine_state.specs.Spans.{is_among_ends, differ, writes_place, stretches_over};
 ghost use Rattle.machine_state.specs.Views.{holding_view};
 ghost use Rattle.module_format.specs.Contents.{par_of};
 ghost use Rattle.joins.specs.Finding.{found_view};
@@ -45,7 +45,7 @@ fn differ(alloc: Global, ends: &[End]) -> Result<bool, AllocError>
 
 /// Whether all wanted ends are among these. It takes time n log n in both.
 fn are_listed(alloc: Global, ends: &[End], wanted: &[End]) -> Result<bool, AllocError>
-    ensures { IfOk result (λ all. all ≡ list_all (is_listed ends.now) wanted.now) }
+    ensures { IfOk result (λ all. all ≡ list_all (is_among_ends ends.now) wanted.now) }
 {
     let held = EndSet::of(alloc, ends)?;
     Ok(wanted.iter().all(|end| held.contains(*end)))
@@ -57,7 +57,7 @@ pub(crate) fn ends_are_there(
     ends: &[End],
     wanted: &[End],
 ) -> Result<bool, AllocError>
-    ensures { IfOk result (λ there. there ≡ (list_all (is_listed ends.now) wanted.now && differ wanted.now)) }
+    ensures { IfOk result (λ there. there ≡ (list_all (is_among_ends ends.now) wanted.now && differ wanted.now)) }
 {
     if !are_listed(alloc, ends, wanted)? {
         return Ok(false);
@@ -190,8 +190,8 @@ pub(crate) fn named_are_defined(store: &TaggedStore, base: u32, words: &[Option<
 }
 
 /// Whether the word at an address is this.
-fn is_word(store: &TaggedStore, address: u32, value: i32) -> bool
-    ensures { result ≡ is_word store.now.cells address value }
+fn holds_word(store: &TaggedStore, address: u32, value: i32) -> bool
+    ensures { result ≡ holds_word store.now.cells address value }
 {
     match store.word(address) {
         None => false,
@@ -201,7 +201,7 @@ fn is_word(store: &TaggedStore, address: u32, value: i32) -> bool
 
 /// Whether the word at an address is one more than the number of branches.
 fn counts(store: &TaggedStore, address: u32, branches: &[BranchRow]) -> bool
-    ensures { result ≡ is_word store.now.cells address (pos (length branches.now + 1)) }
+    ensures { result ≡ holds_word store.now.cells address (pos (length branches.now + 1)) }
 {
     match store.word(address) {
         None => false,
@@ -212,11 +212,9 @@ fn counts(store: &TaggedStore, address: u32, branches: &[BranchRow]) -> bool
 /// Whether the channels of a PAR are empty.
 fn are_empty(store: &TaggedStore, base: u32, channels: &[ChannelRow]) -> bool
     ensures { result ≡
-        list_all (λ (c : Row). is_word store.now.cells (frame_address base c.word) least_word) channels.now }
+        list_all (λ (c : Row). holds_word store.now.cells (frame_address base c.word) least_word) channels.now }
 {
-    channels
-        .iter()
-        .all(|c| is_word(store, local_address(base, c.word), i32::MIN))
+    channels.iter().all(|c| holds_word(store, local_address(base, c.word), i32::MIN))
 }
 
 /// The address of a code offset.
@@ -230,15 +228,15 @@ fn address_of(tables: &Tables, offset: u32) -> u32
 /// Whether the word at the block has the address of a code offset.
 fn points_at(store: &TaggedStore, tables: &Tables, block: u32, offset: u32) -> bool
     ensures { let code_start = data_start + 4 * tables.now.data_words in
-        result ≡ is_word store.now.cells block (cast_signed w32 ((code_start + offset) % 2 ^ 32)) }
+        result ≡ holds_word store.now.cells block (cast_signed w32 ((code_start + offset) % 2 ^ 32)) }
 {
-    is_word(store, block, address_of(tables, offset).cast_signed())
+    holds_word(store, block, address_of(tables, offset).cast_signed())
 }
 
 /// Whether the channels of a PAR are empty, by their addresses.
 fn channels_are_empty(store: &TaggedStore, base: u32, par: &ParRow) -> bool
     ensures { let addresses = channel_addresses base (par_of par.now) in
-        result ≡ list_all (λ a. is_word store.now.cells a least_word) addresses }
+        result ≡ list_all (λ a. holds_word store.now.cells a least_word) addresses }
 {
     are_empty(store, base, &par.channels)
 }

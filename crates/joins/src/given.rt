@@ -7,7 +7,7 @@ ghost use Rattle.machine_state.specs.declared.holding.End.{End as HeldEnd};
 ghost use Rattle.machine_state.specs.Covering.{covered};
 ghost use Rattle.machine_state.specs.Holding.{may_write, may_read};
 ghost use Rattle.machine_state.specs.BranchShares.{holding_of};
-ghost use Rattle.machine_state.specs.Spans.{runs, less, is_listed, is_within, stretches_over};
+ghost use Rattle.machine_state.specs.Spans.{runs, less, is_among_ends, all_pass_within, stretches_over};
 ghost use Rattle.machine_state.specs.Stretches.{stretch_view};
 ghost use Rattle.machine_state.specs.Views.{holding_view};
 ghost use Rattle.machine_state.specs.World.{constants_start};
@@ -32,7 +32,7 @@ pub(crate) fn both(alloc: Global, some: &[Span], others: &[Span]) -> Result<Vec<
 
 /// The ends but for these. It takes time n log n in both.
 fn ends_without(alloc: Global, ends: &[End], taken: &[End]) -> Result<Vec<End>, AllocError>
-    ensures { IfOk result (λ v. v.items ≡ filter (λ (end : HeldEnd). not (is_listed taken.now end)) ends.now) }
+    ensures { IfOk result (λ v. v.items ≡ filter (λ (end : HeldEnd). not (is_among_ends taken.now end)) ends.now) }
 {
     let gone = EndSet::of(alloc, taken)?;
     let mut left = Vec::new(alloc);
@@ -112,7 +112,7 @@ fn lie_within(
     stretches: &[Stretch],
     held: &[Span],
 ) -> Result<bool, AllocError>
-    ensures { IfOk result (λ all. all ≡ list_all (is_within end (covered held.now)) (map stretch_view stretches.now)) }
+    ensures { IfOk result (λ all. all ≡ list_all (all_pass_within end (covered held.now)) (map stretch_view stretches.now)) }
 {
     if !all_lie_in(stretches, end) {
         return Ok(false);
@@ -132,7 +132,7 @@ pub(crate) fn is_held(
     ensures { let h = holding_view holding.now in
         let s = share_view share.now in
         IfOk result (λ held. held ≡
-        (list_all (is_within end (may_write h)) s.writes && list_all (is_within end (may_read h)) s.reads)) }
+        (list_all (all_pass_within end (may_write h)) s.writes && list_all (all_pass_within end (may_read h)) s.reads)) }
 {
     let writes = lie_within(alloc, end, &share.writes, &holding.writes)?;
     if !writes {

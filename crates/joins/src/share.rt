@@ -4,7 +4,7 @@ ghost use Rattle.std.specs.Prelude.{◌≡◌, ◌<◌, ◌^◌, ◌+ℤ◌, ◌
 ghost use Rattle.std.specs.Prelude.{option_to_list, IfOk};
 ghost use Rattle.std.specs.Option.{option_map};
 ghost use Rattle.module_format.specs.Contents.{branch_of};
-ghost use Rattle.machine_state.specs.BranchShares.{words_of, address_of, region_of, region_size, end_of, share_of};
+ghost use Rattle.machine_state.specs.BranchShares.{words_of, address_of, region_of, region_size, end_named, share_of};
 ghost use Rattle.machine_state.specs.Memory.{data_start};
 ghost use Rattle.machine_state.specs.Stretches.{stretch_view};
 ghost use Rattle.joins.specs.Sharing.{share_view};
@@ -86,8 +86,8 @@ fn region_of(parameters: &[Parameter], addresses: &[Option<u32>], number: usize)
 }
 
 /// The end that a row names, if the address of its parameter is known.
-fn end_of(base: u32, addresses: &[Option<u32>], end: EndRow) -> Option<End>
-    ensures { end_of base addresses.now end ≡ option_to_list result }
+fn end_named(base: u32, addresses: &[Option<u32>], end: EndRow) -> Option<End>
+    ensures { end_named base addresses.now end ≡ option_to_list result }
 {
     let direction = end.direction;
     let address = match end.kind {
@@ -150,11 +150,11 @@ fn ends_of(
     addresses: &[Option<u32>],
     rows: &[EndRow],
 ) -> Result<Vec<End>, AllocError>
-    ensures { IfOk result (λ v. v.items ≡ flat_map (end_of base addresses.now) rows.now) }
+    ensures { IfOk result (λ v. v.items ≡ flat_map (end_named base addresses.now) rows.now) }
 {
     let mut ends = Vec::new(alloc);
     for row in rows {
-        if let Some(end) = end_of(base, addresses, *row) {
+        if let Some(end) = end_named(base, addresses, *row) {
             ends.push(end)?;
         }
     }

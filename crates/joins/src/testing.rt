@@ -10,7 +10,7 @@ ghost use Rattle.machine_state.specs.StartPlans.{first_fault, no_row_faults, lat
 ghost use Rattle.machine_state.specs.StartPlans.{word_passes, scheduling_places, words_are_held, words_are_defined};
 ghost use Rattle.machine_state.specs.BranchShares.{holding_of};
 ghost use Rattle.machine_state.specs.JoinLookups.{named_from};
-ghost use Rattle.machine_state.specs.Spans.{is_within, writes_place, less};
+ghost use Rattle.machine_state.specs.Spans.{all_pass_within, writes_place, less};
 ghost use Rattle.machine_state.specs.Views.{holding_view};
 ghost use Rattle.joins.specs.Finding.{found_view};
 ghost use Rattle.joins.specs.Planning.{plan_view};
@@ -54,8 +54,8 @@ pub(crate) fn share_is_there(
     ensures { let h = holding_view rest.now in
         let s = share_view share.now in
         let own = list_all (word_passes (λ (p : ℕ). may_write h p && writes_place s p)) (scheduling_places workspace) in
-        IfOk result (λ there. there ≡ (own && list_all (is_within end (may_write h)) s.writes
-        && list_all (is_within end (may_read h)) s.reads)) }
+        IfOk result (λ there. there ≡ (own && list_all (all_pass_within end (may_write h)) s.writes
+        && list_all (all_pass_within end (may_read h)) s.reads)) }
 {
     if !scheduling_is_own(rest, share, workspace) {
         return Ok(false);

@@ -22,7 +22,7 @@ use Rattle.machine_state.specs.Happens.{failed, site_of, settled, prefix_turn, b
 use Rattle.machine_state.specs.Happens.{most_executed}
 use Rattle.machine_state.proofs.EventLaws.{events_count_bytes}
 use Rattle.machine_state.specs.Endings as turns
-use Rattle.machine_state.specs.Endings.{Ends}
+use Rattle.machine_state.specs.Endings.{TurnsInto}
 use Rattle.machine_state.proofs.Turns.{settled_ends}
 use Rattle.link_runs.specs.FirstInFirstOut.{plain_step}
 use Rattle.link_runs.specs.Wanting.{is_running}
@@ -42,7 +42,7 @@ pub data Steps (w : World) : Turn → Type 0 where
 abbrev here_at : Contents → ℕ → Task → Here
 here_at m p task = record { contents = m; process = p; from = task; next = task.registers.at + 1; pick = 0 }
 
-steps_ended : (h : Here) (o : Outcome) (w : World) (t : Turn) → is_running w ≡ true → Ends h w o t → Steps w t
+steps_ended : (h : Here) (o : Outcome) (w : World) (t : Turn) → is_running w ≡ true → TurnsInto h w o t → Steps w t
 steps_ended h o w t is (turns.at_fault refused) = faults _ _
 steps_ended h o w t is (turns.has_run moved) = runs is _
 steps_ended h o w t is (turns.has_emitted e l k on same) = emits is _ _ _

@@ -14,7 +14,7 @@ use Rattle.states.specs.State.{State}
 use Rattle.rulings.specs.Rulings as rule
 use Rattle.local_rules.specs.LocalRules as table
 use Rattle.rulings.specs.Meaning.{owed, IsWellFormed}
-use Rattle.rulings.specs.Fitting.{Changes, After, Here, StandsAt, rule_site, step_site, it_ends, it_breaks}
+use Rattle.rulings.specs.Fitting.{Changes, After, Situation, StandsAt, rule_site, step_site, it_ends, it_breaks}
 use Rattle.rulings.proofs.Combining.{FitsIf, unknown_means, schedules_fits, leads_fits, in_plain_rule}
 use Rattle.rulings.proofs.Combining.{beside_plain_rule, in_plain_step, after_stack, pays_fits}
 use Rattle.rulings.proofs.Within.{Within, ArePlain, AreStill, is_starting, whole_after, as_still, which, in_plain_mode}
@@ -33,7 +33,7 @@ use Rattle.local_rules.proofs.LocalOtherModes.{ldnlp_breaks}
 
 -- ---- in plain mode
 
-module _ (x : Here) (wf : IsWellFormed x.m) (s : State) (l : Local) (a : Within ArePlain x.m x.h x.mode x.act s l)
+module _ (x : Situation) (wf : IsWellFormed x.m) (s : State) (l : Local) (a : Within ArePlain x.m x.h x.mode x.act s l)
     (same : s.context ≡ x.context) (changes : Changes x l.memory) (n : owed s x.act ≤ x.owed) (here : StandsAt x s l)
   where
     j_fits : (e : ℤ) → FitsSigned w32 e
@@ -101,7 +101,7 @@ module _ (x : Here) (wf : IsWellFormed x.m) (s : State) (l : Local) (a : Within 
 
 -- ---- in every mode
 
-module _ (x : Here) (wf : IsWellFormed x.m) (s : State) (l : Local) (a : After x.m x.h x.mode x.act s l)
+module _ (x : Situation) (wf : IsWellFormed x.m) (s : State) (l : Local) (a : After x.m x.h x.mode x.act s l)
     (same : s.context ≡ x.context) (changes : Changes x l.memory) (n : owed s x.act ≤ x.owed) (here : StandsAt x s l)
   where
     -- in an alternation

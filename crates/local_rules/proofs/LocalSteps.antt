@@ -16,7 +16,7 @@ use Rattle.states.specs.State.{State, known, written}
 use Rattle.rulings.specs.Rulings.{Ruling, Site, outside_alternation, outside_starts, alone, uses, forward, writes_word}
 use Rattle.rulings.specs.Rulings.{reads_word, goes_on, goes_to, push, pop}
 use Rattle.rulings.specs.Pointers.{near}
-use Rattle.local_rules.specs.WordRules.{loaded}
+use Rattle.local_rules.specs.WordRules.{word_as_known}
 use Rattle.local_rules.specs.LocalRules.{local_rule}
 
 pub load_constant-done : (site : Site) (s t : State) (e d : ℤ) (v : Known) → v ≡ known (Number d d) → d ≡ e
@@ -40,7 +40,7 @@ local_pointer-done site s t z o v o_is v_is t_is =
 
 -- what ldl leaves
 abbrev pub after_load : ℤ → State → State
-after_load k s = push (loaded k (s.frame k)) s
+after_load k s = push (word_as_known k (s.frame k)) s
 
 pub load_local-own : (site : Site) (s : State) (e : ℤ) → FitsSigned w32 e
     → ((n : Ruling) → outside_starts s.mode n ≡ n)
@@ -52,9 +52,10 @@ load_local-own site s e fits starts =
     (sym (to_z-of_z w32 e fits))
 
 pub load_local-after : (s t : State) (k z : ℤ) (fact : WordFact) (v : Known) → z ≡ k → fact ≡ s.frame z
-    → v ≡ loaded z fact → t ≡ push v s → after_load k s ≡ t
+    → v ≡ word_as_known z fact → t ≡ push v s → after_load k s ≡ t
 load_local-after s t k z fact v z_is fact_is v_is t_is =
-    sym (t_is ∙ ap (λ x. push x s) (v_is ∙ ap (loaded z) fact_is ∙ ap (λ (x : ℤ). loaded x (s.frame x)) z_is))
+    sym (t_is ∙ ap (λ x. push x s) (v_is ∙ ap (word_as_known z) fact_is
+    ∙ ap (λ (x : ℤ). word_as_known x (s.frame x)) z_is))
 
 -- what stl leaves
 abbrev pub after_store : ℤ → Fact → State → State

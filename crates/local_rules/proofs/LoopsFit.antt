@@ -31,7 +31,7 @@ use Rattle.states.specs.declared.known.Loop.{Loop as CountedLoop}
 use Rattle.states.specs.declared.known.WordFact.{WordFact}
 use Rattle.states.specs.declared.known.WordFact.TheVariants.{Alone, Index, Count}
 use Rattle.states.specs.declared.rule.Rule.{Rule}
-use Rattle.states.specs.State.{State, Facts, unknown, one_word, with_fact, written, is_word}
+use Rattle.states.specs.State.{State, Facts, unknown, one_word, with_fact, written, is_same_number}
 use Rattle.states.specs.Below.{below, view, compared}
 use Rattle.local_rules.specs.declared.loops.Block.{Block}
 use Rattle.rulings.specs.Regions.{scope_of}
@@ -42,7 +42,7 @@ use Rattle.local_rules.specs.LocalRules as table
 use Rattle.rulings.specs.Meaning.{Layout, Activation, with_turns, Means, says_nothing, is_number, is_pointer}
 use Rattle.rulings.specs.Meaning.{frame_word, IsOwnWord, place_in, words_in, MeansWord, is_fact, is_index, is_count}
 use Rattle.rulings.specs.Meaning.{MeansKnown, owed, dues, IsWellFormed, label_turns, farthest_word}
-use Rattle.rulings.specs.Fitting.{Changes, Here, rule_site, step_site, is_jump, it_falls, it_leads, it_breaks}
+use Rattle.rulings.specs.Fitting.{Changes, Situation, rule_site, step_site, is_jump, it_falls, it_leads, it_breaks}
 use Rattle.rulings.proofs.Within.{Within, ArePlain, whole_after}
 use Rattle.rulings.proofs.Words.{frame_word_is, means_same, word_elsewhere, word_test, write_follows, knows_changed}
 use Rattle.rulings.proofs.Words.{local_place, stored_means}
@@ -170,7 +170,7 @@ module _ {m : Contents} {h : Holding} {mode : machine.Mode} {act : Activation} w
     whole = a.whole;
   }
     where
-      at_word : (j k : ℤ) → is_word j k ≡ true → k ≡ j
+      at_word : (j k : ℤ) → is_same_number j k ≡ true → k ≡ j
       at_word j k e = elim (word_test j k) [
         | inl p ↦ sym p.1
         | inr p ↦ let no' : true ≡ false = sym e ∙ p.0 in absurd (cc)
@@ -250,7 +250,7 @@ taken_after block s i beside =
     (with_fact_same d1 i Unknown (with_fact d0 Unknown (over s.frame)) (over (with_fact d0 Unknown s.frame)) one ∙ two)
     ∙ three
 
-module _ (x : Here) where
+module _ (x : Situation) where
   -- ---- the step, one combinator after another
 
   holds_fits : (b : Bool) (kind : FaultKind) (r : Ruling) (o : Outcome) → b ≡ true → FitsIf x r o
@@ -342,7 +342,7 @@ turned_by more block index count l =
           (Some (step.word_of ((step.address index + 1) % 2 ^ 32)))) counted;
     }
 
-module _ (x : Here) (wf : IsWellFormed x.m) (s : State) (l : Local) (a : Within ArePlain x.m x.h x.mode x.act s l)
+module _ (x : Situation) (wf : IsWellFormed x.m) (s : State) (l : Local) (a : Within ArePlain x.m x.h x.mode x.act s l)
     (even : IsTrue (is_stepped x.act.layout.origin))
     (near : (k : ℤ) → rights.may_write_word x.m s.context k ≡ true → (neg_ℤ (pos farthest_word) ≤ℤ k)
     × (k <ℤ pos farthest_word))
@@ -739,7 +739,7 @@ module _ (x : Here) (wf : IsWellFormed x.m) (s : State) (l : Local) (a : Within 
 
 -- The rule of lend and its step fit, where the frame lies at a multiple of 4 and no word of it that may be written is
 -- farther from its word 0 than any is.
-module _ (x : Here) (wf : IsWellFormed x.m) (s : State) (l : Local) (a : Within ArePlain x.m x.h x.mode x.act s l)
+module _ (x : Situation) (wf : IsWellFormed x.m) (s : State) (l : Local) (a : Within ArePlain x.m x.h x.mode x.act s l)
     (even : IsTrue (is_stepped x.act.layout.origin))
     (near : (k : ℤ) → rights.may_write_word x.m s.context k ≡ true
     → (neg_ℤ (pos farthest_word) ≤ℤ k) × (k <ℤ pos farthest_word))

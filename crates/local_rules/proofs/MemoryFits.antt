@@ -31,20 +31,20 @@ use Rattle.machine_state.specs.LocalStep as step
 use Rattle.machine_state.specs.Site.{Outcome, fails, Local}
 use Rattle.states.specs.declared.rule.Rule.{Rule}
 use Rattle.states.specs.declared.rule.Rule.TheVariants as rules
-use Rattle.states.specs.State.{State, known, is_word as is_same}
+use Rattle.states.specs.State.{State, known, is_same_number as is_same}
 use Rattle.rulings.specs.declared.pointers.Pointed.{Pointed}
 use Rattle.rulings.specs.declared.pointers.Bounds.{Bounds}
 use Rattle.rulings.specs.Rulings as rule
 use Rattle.rulings.specs.Rulings.{Ruling}
 use Rattle.local_rules.specs.MemoryRules as memory
-use Rattle.rulings.specs.Pointers.{are_near, pointer_of, number_of, constant_of, word_read, byte_read}
+use Rattle.rulings.specs.Pointers.{are_near, pointer_of, bounds_of, constant_of, word_read, byte_read}
 use Rattle.local_rules.specs.MemoryRules.{near_fact, word_fact, shifted, is_of_a_word, element_of, place_fact}
 use Rattle.local_rules.specs.MemoryRules.{words_behind, words_at}
 use Rattle.rulings.specs.Reach.{may_read_bytes}
 use Rattle.local_rules.specs.LocalRules as table
 use Rattle.rulings.specs.Meaning.{Layout, Means, IsOffset, is_number, is_pointer, is_code_address, from_nowhere, owed}
 use Rattle.rulings.specs.Meaning.{code_address, region_start, IsWellFormed}
-use Rattle.rulings.specs.Fitting.{Changes, Here, StandsAt, rule_site, step_site}
+use Rattle.rulings.specs.Fitting.{Changes, Situation, StandsAt, rule_site, step_site}
 use Rattle.rulings.proofs.Within.{Within, ArePlain, AreStill, whole_after}
 use Rattle.rulings.proofs.Words.{word_test}
 use Rattle.rulings.proofs.Addresses.{address_added, words_added, local_word, stepped, stepped_words, stepped_sum}
@@ -69,8 +69,8 @@ pub is_fact_of : Pointed → Fact
 is_fact_of p = Pointer p.region p.lo p.hi p.step
 
 module _ (m : Contents) (layout : Layout) where
-  pub number_lies : (fact : Fact) (r : Bounds) (v : ℤ) → number_of fact ≡ Ok r → Means m layout fact (Some v) → Lies r v
-  unfolding number_of
+  pub number_lies : (fact : Fact) (r : Bounds) (v : ℤ) → bounds_of fact ≡ Ok r → Means m layout fact (Some v) → Lies r v
+  unfolding bounds_of
   number_lies (Number lo hi) r v e (is_number low high fits) =
       let is : record { lo = lo; hi = hi } ≡ r = cc in
       subst (λ (b : Bounds). Lies b v) is (record { low = low; high = high; fits = fits })
@@ -290,7 +290,7 @@ words_behind_is m layout e v q p is means = on_words q.step is means
 
 -- ---- the instructions
 
-module _ (x : Here) where
+module _ (x : Situation) where
   -- what A becomes, outside alternations and starts
   pub with_fact_fits : (s : State) (l : Local) (fact : Fact) (v : ℤ) → Within ArePlain x.m x.h x.mode x.act s l
       → s.context ≡ x.context → Changes x l.memory → owed s x.act ≤ x.owed → Means x.m x.act.layout fact (Some v)
@@ -342,7 +342,7 @@ module _ (x : Here) where
     element_fits element sum sound =
         in_plain_step x s a.same_mode _ _ (uses_fits x s.stack.a l.registers.stack.a _ _ a.knows.registers.a (λ v means.
         uses_fits x s.stack.b l.registers.stack.b _ _ a.knows.registers.b (λ u other.
-        settles_fits x (number_of s.stack.b.fact) _ _
+        settles_fits x (bounds_of s.stack.b.fact) _ _
         (λ r number. settles_fits x (pointer_of s.stack.a.fact) _ _ (λ p pointer.
         settles_fits x (element_of element p r) _ _ (λ fact is.
         with_fact_fits (rule.pop s) (step.pop l) fact _ popped same changes n

@@ -26,7 +26,7 @@ use Rattle.machine_state.proofs.Copying.{copied-none, all_places-none}
 use Rattle.machine_state.proofs.Frame.{copy_is_own, changes_more}
 use Rattle.states.specs.declared.span.Leaving.{Leaving}
 use Rattle.states.specs.declared.span.Leaving.TheVariants.{Become}
-use Rattle.states.specs.State.{State, unknown, changed, is_word as is_same}
+use Rattle.states.specs.State.{State, unknown, changed, is_same_number as is_same}
 use Rattle.states.specs.Spans.{on_span, after_change}
 use Rattle.states.proofs.Claimed.{same-region}
 use Rattle.rulings.specs.declared.pointers.Pointed.{Pointed}
@@ -34,13 +34,13 @@ use Rattle.rulings.specs.Pointers.{constant_of, wanted_range, is_full, byte_read
 use Rattle.rulings.specs.Pointers.{stored_byte, leaves_words, exact_pointer, takes_any}
 use Rattle.local_rules.specs.MoveRules as move
 use Rattle.rulings.specs.Filling as filling
-use Rattle.local_rules.specs.MoveRules.{is_movable, are_apart}
+use Rattle.local_rules.specs.MoveRules.{is_movable, are_blocks_apart}
 use Rattle.rulings.specs.Filling.{word_behind, words_within, filled, become_numbers}
 use Rattle.rulings.specs.Reach.{word_of_byte, words_touched, may_read_bytes, may_write_bytes}
 use Rattle.local_rules.specs.LocalRules as table
 use Rattle.rulings.specs.Meaning.{Means, is_pointer, owed, region_start, IsWellFormed}
-use Rattle.rulings.specs.Regions.{scope_of, Keeps}
-use Rattle.rulings.specs.Fitting.{Changes, Here, rule_site, step_site, it_breaks}
+use Rattle.rulings.specs.Regions.{scope_of, KeepsMemory}
+use Rattle.rulings.specs.Fitting.{Changes, Situation, rule_site, step_site, it_breaks}
 use Rattle.rulings.proofs.Within.{Within, ArePlain}
 use Rattle.rulings.proofs.Words.{word_test, same_word_by}
 use Rattle.rulings.proofs.Dues.{changed_dues}
@@ -67,7 +67,7 @@ regions_differ : (a b : Region) → is_same_region a b ≡ false → a ≡ b →
 regions_differ a b differ one =
     let no : false ≡ true = sym differ ∙ (sym (ap (is_same_region a) one) ∙ itself a) in cc
 
-module _ (x : Here) (wf : IsWellFormed x.m) (s : State) (l : Local) (a : Within ArePlain x.m x.h x.mode x.act s l)
+module _ (x : Situation) (wf : IsWellFormed x.m) (s : State) (l : Local) (a : Within ArePlain x.m x.h x.mode x.act s l)
     (same : s.context ≡ x.context) (changes : Changes x l.memory) (n : owed s x.act ≤ x.owed) where
   -- all registers are used up
   clears_fits : (t : State) (new : Memory) → Within ArePlain x.m x.h x.mode x.act t (record l { memory = new })
@@ -82,21 +82,22 @@ module _ (x : Here) (wf : IsWellFormed x.m) (s : State) (l : Local) (a : Within 
   -- what the machine does, by the places of the two blocks
   abbrev copying : ℕ → ℕ → ℕ → Outcome
   copying p q k =
-      step.holds (all_places (may_read x.h) p k && all_places (may_write x.h) q k && not (step.meet p k q k)) NotOwn
+      step.holds (all_places (may_read x.h) p k && all_places (may_write x.h) q k && not (step.places_meet p k q k))
+      NotOwn
       (step.goes_on (step_site x) (step.without_registers (record l { memory = copied l.memory p q k l.memory })))
 
   -- no bytes
   none_fits : (p q : ℕ) → FitsIf x (move.clears (rule_site x) s) (copying p q 0)
   none_fits p q =
       holds_fits x (all_places (may_read x.h) p 0 && all_places (may_write x.h) q 0
-      && not (step.meet p 0 q 0)) NotOwn _ _
+      && not (step.places_meet p 0 q 0)) NotOwn _ _
       (and_from _ _ (and_from _ _ (all_places-none (may_read x.h) p) (all_places-none (may_write x.h) q)) (beside p q))
       (subst (λ (mem : Memory). FitsIf x (move.clears (rule_site x) s)
       (step.goes_on (step_site x) (step.without_registers (record l { memory = mem }))))
       (sym (copied-none l.memory p q l.memory)) (clears_fits s l.memory a same n changes))
     where
-      beside : (p q : ℕ) → not (step.meet p 0 q 0) ≡ true
-      beside p q = elim (cases_Bool (step.meet p 0 q 0)) [
+      beside : (p q : ℕ) → not (step.places_meet p 0 q 0) ≡ true
+      beside p q = elim (cases_Bool (step.places_meet p 0 q 0)) [
         | inl t ↦ let tells = meet_tells p 0 q 0 t in absurd (omega (arith, tells.0, tells.1))
         | inr t ↦ ap not t
       ]
@@ -202,13 +203,13 @@ module _ (x : Here) (wf : IsWellFormed x.m) (s : State) (l : Local) (a : Within 
         on false (regions.Parameter j) defined allowed wide may room = absurd (cc)
 
     -- the two blocks have no place in common
-    blocks_apart : (p q : ℕ) → are_apart (pos k) from to ≡ true
+    blocks_apart : (p q : ℕ) → are_blocks_apart (pos k) from to ≡ true
         → pos p ≡ region_place x.m x.act.layout source_region +ℤ source_lo
         → pos q ≡ region_place x.m x.act.layout target_region +ℤ target_lo
         → may_read_bytes x.m s.context source_region source_lo (source_lo +ℤ pos k) ≡ true
         → may_write_bytes x.m s.context target_region target_lo (target_lo +ℤ pos k) ≡ true
-        → not (step.meet p k q k) ≡ true
-    blocks_apart p q apart p_is q_is read write = elim (cases_Bool (step.meet p k q k)) [
+        → not (step.places_meet p k q k) ≡ true
+    blocks_apart p q apart p_is q_is read write = elim (cases_Bool (step.places_meet p k q k)) [
       | inr t ↦ ap not t
       | inl t ↦
           let tells = meet_tells p k q k t in absurd (elim (cases_Bool (is_same_region source_region target_region)) [
@@ -256,13 +257,13 @@ module _ (x : Here) (wf : IsWellFormed x.m) (s : State) (l : Local) (a : Within 
         reads_bytes_fits x s source_region source_lo (source_lo +ℤ pos k) _ _ (λ read.
         writes_bytes_fits x s target_region target_lo end _ _ (λ write.
         on_rule_test x
-        (are_apart (pos k) from to && (is_frame target_region || filling.are_numbers s from (pos k))) _ _ _
-        (λ t. copies read write (and_parts (are_apart (pos k) from to) _ t).0
-        (and_parts (are_apart (pos k) from to) _ t).1)
+        (are_blocks_apart (pos k) from to && (is_frame target_region || filling.are_numbers s from (pos k))) _ _ _
+        (λ t. copies read write (and_parts (are_blocks_apart (pos k) from to) _ t).0
+        (and_parts (are_blocks_apart (pos k) from to) _ t).1)
         (λ t next. it_breaks)))
       where
         copies : may_read_bytes x.m s.context source_region source_lo (source_lo +ℤ pos k) ≡ true
-            → may_write_bytes x.m s.context target_region target_lo end ≡ true → are_apart (pos k) from to ≡ true
+            → may_write_bytes x.m s.context target_region target_lo end ≡ true → are_blocks_apart (pos k) from to ≡ true
             → (is_frame target_region || filling.are_numbers s from (pos k)) ≡ true
             → FitsIf x (move.clears (rule_site x) (filled (filling.are_numbers s from (pos k)) to end s))
             (copying (place_of (step.address w)) (place_of (step.address u)) k)
@@ -295,7 +296,7 @@ module _ (x : Here) (wf : IsWellFormed x.m) (s : State) (l : Local) (a : Within 
               own = changes_more x.h x.memory l.memory new changes.own
                   (copy_is_own x.h l.memory source.place room.place k l.memory own);
               keeps = keeps_more changes.keeps
-                  (subst (λ (c : ℕ). Keeps x.m x.h (scope_of x.m c x.act.layout) l.memory new) same target.keeps);
+                  (subst (λ (c : ℕ). KeepsMemory x.m x.h (scope_of x.m c x.act.layout) l.memory new) same target.keeps);
             }))))
 
   -- ---- the instruction

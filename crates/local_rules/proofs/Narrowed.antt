@@ -15,12 +15,13 @@ use Rattle.states.specs.declared.known.Source.{Source}
 use Rattle.states.specs.declared.known.Source.TheVariants.{Test}
 use Rattle.states.specs.declared.known.WordFact.{WordFact}
 use Rattle.states.specs.declared.known.WordFact.TheVariants.{Alone, Index, Count}
-use Rattle.states.specs.State.{State, Facts, is_silent, is_word}
+use Rattle.states.specs.State.{State, Facts, is_silent, is_same_number}
 use Rattle.states.specs.Frames.{with_alone}
 use Rattle.local_rules.specs.declared.narrowing.Narrowing.{Narrowing}
 use Rattle.local_rules.specs.Narrowings.{narrowed_by}
 use Rattle.rulings.specs.Rulings.{pop, with_a}
-use Rattle.local_rules.specs.WordRules.{constant, number_in, own_range, same, narrowed, where_false, where_true}
+use Rattle.local_rules.specs.WordRules.{known_constant, number_in, own_range, same, narrowed_words, where_false}
+use Rattle.local_rules.specs.WordRules.{where_true}
 use Rattle.local_rules.specs.WordRules.{shift_range}
 
 -- a word that has a range is known
@@ -38,11 +39,11 @@ ranged-known (Count loop) r is = absurd (cc)
 pub narrowed-is : (source : Source) (word w lo l hi h : ℤ) (within holds : Bool) (facts : Facts) (said : WordFact)
     (r t : Ends) (fact : Fact) → source ≡ Test word lo hi within → w ≡ word → l ≡ lo → h ≡ hi → said ≡ facts w
     → Some r ≡ own_range said → Some t ≡ range_between l h → fact ≡ number_in (left_by (same within holds) r t)
-    → narrowed source holds facts ≡ with_alone w fact facts
-unfolding narrowed
+    → narrowed_words source holds facts ≡ with_alone w fact facts
+unfolding narrowed_words
 narrowed-is source word w lo l hi h within holds facts said r t fact source_is w_is l_is h_is said_is r_is
     t_is fact_is =
-    ap (λ (s : Source). narrowed s holds facts) source_is
+    ap (λ (s : Source). narrowed_words s holds facts) source_is
     ∙ ap (λ (o : Option Ends). elim o as (λ o. Facts) [
       | None ↦ facts
       | Some r ↦ elim (range_between lo hi) as (λ o. Facts) [
@@ -58,7 +59,7 @@ narrowed-is source word w lo l hi h within holds facts said r t fact source_is w
 
 -- a word that is narrowed twice is as it was narrowed last
 alone-twice : (k : ℤ) (f g : Fact) (facts : Facts) → with_alone k g (with_alone k f facts) ≡ with_alone k g facts
-alone-twice k f g facts = fun_ext (λ j. on_test (is_word j k) (facts j))
+alone-twice k f g facts = fun_ext (λ j. on_test (is_same_number j k) (facts j))
   where
     on_test : (b : Bool) (said : WordFact)
         → cond b (Alone g) (cond b (Alone f) said) ≡ cond b (Alone g) said
@@ -72,23 +73,24 @@ narrowed-twice (Some n) facts = alone-twice n.word n.if_false n.if_true facts
 
 -- the state in which the process goes on at the label
 pub left-false : (s m t : State) (n : Option Narrowing) (source : Source) (v : Known) → source ≡ s.stack.a.source
-    → narrowed source false s.frame ≡ narrowed_by n false s.frame
-    → m ≡ record s { frame = narrowed_by n false s.frame } → v ≡ constant (pos 0) → t ≡ with_a v m → t ≡ where_false s
+    → narrowed_words source false s.frame ≡ narrowed_by n false s.frame
+    → m ≡ record s { frame = narrowed_by n false s.frame } → v ≡ known_constant (pos 0) → t ≡ with_a v m
+    → t ≡ where_false s
 left-false s m t n source v source_is narrow m_is v_is t_is =
     t_is ∙ ap (λ (x : Known). with_a x m) v_is
-    ∙ ap (with_a (constant (pos 0))) (m_is ∙ ap (λ (f : Facts). record s { frame = f }) (sym narrow
-    ∙ ap (λ (x : Source). narrowed x false s.frame) source_is))
+    ∙ ap (with_a (known_constant (pos 0))) (m_is ∙ ap (λ (f : Facts). record s { frame = f }) (sym narrow
+    ∙ ap (λ (x : Source). narrowed_words x false s.frame) source_is))
 
 -- and after the jump
 pub left-true : (s m t u w : State) (n : Option Narrowing) (source : Source) (v : Known) → source ≡ s.stack.a.source
-    → narrowed source true s.frame ≡ narrowed_by n true s.frame
+    → narrowed_words source true s.frame ≡ narrowed_by n true s.frame
     → m ≡ record s { frame = narrowed_by n false s.frame } → t ≡ with_a v m
     → u ≡ record t { frame = narrowed_by n true t.frame } → w ≡ pop u → w ≡ where_true s
 left-true s m t u w n source v source_is narrow m_is t_is u_is w_is =
     w_is ∙ ap pop (u_is ∙ ap (λ (x : State). record x { frame = narrowed_by n true x.frame }) t_is)
     ∙ ap (λ (x : State). pop (record (with_a v x) { frame = narrowed_by n true x.frame })) m_is
     ∙ ap (λ (f : Facts). pop (record s { frame = f })) (narrowed-twice n s.frame ∙ sym narrow
-    ∙ ap (λ (x : Source). narrowed x true s.frame) source_is)
+    ∙ ap (λ (x : Source). narrowed_words x true s.frame) source_is)
 
 -- a shift to the right by counts that are in range
 pub shift-right-is : (op : Shift) (r s t : Ends) → op ≡ shifts.Right → pos 0 ≤ℤ s.lo → s.hi ≤ℤ pos 31

@@ -15,11 +15,11 @@ use Rattle.states.specs.declared.known.WordFact.{WordFact}
 use Rattle.states.specs.declared.known.WordFact.TheVariants.{Alone, Index, Count}
 use Rattle.states.specs.declared.known.Source.{Source}
 use Rattle.states.specs.declared.known.Source.TheVariants.{Nowhere, From, Test}
-use Rattle.states.specs.State.{Facts, is_word}
+use Rattle.states.specs.State.{Facts, is_same_number}
 use Rattle.states.specs.Frames.{with_alone}
 use Rattle.rulings.specs.Meaning.{Activation, Means, is_number, MeansWord, is_fact, frame_word, ComesFrom, from_test}
 use Rattle.rulings.specs.Meaning.{is_tested, loop_due, dues_from, farthest_word, dues}
-use Rattle.local_rules.specs.WordRules.{range_of, number_in, own_range, same, narrowed}
+use Rattle.local_rules.specs.WordRules.{range_of, number_in, own_range, same, narrowed_words}
 use Rattle.rulings.proofs.Words.{word_test, means_same}
 use Rattle.local_rules.proofs.Results.{lies}
 
@@ -64,8 +64,8 @@ module _ (m : Contents) (act : Activation) where
       → (holds ≡ false → v ≡ pos 0)
       → ((k : ℤ) → counts k ≡ true → MeansWord m act k (facts k) (frame_word memory act.layout.origin k))
       → (k : ℤ) → counts k ≡ true
-      → MeansWord m act k (narrowed source holds facts k) (frame_word memory act.layout.origin k)
-  unfolding narrowed
+      → MeansWord m act k (narrowed_words source holds facts k) (frame_word memory act.layout.origin k)
+  unfolding narrowed_words
   narrowed_means counts memory facts Nowhere holds v comes so not_so words k inside = words k inside
   narrowed_means counts memory facts (From word) holds v comes so not_so words k inside = words k inside
   narrowed_means counts memory facts (Test word lo hi within) holds v (from_test x counted is tested) so not_so words k
@@ -128,14 +128,14 @@ alone_from : (k : ℤ) (fact : Fact) (facts : Facts) (turns : ℤ → ℕ) (word
     → dues_from (with_alone k fact facts) turns word more ≤ dues_from facts turns word more
 alone_from k fact facts turns word zero = omega arith
 alone_from k fact facts turns word (suc more) =
-    let here = alone_due (is_word word k) fact (facts word) (turns word) in
+    let here = alone_due (is_same_number word k) fact (facts word) (turns word) in
     let rest = alone_from k fact facts turns (word +ℤ pos 1) more in
     omega (arith, here, rest)
 
 -- Narrowing adds nothing to what is due.
 pub narrowed_dues : (source : Source) (holds : Bool) (facts : Facts) (turns : ℤ → ℕ)
-    → dues (narrowed source holds facts) turns ≤ dues facts turns
-unfolding narrowed dues
+    → dues (narrowed_words source holds facts) turns ≤ dues facts turns
+unfolding narrowed_words dues
 narrowed_dues Nowhere holds facts turns = omega arith
 narrowed_dues (From word) holds facts turns = omega arith
 narrowed_dues (Test word lo hi within) holds facts turns = on_range (own_range (facts word))

@@ -33,7 +33,7 @@ use Rattle.machine_state.specs.declared.op.Shift.{Shift}
 use Rattle.machine_state.specs.declared.op.Shift.TheVariants as shifts
 use Rattle.machine_state.specs.declared.op.LongOp.{LongOp}
 use Rattle.machine_state.specs.declared.op.LongOp.TheVariants as long
-use Rattle.machine_state.specs.LocalStep.{shifted, long_result}
+use Rattle.machine_state.specs.LocalStep.{shift_result, long_result}
 use Rattle.rulings.specs.Meaning.{Layout, Means, is_number}
 use Rattle.local_rules.specs.WordRules.{range_of, number_in, fact_of_two, result_fact, unary_result_fact}
 use Rattle.local_rules.specs.WordRules.{are_shift_counts, shift_range, high_range}
@@ -150,13 +150,13 @@ module _ (m : Contents) (layout : Layout) where
 
 -- a shift; `None` if the count is out of range
 abbrev pub shift_computed : Shift → ℤ → ℤ → Option ℤ
-shift_computed op x y = if int_le (pos 0) y && int_le y (pos 31) then Some (shifted op x (nat_abs y)) else None
+shift_computed op x y = if int_le (pos 0) y && int_le y (pos 31) then Some (shift_result op x (nat_abs y)) else None
 
 same_size : (y : ℤ) → unsigned_abs y ≡ nat_abs y
 same_size (pos n) = refl
 same_size (negsuc n) = refl
 
-shift_fits : (op : Shift) (x : ℤ) (n : ℕ) → FitsSigned w32 x → FitsSigned w32 (shifted op x n)
+shift_fits : (op : Shift) (x : ℤ) (n : ℕ) → FitsSigned w32 x → FitsSigned w32 (shift_result op x n)
 shift_fits shifts.Left x n f = wrapped_fits (cast_unsigned w32 x * 2 ^ n)
 shift_fits shifts.Right x n f =
     cast_fits (cast_unsigned w32 x / 2 ^ n)
@@ -177,12 +177,12 @@ counts_pass s y e n =
     )
 
 in_words : (op : Shift) (r t : Ends) (x y : ℤ) → IsRange r → InRange r x
-    → (int_le (pos 0) y && int_le y (pos 31)) ≡ true → InRange t (shifted op x (unsigned_abs y))
+    → (int_le (pos 0) y && int_le y (pos 31)) ≡ true → InRange t (shift_result op x (unsigned_abs y))
     → IsSomeAnd (shift_computed op x y) (IsWordIn t)
 in_words op r t x y p m passes inside =
-    subst (λ (b : Bool). IsSomeAnd (if b then Some (shifted op x (nat_abs y)) else None) (IsWordIn t)) (sym passes)
+    subst (λ (b : Bool). IsSomeAnd (if b then Some (shift_result op x (nat_abs y)) else None) (IsWordIn t)) (sym passes)
     (record {
-      member = subst (λ (n : ℕ). InRange t (shifted op x n)) (same_size y) inside;
+      member = subst (λ (n : ℕ). InRange t (shift_result op x n)) (same_size y) inside;
       word = shift_fits op x (nat_abs y) (member_fits r x p m);
     })
 

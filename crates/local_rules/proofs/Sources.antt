@@ -10,7 +10,7 @@ use Rattle.std.specs.Int.{w32}
 use Rattle.word_arithmetic.specs.declared.binary.Binary.{Binary as BinaryOperation}
 use Rattle.word_arithmetic.specs.declared.binary.Binary.TheVariants as binary
 use Rattle.word_arithmetic.specs.Word.{truth, least_word, greatest_word}
-use Rattle.word_arithmetic.specs.Range.{Ends, range_between, constant_of, is_constant, words_above, words_below}
+use Rattle.word_arithmetic.specs.Range.{Ends, range_between, only_number, is_constant, words_above, words_below}
 use Rattle.word_arithmetic.specs.Binary.{computed}
 use Rattle.word_arithmetic.proofs.EndsLaws.{words_in_order_are_ranges}
 use Rattle.module_format.specs.Rows.{Fact}
@@ -19,7 +19,7 @@ use Rattle.machine_state.specs.Memory.{Memory}
 use Rattle.states.specs.declared.known.Known.{Known}
 use Rattle.states.specs.declared.known.Source.{Source}
 use Rattle.states.specs.declared.known.Source.TheVariants.{Nowhere, From, Test}
-use Rattle.states.specs.State.{is_word}
+use Rattle.states.specs.State.{is_same_number}
 use Rattle.rulings.specs.Meaning.{Layout, Means, frame_word, ComesFrom, from_nowhere, from_word, from_test, MeansKnown}
 use Rattle.rulings.specs.Meaning.{is_tested}
 use Rattle.local_rules.specs.WordRules.{range_of, constant_in, test_of, word_and_constant, greater_source}
@@ -60,7 +60,7 @@ module _ (m : Contents) (counts : ℤ → Bool) (layout : Layout) (memory : Memo
           omega (arith, ints)
       on_test r here false e h = absurd (cc)
 
-      on_range : (o : Option Ends) → range_of fact ≡ o → option_and_then constant_of o ≡ Some v → y ≡ v
+      on_range : (o : Option Ends) → range_of fact ≡ o → option_and_then only_number o ≡ Some v → y ≡ v
       on_range None e h = absurd (cc)
       on_range (Some r) e h = on_test r (lies m layout fact y r means e) (is_constant r) refl h
 
@@ -153,7 +153,7 @@ module _ (m : Contents) (counts : ℤ → Bool) (layout : Layout) (memory : Memo
     where
       on_test : (word lo hi y : ℤ) (inside : Bool) → counts word ≡ true
           → frame_word memory layout.origin word ≡ Some y → x ≡ truth (is_tested lo hi inside y) → (b : Bool)
-          → is_word v (pos 0) ≡ b
+          → is_same_number v (pos 0) ≡ b
           → ComesFrom counts memory layout.origin (if b then Test word lo hi (not inside) else Nowhere)
           (Some (truth (int_eq x v)))
       on_test word lo hi y inside counted is tested false e = from_nowhere
@@ -167,14 +167,14 @@ module _ (m : Contents) (counts : ℤ → Bool) (layout : Layout) (memory : Memo
           → ComesFrom counts memory layout.origin (elim s as (λ s. Source) [
             | Nowhere ↦ Nowhere
             | From word ↦ Test word v v true
-            | Test word lo hi inside ↦ if is_word v (pos 0) then Test word lo hi (not inside) else Nowhere
+            | Test word lo hi inside ↦ if is_same_number v (pos 0) then Test word lo hi (not inside) else Nowhere
           ]) (Some (truth (int_eq x v)))
       on_source Nowhere comes = from_nowhere
       on_source (From word) (from_word counted is) =
           from_test x counted (sym is) (ap (λ (b : Bool). Some (truth b)) (equal v x))
       on_source (Test word lo hi inside) (from_test y counted is tested) =
           let value : x ≡ truth (is_tested lo hi inside y) = cc in
-          on_test word lo hi y inside counted is value (is_word v (pos 0)) refl
+          on_test word lo hi y inside counted is value (is_same_number v (pos 0)) refl
 
   -- ---- the results of operations
 

@@ -22,7 +22,7 @@ use Rattle.machine_state.specs.LocalStep.{target}
 use Rattle.states.specs.declared.known.Loop.{Loop as CountedLoop}
 use Rattle.states.specs.declared.known.WordFact.{WordFact}
 use Rattle.states.specs.declared.known.WordFact.TheVariants.{Alone, Index, Count}
-use Rattle.states.specs.State.{State, Facts, by_itself, is_word, is_at, is_parted, with_fact}
+use Rattle.states.specs.State.{State, Facts, by_itself, is_same_number, is_at, is_parted, with_fact}
 use Rattle.states.specs.Below.{is_same_loop}
 use Rattle.local_rules.specs.declared.loops.Block.{Block}
 use Rattle.rulings.specs.Rulings.{Site}
@@ -60,8 +60,8 @@ pointed ReturnAddress k e = absurd (cc)
 pointed (Pointer regions.Constants lo hi step) k e = absurd (cc)
 pointed (Pointer (regions.Parameter j) lo hi step) k e = absurd (cc)
 pointed (Pointer regions.Frame lo hi step) k e =
-    let found = cond_some (is_word lo hi && is_stepped lo) (word_of_offset lo) k e in
-    let tests = and_parts (is_word lo hi) (is_stepped lo) found.0 in
+    let found = cond_some (is_same_number lo hi && is_stepped lo) (word_of_offset lo) k e in
+    let tests = and_parts (is_same_number lo hi) (is_stepped lo) found.0 in
     let low : lo ≡ pos 4 *ℤ k = sym (four_times lo tests.1) ∙ ap (λ (z : ℤ). pos 4 *ℤ z) found.1 in
     let high : hi ≡ pos 4 *ℤ k = sym (same_word_by lo hi tests.0) ∙ low in
     record {
@@ -217,15 +217,16 @@ finds_beginning site (Pointer region lo hi step) begins e = absurd (cc)
 finds_beginning site (CodeAddress offset) begins e = absurd (cc)
 finds_beginning site (Loop base count weight) begins e = absurd (cc)
 finds_beginning site ReturnAddress begins e = absurd (cc)
-finds_beginning site (Number lo hi) begins e = on_test (cases_Bool (is_word lo hi && int_le (pos 1) lo))
+finds_beginning site (Number lo hi) begins e = on_test (cases_Bool (is_same_number lo hi && int_le (pos 1) lo))
   where
     to : ℕ
     to = target (site.at + site.length) (pos 0 -ℤ lo)
 
-    on_test : ((is_word lo hi && int_le (pos 1) lo) ≡ true) ⊎ ((is_word lo hi && int_le (pos 1) lo) ≡ false)
+    on_test : ((is_same_number lo hi && int_le (pos 1) lo) ≡ true)
+        ⊎ ((is_same_number lo hi && int_le (pos 1) lo) ≡ false)
         → FindsBeginning site (Number lo hi) begins
     on_test (inl t) =
-        let tests = and_parts (is_word lo hi) (int_le (pos 1) lo) t in
+        let tests = and_parts (is_same_number lo hi) (int_le (pos 1) lo) t in
         let back = back_of lo (int_le-true (pos 1) lo tests.1) in
         let high : hi ≡ pos back.0 = sym (same_word_by lo hi tests.0) ∙ back.1 in
         let told = beginning_tells site to begins
@@ -284,9 +285,9 @@ pub index_kept : (j k : ℤ) (fact : Fact) (facts : Facts) (loop : CountedLoop) 
 index_kept j k fact facts loop is one two =
     on_tests (word_test k j) (word_test (k +ℤ pos 1) j)
   where
-    on_tests : ((is_word k j ≡ true) × (k ≡ j)) ⊎ ((is_word k j ≡ false) × (k ≡ j → ⊥))
-        → ((is_word (k +ℤ pos 1) j ≡ true) × (k +ℤ pos 1 ≡ j))
-        ⊎ ((is_word (k +ℤ pos 1) j ≡ false) × (k +ℤ pos 1 ≡ j → ⊥))
+    on_tests : ((is_same_number k j ≡ true) × (k ≡ j)) ⊎ ((is_same_number k j ≡ false) × (k ≡ j → ⊥))
+        → ((is_same_number (k +ℤ pos 1) j ≡ true) × (k +ℤ pos 1 ≡ j))
+        ⊎ ((is_same_number (k +ℤ pos 1) j ≡ false) × (k +ℤ pos 1 ≡ j → ⊥))
         → with_fact j fact facts k ≡ Index loop
     on_tests (inl p) q = absurd (one (sym p.1))
     on_tests (inr p) (inl q) = absurd (two (sym q.1))

@@ -45,7 +45,7 @@ use Rattle.local_rules.specs.LocalRules as table
 use Rattle.rulings.specs.Meaning.{Activation, IsOffset, Means, is_number, is_pointer, frame_word, words_in, ComesFrom}
 use Rattle.rulings.specs.Meaning.{from_nowhere, from_word, MeansWord, MeansKnown, frame_lo, frame_hi, owed}
 use Rattle.rulings.specs.Meaning.{IsWellFormed}
-use Rattle.rulings.specs.Fitting.{Changes, After, Here, rule_site, step_site, it_falls, it_breaks, goes_behind}
+use Rattle.rulings.specs.Fitting.{Changes, After, Situation, rule_site, step_site, it_falls, it_breaks, goes_behind}
 use Rattle.rulings.specs.Fitting.{StandsAt}
 use Rattle.rulings.specs.Fitting.{is_landing}
 use Rattle.rulings.proofs.Within.{Within, ArePlain, AreStill, whole_after, within_paid}
@@ -109,7 +109,7 @@ loaded_source k ReturnAddress inside is = from_nowhere
 
 loaded_means : (m : Contents) (counts : ℤ → Bool) (act : Activation) (k : ℤ) (f : WordFact) (memory : Memory)
     (v : Option ℤ) → counts k ≡ true → MeansWord m act k f (frame_word memory act.layout.origin k)
-    → frame_word memory act.layout.origin k ≡ v → MeansKnown m counts act.layout memory (word.loaded k f) v
+    → frame_word memory act.layout.origin k ≡ v → MeansKnown m counts act.layout memory (word.word_as_known k f) v
 loaded_means m counts act k f memory v inside means is = record {
   fact = subst (λ (x : Option ℤ). Means m act.layout (plain f) x) is (plain_means m act k f _ means);
   source = loaded_source k (plain f) inside (sym is);
@@ -117,12 +117,12 @@ loaded_means m counts act k f memory v inside means is = record {
 
 -- ---- in every mode
 
-module _ (x : Here) (s : State) (l : Local) (a : After x.m x.h x.mode x.act s l) (same : s.context ≡ x.context)
+module _ (x : Situation) (s : State) (l : Local) (a : After x.m x.h x.mode x.act s l) (same : s.context ≡ x.context)
     (changes : Changes x l.memory) (n : owed s x.act ≤ x.owed) (here : StandsAt x s l) where
   pub ldc_fits : (e : ℤ) → FitsSigned w32 e
-      → FitsIf x (rule.goes_on (rule_site x) (rule.push (word.constant e) s))
+      → FitsIf x (rule.goes_on (rule_site x) (rule.push (word.known_constant e) s))
       (step.goes_on (step_site x) (step.push (Some e) l))
-  ldc_fits e fits = going_on_fits x (rule.push (word.constant e) s) (step.push (Some e) l)
+  ldc_fits e fits = going_on_fits x (rule.push (word.known_constant e) s) (step.push (Some e) l)
       (stacked a (record {
         a = record { fact = is_number (omega (arith, ints)) (omega (arith, ints)) fits; source = from_nowhere };
         b = a.knows.registers.a;
@@ -150,7 +150,7 @@ module _ (x : Here) (s : State) (l : Local) (a : After x.m x.h x.mode x.act s l)
 
 -- ---- but among the starts of a PAR
 
-module _ (x : Here) (s : State) (l : Local) (a : Within AreStill x.m x.h x.mode x.act s l)
+module _ (x : Situation) (s : State) (l : Local) (a : Within AreStill x.m x.h x.mode x.act s l)
     (same : s.context ≡ x.context)
     (changes : Changes x l.memory) (n : owed s x.act ≤ x.owed) (here : StandsAt x s l) where
   pub ldl_fits : (e : ℤ) → FitsSigned w32 e
@@ -162,7 +162,7 @@ module _ (x : Here) (s : State) (l : Local) (a : Within AreStill x.m x.h x.mode 
       let w = a.frame.readable (s.depth +ℤ e) t in
       reads_fits x l (local_address l.registers.workspace e) w.place _ _
       (local_place a.frame e fits w.place w.is w.inside) w.readable
-      (going_on_fits x (rule.push (word.loaded (s.depth +ℤ e) (s.frame (s.depth +ℤ e))) s)
+      (going_on_fits x (rule.push (word.word_as_known (s.depth +ℤ e) (s.frame (s.depth +ℤ e))) s)
       (step.push (word_at l.memory w.place) l)
       (whole_after (after_stack x a (record {
         a = loaded_means x.m (words_in x.m s.context).reads x.act (s.depth +ℤ e) (s.frame (s.depth +ℤ e)) l.memory
@@ -182,7 +182,7 @@ module _ (x : Here) (s : State) (l : Local) (a : Within AreStill x.m x.h x.mode 
 
 -- ---- in plain mode
 
-module _ (x : Here) (s : State) (l : Local) (a : Within ArePlain x.m x.h x.mode x.act s l)
+module _ (x : Situation) (s : State) (l : Local) (a : Within ArePlain x.m x.h x.mode x.act s l)
     (same : s.context ≡ x.context)
     (changes : Changes x l.memory) (n : owed s x.act ≤ x.owed) where
   pub stl_fits : (e : ℤ) → FitsSigned w32 e
@@ -324,18 +324,19 @@ module _ (x : Here) (s : State) (l : Local) (a : Within ArePlain x.m x.h x.mode 
       s.stack.a.fact u v other.fact means.fact))))
     where
       on_test : (u v : ℤ) (f : Fact) (b : Bool)
-          → IsSomeAnd (if b then Some (step.shifted op u (nat_abs v)) else None)
+          → IsSomeAnd (if b then Some (step.shift_result op u (nat_abs v)) else None)
           (λ w. Means x.m x.act.layout f (Some w))
           → FitsIf x (word.becomes (rule_site x) (Some f) Nowhere (rule.pop s))
-          (if b then step.replaces_two (step_site x) (step.shifted op u (nat_abs v)) l else fails CountRange)
+          (if b then step.replaces_two (step_site x) (step.shift_result op u (nat_abs v)) l else fails CountRange)
       on_test u v f true m =
-          becomes_fits (rule.pop s) (step.pop l) (Some f) Nowhere (Some (step.shifted op u (nat_abs v))) after_pop same
+          becomes_fits (rule.pop s) (step.pop l) (Some f) Nowhere (Some (step.shift_result op u (nat_abs v))) after_pop
+          same
           changes n m (λ g is. from_nowhere)
       on_test u v f false m = absurd m
 
       on_fact : (u v : ℤ) (fact : Option Fact) → ResultMeans x.m x.act.layout fact (shift_computed op u v)
           → FitsIf x (word.becomes (rule_site x) fact Nowhere (rule.pop s))
-          (step.counts 0 31 v (λ k. step.replaces_two (step_site x) (step.shifted op u k) l))
+          (step.counts 0 31 v (λ k. step.replaces_two (step_site x) (step.shift_result op u k) l))
       on_fact u v None m = λ next. it_breaks
       on_fact u v (Some f) m = on_test u v f (int_le (pos 0) v && int_le v (pos 31)) m
 
@@ -455,7 +456,7 @@ module _ (x : Here) (s : State) (l : Local) (a : Within ArePlain x.m x.h x.mode 
       → ComesFrom (words_in x.m s'.context).reads l'.memory x.act.layout.origin source (Some v)
       → (holds ≡ true → v ≢ pos 0)
       → (holds ≡ false → v ≡ pos 0)
-      → Within ArePlain x.m x.h x.mode x.act (record s' { frame = word.narrowed source holds s'.frame }) l'
+      → Within ArePlain x.m x.h x.mode x.act (record s' { frame = word.narrowed_words source holds s'.frame }) l'
   after_narrowing s' l' source holds v b comes so not_so = record {
     frame = b.frame;
     knows = record {

@@ -31,7 +31,7 @@ use Rattle.machine_state.proofs.Reading.{byte_at-with_word_other, word_at-with_w
 use Rattle.machine_state.proofs.Frame.{write_is_own, byte_is_own, changes_more}
 use Rattle.states.specs.declared.span.Leaving.{Leaving}
 use Rattle.states.specs.declared.span.Leaving.TheVariants.{Become}
-use Rattle.states.specs.State.{State, is_word as is_same}
+use Rattle.states.specs.State.{State, is_same_number as is_same}
 use Rattle.states.specs.Spans.{is_in_span, on_span, after_change}
 use Rattle.states.specs.Below.{lies_within}
 use Rattle.rulings.specs.declared.pointers.Pointed.{Pointed}
@@ -46,8 +46,8 @@ use Rattle.rulings.specs.Reach.{parameter_range, kept_range}
 use Rattle.local_rules.specs.LocalRules as table
 use Rattle.rulings.specs.Meaning.{Layout, Activation, Means, is_pointer, place_in, word_at_place, frame_word, owed}
 use Rattle.rulings.specs.Meaning.{region_start}
-use Rattle.rulings.specs.Regions.{Scope, scope_of, IsByteOf, IsRegion, IsNamed, Keeps}
-use Rattle.rulings.specs.Fitting.{Changes, Here, rule_site, step_site}
+use Rattle.rulings.specs.Regions.{Scope, scope_of, IsByteOf, IsHeldRegion, IsNamed, KeepsMemory}
+use Rattle.rulings.specs.Fitting.{Changes, Situation, rule_site, step_site}
 use Rattle.rulings.proofs.Within.{Within, ArePlain}
 use Rattle.rulings.proofs.Words.{frame_word_is, word_test, stored_means, word_elsewhere, same_word_by}
 use Rattle.rulings.proofs.Dues.{changed_dues}
@@ -140,7 +140,7 @@ pub record Written {m : Contents} {h : Holding} {mode : machine.Mode} {act : Act
   pub small : place < 4294967296
   pub own : mine place
   pub after : Within ArePlain m h mode act left (record l { memory = new place })
-  pub keeps : Keeps m h (scope_of m s.context act.layout) l.memory (new place)
+  pub keeps : KeepsMemory m h (scope_of m s.context act.layout) l.memory (new place)
 
 module _ {m : Contents} {h : Holding} {mode : machine.Mode} {act : Activation} {s : State} {l : Local}
     (a : Within ArePlain m h mode act s l) (lo hi offset : ℤ) (low : lo ≤ℤ offset) (high : offset ≤ℤ hi) where
@@ -150,7 +150,7 @@ module _ {m : Contents} {h : Holding} {mode : machine.Mode} {act : Activation} {
   -- ---- the region that a parameter names
 
   named_region : (j size : ℕ) (r : Writable m s.context j size)
-      → IsRegion m (may_write h) scope l.memory (place_of (act.layout.starts j)) size r.lo r.hi
+      → IsHeldRegion m (may_write h) scope l.memory (place_of (act.layout.starts j)) size r.lo r.hi
   named_region j size r = subst (λ (kind : ParameterKind). IsNamed m h scope l.memory kind (act.layout.starts j)) r.is
       (a.named.each j r.parameter r.found)
 
@@ -388,7 +388,7 @@ module _ {m : Contents} {h : Holding} {mode : machine.Mode} {act : Activation} {
             there : IsByteOf act.layout.origin w.word (w.own.place + n)
             there = let is = w.own.is in record { low = omega (arith, ints); high = omega (arith, ints) }
 
-            keeps : Keeps m h scope l.memory new
+            keeps : KeepsMemory m h scope l.memory new
             keeps = frame_keeps m h scope w.word l.memory new w.may (written_readable m s.context w.word w.may) w.own
                 (byte_written act.layout.origin w.word l.memory (w.own.place + n) (Some c) there
                 (λ d e. let is : c ≡ d = cc in subst (λ (x : ℕ). x < 256) is byte))
@@ -435,7 +435,7 @@ module _ {m : Contents} {h : Holding} {mode : machine.Mode} {act : Activation} {
             new : Memory
             new = with_byte l.memory (start + n) (Some c)
 
-            in_region_of : IsRegion m (may_write h) scope l.memory start size r.lo r.hi
+            in_region_of : IsHeldRegion m (may_write h) scope l.memory start size r.lo r.hi
             in_region_of = named_region j size r
 
             whole : size % 4 ≡ 0
@@ -495,7 +495,7 @@ module _ {m : Contents} {h : Holding} {mode : machine.Mode} {act : Activation} {
 
 -- ---- the instructions
 
-module _ (x : Here) (s : State) (l : Local) (a : Within ArePlain x.m x.h x.mode x.act s l)
+module _ (x : Situation) (s : State) (l : Local) (a : Within ArePlain x.m x.h x.mode x.act s l)
     (same : s.context ≡ x.context)
     (changes : Changes x l.memory) (n : owed s x.act ≤ x.owed) where
   -- A is a pointer that may be used, and B may be stored where it leads
@@ -550,10 +550,10 @@ module _ (x : Here) (s : State) (l : Local) (a : Within ArePlain x.m x.h x.mode 
       (after_stack x b (record { a = b.knows.registers.c; b = unknown_means; c = unknown_means }))
       (left_context p end leaving ∙ same) changed (omega (arith, n, less))))
 
-  changes_too : (new : Memory) → Keeps x.m x.h (scope_of x.m s.context x.act.layout) l.memory new
-      → Keeps x.m x.h (scope_of x.m x.context x.act.layout) l.memory new
+  changes_too : (new : Memory) → KeepsMemory x.m x.h (scope_of x.m s.context x.act.layout) l.memory new
+      → KeepsMemory x.m x.h (scope_of x.m x.context x.act.layout) l.memory new
   changes_too new keeps =
-      subst (λ (c : ℕ). Keeps x.m x.h (scope_of x.m c x.act.layout) l.memory new) same keeps
+      subst (λ (c : ℕ). KeepsMemory x.m x.h (scope_of x.m c x.act.layout) l.memory new) same keeps
 
   -- ---- stnl
 

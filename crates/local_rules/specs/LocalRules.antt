@@ -24,7 +24,8 @@ use Rattle.states.specs.State.{State, known, written}
 use Rattle.rulings.specs.Rulings.{Ruling, ends, breaks, Site, outside_alternation, outside_starts, alone, uses}
 use Rattle.rulings.specs.Rulings.{forward, writes_word, reads_word, schedules, pays, forks_to, goes_on, goes_to, push}
 use Rattle.rulings.specs.Rulings.{pop, reverse, in_bounds}
-use Rattle.local_rules.specs.WordRules.{constant, loaded, has_range, checks, has_long_operations, fact_of_two}
+use Rattle.local_rules.specs.WordRules.{known_constant, word_as_known, has_range, checks, has_long_operations}
+use Rattle.local_rules.specs.WordRules.{fact_of_two}
 use Rattle.local_rules.specs.WordRules.{result_fact, unary_result_fact, shift_range, is_subscript, is_count}
 use Rattle.local_rules.specs.WordRules.{long_results, result_source, constant_source, becomes, where_false, where_true}
 use Rattle.local_rules.specs.WordRules.{in_frame}
@@ -37,7 +38,7 @@ use Rattle.local_rules.specs.LoopRules.{ends_turn}
 -- the rule of an operation of this family; one of another family has none here
 unfoldable pub local_operation_rule : Site → Op → State → Ruling
 local_operation_rule site Reverse s = alone s.mode (goes_on site (reverse s))
-local_operation_rule site MinimumInteger s = outside_starts s.mode (goes_on site (push (constant least_word) s))
+local_operation_rule site MinimumInteger s = outside_starts s.mode (goes_on site (push (known_constant least_word) s))
 local_operation_rule site StopProcess s = alone s.mode (schedules site s (λ s. pays site s (λ s. ends)))
 local_operation_rule site (Binary op) s =
     uses s.stack.a (λ a. uses s.stack.b (λ b.
@@ -62,10 +63,10 @@ local_operation_rule site _ s = breaks rules.Spelling
 
 -- the same of an instruction
 unfoldable pub local_rule : Site → Instruction → ℤ → State → Ruling
-local_rule site LoadConstant e s = goes_on site (push (constant e) s)
+local_rule site LoadConstant e s = goes_on site (push (known_constant e) s)
 local_rule site LoadLocal e s =
     let k = s.depth +ℤ e in
-    outside_starts s.mode (reads_word site s k (goes_on site (push (loaded k (s.frame k)) s)))
+    outside_starts s.mode (reads_word site s k (goes_on site (push (word_as_known k (s.frame k)) s)))
 local_rule site StoreLocal e s =
     let k = s.depth +ℤ e in
     uses s.stack.a (λ a. alone s.mode (writes_word site s k (goes_on site (pop (written k a s)))))

@@ -17,7 +17,7 @@ use Rattle.states.specs.declared.rule.Rule.TheVariants as rules
 use Rattle.states.specs.declared.known.Loop.{Loop as CountedLoop}
 use Rattle.states.specs.declared.known.WordFact.{WordFact}
 use Rattle.states.specs.declared.known.WordFact.TheVariants.{Index, Count}
-use Rattle.states.specs.State.{State, is_word as is_same, written}
+use Rattle.states.specs.State.{State, is_same_number as is_same, written}
 use Rattle.states.specs.Below.{is_same_loop, view, compared}
 use Rattle.local_rules.specs.declared.loops.Block.{Block}
 use Rattle.rulings.specs.Rulings.{Ruling, falls, falls_or_leads, breaks, Site, outside_alternation, outside_starts}

@@ -14,14 +14,14 @@ use Rattle.machine_state.specs.World.{padding}
 use Rattle.states.specs.declared.rule.Rule.{Rule}
 use Rattle.states.specs.declared.rule.Rule.TheVariants as rules
 use Rattle.word_arithmetic.specs.Range.{full}
-use Rattle.states.specs.State.{State, known, is_word as is_same}
+use Rattle.states.specs.State.{State, known, is_same_number as is_same}
 use Rattle.states.specs.declared.span.Leaving.{Leaving}
 use Rattle.states.specs.declared.span.Leaving.TheVariants.{Become}
 use Rattle.rulings.specs.Rulings.{in_bounds, Ruling, Site, alone, outside_starts, uses, goes_on, pop, with_a, settles}
 use Rattle.rulings.specs.declared.pointers.Pointed.{Pointed}
 use Rattle.rulings.specs.declared.pointers.Bounds.{Bounds}
 use Rattle.rulings.specs.Pointers.{are_near, byte_read, constant_of, is_full, is_number_in, leaves_words}
-use Rattle.rulings.specs.Pointers.{number_of, pointer_of, reads_bytes, stored_byte, wanted_range, widened_by}
+use Rattle.rulings.specs.Pointers.{bounds_of, pointer_of, reads_bytes, stored_byte, wanted_range, widened_by}
 use Rattle.rulings.specs.Pointers.{word_read, writes_bytes}
 
 -- A becomes this, outside alternations and starts
@@ -56,8 +56,8 @@ shifts_pointer site e s =
     outside_starts s.mode (goes_on site (with_a (known fact) s))))
 
 -- a pointer that is further by a number between two others
-abbrev pub further : Pointed → ℤ → ℤ → Step → Result Fact Rule
-further p low high step = near_fact p.region (p.lo +ℤ low) (p.hi +ℤ high) step
+abbrev pub pointer_further : Pointed → ℤ → ℤ → Step → Result Fact Rule
+pointer_further p low high step = near_fact p.region (p.lo +ℤ low) (p.hi +ℤ high) step
 
 -- the step of a pointer after a shift by a number of bytes
 abbrev pub step_after : Step → Bounds → Step
@@ -65,13 +65,13 @@ step_after step r = if is_same r.lo r.hi && is_stepped r.lo then step else Byte
 
 -- what a pointer is, shifted by a number of bytes or words
 unfoldable pub element_of : Step → Pointed → Bounds → Result Fact Rule
-element_of Byte p r = further p r.lo r.hi (step_after p.step r)
-element_of Word p r = further p (pos 4 *ℤ r.lo) (pos 4 *ℤ r.hi) p.step
+element_of Byte p r = pointer_further p r.lo r.hi (step_after p.step r)
+element_of Word p r = pointer_further p (pos 4 *ℤ r.lo) (pos 4 *ℤ r.hi) p.step
 
 -- bsub, wsub: the byte, or the word, of number B after A
 abbrev pub subscripts : Step → Site → State → Ruling
 subscripts element site s =
-    uses s.stack.a (λ a. uses s.stack.b (λ b. settles (number_of b) (λ r. settles (pointer_of a) (λ p.
+    uses s.stack.a (λ a. uses s.stack.b (λ b. settles (bounds_of b) (λ r. settles (pointer_of a) (λ p.
     settles (element_of element p r) (λ fact. with_fact_a site fact (pop s))))))
 
 -- the address of a place at this offset from the first byte of the code: it is one of the code, or of the constants,

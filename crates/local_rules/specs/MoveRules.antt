@@ -5,7 +5,7 @@ use Rattle.module_format.specs.Regions.{is_frame, is_same_region}
 use Rattle.module_format.specs.Stack.{of_empty}
 use Rattle.machine_state.specs.declared.op.TheConstants.{MOST_MOVED}
 use Rattle.states.specs.declared.rule.Rule.TheVariants as rules
-use Rattle.states.specs.State.{State, unknown, is_word as is_same}
+use Rattle.states.specs.State.{State, unknown, is_same_number as is_same}
 use Rattle.rulings.specs.declared.pointers.Pointed.{Pointed}
 use Rattle.rulings.specs.Rulings.{Ruling, breaks, Site, alone, uses, goes_on, in_bounds, settles}
 use Rattle.rulings.specs.Pointers.{constant_of, reads_bytes, writes_bytes, exact_pointer, takes_any}
@@ -24,8 +24,8 @@ amount site s a b k =
     in_bounds (is_movable count && takes_any site.contents s.context b) (k count))
 
 -- the `count` bytes from two places on are apart, as those of different regions are
-abbrev pub are_apart : ℤ → Pointed → Pointed → Bool
-are_apart count p q =
+abbrev pub are_blocks_apart : ℤ → Pointed → Pointed → Bool
+are_blocks_apart count p q =
     not (is_same_region p.region q.region) || int_le (p.lo +ℤ count) q.lo || int_le (q.lo +ℤ count) p.lo
 
 -- ---- the rule
@@ -36,7 +36,7 @@ clears site s = alone s.mode (goes_on site (record s { stack = of_empty unknown 
 
 -- bytes may come to a place that is apart; a parameter's region takes numbers
 abbrev pub may_come : ℤ → Pointed → Pointed → Bool → Bool
-may_come count from to numbers = are_apart count from to && (is_frame to.region || numbers)
+may_come count from to numbers = are_blocks_apart count from to && (is_frame to.region || numbers)
 
 -- `count` bytes that may be read, at least one, come to where they may be written
 unfoldable pub come : Site → ℤ → Pointed → Pointed → State → Ruling

@@ -6,7 +6,7 @@ use Rattle.std.specs.Option.{option_map, option_and_then}
 use Rattle.word_arithmetic.specs.declared.binary.Binary.{Binary as BinaryOperation}
 use Rattle.word_arithmetic.specs.declared.binary.Binary.TheVariants as binary
 use Rattle.word_arithmetic.specs.declared.unary.Unary.{Unary as UnaryOperation}
-use Rattle.word_arithmetic.specs.Range.{Ends, range_between, constant_of, full, truths, shift_left_range}
+use Rattle.word_arithmetic.specs.Range.{Ends, range_between, only_number, full, truths, shift_left_range}
 use Rattle.word_arithmetic.specs.Range.{shift_right_range, left_by, words_above, words_below}
 use Rattle.word_arithmetic.specs.Binary.{result_range}
 use Rattle.word_arithmetic.specs.Unary.{unary_result_range}
@@ -25,15 +25,15 @@ use Rattle.states.specs.declared.known.Source.{Source}
 use Rattle.states.specs.declared.known.Source.TheVariants.{Nowhere, From, Test}
 use Rattle.states.specs.declared.known.WordFact.{WordFact}
 use Rattle.states.specs.declared.known.WordFact.TheVariants.{Alone}
-use Rattle.states.specs.State.{State, Facts, unknown, known, plain, is_word}
+use Rattle.states.specs.State.{State, Facts, unknown, known, plain, is_same_number}
 use Rattle.states.specs.Frames.{with_alone}
 use Rattle.local_rules.specs.declared.numbers.Check.{Check}
 use Rattle.local_rules.specs.declared.numbers.Check.TheVariants as check
 use Rattle.rulings.specs.Rulings.{Ruling, breaks, Site, alone, uses, goes_on, pop, with_a, in_bounds}
 
 -- a constant
-abbrev pub constant : ℤ → Known
-constant v = known (Number v v)
+abbrev pub known_constant : ℤ → Known
+known_constant v = known (Number v v)
 
 -- where what ldl gives comes from: a number is that of the word
 abbrev pub source_of : ℤ → Fact → Source
@@ -41,8 +41,8 @@ source_of k (Number lo hi) = From k
 source_of k _ = Nowhere
 
 -- what ldl gives: the plain fact of the word, and where it is a number, that it comes from there
-abbrev pub loaded : ℤ → WordFact → Known
-loaded k word = record { fact = plain word; source = source_of k (plain word) }
+abbrev pub word_as_known : ℤ → WordFact → Known
+word_as_known k word = record { fact = plain word; source = source_of k (plain word) }
 
 -- ---- numbers
 
@@ -56,7 +56,7 @@ number_in r = Number r.lo r.hi
 
 -- the one number that a fact says; `None` if it says several, or is none
 abbrev pub constant_in : Fact → Option ℤ
-constant_in fact = option_and_then constant_of (range_of fact)
+constant_in fact = option_and_then only_number (range_of fact)
 
 -- the fact is a number, which has a range
 abbrev pub has_range : Fact → Bool
@@ -158,7 +158,7 @@ unfoldable pub equal_source : Known → ℤ → Source
 equal_source left v = elim left.source [
   | Nowhere ↦ Nowhere
   | From word ↦ Test word v v true
-  | Test word lo hi inside ↦ if is_word v (pos 0) then Test word lo hi (not inside) else Nowhere
+  | Test word lo hi inside ↦ if is_same_number v (pos 0) then Test word lo hi (not inside) else Nowhere
 ]
 
 abbrev pub result_source : BinaryOperation → Known → Known → Source
@@ -187,22 +187,22 @@ same within holds = if within then holds else not holds
 
 -- What is known of words if a value that comes from there is true, or false: a test narrows its word, if that is a
 -- number.
-unfoldable pub narrowed : Source → Bool → Facts → Facts
-narrowed (Test word lo hi within) holds facts = elim (own_range (facts word)) [
+unfoldable pub narrowed_words : Source → Bool → Facts → Facts
+narrowed_words (Test word lo hi within) holds facts = elim (own_range (facts word)) [
   | None ↦ facts
   | Some r ↦ elim (range_between lo hi) [
     | None ↦ facts
     | Some other ↦ with_alone word (number_in (left_by (same within holds) r other)) facts
   ]
 ]
-narrowed _ holds facts = facts
+narrowed_words _ holds facts = facts
 
 -- where the condition in A is false, and where it is true
 abbrev pub where_false : State → State
-where_false s = with_a (constant (pos 0)) (record s { frame = narrowed s.stack.a.source false s.frame })
+where_false s = with_a (known_constant (pos 0)) (record s { frame = narrowed_words s.stack.a.source false s.frame })
 
 abbrev pub where_true : State → State
-where_true s = pop (record s { frame = narrowed s.stack.a.source true s.frame })
+where_true s = pop (record s { frame = narrowed_words s.stack.a.source true s.frame })
 
 -- ---- the workspace
 

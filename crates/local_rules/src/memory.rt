@@ -14,7 +14,7 @@ ghost use Rattle.rulings.specs.Places.{site_of};
 use crate::shifting::{element_of, is_stepped, words_behind, words_further};
 use module_format::{Fact, Region, Step};
 use rulings::combinators::{alone, outside_starts, uses};
-use rulings::pointers::{constant_of, number_of, pointer_of};
+use rulings::pointers::{bounds_of, constant_of, pointer_of};
 use rulings::reading::{byte_read, sum_reached};
 use rulings::{Continuation, Place};
 use states::{Known, Rule, State};
@@ -63,7 +63,7 @@ pub(crate) fn subscript(
 {
     let a = uses(state.stack.a)?;
     let b = uses(state.stack.b)?;
-    let number = number_of(b)?;
+    let number = bounds_of(b)?;
     let pointer = pointer_of(a)?;
     let fact = element_of(element, pointer, number)?;
     state.pop();

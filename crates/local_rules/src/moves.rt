@@ -7,7 +7,7 @@ ghost use Rattle.machine_state.specs.declared.op.TheConstants.{MOST_MOVED};
 ghost use Rattle.states.specs.Views.{state_of, BelongsTo, CanWriteSpan};
 ghost use Rattle.rulings.specs.Reach.{word_of_byte, words_touched};
 ghost use Rattle.rulings.specs.Pointers.{are_near};
-ghost use Rattle.local_rules.specs.MoveRules.{is_movable, are_apart, may_come, amount, clears, come, moves_some};
+ghost use Rattle.local_rules.specs.MoveRules.{is_movable, are_blocks_apart, may_come, amount, clears, come, moves_some};
 ghost use Rattle.local_rules.specs.MoveRules.{moves_bytes, moves};
 ghost use Rattle.rulings.specs.Filling.{are_numbers};
 ghost use Rattle.rulings.specs.Telling.{Gives, Advances};
@@ -140,8 +140,8 @@ fn end_before(offset: i32, count: i32, other: i32) -> bool
 }
 
 /// Whether the `count` bytes from two places on are apart, as those of different regions are.
-fn are_apart(count: i32, from: Pointed, to: Pointed) -> bool
-    ensures { result ≡ are_apart count from to }
+fn are_blocks_apart(count: i32, from: Pointed, to: Pointed) -> bool
+    ensures { result ≡ are_blocks_apart count from to }
 {
     !from.region.is_same(to.region)
         || end_before(from.lo, count, to.lo)
@@ -152,5 +152,5 @@ fn are_apart(count: i32, from: Pointed, to: Pointed) -> bool
 fn may_come(count: i32, from: Pointed, to: Pointed, numbers: bool) -> bool
     ensures { result ≡ may_come count from to numbers }
 {
-    are_apart(count, from, to) && (to.region.is_frame() || numbers)
+    are_blocks_apart(count, from, to) && (to.region.is_frame() || numbers)
 }

@@ -5,7 +5,7 @@ ghost use Rattle.std.specs.Option.{option_map};
 ghost use Rattle.module_format.specs.Contents.{Contents};
 ghost use Rattle.word_arithmetic.specs.Range.{ends_of, left_by};
 ghost use Rattle.states.specs.Views.{state_of, CanWrite, BelongsTo};
-ghost use Rattle.local_rules.specs.WordRules.{number_in, own_range, same, narrowed};
+ghost use Rattle.local_rules.specs.WordRules.{number_in, own_range, same, narrowed_words};
 ghost use Rattle.local_rules.specs.Narrowings.{narrowed_by};
 
 use crate::numbers::{number_in, range_of};
@@ -40,11 +40,11 @@ fn left_fact(is_inside: bool, holds: bool, range: Range, other: Range) -> Fact
 }
 
 /// What a condition that comes from there shows of a word. `None`: nothing more than is known.
-#[tactic(auto, unfolding(crate::specs::WordRules::narrowed))]
+#[tactic(auto, unfolding(crate::specs::WordRules::narrowed_words))]
 pub(crate) fn told_by(state: &State, source: Source) -> Option<Narrowing>
-    ensures if_false { narrowed source false (state_of state.now).frame
+    ensures if_false { narrowed_words source false (state_of state.now).frame
         ≡ narrowed_by result false (state_of state.now).frame }
-    ensures if_true { narrowed source true (state_of state.now).frame
+    ensures if_true { narrowed_words source true (state_of state.now).frame
         ≡ narrowed_by result true (state_of state.now).frame }
     ensures room { IfSome result (λ n. CanWrite state.now n.word) }
 {

@@ -5,7 +5,7 @@ ghost use Rattle.std.specs.Option.{option_map};
 ghost use Rattle.word_arithmetic.specs.Word.{least_word, greatest_word};
 ghost use Rattle.word_arithmetic.specs.Range.{ends_of, words_above, words_below};
 ghost use Rattle.states.specs.Rows.{LoopFits};
-ghost use Rattle.local_rules.specs.WordRules.{source_of, loaded, range_of, number_in, constant_in, has_range};
+ghost use Rattle.local_rules.specs.WordRules.{source_of, word_as_known, range_of, number_in, constant_in, has_range};
 ghost use Rattle.local_rules.specs.WordRules.{numbers_have, fact_of_two, result_fact, unary_result_fact, shift_range};
 ghost use Rattle.local_rules.specs.WordRules.{long_results, word_and_constant, test_of, greater_source, equal_source};
 ghost use Rattle.local_rules.specs.WordRules.{result_source, constant_source};
@@ -26,9 +26,9 @@ fn source_of(word: i32, fact: Fact) -> Source
 }
 
 /// What `ldl` gives of a word: its plain fact, and where that is a number, that it comes from there.
-pub(crate) fn loaded(word: i32, fact: WordFact) -> Known
+pub(crate) fn word_as_known(word: i32, fact: WordFact) -> Known
     requires { LoopFits fact }
-    ensures { result ≡ loaded word fact }
+    ensures { result ≡ word_as_known word fact }
 {
     let plain = fact.plain();
     Known {

@@ -6,7 +6,7 @@ ghost use Rattle.rulings.specs.Pointers.{are_near};
 ghost use Rattle.rulings.specs.Rulings.{settles};
 ghost use Rattle.rulings.specs.Telling.{Gives};
 ghost use Rattle.local_rules.specs.MemoryRules.{near_fact, words_at, words_behind, is_of_a_word, word_fact, shifted};
-ghost use Rattle.local_rules.specs.MemoryRules.{further, step_after, element_of};
+ghost use Rattle.local_rules.specs.MemoryRules.{pointer_further, step_after, element_of};
 
 use module_format::{Fact, Region, Step};
 use rulings::pointers::{Bounds, Pointed, are_near};
@@ -122,10 +122,10 @@ pub(crate) fn words_further(words: i32, fact: Fact) -> Result<Fact, Rule>
 }
 
 /// A pointer that is further by a number between two others.
-fn further(pointer: Pointed, low: i64, high: i64, step: Step) -> Result<Fact, Rule>
+fn pointer_further(pointer: Pointed, low: i64, high: i64, step: Step) -> Result<Fact, Rule>
     requires { (negsuc 8589934591 ≤ℤ low) × (low ≤ℤ pos 8589934592) × (negsuc 8589934591 ≤ℤ high)
         × (high ≤ℤ pos 8589934592) }
-    ensures { Gives (λ fact. fact) result (settles (further pointer low high step)) }
+    ensures { Gives (λ fact. fact) result (settles (pointer_further pointer low high step)) }
 {
     let (lo, hi) = (i64::from(pointer.lo), i64::from(pointer.hi));
     near_fact(pointer.region, lo + low, hi + high, step)
@@ -149,7 +149,7 @@ pub(crate) fn element_of(element: Step, pointer: Pointed, number: Bounds) -> Res
 {
     let (low, high) = (i64::from(number.lo), i64::from(number.hi));
     match element {
-        Step::Byte => further(pointer, low, high, step_after(pointer.step, number)),
-        Step::Word => further(pointer, 4 * low, 4 * high, pointer.step),
+        Step::Byte => pointer_further(pointer, low, high, step_after(pointer.step, number)),
+        Step::Word => pointer_further(pointer, 4 * low, 4 * high, pointer.step),
     }
 }

@@ -18,8 +18,8 @@ ghost use Rattle.rulings.specs.Places.{site_of};
 
 use crate::narrowing::{narrow, told_by};
 use crate::numbers::{
-    Check, constant_source, fact_of_shift, has_range, loaded, long_results, result_fact,
-    result_source, unary_result_fact,
+    Check, constant_source, fact_of_shift, has_range, long_results, result_fact, result_source,
+    unary_result_fact, word_as_known,
 };
 use machine_state::{LongOp, Shift as ShiftOperation};
 use module_format::{Fact, Region, Step};
@@ -70,7 +70,7 @@ pub(crate) fn load_local(
     outside_starts(state.mode)?;
     let word = place.reads_word(state, distance)?;
     let fact = state.fact_at(word);
-    state.push(loaded(word, fact));
+    state.push(word_as_known(word, fact));
     place.goes_on(state)
 }
 

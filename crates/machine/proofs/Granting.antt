@@ -14,7 +14,7 @@ use Rattle.machine_state.specs.Site.{Local, Outcome, sends}
 use Rattle.machine_state.specs.Turn.{Turn, Here, ran, emitted, answered}
 use Rattle.machine_state.specs.Endings as turns
 use Rattle.machine_state.proofs.Turns.{settled_ends}
-use Rattle.machine_state.specs.Endings.{Ends}
+use Rattle.machine_state.specs.Endings.{TurnsInto}
 use Rattle.traffic.specs.declared.stop.Stop.{Stop}
 use Rattle.traffic.specs.declared.stop.Stop.TheVariants as stops
 use Rattle.traffic.specs.Beside.{beside, counted_beside, CountsBeside}
@@ -78,7 +78,7 @@ settles_granted before after turn (Err fault) settles = settles
 -- ---- what goes out
 
 -- memory stays when a message goes out, but for the words that are taken before
-memory_sent : (h : Here) (w : World) (o : Outcome) (t : Turn) → Ends h w o t → (e : Exchange) (l : Local)
+memory_sent : (h : Here) (w : World) (o : Outcome) (t : Turn) → TurnsInto h w o t → (e : Exchange) (l : Local)
     → o ≡ sends e l → (link : Link) (bytes : List ℕ) (after : World)
     → t ≡ answered (emitted link bytes) (counted after) → after.memory ≡ l.memory
 unfolding dispatch

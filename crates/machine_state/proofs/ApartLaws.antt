@@ -30,7 +30,7 @@ use Rattle.machine_state.specs.Memory.{Memory, place_of, word_at, with_word, byt
 use Rattle.machine_state.specs.Holding.{Holding, nothing, may_read, covers}
 use Rattle.machine_state.specs.World.{World, Role, Join, held, holding_at, loaded, root_task, root_role, root_holding}
 use Rattle.machine_state.specs.World.{output_word, link_ends_from}
-use Rattle.machine_state.specs.Apart.{AllApart, block_words, data_word}
+use Rattle.machine_state.specs.Apart.{AllApart, block_span, data_word}
 use Rattle.machine_state.specs.ApartLaws.{HoldingsStayApart}
 use Rattle.machine_state.specs.Site.{Site, Local, Outcome, goes, jumps, lands, stops, fails, receives, sends, starts}
 use Rattle.machine_state.specs.Site.{joins, begins, enables_channel, enables_skip, waits, disables_channel}
@@ -42,7 +42,7 @@ use Rattle.machine_state.specs.Turn.{Here, Turn, at_here, between, continued}
 use Rattle.machine_state.specs.Exchanges.{waits_at}
 use Rattle.machine_state.specs.Alternations.{chosen, ready_or}
 use Rattle.machine_state.specs.Joins as join
-use Rattle.machine_state.specs.Joins.{joined, closed_task, started, on_role, new_task, opened, ended, given_back}
+use Rattle.machine_state.specs.Joins.{member_joined, closed_task, started, on_role, new_task, opened, ended, given_back}
 use Rattle.machine_state.specs.Joins.{join_after, without_words}
 use Rattle.machine_state.specs.BranchShares.{frame_address, holding_of}
 use Rattle.machine_state.specs.StartPlans.{later_plan, Plan, scheduling_addresses, share_by}
@@ -60,10 +60,10 @@ use Rattle.machine_state.proofs.EveryInstruction.{Wants, each_step}
 use Rattle.machine_state.proofs.Starting.{first_tests, later_tests}
 use Rattle.machine_state.specs.Endings as turns
 use Rattle.machine_state.proofs.Turns.{turn_happens}
-use Rattle.machine_state.specs.Endings.{Moved, Ends, Happened}
+use Rattle.machine_state.specs.Endings.{Moved, TurnsInto, Happened}
 use Rattle.machine_state.proofs.Waiting.{WaitsIn, reached}
 use Rattle.machine_state.proofs.EveryWorld.{every_world}
-use Rattle.machine_state.specs.Ownership.{HoldersAreInOrder, IsAmong, Claim, to_write, to_use, claims, clash, owner_in}
+use Rattle.machine_state.specs.Ownership.{HoldersAreInOrder, IsAmong, Claim, to_write, to_use, claims, rival, owner_in}
 use Rattle.machine_state.specs.Ownership.{owner_of, Under, child, deeper, Holders, KeepsPlace, in_block, in_channel}
 use Rattle.machine_state.specs.Ownership.{HoldersIn}
 use Rattle.machine_state.specs.Roles.{own_in, opener_in, opened_in}
@@ -296,8 +296,8 @@ module _ (h : Here) (w : World) (there : slice_get w.tasks h.process ≡ Some h.
   -- a member of a join ends
   ends_stand : (v : World) (o : ℕ) (j : Join) (par : Par) → AllEven v.tasks → j.block % 4 ≡ 0
       → length v.channels ≡ h.contents.data_words
-      → HoldersIn h.contents (joined h o j par v).roles (joined h o j par v).channels
-      → Stands h.contents (joined h o j par v)
+      → HoldersIn h.contents (member_joined h o j par v).roles (member_joined h o j par v).channels
+      → Stands h.contents (member_joined h o j par v)
   unfolding dispatch
   ends_stand v o j par even block size t = record { holders = t; size = sizes; even = evens_after }
     where
@@ -319,7 +319,7 @@ module _ (h : Here) (w : World) (there : slice_get w.tasks h.process ≡ Some h.
       over : World
       over = on_task o (closed_task j par) smaller
 
-      sizes : length (joined h o j par v).channels ≡ h.contents.data_words
+      sizes : length (member_joined h o j par v).channels ≡ h.contents.data_words
       sizes = on (length (filter (λ q. not (q == h.process)) j.members) == 0)
         where
           on : (b : Bool) → length (if b then join.closed o j par smaller else dispatch h.pick (leave smaller)).channels
@@ -330,7 +330,7 @@ module _ (h : Here) (w : World) (there : slice_get w.tasks h.process ≡ Some h.
               ∙ ((on_task_only o (closed_task j par) smaller).channels ∙ same_channels)) ∙ size)
           on false = ap (λ (cs : List (Option Channel)). length cs) same_channels ∙ size
 
-      evens_after : AllEven (joined h o j par v).tasks
+      evens_after : AllEven (member_joined h o j par v).tasks
       evens_after = on (length (filter (λ q. not (q == h.process)) j.members) == 0)
         where
           before : AllEven smaller.tasks
@@ -501,7 +501,7 @@ module _ (h : Here) (w : World) (there : slice_get w.tasks h.process ≡ Some h.
   moved_stands o after (turns.it_ends_alternation to l none) even =
       goes_on (record h.from { registers = between to l.registers; mode = Plain }) even _ refl refl refl
 
-  end_stands : (o : Outcome) (t : Turn) → Ends h w o t → IsEven o → Stands h.contents t.world
+  end_stands : (o : Outcome) (t : Turn) → TurnsInto h w o t → IsEven o → Stands h.contents t.world
   unfolding dispatch
   end_stands o t (turns.at_fault refused) even = stays _ refl refl st.even
   end_stands o t (turns.has_run {after = after} ends) even =
@@ -707,7 +707,7 @@ module _ (m : Contents) (roles : List Role) (channels : List (Option Channel)) (
     | Some join ↦ join.rest
   ]) here
 
-  in_words : (j : Join) (x : ℕ) → covers (block_words j) x ≡ true → (place_of j.block ≤ x) × (x < place_of j.block + 8)
+  in_words : (j : Join) (x : ℕ) → covers (block_span j) x ≡ true → (place_of j.block ≤ x) × (x < place_of j.block + 8)
   in_words j x covered =
       let both = and_parts _ _ covered in (
         leb-true (place_of j.block) x both.0,
@@ -716,7 +716,7 @@ module _ (m : Contents) (roles : List Role) (channels : List (Option Channel)) (
       )
 
   keeps_block : (p : ℕ) (r : Role) (j : Join) (x : ℕ) → slice_get roles p ≡ Some r → r.opened ≡ Some j
-      → covers (block_words j) x ≡ true → KeepsPlace (opened_in roles) (owner_in channels) p x
+      → covers (block_span j) x ≡ true → KeepsPlace (opened_in roles) (owner_in channels) p x
   keeps_block p r j x here is covered = in_block j (opened_is m roles channels t p r here ∙ is) (in_words j x covered)
 
   owned : (k : ℕ) (c : Channel) (x : ℕ) → slice_get channels k ≡ Some (Some c) → covers (data_word k) x ≡ true
@@ -732,13 +732,13 @@ module _ (m : Contents) (roles : List Role) (channels : List (Option Channel)) (
   keeps_apart = record {
     processes = λ p q r s differ a b. is_apart (held r) (held s) (λ c x y. now_apart t p q differ c
         (subst (λ (h : Holding). claims h c ≡ true) (sym (held_is p r a)) x)
-        (subst (λ (h : Holding). claims h (clash c) ≡ true) (sym (held_is q s b)) y));
+        (subst (λ (h : Holding). claims h (rival c) ≡ true) (sym (held_is q s b)) y));
     blocks = λ p q r s j a is b x covered. false_from_ne_true (may_read (held s) x) (λ read. kept_is_free t p q x
         (keeps_block p r j x a is covered) (subst (λ (h : Holding). may_read h x ≡ true) (sym (held_is q s b)) read));
     channel_words = λ k q c s a b x covered. false_from_ne_true (may_read (held s) x)
         (λ read. kept_is_free t c.opener q x (in_channel (owned k c x a covered))
         (subst (λ (h : Holding). may_read h x ≡ true) (sym (held_is q s b)) read));
-    blocks_once = λ p q r s i j differ a b is_i is_j x covered. false_from_ne_true (covers (block_words j) x)
+    blocks_once = λ p q r s i j differ a b is_i is_j x covered. false_from_ne_true (covers (block_span j) x)
         (λ also. kept_once t p q x differ (keeps_block p r i x a is_i covered) (keeps_block q s j x b is_j also));
     both_once = λ p k r j c a is b x covered. false_from_ne_true (covers (data_word k) x)
         (λ also. elim (cases_eq p c.opener) [

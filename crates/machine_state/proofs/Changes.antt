@@ -32,7 +32,8 @@ use Rattle.machine_state.specs.Exchanges.{condition_of, waits_at}
 use Rattle.machine_state.specs.Alternations.{chosen, ready_or, is_by, has_enabled}
 use Rattle.machine_state.specs.Joins as join
 use Rattle.machine_state.specs.StartPlans as plans
-use Rattle.machine_state.specs.Joins.{joined, closed_task, started, new_task, with_channels, without_channels, opened}
+use Rattle.machine_state.specs.Joins.{member_joined, closed_task, started, new_task, with_channels, without_channels}
+use Rattle.machine_state.specs.Joins.{opened}
 use Rattle.machine_state.specs.Joins.{ended, given_back, join_after}
 use Rattle.machine_state.specs.JoinLookups.{opened_by, Found, found_at}
 use Rattle.machine_state.specs.StartPlans.{later_plan, Plan, first_fault, first_faults, share_by}
@@ -54,7 +55,7 @@ use Rattle.machine_state.proofs.EveryInstruction.{Wants, OfAsked, wants_asked, e
 use Rattle.machine_state.proofs.Modes.{IsOutside, Fits, steps_fit}
 use Rattle.machine_state.specs.Endings as turns
 use Rattle.machine_state.proofs.Turns.{turn_happens}
-use Rattle.machine_state.specs.Endings.{Moved, Ends, Happened, local_here, plan_of}
+use Rattle.machine_state.specs.Endings.{Moved, TurnsInto, Happened, local_here, plan_of}
 use Rattle.machine_state.proofs.Waiting.{WaitsIn, reached, link_found, link_low, input_words, output_words, has_role}
 use Rattle.machine_state.proofs.Waiting.{filled}
 use Rattle.machine_state.proofs.EveryWorld.{every_world}
@@ -421,7 +422,7 @@ module _ (h : Here) (w : World) (runs : w.queue.running ≡ Some h.process)
   ends : (r : Registers) (o : ℕ) (roles : List Role) (x : Leaves h w o roles) (par : Par) (v : World)
       → v.tasks ≡ going h w r Plain Ended → v.roles ≡ roles → v.channels ≡ w.channels → v.links ≡ w.links
       → (is_last h.process x.join ≡ true → IsOver (going h w r Plain Ended) o)
-      → let after = joined h o x.join par v in Changed h w after.tasks after.roles after.channels after.links
+      → let after = member_joined h o x.join par v in Changed h w after.tasks after.roles after.channels after.links
   unfolding dispatch
   ends r o roles x par v tasks as_roles channels links over =
       joined_either (λ (after : World). Changed h w after.tasks after.roles after.channels after.links) h o x.join par v
@@ -625,7 +626,7 @@ module _ (m : Contents) (w : World) (keeps : WaitsIn w) where
           only.roles only.channels only.links
 
   ended_so : (p pick : ℕ) (task : Task) → w.queue.running ≡ Some p → slice_get w.tasks p ≡ Some task
-      → (o : Outcome) (t : Turn) → Ends (at_here m p task pick) w o t
+      → (o : Outcome) (t : Turn) → TurnsInto (at_here m p task pick) w o t
       → AsksHeld (site_of (at_here m p task pick) w) o → Fits task.mode o
       → Passed m w t.world.tasks t.world.roles t.world.channels t.world.links
   unfolding dispatch

@@ -2,13 +2,13 @@
 use Rattle.std.proofs.Common.{◌≡◌, ℕ, ◌≤◌, true, Some, None}
 use Rattle.std.proofs.lemmas.Bool.{or_left}
 use Rattle.machine_state.specs.Holding.{Holding, nothing, may_write, may_read, IsApart}
-use Rattle.machine_state.specs.Ownership.{Claim, to_write, to_read, to_use, claims, clash, NoClash}
+use Rattle.machine_state.specs.Ownership.{Claim, to_write, to_read, to_use, claims, rival, NoClash}
 
 pub is_apart : (g h : Holding) → NoClash g h → IsApart g h
 is_apart g h a = record { written = λ x. a (to_write x); read = λ x. a (to_read x); ends = λ e. a (to_use e) }
 
 -- what clashes with what clashes with a claim is that claim
-pub twice : (h : Holding) (c : Claim) → claims h c ≡ true → claims h (clash (clash c)) ≡ true
+pub twice : (h : Holding) (c : Claim) → claims h c ≡ true → claims h (rival (rival c)) ≡ true
 twice h (to_write x) claimed = claimed
 twice h (to_read x) claimed = claimed
 twice h (to_use e) claimed = claimed

@@ -6,7 +6,7 @@ use Rattle.std.proofs.lemmas.List.{get_or_past}
 use Rattle.small_laws.proofs.Connectives.{same_tests}
 use Rattle.machine_state.specs.Memory.{Memory, place_of, local_address, byte_at, with_byte, with_word}
 use Rattle.machine_state.specs.Spans.{all_places}
-use Rattle.machine_state.specs.LocalStep.{meet, is_beside_scheduling, without_scheduling_words}
+use Rattle.machine_state.specs.LocalStep.{places_meet, is_beside_scheduling, without_scheduling_words}
 use Rattle.machine_state.proofs.Reading.{length-with_byte, byte_at-with_byte, byte_at-with_byte_other}
 use Rattle.machine_state.proofs.Reading.{byte_at-with_word_other}
 use Rattle.machine_state.proofs.Writing.{kept_word, all_at}
@@ -54,7 +54,7 @@ is_defined m q = is_some (byte_at m q)
 -- n bytes stay defined beside a word that becomes undefined
 defined_beside : (m : Memory) (word place n : ℕ) → 1 ≤ n
     → all_places (is_defined (with_word m word None)) place n
-    ≡ (all_places (is_defined m) place n && not (meet place n word 4))
+    ≡ (all_places (is_defined m) place n && not (places_meet place n word 4))
 defined_beside m word place n some = same_tests _ _ stays was
   where
     after : Memory
@@ -66,7 +66,7 @@ defined_beside m word place n some = same_tests _ _ stays was
         let there : is_some (byte_at after (place + i)) ≡ true = all_at (is_defined after) place n i all inside in
         sym (ap is_some (word_gone m word (place + i) from below)) ∙ there
 
-    apart : all_places (is_defined after) place n ≡ true → (b : Bool) → meet place n word 4 ≡ b → not b ≡ true
+    apart : all_places (is_defined after) place n ≡ true → (b : Bool) → places_meet place n word 4 ≡ b → not b ≡ true
     apart all false is = refl
     apart all true is =
         let both = and_parts _ _ is in
@@ -78,24 +78,24 @@ defined_beside m word place n some = same_tests _ _ stays was
         ]
 
     stays : all_places (is_defined after) place n ≡ true
-        → (all_places (is_defined m) place n && not (meet place n word 4)) ≡ true
+        → (all_places (is_defined m) place n && not (places_meet place n word 4)) ≡ true
     stays all = and_from _ _ (all_from (is_defined m) place n (λ i inside.
         let there : is_some (byte_at after (place + i)) ≡ true = all_at (is_defined after) place n i all inside in
-        sym (ap is_some (kept_word m word (place + i) there)) ∙ there)) (apart all (meet place n word 4) refl)
+        sym (ap is_some (kept_word m word (place + i) there)) ∙ there)) (apart all (places_meet place n word 4) refl)
 
-    outside : (i : ℕ) → i < n → not (meet place n word 4) ≡ true → (place + i < word) ⊎ (word + 4 ≤ place + i)
+    outside : (i : ℕ) → i < n → not (places_meet place n word 4) ≡ true → (place + i < word) ⊎ (word + 4 ≤ place + i)
     outside i inside none = elim (cases_lt (place + i) word) [
       | inl before ↦ inl before
       | inr from ↦ elim (cases_lt (place + i) (word + 4)) [
         | inr past ↦ inr past
         | inl within ↦ absurd (
-            let met : meet place n word 4 ≡ true =
+            let met : places_meet place n word 4 ≡ true =
             and_from _ _ (lt-ltb place (word + 4) (omega arith)) (lt-ltb word (place + n) (omega arith)) in
             let x : false ≡ true = sym (ap not met) ∙ none in cc)
       ]
     ]
 
-    was : (all_places (is_defined m) place n && not (meet place n word 4)) ≡ true
+    was : (all_places (is_defined m) place n && not (places_meet place n word 4)) ≡ true
         → all_places (is_defined after) place n ≡ true
     was h =
         let both = and_parts _ _ h in
@@ -116,7 +116,8 @@ defined_once_scheduled m workspace place n some =
     let one = with_word m (below 0) None in
     let two = with_word one (below 1) None in
     defined_beside two (below 2) place n some
-    ∙ (ap (λ (b : Bool). b && not (meet place n (below 2) 4)) (defined_beside one (below 1) place n some
-    ∙ ap (λ (b : Bool). b && not (meet place n (below 1) 4)) (defined_beside m (below 0) place n some))
-    ∙ and_all (all_places (is_defined m) place n) (not (meet place n (below 0) 4)) (not (meet place n (below 1) 4))
-    (not (meet place n (below 2) 4)))
+    ∙ (ap (λ (b : Bool). b && not (places_meet place n (below 2) 4)) (defined_beside one (below 1) place n some
+    ∙ ap (λ (b : Bool). b && not (places_meet place n (below 1) 4)) (defined_beside m (below 0) place n some))
+    ∙ and_all (all_places (is_defined m) place n) (not (places_meet place n (below 0) 4))
+    (not (places_meet place n (below 1) 4))
+    (not (places_meet place n (below 2) 4)))

@@ -7,7 +7,7 @@ use Rattle.machine_state.specs.declared.process.Channel.{Channel}
 use Rattle.machine_state.specs.World.{World, Role, Join}
 use Rattle.machine_state.specs.Turn.{Here}
 use Rattle.machine_state.specs.Moves.{on_task, dispatch}
-use Rattle.machine_state.specs.Joins.{on_role, joined, closed_task, without_channels}
+use Rattle.machine_state.specs.Joins.{on_role, member_joined, closed_task, without_channels}
 use Rattle.machine_state.proofs.Lines.{got_set}
 use Rattle.machine_state.proofs.MovesLeaveAlone.{on_task_only, on_role_only, with_opened, without, is_last, member_gone}
 use Rattle.machine_state.proofs.MovesLeaveAlone.{joined_either, on_role_is, roles_of_equal}
@@ -101,6 +101,6 @@ module _ (h : Here) (m : Contents) (o : ℕ) (j : Join) (par : Par) (v : World) 
       (roles_of_equal (on_role_is o (with_opened None) over smaller at_over))
       (ap (without_channels o) (on_role_channels o (with_opened None) over)) closed
 
-  pub member_ends : HoldersIn m (joined h o j par v).roles (joined h o j par v).channels
+  pub member_ends : HoldersIn m (member_joined h o j par v).roles (member_joined h o j par v).channels
   unfolding dispatch
   member_ends = joined_either (λ (v : World). HoldersIn m v.roles v.channels) h o j par v is_over (λ some. still_there)

@@ -14,7 +14,7 @@ use Rattle.machine_state.specs.Site.{Outcome, Local}
 use Rattle.machine_state.specs.Turn.{Here, Turn, Effect}
 use Rattle.machine_state.specs.Moves.{wake, fill, fill_condition, rouse, dispatch}
 use Rattle.machine_state.specs.Alternations.{chosen, selected}
-use Rattle.machine_state.specs.Joins.{joined, ended, given_back}
+use Rattle.machine_state.specs.Joins.{member_joined, ended, given_back}
 use Rattle.machine_state.specs.Exchanges.{waits_at}
 use Rattle.machine_state.specs.Holding.{nothing}
 use Rattle.machine_state.specs.Happens.{answered, turn}
@@ -23,7 +23,7 @@ use Rattle.machine_state.specs.Memory.{place_of, with_byte}
 use Rattle.machine_state.proofs.MovesLeaveAlone.{on_task_only, wake_only, rouse_only, on_role_only, joined_quiet}
 use Rattle.machine_state.specs.Endings as turns
 use Rattle.machine_state.proofs.Turns.{turn_happens}
-use Rattle.machine_state.specs.Endings.{Moved, Ends, Happened}
+use Rattle.machine_state.specs.Endings.{Moved, TurnsInto, Happened}
 
 -- ---- faults
 
@@ -31,7 +31,7 @@ abbrev StaysIfFault : Result Effect Fault → World → Type 0
 StaysIfFault (Ok d) w = ⊤
 StaysIfFault (Err f) w = w.fault ≡ Some f
 
-end_stays : (h : Here) (w : World) (o : Outcome) (t : Turn) → Ends h w o t → StaysIfFault t.answer t.world
+end_stays : (h : Here) (w : World) (o : Outcome) (t : Turn) → TurnsInto h w o t → StaysIfFault t.answer t.world
 end_stays h w o t (turns.at_fault refused) = refl
 end_stays h w o t (turns.has_run moved) = tt
 end_stays h w o t (turns.has_emitted e l k on same) = tt
@@ -88,7 +88,7 @@ fill_count p k byte link w = on (slice_get w.tasks p)
     on None = refl
     on (Some task) = on_condition task.condition
 
-joined_count : (h : Here) (opener : ℕ) (j : Join) (par : Par) (w : World) → SameCount w (joined h opener j par w)
+joined_count : (h : Here) (opener : ℕ) (j : Join) (par : Par) (w : World) → SameCount w (member_joined h opener j par w)
 joined_count h opener j par w = (joined_quiet h opener j par w).counters
 
 chosen_count : (h : Here) (is_ready : Bool) (distance : ℤ) (l : Local) (w : World)
@@ -143,7 +143,7 @@ moved_count h w o after (turns.it_ends_alternation to l none) = refl
 abbrev Counts : World → Turn → Type 0
 Counts w t = t.world.counters.executed ≡ w.counters.executed + bytes_of t.answer
 
-end_counts : (h : Here) (w : World) (o : Outcome) (t : Turn) → Ends h w o t → Counts w t
+end_counts : (h : Here) (w : World) (o : Outcome) (t : Turn) → TurnsInto h w o t → Counts w t
 unfolding dispatch
 end_counts h w o t (turns.at_fault refused) = sym (add-zero w.counters.executed)
 end_counts h w o t (turns.has_run moved) = ap (λ (n : ℕ). n + 1) (moved_count h w o _ moved)

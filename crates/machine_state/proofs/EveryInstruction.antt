@@ -38,7 +38,7 @@ pub record IsAsked (s : Site) (r : Registers) (direction : Direction) (e : Excha
   pub some : 1 ≤ e.length
   pub most : e.length ≤ MAX_MESSAGE
   pub apart :
-      not (step.meet (place_of e.address) e.length (place_of (local_address r.workspace (negsuc 2))) 12) ≡ true
+      not (step.places_meet (place_of e.address) e.length (place_of (local_address r.workspace (negsuc 2))) 12) ≡ true
 
 -- memory once scheduling has taken the words below the workspace of these registers
 abbrev pub scheduled : Registers → Memory → Memory

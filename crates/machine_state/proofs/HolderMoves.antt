@@ -10,7 +10,7 @@ use Rattle.machine_state.specs.Holding.{Holding, nothing, may_write, may_read, h
 use Rattle.machine_state.specs.World.{Join}
 use Rattle.machine_state.specs.Moves.{cell_of}
 use Rattle.machine_state.specs.BranchShares.{frame_address}
-use Rattle.machine_state.specs.Ownership.{IsAmong, Claim, to_write, to_read, to_use, claims, clash, Under, child}
+use Rattle.machine_state.specs.Ownership.{IsAmong, Claim, to_write, to_read, to_use, claims, rival, Under, child}
 use Rattle.machine_state.specs.Ownership.{deeper, Counted, InBlock, KeepsPlace, in_block, in_channel, Lent, IsWord}
 use Rattle.machine_state.specs.Ownership.{OwnEnd, AtPlace, Holders}
 use Rattle.machine_state.proofs.Claims.{twice, nothing_claimed, IsBehind}
@@ -65,8 +65,8 @@ pub record Opens (pars : List Par) (own : ℕ → Holding) (opened later : ℕ �
 pub record IsGiven (own : ℕ → Holding) (opener : ℕ → Option ℕ) (opened : ℕ → Option Join) (owner : ℕ → Option ℕ)
     (p : ℕ) (j : Join) (c : Claim) : Type 0 where
   pub from : (claims (own p) c ≡ true) ⊎ OwnEnd owner p c
-  pub below : (s : ℕ) → Under opener p s → claims (own s) (clash c) ≡ true → ⊥
-  pub rest : claims j.rest (clash c) ≡ true → ⊥
+  pub below : (s : ℕ) → Under opener p s → claims (own s) (rival c) ≡ true → ⊥
+  pub rest : claims j.rest (rival c) ≡ true → ⊥
   pub kept : (x : ℕ) → c ≡ to_read x → KeepsPlace opened owner p x → ⊥
 
 -- a branch comes, with a new number
@@ -156,7 +156,7 @@ module _ {size : ℕ} {pars : List Par} {own : ℕ → Holding} {opener : ℕ �
       hidden = t.hidden;
       both = t.both;
       opens = t.opens;
-      apart = λ a b differ up down c x y. t.apart a b differ up down c (was a c x) (was b (clash c) y);
+      apart = λ a b differ up down c x y. t.apart a b differ up down c (was a c x) (was b (rival c) y);
       below = λ q s j c u is x y. t.below q s j c u is (was s c x) y;
       below_kept = λ q s x u read keeps. t.below_kept q s x u (was s (to_read x) read) keeps;
       places = t.places;
@@ -239,7 +239,7 @@ module _ {size : ℕ} {pars : List Par} {own : ℕ → Holding} {opener : ℕ �
           let w = it_was q y now in t.both q w.join x w.was (in_same y w.join x w.block inside) owned;
       opens = λ n q owned. let o = t.opens n q owned in still_open q o.0 o.1;
       apart = t.apart;
-      below = λ q s y c u now x z. let w = it_was q y now in t.below q s w.join c u w.was x (w.less (clash c) z);
+      below = λ q s y c u now x z. let w = it_was q y now in t.below q s w.join c u w.was x (w.less (rival c) z);
       below_kept = λ q s x u read keeps. t.below_kept q s x u read (was_kept q x keeps);
       places = λ q y now.
           let w = it_was q y now in
@@ -254,11 +254,11 @@ module _ {size : ℕ} {pars : List Par} {own : ℕ → Holding} {opener : ℕ �
     }
 
     -- what it had to give, and has no more
-    pub gives : (c : Claim) → claims j.rest c ≡ true → (claims k.rest (clash c) ≡ true → ⊥)
+    pub gives : (c : Claim) → claims j.rest c ≡ true → (claims k.rest (rival c) ≡ true → ⊥)
         → IsGiven own opener later owner p k c
     gives c claimed gone = record {
       from = t.within p j c g.is claimed;
-      below = λ s u other. t.below p s j (clash c) u g.is other (twice j.rest c claimed);
+      below = λ s u other. t.below p s j (rival c) u g.is other (twice j.rest c claimed);
       rest = gone;
       kept = λ x e keeps. t.hidden p j x g.is (subst (λ (d : Claim). claims j.rest d ≡ true) e claimed)
           (was_kept p x keeps);
@@ -464,26 +464,26 @@ module _ {size : ℕ} {pars : List Par} {own : ℕ → Holding} {opener : ℕ �
     has_none q x now e = let z : None ≡ Some x = sym g.shut ∙ (ap opened e ∙ now) in cc
 
     -- no process may write the constants
-    behind : (q : ℕ) (c : Claim) → IsBehind size c → claims (own q) (clash c) ≡ true → ⊥
+    behind : (q : ℕ) (c : Claim) → IsBehind size c → claims (own q) (rival c) ≡ true → ⊥
     behind q (to_write x) far claimed = far
     behind q (to_read x) far claimed = let near = t.inside q x claimed in omega (arith, near, far)
     behind q (to_use e) far claimed = far
 
     behind_rest : (q : ℕ) (x : Join) (c : Claim) → opened q ≡ Some x → IsBehind size c
-        → claims x.rest (clash c) ≡ true → ⊥
+        → claims x.rest (rival c) ≡ true → ⊥
     behind_rest q x (to_write n) now far claimed = far
     behind_rest q x (to_read n) now far claimed =
         let near = t.inside q n (held_write t q x n now claimed) in omega (arith, near, far)
     behind_rest q x (to_use e) now far claimed = far
 
     -- no process beside the opener has an end of the opener's channels
-    end_beside : (s : ℕ) (c : Claim) → OwnEnd owner p c → (Under opener p s → ⊥) → claims (own s) (clash c) ≡ true → ⊥
+    end_beside : (s : ℕ) (c : Claim) → OwnEnd owner p c → (Under opener p s → ⊥) → claims (own s) (rival c) ≡ true → ⊥
     end_beside s (to_write x) end apart claimed = end
     end_beside s (to_read x) end apart claimed = end
     end_beside s (to_use e) end apart claimed = apart (lent_by t s p e claimed end.0)
 
     end_above : (q : ℕ) (x : Join) (c : Claim) → OwnEnd owner p c → Under opener q p → opened q ≡ Some x
-        → claims x.rest (clash c) ≡ true → ⊥
+        → claims x.rest (rival c) ≡ true → ⊥
     end_above q x (to_write n) end above now claimed = end
     end_above q x (to_read n) end above now claimed = end
     end_above q x (to_use e) end above now claimed =
@@ -496,7 +496,7 @@ module _ {size : ℕ} {pars : List Par} {own : ℕ → Holding} {opener : ℕ �
 
     -- the new process and one that is neither its opener nor above it
     beside : (s : ℕ) (c : Claim) → p ≢ s → (Under opener s p → ⊥) → IsBehind size c ⊎ Given c
-        → claims (own s) (clash c) ≡ true → ⊥
+        → claims (own s) (rival c) ≡ true → ⊥
     beside s c differ up (inl far) claimed = behind s c far claimed
     beside s c differ up (inr gift) claimed =
         let apart : Under opener p s → ⊥ = λ u. gift.below s u claimed in
@@ -507,11 +507,11 @@ module _ {size : ℕ} {pars : List Par} {own : ℕ → Holding} {opener : ℕ �
 
     -- the new process and one above it
     under : (q : ℕ) (x : Join) (c : Claim) → (p ≡ q) ⊎ Under opener q p → opened q ≡ Some x
-        → IsBehind size c ⊎ Given c → claims x.rest (clash c) ≡ true → ⊥
+        → IsBehind size c ⊎ Given c → claims x.rest (rival c) ≡ true → ⊥
     under q x c above now (inl far) claimed = behind_rest q x c now far claimed
     under q x c (inl e) now (inr gift) claimed =
         let same = same_some (opened q) j x (subst (λ n. opened n ≡ Some j) e g.is) now in
-        gift.rest (subst (λ (y : Join). claims y.rest (clash c) ≡ true) (sym same) claimed)
+        gift.rest (subst (λ (y : Join). claims y.rest (rival c) ≡ true) (sym same) claimed)
     under q x c (inr above) now (inr gift) claimed = elim gift.from [
       | inl mine ↦ t.below q p x c above now mine claimed
       | inr end ↦ end_above q x c end above now claimed
@@ -576,14 +576,14 @@ module _ {size : ℕ} {pars : List Par} {own : ℕ → Holding} {opener : ℕ �
         | inl e ↦ beside b c
             (λ same. up_is a b e same down)
             (λ u. down (subst (λ n. Under by b n) e (under_new b u))) (given_it a c e x)
-            (claimed_before b (clash c) (λ same. differ (sym e ∙ same)) y)
+            (claimed_before b (rival c) (λ same. differ (sym e ∙ same)) y)
         | inr other ↦ elim (cases_eq new b) [
-          | inl e ↦ beside a (clash c)
+          | inl e ↦ beside a (rival c)
               (λ same. up_is b a e same up)
-              (λ u. up (subst (λ n. Under by a n) e (under_new a u))) (given_it b (clash c) e y)
+              (λ u. up (subst (λ n. Under by a n) e (under_new a u))) (given_it b (rival c) e y)
               (twice (own a) c (claimed_before a c other x))
           | inr another ↦ t.apart a b differ (λ u. up (under_after a b u)) (λ u. down (under_after b a u)) c
-              (claimed_before a c other x) (claimed_before b (clash c) another y)
+              (claimed_before a c other x) (claimed_before b (rival c) another y)
         ]
       ];
       below = λ q s x c u now y z. elim (cases_eq new s) [

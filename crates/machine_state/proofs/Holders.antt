@@ -10,7 +10,7 @@ use Rattle.machine_state.specs.Holding.{Holding, may_write, may_read, has_end}
 use Rattle.machine_state.specs.World.{Join}
 use Rattle.machine_state.specs.Moves.{cell_of}
 use Rattle.machine_state.specs.Ownership.{NoClash, Under, child, deeper, Counted, KeepsPlace, in_block, in_channel}
-use Rattle.machine_state.specs.Ownership.{OwnEnd, Holders, Claim, to_write, to_read, to_use, claims, clash}
+use Rattle.machine_state.specs.Ownership.{OwnEnd, Holders, Claim, to_write, to_read, to_use, claims, rival}
 use Rattle.machine_state.proofs.Claims.{twice, written_is_read}
 
 -- ---- what follows from it
@@ -96,18 +96,18 @@ module _ {size : ℕ} {pars : List Par} {own : ℕ → Holding} {opener : ℕ �
   now_claims p c claimed = on_held p c (opened p) refl claimed
 
   on_now : (q p : ℕ) (c : Claim) → Under opener q p → claims (own p) c ≡ true → (o : Option Join) → opened q ≡ o
-      → claims (elim o as (λ o. Holding) [ None ↦ own q | Some join ↦ join.rest ]) (clash c) ≡ true → ⊥
+      → claims (elim o as (λ o. Holding) [ None ↦ own q | Some join ↦ join.rest ]) (rival c) ≡ true → ⊥
   on_now q p c above claimed None is other = is_idle q p c above is claimed
   on_now q p c above claimed (Some j) is other = t.below q p j c above is claimed other
 
   -- what one has for good under another, and what the other holds now
   under_now : (q p : ℕ) (c : Claim) → Under opener q p → claims (own p) c ≡ true
-      → claims (held_now q) (clash c) ≡ true → ⊥
+      → claims (held_now q) (rival c) ≡ true → ⊥
   under_now q p c above claimed other = on_now q p c above claimed (opened q) refl other
 
   -- no end of one's own channels is held by another one
   own_end : (p q : ℕ) (c : Claim) → p ≢ q → (Under opener p q → ⊥) → OwnEnd owner p c
-      → claims (held_now q) (clash c) ≡ true → ⊥
+      → claims (held_now q) (rival c) ≡ true → ⊥
   own_end p q (to_write x) differ beside mine other = mine
   own_end p q (to_read x) differ beside mine other = mine
   own_end p q (to_use e) differ beside mine other = elim (now_claims q (to_use e) other) [
@@ -115,7 +115,7 @@ module _ {size : ℕ} {pars : List Par} {own : ℕ → Holding} {opener : ℕ �
     | inr theirs ↦ differ (same_some (owner (cell_of e.address)) p q mine.0 theirs.0)
   ]
 
-  end_back : (p : ℕ) (c : Claim) → OwnEnd owner p (clash c) → OwnEnd owner p c
+  end_back : (p : ℕ) (c : Claim) → OwnEnd owner p (rival c) → OwnEnd owner p c
   end_back p (to_write x) end = end
   end_back p (to_read x) end = end
   end_back p (to_use e) end = end
@@ -130,7 +130,7 @@ module _ {size : ℕ} {pars : List Par} {own : ℕ → Holding} {opener : ℕ �
       omega arith
 
   below_now : (q p : ℕ) (c : Claim) → Under opener q p → claims (held_now p) c ≡ true
-      → claims (held_now q) (clash c) ≡ true → ⊥
+      → claims (held_now q) (rival c) ≡ true → ⊥
   below_now q p c above mine other = elim (now_claims p c mine) [
     | inl own ↦ under_now q p c above own other
     | inr end ↦ own_end p q c (not_itself p q above) (λ u. not_both p q above u) end other
@@ -138,14 +138,14 @@ module _ {size : ℕ} {pars : List Par} {own : ℕ → Holding} {opener : ℕ �
 
   -- whatever two processes are to each other
   pub now_apart : (p q : ℕ) → p ≢ q → NoClash (held_now p) (held_now q)
-  now_apart p q differ c mine other = unrelated (λ u. below_now p q (clash c) u other (twice (held_now p) c mine))
+  now_apart p q differ c mine other = unrelated (λ u. below_now p q (rival c) u other (twice (held_now p) c mine))
       (λ u. below_now q p c u mine other)
     where
       unrelated : (Under opener p q → ⊥) → (Under opener q p → ⊥) → ⊥
       unrelated up down = elim (now_claims p c mine) [
-        | inl own_p ↦ elim (now_claims q (clash c) other) [
+        | inl own_p ↦ elim (now_claims q (rival c) other) [
           | inl own_q ↦ t.apart p q differ up down c own_p own_q
-          | inr end ↦ own_end q p (clash c) (λ e. differ (sym e)) down end (twice (held_now p) c mine)
+          | inr end ↦ own_end q p (rival c) (λ e. differ (sym e)) down end (twice (held_now p) c mine)
         ]
         | inr end ↦ own_end p q c differ up end other
       ]

@@ -20,7 +20,7 @@ use Rattle.machine_state.specs.Alternations.{chosen, selected, in_mode}
 use Rattle.machine_state.specs.Moves.{on_task, enqueue, wake, rouse, rouse_enabling, rouse_task}
 use Rattle.machine_state.specs.Moves.{dispatch, leave}
 use Rattle.machine_state.specs.Joins as join
-use Rattle.machine_state.specs.Joins.{on_role, joined, closed_task}
+use Rattle.machine_state.specs.Joins.{on_role, member_joined, closed_task}
 use Rattle.machine_state.specs.EnabledLaws.{Disables}
 
 -- tasks and queue alone have changed, and no task has come or gone
@@ -230,7 +230,7 @@ member_gone h o j w = on_role o (with_opened (Some (without h.process j))) w
 -- the join goes on, or is over
 pub joined_either : (P : World → Type 0) (h : Here) (o : ℕ) (j : Join) (par : Par) (w : World)
     → (is_last h.process j ≡ true → P (join.closed o j par (member_gone h o j w)))
-    → (is_last h.process j ≡ false → P (dispatch h.pick (leave (member_gone h o j w)))) → P (joined h o j par w)
+    → (is_last h.process j ≡ false → P (dispatch h.pick (leave (member_gone h o j w)))) → P (member_joined h o j par w)
 joined_either P h o j par w over more = on (is_last h.process j) refl
   where
     on : (b : Bool) → is_last h.process j ≡ b
@@ -238,7 +238,7 @@ joined_either P h o j par w over more = on (is_last h.process j) refl
     on true none = over none
     on false some = more some
 
-pub joined_quiet : (h : Here) (o : ℕ) (j : Join) (par : Par) (w : World) → Quiet w (joined h o j par w)
+pub joined_quiet : (h : Here) (o : ℕ) (j : Join) (par : Par) (w : World) → Quiet w (member_joined h o j par w)
 unfolding dispatch
 joined_quiet h o j par w = joined_either (Quiet w) h o j par w
     (λ none. record {

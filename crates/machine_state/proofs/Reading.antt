@@ -6,7 +6,7 @@ use Rattle.std.proofs.lemmas.Bool.{cases_lt}
 use Rattle.std.proofs.lemmas.Int.{ints, to_z-of_z}
 use Rattle.std.specs.Option.{option_map}
 use Rattle.std.specs.Int.{w32, cast_unsigned, cast_signed}
-use Rattle.machine_state.specs.Memory.{Memory, byte_at, with_byte, joined, word_at, byte_worth, with_word}
+use Rattle.machine_state.specs.Memory.{Memory, byte_at, with_byte, word_from_bytes, word_at, byte_worth, with_word}
 use Rattle.machine_state.specs.MemoryLaws.{ByteReadsBack, WordReadsBack, UndefinedReadsBack, ByteElsewhereStays}
 use Rattle.machine_state.specs.MemoryLaws.{WordBesideByteStays, ByteBesideWordStays, WordElsewhereStays}
 use Rattle.machine_state.specs.MemoryLaws.{ByteKeepsLength, WordKeepsLength}
@@ -122,13 +122,13 @@ word_at-with_word_other m place other word (inr above) =
     (apart (other + 2) (omega arith)) (apart (other + 3) (omega arith))
 
 -- the bytes of a word make the word
-joined_bytes : (v : ℤ) → FitsSigned w32 v → joined (Some (byte_worth 1 v)) (Some (byte_worth 256 v))
+joined_bytes : (v : ℤ) → FitsSigned w32 v → word_from_bytes (Some (byte_worth 1 v)) (Some (byte_worth 256 v))
     (Some (byte_worth 65536 v)) (Some (byte_worth 16777216 v)) ≡ Some v
 joined_bytes v fits = ap Some
     (ap (cast_signed w32) (four_bytes (cast_unsigned w32 v) (cast_unsigned_below v fits)) ∙ to_z-of_z w32 v fits)
 
 word_at_of_bytes : (m : Memory) (place : ℕ) (p q r s : Option ℕ) → byte_at m place ≡ p → byte_at m (place + 1) ≡ q
-    → byte_at m (place + 2) ≡ r → byte_at m (place + 3) ≡ s → word_at m place ≡ joined p q r s
+    → byte_at m (place + 2) ≡ r → byte_at m (place + 3) ≡ s → word_at m place ≡ word_from_bytes p q r s
 unfolding word_at
 word_at_of_bytes m place p q r s a b c d = rw (a, b, c, d)
 

@@ -36,7 +36,7 @@ use Rattle.machine_state.specs.Joins as join
 use Rattle.machine_state.specs.BranchShares as shares
 use Rattle.machine_state.specs.JoinLookups as lookups
 use Rattle.machine_state.specs.StartPlans as plans
-use Rattle.machine_state.specs.Joins.{on_role, joined, closed_task}
+use Rattle.machine_state.specs.Joins.{on_role, member_joined, closed_task}
 use Rattle.machine_state.specs.Seeing.{Agree, SameTurn, sent_by, sent_on, supply_by, supply, is_supplied, is_seen}
 use Rattle.machine_state.specs.Seeing.{StepsSeeWhatTheyRead}
 use Rattle.machine_state.specs.Happens as happens
@@ -97,7 +97,7 @@ left_blind h w n = refl
 then_blind : (first second : World → World) → IsBlind first → IsBlind second → IsBlind (λ w. second (first w))
 then_blind first second p q w n = ap second (p w n) ∙ q (first w) n
 
-pub joined_blind : (h : Here) (opener : ℕ) (j : Join) (par : Par) → IsBlind (joined h opener j par)
+pub joined_blind : (h : Here) (opener : ℕ) (j : Join) (par : Par) → IsBlind (member_joined h opener j par)
 unfolding dispatch
 joined_blind h opener j par w n = on (length (filter (λ q. not (q == h.process)) j.members) == 0)
   where
@@ -504,7 +504,7 @@ module _ (seen : ℕ → Bool) where
         → SameTurn seen (join.own_end h j block (here r m) w) (join.own_end h j block (here r n) w')
     own_end j block r m n agree = on_row j _ _ (λ par.
         tested ((j.block == block) && (j.started == length par.branches)) _ _ _ _
-        (λ all. counts_alike (joined h h.process j par) (joined_blind h h.process j par)
+        (λ all. counts_alike (member_joined h h.process j par) (joined_blind h h.process j par)
         (join.ended h (here r m) w) n agree)
         (λ other. fails_alike JoinOrder))
 
@@ -513,8 +513,8 @@ module _ (seen : ℕ → Bool) where
         (join.branch_end h opener j block (here r n) w')
     branch_end opener j block r m n agree = on_row j _ _ (λ par.
         tested (j.block == block) _ _ _ _
-        (λ same. counts_alike (λ v. joined h opener j par (join.given_back h v))
-        (then_blind (join.given_back h) (joined h opener j par)
+        (λ same. counts_alike (λ v. member_joined h opener j par (join.given_back h v))
+        (then_blind (join.given_back h) (member_joined h opener j par)
         (on_role_blind h.process (λ role. record role { own = nothing })) (joined_blind h opener j par))
         (join.ended h (here r m) w) n agree)
         (λ other. fails_alike JoinOrder))
@@ -707,14 +707,14 @@ module _ (seen : ℕ → Bool) where
 
       -- the word at an address that is held passes the same test
       word_alike : (v : ℤ) (a : ℕ) → may_write_word mine (place_of a) ≡ true
-          → plans.is_word n0 a v ≡ plans.is_word w.memory a v
+          → plans.holds_word n0 a v ≡ plans.holds_word w.memory a v
       word_alike v a own = ap (λ (o : Option ℤ). elim o as (λ o. Bool)
           [ None ↦ false | Some u ↦ cast_unsigned w32 u == cast_unsigned w32 v ])
           (the_word (place_of a) (readable_word mine (place_of a) own))
 
       empty_alike : (v : ℤ) (addresses : List ℕ)
           → list_all (λ a. may_write_word mine (place_of a)) addresses ≡ true
-          → list_all (λ a. plans.is_word n0 a v) addresses ≡ list_all (λ a. plans.is_word w.memory a v) addresses
+          → list_all (λ a. plans.holds_word n0 a v) addresses ≡ list_all (λ a. plans.holds_word w.memory a v) addresses
       empty_alike v [] own = refl
       empty_alike v (a ∷ addresses) own =
           let parts = and_parts _ _ own in

@@ -13,15 +13,15 @@ use Rattle.module_format.specs.Contents.{Contents, Par}
 use Rattle.machine_state.specs.declared.holding.End.{End}
 use Rattle.machine_state.specs.Memory.{place_of}
 use Rattle.machine_state.specs.Holding.{Holding, may_write, may_read, has_end, same_direction}
-use Rattle.machine_state.specs.Spans.{Stretch, Share, less, lies_in, is_within, stretches_over, writes_place}
-use Rattle.machine_state.specs.Spans.{reads_place, is_same_end, is_listed, all_places}
+use Rattle.machine_state.specs.Spans.{Stretch, Share, less, lies_in, all_pass_within, stretches_over, writes_place}
+use Rattle.machine_state.specs.Spans.{reads_place, is_same_end, is_among_ends, all_places}
 use Rattle.machine_state.specs.World.{constants_start}
 use Rattle.machine_state.specs.BranchShares.{holding_of}
 use Rattle.machine_state.specs.StartPlans.{hidden, block_addresses, channel_addresses, with_ends}
 use Rattle.machine_state.proofs.SpanLaws.{runs_tell}
 use Rattle.machine_state.proofs.Writing.{all_at}
 use Rattle.machine_state.proofs.Among.{among_more, all_among, any_among, mapped_among, any_all, filtered}
-use Rattle.machine_state.specs.Ownership.{IsAmong, Claim, to_write, to_read, to_use, claims, clash}
+use Rattle.machine_state.specs.Ownership.{IsAmong, Claim, to_write, to_read, to_use, claims, rival}
 use Rattle.machine_state.proofs.Claims.{IsBehind}
 
 -- ---- ends
@@ -62,14 +62,14 @@ pub end_held : (h : Holding) (e : End) → IsAmong e h.ends → has_end h e ≡ 
 end_held h e among = any_among
     (λ (x : End). (x.address == e.address) && same_direction x.direction e.direction) h.ends e among (end_itself e)
 
-listed_among : (xs : List End) (e : End) → is_listed xs e ≡ true → IsAmong e xs
+listed_among : (xs : List End) (e : End) → is_among_ends xs e ≡ true → IsAmong e xs
 listed_among [] e listed = absurd (cc)
 listed_among (x ∷ xs) e listed = elim (or_cases (is_same_end e x) _ listed) [
   | inl here ↦ inl (sym (end_is e x here))
   | inr there ↦ inr (listed_among xs e there)
 ]
 
-among_listed : (xs : List End) (e : End) → IsAmong e xs → is_listed xs e ≡ true
+among_listed : (xs : List End) (e : End) → IsAmong e xs → is_among_ends xs e ≡ true
 among_listed xs e among = any_among (is_same_end e) xs e among (end_itself e)
 
 -- the ends of new channels beside those that are held
@@ -77,8 +77,8 @@ pub with_ends_tells : (addresses : List ℕ) (held : List End) (e : End) → IsA
     → IsAmong e held ⊎ IsAmong e.address addresses
 with_ends_tells [] held e among = inl among
 with_ends_tells (a ∷ addresses) held e among =
-    on (is_listed held (record { address = a; direction = In }))
-    (with_ends_tells addresses (if is_listed held (record { address = a; direction = In })
+    on (is_among_ends held (record { address = a; direction = In }))
+    (with_ends_tells addresses (if is_among_ends held (record { address = a; direction = In })
     then held
     else held ++ record { address = a; direction = In } ∷ record { address = a; direction = Out } ∷ []) e among)
   where
@@ -114,7 +114,7 @@ int_le_there : (j k : ℕ) → j ≤ k → int_le (pos j) (pos k) ≡ true
 int_le_there j k low = le-leb j k low
 
 within_passes : (n : ℕ) (test : ℕ → Bool) (start : ℤ) (size x : ℕ)
-    → is_within n test (record { start = start; size = size }) ≡ true
+    → all_pass_within n test (record { start = start; size = size }) ≡ true
     → stretches_over (record { start = start; size = size }) x ≡ true → test x ≡ true
 within_passes n test (pos first) size x within over =
     let all = (and_parts (lies_in n (record { start = pos first; size = size }))
@@ -158,9 +158,9 @@ module _ (n : ℕ) (h : Holding) (share : Share) where
   ]
 
   left_end : (e : End) → has_end (less n h share) e ≡ true
-      → IsAmong e h.ends × (not (is_listed share.ends e) ≡ true)
+      → IsAmong e h.ends × (not (is_among_ends share.ends e) ≡ true)
   unfolding less
-  left_end e held = filtered (λ end. not (is_listed share.ends end)) h.ends e (end_among (less n h share) e held)
+  left_end e held = filtered (λ end. not (is_among_ends share.ends end)) h.ends e (end_among (less n h share) e held)
 
   pub left_claims : (c : Claim) → claims (less n h share) c ≡ true → claims h c ≡ true
   left_claims (to_write x) claimed = (left_write x claimed).0
@@ -170,18 +170,19 @@ module _ (n : ℕ) (h : Holding) (share : Share) where
 -- ---- what is given
 
 module _ (m : Contents) (n : ℕ) (h : Holding) (share : Share)
-    (writes_there : list_all (is_within n (may_write h)) share.writes ≡ true)
-    (reads_there : list_all (is_within n (may_read h)) share.reads ≡ true)
-    (ends_there : list_all (is_listed h.ends) share.ends ≡ true) where
+    (writes_there : list_all (all_pass_within n (may_write h)) share.writes ≡ true)
+    (reads_there : list_all (all_pass_within n (may_read h)) share.reads ≡ true)
+    (ends_there : list_all (is_among_ends h.ends) share.ends ≡ true) where
   share_writes : (x : ℕ) → writes_place share x ≡ true → may_write h x ≡ true
   share_writes x there =
-      let s = any_all (λ (s : Stretch). stretches_over s x) (is_within n
+      let s = any_all (λ (s : Stretch). stretches_over s x) (all_pass_within n
       (may_write h)) share.writes there writes_there in
       within_passes n (may_write h) s.0.start s.0.size x s.2 s.1
 
   share_reads : (x : ℕ) → reads_place share x ≡ true → may_read h x ≡ true
   share_reads x there =
-      let s = any_all (λ (s : Stretch). stretches_over s x) (is_within n (may_read h)) share.reads there reads_there in
+      let s = any_all (λ (s : Stretch). stretches_over s x) (all_pass_within n (may_read h)) share.reads there
+      reads_there in
       within_passes n (may_read h) s.0.start s.0.size x s.2 s.1
 
   given_write : (x : ℕ) → may_write (holding_of m n share) x ≡ true → writes_place share x ≡ true
@@ -199,7 +200,7 @@ module _ (m : Contents) (n : ℕ) (h : Holding) (share : Share)
 
   -- what a branch claims is a constant, or was there and is not left
   pub given_claims : (size : ℕ) → size ≤ constants_start m → (c : Claim) → claims (holding_of m n share) c ≡ true
-      → IsBehind size c ⊎ ((claims h c ≡ true) × (claims (less n h share) (clash c) ≡ true → ⊥))
+      → IsBehind size c ⊎ ((claims h c ≡ true) × (claims (less n h share) (rival c) ≡ true → ⊥))
   given_claims size low (to_write x) claimed =
       let there = given_write x claimed in
       inr (share_writes x there, λ left. cannot_be (writes_place share x) there (left_read n h share x left).1)
@@ -217,8 +218,8 @@ module _ (m : Contents) (n : ℕ) (h : Holding) (share : Share)
   given_claims size low (to_use e) claimed =
       let there = end_among (holding_of m n share) e claimed in
       inr (
-        end_held h e (listed_among h.ends e (all_among (is_listed h.ends) share.ends e ends_there there)),
-        λ left. cannot_be (is_listed share.ends e) (among_listed share.ends e there) (left_end n h share e left).1,
+        end_held h e (listed_among h.ends e (all_among (is_among_ends h.ends) share.ends e ends_there there)),
+        λ left. cannot_be (is_among_ends share.ends e) (among_listed share.ends e there) (left_end n h share e left).1,
       )
 
 -- ---- the words that no branch has

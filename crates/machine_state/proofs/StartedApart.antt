@@ -15,10 +15,10 @@ use Rattle.module_format.specs.declared.rows.ChannelRow.{ChannelRow}
 use Rattle.machine_state.specs.declared.process.Channel.{Channel}
 use Rattle.machine_state.specs.Memory.{Memory, data_start, place_of, local_address, word_at}
 use Rattle.machine_state.specs.Holding.{Holding, nothing, may_write, may_read, may_write_word, has_end}
-use Rattle.machine_state.specs.Spans.{Share, less, is_listed, is_within}
+use Rattle.machine_state.specs.Spans.{Share, less, is_among_ends, all_pass_within}
 use Rattle.machine_state.specs.World.{Role, Join, held, holding_at}
 use Rattle.machine_state.specs.StartPlans.{Plan, block_addresses, channel_addresses, hidden, first_plan, share_by}
-use Rattle.machine_state.specs.StartPlans.{share_is_there, ends_are_there, is_word}
+use Rattle.machine_state.specs.StartPlans.{share_is_there, ends_are_there, holds_word}
 use Rattle.machine_state.specs.JoinLookups.{Found, found_from, found_in_row, found_at}
 use Rattle.machine_state.specs.BranchShares.{frame_address, frame_base, holding_of}
 use Rattle.machine_state.specs.Joins.{join_after, with_channels}
@@ -82,12 +82,12 @@ pub record Follows (plan : Plan) (j : Join) : Type 0 where
 
 -- what the tests of a start say of the share
 share_tells : (n : ℕ) (plan : Plan) (workspace : ℕ) (b : Branch) → share_is_there n plan workspace b ≡ true
-    → (list_all (is_within n (may_write plan.rest)) (share_by plan b).writes ≡ true)
-    × (list_all (is_within n (may_read plan.rest)) (share_by plan b).reads ≡ true)
+    → (list_all (all_pass_within n (may_write plan.rest)) (share_by plan b).writes ≡ true)
+    × (list_all (all_pass_within n (may_read plan.rest)) (share_by plan b).reads ≡ true)
 share_tells n plan workspace b there = ((and_parts _ _ (and_parts _ _ there).0).1, (and_parts _ _ there).1)
 
 ends_tell : (plan : Plan) (b : Branch) → ends_are_there plan b ≡ true
-    → list_all (is_listed plan.rest.ends) (share_by plan b).ends ≡ true
+    → list_all (is_among_ends plan.rest.ends) (share_by plan b).ends ≡ true
 ends_tell plan b there = (and_parts _ _ there).0
 
 module _ (m : Contents) (roles : List Role) (channels : List (Option Channel)) (t : HoldersIn m roles channels)
@@ -156,8 +156,8 @@ module _ (m : Contents) (roles : List Role) (channels : List (Option Channel)) (
 
 -- ---- what a word holds
 
-words_agree : (memory : Memory) (a b : ℕ) (u v : ℤ) → place_of a ≡ place_of b → is_word memory a u ≡ true
-    → is_word memory b v ≡ true → cast_unsigned w32 u ≡ cast_unsigned w32 v
+words_agree : (memory : Memory) (a b : ℕ) (u v : ℤ) → place_of a ≡ place_of b → holds_word memory a u ≡ true
+    → holds_word memory b v ≡ true → cast_unsigned w32 u ≡ cast_unsigned w32 v
 words_agree memory a b u v same one two =
     on (word_at memory (place_of b)) (subst (λ n. holds u (word_at memory n) ≡ true) same one) two
   where
@@ -351,14 +351,14 @@ module _ (m : Contents) (roles : List Role) (channels : List (Option Channel)) (
     not_channel b a x in_block_words in_channels same =
         let first = and_parts _ _ may.prepared in
         let two = and_parts _ _ first.0 in
-        let empty = all_among (λ a. is_word memory a least_word)
+        let empty = all_among (λ a. holds_word memory a least_word)
         (channel_addresses base found.par) a first.1 in_channels in
         on two.0 two.1 empty in_block_words
       where
-        on : is_word memory block
+        on : holds_word memory block
             (cast_signed w32 ((data_start + 4 * m.data_words + found.par.successor) % 2 ^ 32)) ≡ true
-            → is_word memory (frame_address block (pos 1)) (pos (length found.par.branches + 1)) ≡ true
-            → is_word memory a least_word ≡ true → IsAmong b (block_addresses base found.par) → ⊥
+            → holds_word memory (frame_address block (pos 1)) (pos (length found.par.branches + 1)) ≡ true
+            → holds_word memory a least_word ≡ true → IsAmong b (block_addresses base found.par) → ⊥
         on one two empty (inl is) =
             let big : 0x80000000 < data_start + 4 * m.data_words + found.par.successor = omega arith in
             not_code (data_start + 4 * m.data_words + found.par.successor) rows.code big

@@ -44,7 +44,7 @@ use Rattle.machine_state.specs.Moves.{channel_at}
 use Rattle.machine_state.specs.Happens.{Turn, answered, ran, idle, ignored, taken, kept, busy, acknowledged}
 use Rattle.machine_state.specs.Happens.{most_executed, failed, continued, settled, prefix_turn, site_of, byte_turn}
 use Rattle.machine_state.specs.Happens.{task_turn, arrive_at, event_turn, turn}
-use Rattle.machine_state.specs.Endings.{IsSource, on_channel, on_link, Moved, Ends, at_fault, has_run, has_emitted}
+use Rattle.machine_state.specs.Endings.{IsSource, on_channel, on_link, Moved, TurnsInto, at_fault, has_run, has_emitted}
 use Rattle.machine_state.specs.Endings.{local_here, is_idle, is_busy, arrives_nowhere, is_ignored, Happened}
 use Rattle.machine_state.specs.Endings.{was_at_fault, it_rests, is_outside, is_prefix, is_step, is_taken, is_kept}
 use Rattle.machine_state.specs.Endings.{is_acknowledged, plan_of, with_first, no_byte, no_byte_follows, HasNoSource}
@@ -66,19 +66,19 @@ use Rattle.machine_state.specs.Endings.{joins_other_block}
 
 module _ (h : Here) (w : World) where
   module _ (o : Outcome) where
-    by_test : (b : Bool) (x y : Turn) → (b ≡ true → Ends h w o x) → (b ≡ false → Ends h w o y)
-        → Ends h w o (if b then x else y)
+    by_test : (b : Bool) (x y : Turn) → (b ≡ true → TurnsInto h w o x) → (b ≡ false → TurnsInto h w o y)
+        → TurnsInto h w o (if b then x else y)
     by_test true x y p q = p refl
     by_test false x y p q = q refl
 
-    is_followed : NeedsNext o → (t : Turn) → Ends h w o t → Ends h w o (followed h t w)
+    is_followed : NeedsNext o → (t : Turn) → TurnsInto h w o t → TurnsInto h w o (followed h t w)
     is_followed on t p = by_test (nat_lt h.next (length h.contents.code)) t (failed h OutsideCode w) (λ e. p)
         (λ e. at_fault (no_code_follows on e))
 
     -- a message of the length that the other side wants, and the next instruction inside the code
-    of_one_length : NeedsNext o → (b : Bool) (t : Turn) → (b ≡ true → Ends h w o t)
+    of_one_length : NeedsNext o → (b : Bool) (t : Turn) → (b ≡ true → TurnsInto h w o t)
         → (b ≡ false → Refused h w o UnequalLengths)
-        → Ends h w o (if b then followed h t w else failed h UnequalLengths w)
+        → TurnsInto h w o (if b then followed h t w else failed h UnequalLengths w)
     of_one_length on b t p q = by_test b _ _ (λ same. is_followed on t (p same)) (λ differ. at_fault (q differ))
 
   -- ---- messages
@@ -87,16 +87,16 @@ module _ (h : Here) (w : World) where
   abbrev AtPartner : Outcome → Exchange → (ℕ → Option ℕ) → (Channel → ℕ → Condition → Turn) → Type 0
   AtPartner o e link met_by = (c : Channel) (other : ℕ) → link e.channel ≡ None → channel_at w e.channel ≡ Some c
       → c.waiting ≡ Some other → (condition : Condition) → condition_of w other ≡ condition
-      → Ends h w o (met_by c other condition)
+      → TurnsInto h w o (met_by c other condition)
 
   -- a channel is a link's end, or lies inside, where no process waits, or another process does
   at_end : (o : Outcome) → NeedsNext o → (e : Exchange) (link : ℕ → Option ℕ) (outside : ℕ → Turn)
       (first : Channel → Turn) (met_by : Channel → ℕ → Condition → Turn)
       → (link e.channel ≡ None → channel_at w e.channel ≡ None → Refused h w o EndNotHeld)
       → ((c : Channel) → link e.channel ≡ None → channel_at w e.channel ≡ Some c → c.waiting ≡ None
-      → Ends h w o (first c))
-      → AtPartner o e link met_by → ((k : ℕ) → link e.channel ≡ Some k → Ends h w o (outside k))
-      → Ends h w o (elim (link e.channel) [
+      → TurnsInto h w o (first c))
+      → AtPartner o e link met_by → ((k : ℕ) → link e.channel ≡ Some k → TurnsInto h w o (outside k))
+      → TurnsInto h w o (elim (link e.channel) [
         | Some k ↦ outside k
         | None ↦ elim (channel_at w e.channel) [
           | None ↦ failed h EndNotHeld w
@@ -108,12 +108,12 @@ module _ (h : Here) (w : World) where
     where
       on_waiting : link e.channel ≡ None → (c : Channel) → channel_at w e.channel ≡ Some c
           → (waiting : Option ℕ) → c.waiting ≡ waiting
-          → Ends h w o (elim waiting
+          → TurnsInto h w o (elim waiting
           [ None ↦ followed h (first c) w | Some other ↦ met_by c other (condition_of w other) ])
       on_waiting inside c here None is = is_followed o after (first c) (p c inside here is)
       on_waiting inside c here (Some other) is = q c other inside here is (condition_of w other) refl
 
-      on_channel : link e.channel ≡ None → (c : Option Channel) → channel_at w e.channel ≡ c → Ends h w o (elim c [
+      on_channel : link e.channel ≡ None → (c : Option Channel) → channel_at w e.channel ≡ c → TurnsInto h w o (elim c [
         | None ↦ failed h EndNotHeld w
         | Some c ↦ elim c.waiting
             [ None ↦ followed h (first c) w | Some other ↦ met_by c other (condition_of w other) ]
@@ -121,7 +121,7 @@ module _ (h : Here) (w : World) where
       on_channel inside None is = at_fault (nowhere inside is)
       on_channel inside (Some c) is = on_waiting inside c is c.waiting refl
 
-      on_link : (k : Option ℕ) → link e.channel ≡ k → Ends h w o (elim k [
+      on_link : (k : Option ℕ) → link e.channel ≡ k → TurnsInto h w o (elim k [
         | Some k ↦ outside k
         | None ↦ elim (channel_at w e.channel) [
           | None ↦ failed h EndNotHeld w
@@ -132,7 +132,7 @@ module _ (h : Here) (w : World) where
       on_link None inside = on_channel inside (channel_at w e.channel) refl
       on_link (Some k) is = r k is
 
-  received_ends : (e : Exchange) (l : Local) → Ends h w (receives e l) (exchange.received h e l w)
+  received_ends : (e : Exchange) (l : Local) → TurnsInto h w (receives e l) (exchange.received h e l w)
   received_ends e l =
       at_end (receives e l) (after_receiving e l) e input_link (λ k. exchange.received_outside h k e l w)
       (λ c. answered ran (left h (waits_at h (Receiving e) e.channel c l w)))
@@ -151,7 +151,7 @@ module _ (h : Here) (w : World) where
 
       on_kept : (k : ℕ) (link : InputLink) → input_link e.channel ≡ Some k → slice_get w.links.inputs k ≡ Some link
           → (o : Option ℕ) → link.kept ≡ o
-          → Ends h w (receives e l) (answered ran (elim o [
+          → TurnsInto h w (receives e l) (answered ran (elim o [
             | None ↦
                 left h (with_input k (record link { waiting = Some h.process }) (waiting h (OnLink e 0) l w))
             | Some byte ↦ exchange.received_kept h k e link byte l w
@@ -160,7 +160,7 @@ module _ (h : Here) (w : World) where
       on_kept k link outside here (Some byte) is = on_length (e.length == 1) refl
         where
           on_length : (b : Bool) → (e.length == 1) ≡ b
-              → Ends h w (receives e l) (answered ran (if b
+              → TurnsInto h w (receives e l) (answered ran (if b
               then counted (with_input k (record link { kept = None }) (continued h h.next (with_first e byte l) w))
               else left h (with_input k (record link { kept = None; waiting = Some h.process })
               (waiting h (OnLink e 1) (with_first e byte l) w))))
@@ -168,7 +168,7 @@ module _ (h : Here) (w : World) where
           on_length false more = has_run (receives_one e l k link byte outside here is more)
 
       on_input : (k : ℕ) → input_link e.channel ≡ Some k → (o : Option InputLink) → slice_get w.links.inputs k ≡ o
-          → Ends h w (receives e l) (elim o [
+          → TurnsInto h w (receives e l) (elim o [
             | None ↦ failed h EndNotHeld w
             | Some link ↦
                 if link_length h.contents (4 + k) == e.length
@@ -180,7 +180,7 @@ module _ (h : Here) (w : World) where
           (link_length h.contents (4 + k) == e.length) _ (λ same. on_kept k link outside is link.kept refl)
           (λ differ. receives_other_than_link e l k link outside is differ)
 
-  sent_ends : (e : Exchange) (l : Local) → Ends h w (sends e l) (exchange.sent h e l w)
+  sent_ends : (e : Exchange) (l : Local) → TurnsInto h w (sends e l) (exchange.sent h e l w)
   sent_ends e l =
       at_end (sends e l) (after_sending e l) e output_link (λ k. exchange.sent_outside h k e l w)
       (λ c. answered ran (left h (rouse c.enabled (waits_at h (Sending e) e.channel c l w))))
@@ -199,11 +199,11 @@ module _ (h : Here) (w : World) where
 
   -- ---- alternations
 
-  waited_ends : (l : Local) → Ends h w (waits l) (alternation.waited h l w)
+  waited_ends : (l : Local) → TurnsInto h w (waits l) (alternation.waited h l w)
   waited_ends l = on_mode h.from.mode refl
     where
       on_mode : (mode : Mode) → h.from.mode ≡ mode
-          → Ends h w (waits l) (answered ran (alternation.waited_in h mode l w))
+          → TurnsInto h w (waits l) (answered ran (alternation.waited_in h mode l w))
       on_mode Plain is = has_run (it_waits l (λ e. cc))
       on_mode (Enabling true) is = has_run (it_is_ready l is)
       on_mode (Enabling false) is = has_run (it_waits l (λ e. cc))
@@ -212,12 +212,12 @@ module _ (h : Here) (w : World) where
 
   on_source_ends : (o : Outcome) (address : ℕ) (k : Source → Turn)
       → (HasNoSource w address → Refused h w o EndNotHeld)
-      → ((s : Source) → IsSource w address s → Ends h w o (k s))
-      → Ends h w o (alternation.on_source h address w k)
+      → ((s : Source) → IsSource w address s → TurnsInto h w o (k s))
+      → TurnsInto h w o (alternation.on_source h address w k)
   on_source_ends o address k nowhere p = on_input (input_link address) refl
     where
       on_cell : input_link address ≡ None → (c : Option Channel) → channel_at w address ≡ c
-          → Ends h w o (elim (elim c as (λ c. Option Source)
+          → TurnsInto h w o (elim (elim c as (λ c. Option Source)
           [ None ↦ None | Some c ↦ Some (alternation.of_channel address c) ])
           [ None ↦ failed h EndNotHeld w | Some s ↦ k s ])
       on_cell inside None is = at_fault (nowhere (no_channel inside is))
@@ -225,14 +225,14 @@ module _ (h : Here) (w : World) where
 
       on_side : (n : ℕ) → input_link address ≡ Some n → (link : Option InputLink)
           → slice_get w.links.inputs n ≡ link
-          → Ends h w o (elim (elim link as (λ l. Option Source)
+          → TurnsInto h w o (elim (elim link as (λ l. Option Source)
           [ None ↦ None | Some link ↦ Some (alternation.of_link n link) ])
           [ None ↦ failed h EndNotHeld w | Some s ↦ k s ])
       on_side n outside None is = at_fault (nowhere (no_link n outside is))
       on_side n outside (Some link) is = p _ (on_link n link outside is)
 
       on_input : (n : Option ℕ) → input_link address ≡ n
-          → Ends h w o (elim (elim n as (λ n. Option Source) [
+          → TurnsInto h w o (elim (elim n as (λ n. Option Source) [
             | Some n ↦ elim (slice_get w.links.inputs n)
                 [ None ↦ None | Some link ↦ Some (alternation.of_link n link) ]
             | None ↦ elim (channel_at w address)
@@ -242,7 +242,7 @@ module _ (h : Here) (w : World) where
       on_input (Some n) is = on_side n is (slice_get w.links.inputs n) refl
 
   enabled_ends : (guard : Bool) (address : ℕ) (l : Local)
-      → Ends h w (enables_channel guard address l) (alternation.channel_enabled h guard address l w)
+      → TurnsInto h w (enables_channel guard address l) (alternation.channel_enabled h guard address l w)
   enabled_ends guard address l =
       let o = enables_channel guard address l in
       let after = after_enabling guard address l in
@@ -254,7 +254,7 @@ module _ (h : Here) (w : World) where
       (λ fails. is_followed o after _ (has_run (it_enables_nothing guard address l fails)))
 
   disabled_ends : (guard : Bool) (address : ℕ) (distance : ℤ) (l : Local)
-      → Ends h w (disables_channel guard address distance l)
+      → TurnsInto h w (disables_channel guard address distance l)
       (alternation.channel_disabled h guard address distance l w)
   disabled_ends guard address distance l =
       let o = disables_channel guard address distance l in
@@ -268,7 +268,7 @@ module _ (h : Here) (w : World) where
       (λ fails. is_followed o after _ (has_run (it_disables_nothing guard address distance l fails)))
 
   alternation_ends : (to : ℕ) (l : Local)
-      → Ends h w (ends_alternation to l) (alternation.alternation_ended h to l w)
+      → TurnsInto h w (ends_alternation to l) (alternation.alternation_ended h to l w)
   alternation_ends to l =
       let o = ends_alternation to l in
       by_test o (has_enabled w h.process) _ _ (λ some. at_fault (is_enabled_still to l some))
@@ -279,11 +279,11 @@ module _ (h : Here) (w : World) where
 
   start_or_fail_ends : (o : Outcome) → NeedsNext o → (tests : List (Bool × FaultKind)) (after : World)
       → ((kind : FaultKind) → first_fault tests ≡ Some kind → Refused h w o kind)
-      → (first_fault tests ≡ None → Moved h w o after) → Ends h w o (join.start_or_fail h tests after w)
+      → (first_fault tests ≡ None → Moved h w o after) → TurnsInto h w o (join.start_or_fail h tests after w)
   start_or_fail_ends o further tests after q p = on (first_fault tests) refl
     where
       on : (kind : Option FaultKind) → first_fault tests ≡ kind
-          → Ends h w o (elim kind [
+          → TurnsInto h w o (elim kind [
             | Some kind ↦ failed h kind w
             | None ↦ followed h (answered ran (counted after)) w
           ])
@@ -292,17 +292,17 @@ module _ (h : Here) (w : World) where
 
   -- a start without a row always fails
   no_row : (o : Outcome) (b : Bool) → (b ≡ false → Refused h w o NotOwn) → (b ≡ true → Refused h w o JoinOrder)
-      → Ends h w o (join.start_or_fail h ((b, NotOwn) ∷ (false, JoinOrder) ∷ []) w w)
+      → TurnsInto h w o (join.start_or_fail h ((b, NotOwn) ∷ (false, JoinOrder) ∷ []) w w)
   no_row o true p q = at_fault (q refl)
   no_row o false p q = at_fault (p refl)
 
   start_ends : (target workspace : ℕ) (l : Local)
-      → Ends h w (starts target workspace l) (join.start_turn h target workspace l w)
+      → TurnsInto h w (starts target workspace l) (join.start_turn h target workspace l w)
   start_ends target workspace l = on_branch (found_at h.contents target) refl
     where
       on_join : (found : Found) → found_at h.contents target ≡ Some found
           → (j : Option Join) → opened_by w h.process ≡ j
-          → Ends h w (starts target workspace l) (elim j [
+          → TurnsInto h w (starts target workspace l) (elim j [
             | None ↦ join.first_start_turn h found workspace l w
             | Some j ↦ join.later_start_turn h j found workspace l w
           ])
@@ -326,7 +326,7 @@ module _ (h : Here) (w : World) where
           (λ passes. starts_other_row target workspace l found j is is_open other passes))
 
       on_branch : (found : Option Found) → found_at h.contents target ≡ found
-          → Ends h w (starts target workspace l) (elim found [
+          → TurnsInto h w (starts target workspace l) (elim found [
             | None ↦ join.start_or_fail h (plans.no_row_faults (holding_at w.roles h.process) workspace) w w
             | Some found ↦ elim (opened_by w h.process) [
               | None ↦ join.first_start_turn h found workspace l w
@@ -341,21 +341,21 @@ module _ (h : Here) (w : World) where
 
   on_row_ends : (o : Outcome) (j : Join) (k : Par → Turn)
       → (slice_get h.contents.pars j.row ≡ None → Refused h w o JoinOrder)
-      → ((par : Par) → slice_get h.contents.pars j.row ≡ Some par → Ends h w o (k par))
-      → Ends h w o (join.on_row h j w k)
+      → ((par : Par) → slice_get h.contents.pars j.row ≡ Some par → TurnsInto h w o (k par))
+      → TurnsInto h w o (join.on_row h j w k)
   on_row_ends o j k q p = on (slice_get h.contents.pars j.row) refl
     where
       on : (par : Option Par) → slice_get h.contents.pars j.row ≡ par
-          → Ends h w o (elim par [ None ↦ failed h JoinOrder w | Some par ↦ k par ])
+          → TurnsInto h w o (elim par [ None ↦ failed h JoinOrder w | Some par ↦ k par ])
       on None is = at_fault (q is)
       on (Some par) is = p par is
 
-  join_ends : (block : ℕ) (l : Local) → Ends h w (joins block l) (join.join_turn h block l w)
+  join_ends : (block : ℕ) (l : Local) → TurnsInto h w (joins block l) (join.join_turn h block l w)
   join_ends block l = on_own (opened_by w h.process) refl
     where
       on_join : (opener : ℕ) → opened_by w h.process ≡ None → opener_of w h.process ≡ Some opener
           → (j : Option Join) → opened_by w opener ≡ j
-          → Ends h w (joins block l) (elim j [
+          → TurnsInto h w (joins block l) (elim j [
             | None ↦ failed h JoinOrder w
             | Some j ↦ join.branch_end h opener j block l w
           ])
@@ -367,7 +367,7 @@ module _ (h : Here) (w : World) where
           (λ other. at_fault (joins_other_block block l opener j par none by is row other)))
 
       on_opener : opened_by w h.process ≡ None → (opener : Option ℕ) → opener_of w h.process ≡ opener
-          → Ends h w (joins block l) (elim opener [
+          → TurnsInto h w (joins block l) (elim opener [
             | None ↦ failed h JoinOrder w
             | Some opener ↦ elim (opened_by w opener)
                 [ None ↦ failed h JoinOrder w | Some j ↦ join.branch_end h opener j block l w ]
@@ -376,7 +376,7 @@ module _ (h : Here) (w : World) where
       on_opener none (Some opener) is = on_join opener none is (opened_by w opener) refl
 
       on_own : (j : Option Join) → opened_by w h.process ≡ j
-          → Ends h w (joins block l) (elim j [
+          → TurnsInto h w (joins block l) (elim j [
             | Some j ↦ join.own_end h j block l w
             | None ↦ elim (opener_of w h.process) [
               | None ↦ failed h JoinOrder w
@@ -392,11 +392,11 @@ module _ (h : Here) (w : World) where
 
   -- ---- whatever comes of an instruction
 
-  jump_ends : (slice : Bool) (to : ℕ) (l : Local) → Ends h w (jumps to l) (settled h slice (jumps to l) w)
+  jump_ends : (slice : Bool) (to : ℕ) (l : Local) → TurnsInto h w (jumps to l) (settled h slice (jumps to l) w)
   jump_ends true to l = has_run (it_is_sliced to l)
   jump_ends false to l = has_run (it_jumps to l)
 
-  pub settled_ends : (slice : Bool) (o : Outcome) → Ends h w o (settled h slice o w)
+  pub settled_ends : (slice : Bool) (o : Outcome) → TurnsInto h w o (settled h slice o w)
   settled_ends slice (goes l) = has_run (it_goes l)
   settled_ends slice (jumps to l) = jump_ends slice to l
   settled_ends slice (lands to l) = has_run (it_lands to l)

@@ -30,7 +30,7 @@ use Rattle.machine_state.specs.Moves.{on_task, wake, enqueue, leave, dispatch, r
 use Rattle.machine_state.specs.Moves.{fill_condition, with_condition, link_index, finished_where, with_channel}
 use Rattle.machine_state.specs.Moves.{with_input, with_output, cell_of}
 use Rattle.machine_state.specs.Turn.{Here, Turn, at_here, between, continued, waiting}
-use Rattle.machine_state.specs.Joins.{on_role, joined, closed_task, started, opened, ended, new_task, join_after}
+use Rattle.machine_state.specs.Joins.{on_role, member_joined, closed_task, started, opened, ended, new_task, join_after}
 use Rattle.machine_state.specs.Joins.{with_channels, without_words}
 use Rattle.machine_state.specs.StartPlans.{Plan, share_by, later_plan, scheduling_addresses}
 use Rattle.machine_state.specs.JoinLookups.{Found, opened_by}
@@ -38,7 +38,7 @@ use Rattle.machine_state.specs.BranchShares.{holding_of}
 use Rattle.machine_state.specs.Alternations.{chosen, ready_or}
 use Rattle.machine_state.specs.Endings as turns
 use Rattle.machine_state.proofs.Turns.{turn_happens}
-use Rattle.machine_state.specs.Endings.{Moved, Ends, Happened}
+use Rattle.machine_state.specs.Endings.{Moved, TurnsInto, Happened}
 use Rattle.machine_state.specs.Happens.{site_of, turn, run_from, world_after}
 use Rattle.prefix_decoder.specs.Functions.{nibble}
 use Rattle.prefix_decoder.specs.Operand.{with_nibble}
@@ -773,7 +773,7 @@ module _ (h : Here) (w : World) (runs : w.queue.running ≡ Some h.process)
       → Rest (slice_set w.tasks h.process u) roles w.links → (o : ℕ) (r : Role) (j : Join) (par : Par)
       → slice_get roles o ≡ Some r → r.opened ≡ Some j
       → ((x : Role) → slice_get roles h.process ≡ Some x → x.opener ≡ Some o → x.opened ≡ None)
-      → WaitsIn (joined h o j par (record w {
+      → WaitsIn (member_joined h o j par (record w {
         memory = m;
         tasks = slice_set w.tasks h.process u;
         roles = roles;
@@ -1112,7 +1112,7 @@ module _ (h : Here) (w : World) (runs : w.queue.running ≡ Some h.process)
       let below = keeps.rest.openers h.process mine.0 opener mine.1 mine.2 in
       let gone = record mine.0 { own = nothing } in
       let roles = slice_set w.roles h.process gone in
-      subst (λ (x : World). WaitsIn (joined h opener j par x))
+      subst (λ (x : World). WaitsIn (member_joined h opener j par x))
       (sym (on_role_is h.process (λ role. record role { own = nothing }) (ended h l w) mine.0 mine.1))
       (ended_keeps u refl l.memory roles
       (rest_role (slice_set w.tasks h.process u) w.roles w.links h.process mine.0 gone mine.1 refl
@@ -1158,7 +1158,7 @@ module _ (h : Here) (w : World) (runs : w.queue.running ≡ Some h.process)
   moved_keeps o after (turns.it_ends_alternation to l none) says =
       goes (between to l.registers) Plain l.memory w.channels
 
-  pub end_keeps : (o : Outcome) (t : Turn) → Ends h w o t → Message (site_of h w) w.memory o → WaitsIn t.world
+  pub end_keeps : (o : Outcome) (t : Turn) → TurnsInto h w o t → Message (site_of h w) w.memory o → WaitsIn t.world
   end_keeps o t (turns.at_fault refused) says = record { line = keeps.line; rest = keeps.rest }
   end_keeps o t (turns.has_run {after = after} moved) says =
       let kept = moved_keeps o after moved says in record { line = kept.line; rest = kept.rest }

@@ -56,7 +56,7 @@ use Rattle.machine_state.proofs.MovesLeaveAlone.{on_task_only, wake_only, rouse_
 use Rattle.machine_state.proofs.Starting.{first_tests, later_tests}
 use Rattle.machine_state.specs.Endings as turns
 use Rattle.machine_state.proofs.Turns.{turn_happens}
-use Rattle.machine_state.specs.Endings.{Moved, Ends, Happened, local_here, plan_of}
+use Rattle.machine_state.specs.Endings.{Moved, TurnsInto, Happened, local_here, plan_of}
 
 -- ---- bytes that stay defined were not made undefined
 
@@ -422,7 +422,7 @@ module _ (h : Here) (w : World) where
   moved_writes o after (turns.it_ends_alternation to l none) own says =
       only_own hold None w.memory l.memory _ own refl refl
 
-  end_writes : (o : Outcome) (t : Turn) → Ends h w o t → LeavesOthers hold w.memory o
+  end_writes : (o : Outcome) (t : Turn) → TurnsInto h w o t → LeavesOthers hold w.memory o
       → Message (site_of h w) w.memory o
       → StepWrites (may_write hold) (delivery_by w o) w.memory t.world.memory t.answer
   unfolding dispatch
@@ -493,7 +493,7 @@ module _ (m : Contents) (w : World) where
   step_writes : (p : ℕ) (task : Task) (byte : ℕ) (f : Fun) (pick : ℕ) (t : Turn) → w.queue.running ≡ Some p
       → slice_get w.tasks p ≡ Some task → slice_get m.code task.registers.at ≡ Some byte
       → fun_of (function_code byte) ≡ Some f
-      → Ends (at_here m p task pick) w
+      → TurnsInto (at_here m p task pick) w
       (step.local_step (site_of (at_here m p task pick) w) f (with_nibble task.registers.operand (nibble byte))
       (local_here task w)) t
       → StepWrites (is_own w) (delivery m w) w.memory t.world.memory t.answer

@@ -7,8 +7,8 @@ use Rattle.machine_state.specs.Holding.{Holding, covers, may_read, IsApart}
 use Rattle.machine_state.specs.World.{Role, Join, held}
 
 -- the places of a join's block, and of the data word of this number, in which a channel may lie
-abbrev pub block_words : Join → Span
-block_words join = record { start = place_of join.block; end = place_of join.block + 8 }
+abbrev pub block_span : Join → Span
+block_span join = record { start = place_of join.block; end = place_of join.block + 8 }
 
 abbrev pub data_word : ℕ → Span
 data_word k = record { start = 4 * k; end = 4 * k + 4 }
@@ -23,12 +23,12 @@ pub record AllApart (roles : List Role) (channels : List (Option Channel)) : Typ
   pub processes : (p q : ℕ) (r s : Role) → p ≢ q → slice_get roles p ≡ Some r → slice_get roles q ≡ Some s
       → IsApart (held r) (held s)
   pub blocks : (p q : ℕ) (r s : Role) (join : Join) → slice_get roles p ≡ Some r → r.opened ≡ Some join
-      → slice_get roles q ≡ Some s → IsFree (held s) (block_words join)
+      → slice_get roles q ≡ Some s → IsFree (held s) (block_span join)
   pub channel_words : (k q : ℕ) (channel : Channel) (s : Role) → slice_get channels k ≡ Some (Some channel)
       → slice_get roles q ≡ Some s → IsFree (held s) (data_word k)
   pub blocks_once : (p q : ℕ) (r s : Role) (a b : Join) → p ≢ q → slice_get roles p ≡ Some r
       → slice_get roles q ≡ Some s → r.opened ≡ Some a → s.opened ≡ Some b
-      → AreDisjoint (block_words a) (block_words b)
+      → AreDisjoint (block_span a) (block_span b)
   pub both_once : (p k : ℕ) (r : Role) (join : Join) (channel : Channel) → slice_get roles p ≡ Some r
       → r.opened ≡ Some join → slice_get channels k ≡ Some (Some channel)
-      → AreDisjoint (block_words join) (data_word k)
+      → AreDisjoint (block_span join) (data_word k)

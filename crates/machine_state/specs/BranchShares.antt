@@ -50,8 +50,8 @@ region_of parameters addresses j = elim (address_of addresses j) [
 ]
 
 -- the end that a row names: none if the address of its parameter is not known
-abbrev pub end_of : ℕ → List (Option ℕ) → EndRow → List End
-end_of base addresses e = elim e.kind [
+abbrev pub end_named : ℕ → List (Option ℕ) → EndRow → List End
+end_named base addresses e = elim e.kind [
   | ends.FrameWord word ↦ record { address = frame_address base word; direction = e.direction } ∷ []
   | ends.Parameter number element ↦ elim (address_of addresses (nat_abs number)) [
     | None ↦ []
@@ -64,7 +64,7 @@ abbrev pub share_of : ℕ → List Parameter → List (Option ℕ) → Branch �
 share_of base parameters addresses b = record {
   writes = map (words_of base) b.writes ++ flat_map (region_of parameters addresses) b.written_parameters;
   reads = map (words_of base) b.reads ++ flat_map (region_of parameters addresses) b.read_parameters;
-  ends = flat_map (end_of base addresses) b.ends;
+  ends = flat_map (end_named base addresses) b.ends;
 }
 
 -- what a new branch holds, in a memory of n places: its share, and the constants to read

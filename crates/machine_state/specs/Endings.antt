@@ -35,7 +35,7 @@ use Rattle.machine_state.specs.Alternations.{Source, in_mode, ready_or, chosen, 
 use Rattle.machine_state.specs.JoinLookups.{Found, found_at, opened_by, opener_of}
 use Rattle.machine_state.specs.StartPlans.{Plan, word_passes, scheduling_places, first_fault, first_plan, later_plan}
 use Rattle.machine_state.specs.StartPlans.{first_faults, later_faults}
-use Rattle.machine_state.specs.Joins.{started, opened, joined, ended, given_back}
+use Rattle.machine_state.specs.Joins.{started, opened, member_joined, ended, given_back}
 use Rattle.machine_state.specs.Moves.{counted, finished_where, put, leave, enqueue, wake, dispatch, link_index}
 use Rattle.machine_state.specs.Moves.{with_input, with_output, fill, rouse, channel_at}
 use Rattle.machine_state.specs.Happens.{Effect, Turn, answered, ran, idle, emitted, ignored, taken, kept, busy}
@@ -124,11 +124,11 @@ pub data Moved (h : Here) (w : World) : Outcome → World → Type 0 where
   joins_own : (block : ℕ) (l : Local) (j : Join) (par : Par) → opened_by w h.process ≡ Some j
       → slice_get h.contents.pars j.row ≡ Some par
       → ((j.block == block) && (j.started == length par.branches)) ≡ true
-      → Moved h w (joins block l) (joined h h.process j par (ended h l w))
+      → Moved h w (joins block l) (member_joined h h.process j par (ended h l w))
   joins_opener : (block : ℕ) (l : Local) (opener : ℕ) (j : Join) (par : Par) → opened_by w h.process ≡ None
       → opener_of w h.process ≡ Some opener → opened_by w opener ≡ Some j
       → slice_get h.contents.pars j.row ≡ Some par → (j.block == block) ≡ true
-      → Moved h w (joins block l) (joined h opener j par (given_back h (ended h l w)))
+      → Moved h w (joins block l) (member_joined h opener j par (given_back h (ended h l w)))
   it_begins : (l : Local) → Moved h w (begins l) (in_mode h (Enabling false) l w)
   it_enables : (guard : Bool) (address : ℕ) (l : Local) (s : Source) → guard ≡ true → IsSource w address s
       → is_some s.enabled ≡ false → Moved h w (enables_channel guard address l)
@@ -255,12 +255,12 @@ pub data Refused (h : Here) (w : World) : Outcome → FaultKind → Type 0 where
 -- ---- how a turn ends
 
 -- the turn of an instruction: it is at fault, has run, or sends a message out
-pub data Ends (h : Here) (w : World) : Outcome → Turn → Type 0 where
-  at_fault : {o : Outcome} {kind : FaultKind} → Refused h w o kind → Ends h w o (failed h kind w)
-  has_run : {o : Outcome} {after : World} → Moved h w o after → Ends h w o (answered ran (counted after))
+pub data TurnsInto (h : Here) (w : World) : Outcome → Turn → Type 0 where
+  at_fault : {o : Outcome} {kind : FaultKind} → Refused h w o kind → TurnsInto h w o (failed h kind w)
+  has_run : {o : Outcome} {after : World} → Moved h w o after → TurnsInto h w o (answered ran (counted after))
   -- a message goes out on a link
   has_emitted : (e : Exchange) (l : Local) (k : ℕ) → output_link e.channel ≡ Some k
-      → (link_length h.contents k == e.length) ≡ true → Ends h w (sends e l)
+      → (link_length h.contents k == e.length) ≡ true → TurnsInto h w (sends e l)
       (answered (emitted (link_of k) (bytes_at l.memory (place_of e.address) e.length)) (counted
       (dispatch h.pick (leave (with_output k (record { waiting = Some h.process }) (waiting h (OnLink e 0) l w))))))
 
@@ -303,7 +303,7 @@ pub data Happened (m : Contents) (w : World) : Event → Turn → Type 0 where
   is_step : {slice : Bool} {pick : ℕ} {t : Turn} (p : ℕ) (task : Task) (byte : ℕ) (f : Fun)
       → w.queue.running ≡ Some p → slice_get w.tasks p ≡ Some task
       → slice_get m.code task.registers.at ≡ Some byte → fun_of (function_code byte) ≡ Some f
-      → Ends (at_here m p task pick) w
+      → TurnsInto (at_here m p task pick) w
       (local_step (site_of (at_here m p task pick) w) f (with_nibble task.registers.operand (nibble byte))
       (local_here task w)) t
       → Happened m w (Step slice pick) t

@@ -140,8 +140,8 @@ closed opener join par w =
     }
 
 -- a member of a join is joined, and with the last one the join is over
-abbrev pub joined : Here → ℕ → Join → Par → World → World
-joined h opener join par w =
+abbrev pub member_joined : Here → ℕ → Join → Par → World → World
+member_joined h opener join par w =
     let members = members_without h.process join.members in
     let there = on_role opener (with_join (record join { members = members })) w in
     if length members == 0 then closed opener join par there else dispatch h.pick (leave there)
@@ -162,13 +162,13 @@ on_row h join w k = elim (slice_get h.contents.pars join.row) [ None ↦ failed 
 abbrev pub own_end : Here → Join → ℕ → Local → World → Turn
 own_end h join block l w = on_row h join w (λ par.
     if (join.block == block) && (join.started == length par.branches)
-    then answered ran (counted (joined h h.process join par (ended h l w)))
+    then answered ran (counted (member_joined h h.process join par (ended h l w)))
     else failed h JoinOrder w)
 
 abbrev pub branch_end : Here → ℕ → Join → ℕ → Local → World → Turn
 branch_end h opener join block l w = on_row h join w (λ par.
     if join.block == block
-    then answered ran (counted (joined h opener join par (given_back h (ended h l w))))
+    then answered ran (counted (member_joined h opener join par (given_back h (ended h l w))))
     else failed h JoinOrder w)
 
 abbrev pub join_turn : Here → ℕ → Local → World → Turn

@@ -32,14 +32,14 @@ abbrev pub with_byte : Memory → ℕ → Option ℕ → Memory
 with_byte memory place byte = slice_set memory place byte
 
 -- four bytes are a word, the least significant first; it is undefined where one of them is
-abbrev pub joined : Option ℕ → Option ℕ → Option ℕ → Option ℕ → Option ℤ
-joined p q r s =
+abbrev pub word_from_bytes : Option ℕ → Option ℕ → Option ℕ → Option ℕ → Option ℤ
+word_from_bytes p q r s =
     option_and_then (λ p. option_and_then (λ q. option_and_then (λ r.
     option_map (λ s. cast_signed w32 (p + 256 * q + 65536 * r + 16777216 * s)) s) r) q) p
 
 unfoldable pub word_at : Memory → ℕ → Option ℤ
 word_at memory place =
-    joined (byte_at memory place) (byte_at memory (place + 1)) (byte_at memory (place + 2))
+    word_from_bytes (byte_at memory place) (byte_at memory (place + 1)) (byte_at memory (place + 2))
     (byte_at memory (place + 3))
 
 -- the byte of a word whose lowest bit is worth this

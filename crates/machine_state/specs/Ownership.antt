@@ -28,14 +28,14 @@ claims h (to_read x) = may_read h x
 claims h (to_use e) = has_end h e
 
 -- the claim that no other process may have beside this one
-abbrev pub clash : Claim → Claim
-clash (to_write x) = to_read x
-clash (to_read x) = to_write x
-clash (to_use e) = to_use e
+abbrev pub rival : Claim → Claim
+rival (to_write x) = to_read x
+rival (to_read x) = to_write x
+rival (to_use e) = to_use e
 
 -- no claim of one clashes with a claim of the other
 abbrev pub NoClash : Holding → Holding → Type 0
-NoClash g h = (c : Claim) → claims g c ≡ true → claims h (clash c) ≡ true → ⊥
+NoClash g h = (c : Claim) → claims g c ≡ true → claims h (rival c) ≡ true → ⊥
 
 -- ---- openers, members and channels, by their numbers
 
@@ -112,7 +112,7 @@ pub record Holders (size : ℕ) (pars : List Par) (own : ℕ → Holding) (opene
   pub apart : (p q : ℕ) → p ≢ q → (Under opener p q → ⊥) → (Under opener q p → ⊥) → NoClash (own p) (own q)
   -- of one under another
   pub below : (q p : ℕ) (j : Join) (c : Claim) → Under opener q p → opened q ≡ Some j → claims (own p) c ≡ true
-      → claims j.rest (clash c) ≡ true → ⊥
+      → claims j.rest (rival c) ≡ true → ⊥
   pub below_kept : (q p x : ℕ) → Under opener q p → may_read (own p) x ≡ true → KeepsPlace opened owner q x → ⊥
   pub places : (p : ℕ) (j : Join) → opened p ≡ Some j → AtPlace pars j
 

@@ -92,8 +92,8 @@ LoopEnds = IsFinished (world_after loop (steps 24)) 24
 
 -- a branch whose workspace is `below + 1` words below word 0 of the frame: with the three words below it one word of
 -- the frame is its own
-abbrev pub branch_with : ℕ → ℕ → ℕ → List EndRow → Branch
-branch_with entry below word ends = record {
+abbrev pub small_branch : ℕ → ℕ → ℕ → List EndRow → Branch
+small_branch entry below word ends = record {
   entry = entry;
   workspace = negsuc below;
   writes =
@@ -117,7 +117,7 @@ row_of successor channels branches = record {
 
 -- two branches, each of which writes a word
 abbrev pub pair_row : ℕ → Par
-pair_row word = row_of 25 [] (branch_with 17 5 2 [] ∷ branch_with 21 8 word [] ∷ [])
+pair_row word = row_of 25 [] (small_branch 17 5 2 [] ∷ small_branch 21 8 word [] ∷ [])
 
 abbrev pub pair_code : List ℕ
 pair_code =
@@ -154,8 +154,8 @@ EchoWaits =
 -- one branch sends a word to the other
 abbrev pub channel_row : Par
 channel_row = row_of 34 (record { word = pos 2; length = 4 } ∷ [])
-    (branch_with 20 5 4 (record { kind = FrameWord (pos 2); direction = Out } ∷ [])
-    ∷ branch_with 28 8 3 (record { kind = FrameWord (pos 2); direction = In } ∷ []) ∷ [])
+    (small_branch 20 5 4 (record { kind = FrameWord (pos 2); direction = Out } ∷ [])
+    ∷ small_branch 28 8 3 (record { kind = FrameWord (pos 2); direction = In } ∷ []) ∷ [])
 
 abbrev pub channel_code : List ℕ
 channel_code =
@@ -163,15 +163,15 @@ channel_code =
     ∷ 0xfd ∷ 0x10 ∷ 0xf3 ∷ 0x45 ∷ 0xda ∷ 0x1a ∷ 0x18 ∷ 0x44 ∷ 0xfb ∷ 0x16 ∷ 0xf3 ∷ 0x1c ∷ 0x1b ∷ 0x44 ∷ 0xf7 ∷ 0x19 ∷
     0xf3 ∷ 0x21 ∷ 0xf5 ∷ []
 
-abbrev pub channel_of : List ℕ → Contents
-channel_of code = record (sized 17 12 (of_code code 36)) { pars = channel_row ∷ [] }
+abbrev pub module_with_channel : List ℕ → Contents
+module_with_channel code = record (sized 17 12 (of_code code 36)) { pars = channel_row ∷ [] }
 
 abbrev pub ChannelEnds : Type 0
 ChannelEnds =
-    IsFinished (world_after (channel_of channel_code) (steps 36)) 36
-    × IsFinished (world_after (channel_of channel_code) (last_steps 36)) 36
-    × IsAtFault (world_after (channel_of (slice_set channel_code 30 0x41)) (steps 36)) 7 2 31
-    × IsAtFault (world_after (channel_of (slice_set channel_code 30 0x41)) (last_steps 36)) 7 1 25
+    IsFinished (world_after (module_with_channel channel_code) (steps 36)) 36
+    × IsFinished (world_after (module_with_channel channel_code) (last_steps 36)) 36
+    × IsAtFault (world_after (module_with_channel (slice_set channel_code 30 0x41)) (steps 36)) 7 2 31
+    × IsAtFault (world_after (module_with_channel (slice_set channel_code 30 0x41)) (last_steps 36)) 7 1 25
 
 -- an alternation of two links
 abbrev pub choice_code : List ℕ

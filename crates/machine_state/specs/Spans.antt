@@ -51,13 +51,13 @@ reads_place share place = list_any (λ s. stretches_over s place) share.reads
 abbrev pub is_same_end : End → End → Bool
 is_same_end a b = (a.address == b.address) && same_direction a.direction b.direction
 
-abbrev pub is_listed : List End → End → Bool
-is_listed ends end = list_any (is_same_end end) ends
+abbrev pub is_among_ends : List End → End → Bool
+is_among_ends ends end = list_any (is_same_end end) ends
 
 -- no end occurs twice
 abbrev pub differ : List End → Bool
 differ [] = true
-differ (end ∷ ends) = not (is_listed ends end) && differ ends
+differ (end ∷ ends) = not (is_among_ends ends end) && differ ends
 
 -- n places from this one on pass a test
 unfoldable pub all_places : (ℕ → Bool) → ℕ → ℕ → Bool
@@ -65,8 +65,8 @@ all_places test place zero = true
 all_places test place (suc n) = test place && all_places test (place + 1) n
 
 -- each place of a stretch lies in a memory of n places, and passes a test
-abbrev pub is_within : ℕ → (ℕ → Bool) → Stretch → Bool
-is_within n test s = lies_in n s && all_places test (nat_abs s.start) s.size
+abbrev pub all_pass_within : ℕ → (ℕ → Bool) → Stretch → Bool
+all_pass_within n test s = lies_in n s && all_places test (nat_abs s.start) s.size
 
 -- what is left of a holding
 unfoldable pub less : ℕ → Holding → Share → Holding
@@ -74,5 +74,5 @@ less n h share = record {
   writes = runs (λ place. may_write h place && not (writes_place share place) && not (reads_place share place)) 0 n;
   reads = runs (λ place. may_read h place && not (writes_place share place)
       && (not (may_write h place) || reads_place share place)) 0 n;
-  ends = filter (λ end. not (is_listed share.ends end)) h.ends;
+  ends = filter (λ end. not (is_among_ends share.ends end)) h.ends;
 }

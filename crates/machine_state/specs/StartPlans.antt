@@ -16,7 +16,7 @@ use Rattle.machine_state.specs.declared.fault.FaultKind.TheVariants.{EndNotHeld,
 use Rattle.machine_state.specs.Memory.{Memory, data_start, place_of, word_at, scheduling_word}
 use Rattle.machine_state.specs.Holding.{Holding, may_write, may_read, may_write_word, may_read_word}
 use Rattle.machine_state.specs.World.{Join, held}
-use Rattle.machine_state.specs.Spans.{Share, less, is_within, is_listed, differ, writes_place}
+use Rattle.machine_state.specs.Spans.{Share, less, all_pass_within, is_among_ends, differ, writes_place}
 use Rattle.machine_state.specs.BranchShares.{frame_address, frame_base, share_of}
 use Rattle.machine_state.specs.JoinLookups.{Found, named_from}
 
@@ -50,7 +50,7 @@ with_ends [] held = held
 with_ends (a ∷ addresses) held =
     let input : End = record { address = a; direction = In } in
     let output : End = record { address = a; direction = Out } in
-    with_ends addresses (if is_listed held input then held else held ++ input ∷ output ∷ [])
+    with_ends addresses (if is_among_ends held input then held else held ++ input ∷ output ∷ [])
 
 pub record Plan : Type 0 where
   pub row : ℕ
@@ -112,7 +112,7 @@ share_by plan b = share_of plan.base plan.parameters plan.addresses b
 abbrev pub ends_are_there : Plan → Branch → Bool
 ends_are_there plan b =
     let wanted = (share_by plan b).ends in
-    list_all (is_listed plan.rest.ends) wanted && differ wanted
+    list_all (is_among_ends plan.rest.ends) wanted && differ wanted
 
 -- the words that scheduling takes of the new process are held and are its own to write, and the share is there
 abbrev pub share_is_there : ℕ → Plan → ℕ → Branch → Bool
@@ -120,8 +120,8 @@ share_is_there n plan workspace b =
     let share = share_by plan b in
     list_all (word_passes (λ place. may_write plan.rest place && writes_place share place))
     (scheduling_places workspace)
-    && list_all (is_within n (may_write plan.rest)) share.writes
-    && list_all (is_within n (may_read plan.rest)) share.reads
+    && list_all (all_pass_within n (may_write plan.rest)) share.writes
+    && list_all (all_pass_within n (may_read plan.rest)) share.reads
 
 -- at the first start: the words of the block, the channels and the named parameters
 abbrev pub words_are_held : Holding → Plan → Bool
@@ -148,8 +148,8 @@ words_are_defined memory plan =
     ])
     (named_from plan.par 0 plan.parameters)
 
-abbrev pub is_word : Memory → ℕ → ℤ → Bool
-is_word memory a v =
+abbrev pub holds_word : Memory → ℕ → ℤ → Bool
+holds_word memory a v =
     elim (word_at memory (place_of a)) [ None ↦ false | Some u ↦ cast_unsigned w32 u == cast_unsigned w32 v ]
 
 -- the block has the address of the successor and one more than the number of branches, and the channels are empty
@@ -157,9 +157,9 @@ abbrev pub is_prepared : Contents → Memory → Plan → Bool
 is_prepared m memory plan =
     let block = frame_address plan.base plan.par.block in
     let code_start = data_start + 4 * m.data_words in
-    is_word memory block (cast_signed w32 ((code_start + plan.par.successor) % 2 ^ 32))
-    && is_word memory (frame_address block (pos 1)) (pos (length plan.par.branches + 1))
-    && list_all (λ a. is_word memory a least_word) (channel_addresses plan.base plan.par)
+    holds_word memory block (cast_signed w32 ((code_start + plan.par.successor) % 2 ^ 32))
+    && holds_word memory (frame_address block (pos 1)) (pos (length plan.par.branches + 1))
+    && list_all (λ a. holds_word memory a least_word) (channel_addresses plan.base plan.par)
 
 -- the branch is the next, and its workspace is where the row says
 abbrev pub is_next : Plan → Found → ℕ → Bool

@@ -9,7 +9,7 @@ ghost use Rattle.machine_state.specs.Holding.{may_write, may_read, may_write_wor
 ghost use Rattle.machine_state.specs.LocalStep.{outside_alternation, outside_starts, alone, while_enabling};
 ghost use Rattle.machine_state.specs.LocalStep.{while_disabling, target, channel};
 ghost use Rattle.machine_state.specs.LocalStep.{holds_scheduling_words, without_scheduling_words};
-ghost use Rattle.machine_state.specs.LocalStep.{may_read_bytes, may_write_bytes, are_defined, meet};
+ghost use Rattle.machine_state.specs.LocalStep.{may_read_bytes, may_write_bytes, are_defined, places_meet};
 ghost use Rattle.machine_state.specs.LocalStep.{is_beside_scheduling};
 ghost use Rattle.machine_state.specs.Memory.{place_of, local_address, word_at, byte_at};
 ghost use Rattle.machine_state.specs.Performing.{site_of, value_or_fault, Admits, Finds};
@@ -38,7 +38,7 @@ pub struct Cpu<S> {
 
 /// Whether `size` bytes at one address meet `other_size` bytes at another.
 fn meet(one: u32, size: u32, other: u32, other_size: u32) -> bool
-    ensures { result ≡ meet (place_of one) size (place_of other) other_size }
+    ensures { result ≡ places_meet (place_of one) size (place_of other) other_size }
 {
     let one = u64::from(place_of(one));
     let other = u64::from(place_of(other));
@@ -175,7 +175,7 @@ impl<S> Cpu<S> {
     /// Whether `count` bytes at an address are apart from the three words that scheduling takes.
     pub fn is_apart_from_scheduling(&self, address: u32, count: u32) -> bool
         ensures { let lowest = place_of (local_address self.now.registers.workspace (negsuc 2)) in
-            result ≡ not (meet (place_of address) count lowest 12) }
+            result ≡ not (places_meet (place_of address) count lowest 12) }
     {
         !meet(
             address,
@@ -266,9 +266,9 @@ impl<S: Store> Cpu<S> {
     /// Whether `count` bytes may be read at one address and written at another, and the two blocks do not meet.
     pub fn may_copy(&self, from: u32, to: u32, count: u32) -> bool
         ensures value { let holding = S.holding self.now.store in
-            let apart = not (meet (place_of from) count (place_of to) count) in
+            let apart = not (places_meet (place_of from) count (place_of to) count) in
             result ≡ (may_read_bytes holding from count && may_write_bytes holding to count && apart) }
-        ensures apart { IsTrue result → meet (place_of from) count (place_of to) count ≡ false }
+        ensures apart { IsTrue result → places_meet (place_of from) count (place_of to) count ≡ false }
     {
         self.store.can_load_bytes(from, count)
             && self.store.can_store_bytes(to, count)

@@ -2,7 +2,7 @@
 
 ghost use Rattle.std.specs.Prelude.{◌≡◌, ◌<◌};
 ghost use Rattle.machine_state.specs.Instructions.{op_of};
-ghost use Rattle.machine_state.specs.LocalStep.{shifted, long_result};
+ghost use Rattle.machine_state.specs.LocalStep.{shift_result, long_result};
 
 use word_arithmetic::{
     Binary, LongResult, Unary, long_difference, long_product, long_sum, shift_left, shift_right,
@@ -27,7 +27,7 @@ impl Shift {
     /// The word, shifted by this count of bits.
     pub fn apply(self, word: i32, count: u32) -> i32
         requires { count < 32 }
-        ensures { result ≡ shifted self word count }
+        ensures { result ≡ shift_result self word count }
     {
         match self {
             Shift::Left => shift_left(word, count),

@@ -15,7 +15,7 @@ use Rattle.module_format.specs.declared.fact.Region.TheVariants as regions
 use Rattle.module_format.specs.Regions.{is_frame}
 use Rattle.module_format.specs.Contents.{Contents}
 use Rattle.states.specs.declared.span.Leaving.TheVariants.{Become}
-use Rattle.states.specs.State.{State, changed, is_word}
+use Rattle.states.specs.State.{State, changed, is_same_number}
 use Rattle.states.specs.Spans.{on_span, after_change}
 use Rattle.rulings.specs.declared.pointers.Pointed.{Pointed}
 use Rattle.rulings.specs.Meaning.{Activation, owed}
@@ -39,7 +39,7 @@ pub record IsLeft (act : Activation) (s t : State) : Type 0 where
 
 pub received_left : (act : Activation) (p : Pointed) (end : ℤ) (s : State) → IsLeft act s (received p end s)
 unfolding received filled become_numbers leaves_words after_change
-received_left act p end s = on (is_word p.lo p.hi) (is_frame p.region) (nat_lt 0 (words_within p.lo end))
+received_left act p end s = on (is_same_number p.lo p.hi) (is_frame p.region) (nat_lt 0 (words_within p.lo end))
   where
     touched : State
     touched = after_change (on_span (word_of_byte p.lo) (words_touched p.lo end) stored_byte) s
@@ -97,7 +97,7 @@ module _ {m : Contents} {h : Holding} {mode : machine.Mode} {act : Activation} {
       → Moved a later room.place room.place n (received p end s)
   unfolding may_write_bytes received filled become_numbers leaves_words
   received_into may wide room bytes =
-      on (is_word p.lo p.hi) p.region (same_word_by p.lo p.hi) may wide room
+      on (is_same_number p.lo p.hi) p.region (same_word_by p.lo p.hi) may wide room
       (λ i less. let byte = bytes i less in (byte.0, byte.1)) (λ i less c e. small i c (bytes i less) e)
     where
       touched : State

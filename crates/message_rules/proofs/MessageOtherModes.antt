@@ -4,7 +4,7 @@ use Rattle.module_format.specs.Rows.{Fact}
 use Rattle.module_format.specs.declared.rows.Direction.{Direction}
 use Rattle.module_format.specs.declared.rows.Direction.TheVariants.{In, Out}
 use Rattle.states.specs.declared.rule.Rule.TheVariants as rules
-use Rattle.states.specs.State.{State, is_word}
+use Rattle.states.specs.State.{State, is_same_number}
 use Rattle.rulings.specs.declared.pointers.Pointed.{Pointed}
 use Rattle.rulings.specs.Rulings.{Ruling, Site}
 use Rattle.rulings.specs.Filling.{filled}
@@ -17,7 +17,7 @@ use Rattle.message_rules.specs.MessageRules.{sends_some, out_rule}
 
 received_mode : (p : Pointed) (end : ℤ) (s : State) → (received p end s).mode ≡ s.mode
 unfolding received
-received_mode p end s = on (is_word p.lo p.hi)
+received_mode p end s = on (is_same_number p.lo p.hi)
   where
     on : (b : Bool) → (cond b (filled true p end s) (leaves_words p end stored_byte s)).mode ≡ s.mode
     on true = filled_mode true p end s

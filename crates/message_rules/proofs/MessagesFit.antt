@@ -30,12 +30,12 @@ use Rattle.rulings.specs.declared.pointers.Pointed.{Pointed}
 use Rattle.rulings.specs.Rulings as rule
 use Rattle.rulings.specs.Rulings.{Ruling, falls}
 use Rattle.rulings.specs.Meaning.{Means, is_pointer, owed, dues, region_start, IsWellFormed}
-use Rattle.rulings.specs.Regions.{Scope, scope_of, scope_among, scope_in, Keeps}
+use Rattle.rulings.specs.Regions.{Scope, scope_of, scope_among, scope_in, KeepsMemory}
 use Rattle.rulings.specs.Reach.{word_of_byte, may_read_bytes, may_write_bytes}
 use Rattle.rulings.specs.Pointers.{constant_of, pointer_of, takes_any, byte_read, wanted_range, is_full}
 use Rattle.rulings.specs.Filling.{are_numbers}
 use Rattle.rulings.specs.Buffers.{is_of_message, IsByte, Fills}
-use Rattle.rulings.specs.Fitting.{Changes, After, Here, rule_site, step_site, GoesOver, Exchanges, Asks}
+use Rattle.rulings.specs.Fitting.{Changes, After, Situation, rule_site, step_site, GoesOver, Exchanges, Asks}
 use Rattle.rulings.specs.Fitting.{to_receive, to_send, it_asks, it_breaks}
 use Rattle.rulings.proofs.Within.{Within, ArePlain, whole_after}
 use Rattle.rulings.proofs.Agreeing.{after_agrees}
@@ -63,14 +63,14 @@ use Rattle.message_rules.proofs.NamedChannels.{IsChannel, is_channel, over_chann
 -- ---- where a buffer lies
 
 -- where a pointer leads, by one of its offsets
-record LeadsTo (x : Here) (p : Pointed) (v : ℤ) : Type 0 where
+record LeadsTo (x : Situation) (p : Pointed) (v : ℤ) : Type 0 where
   offset : ℤ
   low : p.lo ≤ℤ offset
   high : offset ≤ℤ p.hi
   place : (q : ℕ) → pos q ≡ region_place x.m x.act.layout p.region +ℤ offset → q < 4294967296
       → place_of (step.address v) ≡ q
 
-leads_to : (x : Here) (p : Pointed) (v : ℤ) → Means x.m x.act.layout (Pointer p.region p.lo p.hi p.step) (Some v)
+leads_to : (x : Situation) (p : Pointed) (v : ℤ) → Means x.m x.act.layout (Pointer p.region p.lo p.hi p.step) (Some v)
     → LeadsTo x p v
 leads_to x p v (is_pointer offset low high stepped at) = record {
   offset = offset;
@@ -82,7 +82,7 @@ leads_to x p v (is_pointer offset low high stepped at) = record {
       (region_at x.m x.act.layout p.region offset q is) small;
 }
 
-module _ (x : Here) (s : State) (l : Local) (a : Within ArePlain x.m x.h x.mode x.act s l) (p : Pointed) (n : ℕ)
+module _ (x : Situation) (s : State) (l : Local) (a : Within ArePlain x.m x.h x.mode x.act s l) (p : Pointed) (n : ℕ)
     (offset : ℤ) (low : p.lo ≤ℤ offset) (high : offset ≤ℤ p.hi) where
   -- by the test of the rule, where it lies in the frame
   off_in_frame : (ends_before s.depth (p.hi +ℤ pos n) || begins_behind s.depth p.lo) ≡ true → (place i : ℕ) → i < n
@@ -143,7 +143,7 @@ module _ (x : Here) (s : State) (l : Local) (a : Within ArePlain x.m x.h x.mode 
 
 -- ---- what is asked
 
-module _ (x : Here) (wf : IsWellFormed x.m) (s : State) (l : Local) (a : Within ArePlain x.m x.h x.mode x.act s l)
+module _ (x : Situation) (wf : IsWellFormed x.m) (s : State) (l : Local) (a : Within ArePlain x.m x.h x.mode x.act s l)
     (same : s.context ≡ x.context) (changes : Changes x l.memory) (n : owed s x.act ≤ x.owed) where
   -- the bytes of the instruction are paid
   abbrev paid_state : State → State
@@ -407,12 +407,12 @@ module _ (x : Here) (wf : IsWellFormed x.m) (s : State) (l : Local) (a : Within 
 
     -- some bytes come
     keeps_scope : (old new : Memory) → Fills x.h (is_of_message taken) old new
-        → Keeps x.m x.h (scope_in x.m (paid_state (left_after filled_state)) x.act.layout) old new
+        → KeepsMemory x.m x.h (scope_in x.m (paid_state (left_after filled_state)) x.act.layout) old new
     keeps_scope old new fills =
         let t = paid_state (left_after filled_state) in
         let plain : t.mode ≡ Plain = left_plain filled_state (left.mode ∙ a.same_mode.rule) in
         let context : t.context ≡ s.context = unscheduled_context x filled_state ∙ left.context in
-        subst (λ (scope : Scope). Keeps x.m x.h scope old new)
+        subst (λ (scope : Scope). KeepsMemory x.m x.h scope old new)
         (ap (λ (c : ℕ). scope_of x.m c x.act.layout) (sym context)
         ∙ ap (λ (mode : Mode). scope_among x.m t.context mode x.act.layout) (sym plain))
         (fills_keep a k leads.offset p.lo behind leads.low

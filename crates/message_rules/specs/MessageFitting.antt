@@ -7,13 +7,13 @@ use Rattle.machine_state.specs.Site.{Local}
 use Rattle.states.specs.State.{State}
 use Rattle.rulings.specs.Rulings.{Ruling, Site}
 use Rattle.rulings.specs.Meaning.{owed, IsWellFormed}
-use Rattle.rulings.specs.Fitting.{After, Changes, Fits, HasNext, Here, rule_site, step_site}
+use Rattle.rulings.specs.Fitting.{After, Changes, Fits, HasNext, Situation, rule_site, step_site}
 use Rattle.message_rules.specs.MessageRules.{in_rule, out_rule}
 
 -- In a state that holds of a process, the rule of an operation and its step fit.
 abbrev pub OperationFitsStep : Op → (Site → State → Ruling) → Type 0
 OperationFitsStep op rule =
-    (x : Here) (s : State) (l : Local) → IsWellFormed x.m → After x.m x.h x.mode x.act s l
+    (x : Situation) (s : State) (l : Local) → IsWellFormed x.m → After x.m x.h x.mode x.act s l
     → s.context ≡ x.context → Changes x l.memory → owed s x.act ≤ x.owed → HasNext x (rule (rule_site x) s)
     → Fits x (rule (rule_site x) s) (step.operation_step (step_site x) op l)
 

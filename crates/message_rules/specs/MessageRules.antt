@@ -11,7 +11,7 @@ use Rattle.certificate.specs.Rights.{has_end}
 use Rattle.machine_state.specs.declared.op.Op.{Op}
 use Rattle.machine_state.specs.declared.op.Op.TheVariants.{Input, Output}
 use Rattle.states.specs.declared.rule.Rule.TheVariants as rules
-use Rattle.states.specs.State.{State, is_word}
+use Rattle.states.specs.State.{State, is_same_number}
 use Rattle.rulings.specs.declared.pointers.Pointed.{Pointed}
 use Rattle.rulings.specs.Rulings.{Ruling, breaks, Site, alone, uses, goes_on, in_bounds, settles, wants, schedules}
 use Rattle.rulings.specs.Rulings.{without_registers}
@@ -34,7 +34,7 @@ holds_end site s kind direction =
 
 abbrev pub is_length : ℤ → Option ℕ → Bool
 is_length count None = false
-is_length count (Some len) = is_word count (pos len)
+is_length count (Some len) = is_same_number count (pos len)
 
 -- the channel has messages of `count` bytes
 abbrev pub has_length : Site → State → EndKind → ℤ → Bool
@@ -67,7 +67,7 @@ is_off_scheduling s p end = not (is_frame p.region) || (ends_before s.depth end 
 -- What a message leaves of the words of the frame that have bytes of its buffer. Where the pointer leads to one place
 -- alone, words that have no other bytes are any numbers.
 unfoldable pub received : Pointed → ℤ → State → State
-received p end s = if is_word p.lo p.hi then filled true p end s else leaves_words p end stored_byte s
+received p end s = if is_same_number p.lo p.hi then filled true p end s else leaves_words p end stored_byte s
 
 -- all registers are used up, and another process may run
 abbrev pub exchanges : Site → State → Ruling

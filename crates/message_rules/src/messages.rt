@@ -9,7 +9,7 @@ ghost use Rattle.rulings.specs.Reach.{word_of_byte, words_touched};
 ghost use Rattle.rulings.specs.Pointers.{are_near};
 ghost use Rattle.rulings.specs.Telling.{Admits, Advances};
 ghost use Rattle.rulings.specs.Places.{site_of};
-ghost use Rattle.states.specs.State.{is_word};
+ghost use Rattle.states.specs.State.{is_same_number};
 ghost use Rattle.message_rules.specs.MessageRules.{is_message, word_before, ends_before, begins_behind};
 ghost use Rattle.message_rules.specs.MessageRules.{is_off_scheduling, received};
 ghost use Rattle.message_rules.specs.MessageRules.{exchanges, takes, receives, receives_some, in_rule, gives, sends};
@@ -99,7 +99,7 @@ fn is_off_scheduling(state: &State, message: Message) -> bool
 
 /// Whether a pointer leads to one place alone.
 fn is_exact(pointer: Pointed) -> bool
-    ensures { result ≡ is_word pointer.lo pointer.hi }
+    ensures { result ≡ is_same_number pointer.lo pointer.hi }
 {
     pointer.lo == pointer.hi
 }

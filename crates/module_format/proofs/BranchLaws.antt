@@ -9,11 +9,11 @@ use Rattle.module_format.specs.declared.rows.Interval.{Interval}
 use Rattle.module_format.specs.declared.rows.BranchCounts.{BranchCounts}
 use Rattle.module_format.specs.Contents.{Branch, counts_of, CountsFit}
 use Rattle.module_format.specs.Order.{IsBytes, least_word}
-use Rattle.module_format.specs.Pars.{IntervalKeeps, meet, ReadKeeps, NumberKeeps}
+use Rattle.module_format.specs.Pars.{IntervalKeeps, intervals_meet, ReadKeeps, NumberKeeps}
 use Rattle.module_format.specs.Pars.{first_key, Before, IsBranchEntry, BranchKeeps}
 use Rattle.module_format.specs.Spelling.{u16_bytes, u32_bytes, i32_bytes, interval_bytes, end_bytes, counts_bytes}
 use Rattle.module_format.specs.Spelling.{branch_head, branch_bytes}
-use Rattle.module_format.specs.ReadingPars.{interval_end_at, words_at, read_words_at, parameter_number_at}
+use Rattle.module_format.specs.ReadingPars.{interval_end_at, frame_words_at, read_words_at, parameter_number_at}
 use Rattle.module_format.specs.ReadingPars.{branch_entry_at, branch_counts_at, branch_row_at}
 use Rattle.module_format.proofs.ReadsInSteps.{Has, has_ok, step, Spelled, tested_takes, tested_again}
 use Rattle.module_format.proofs.ReadsInSteps.{nothing_taken, field, all_taken}
@@ -49,18 +49,18 @@ module _ (size : ℕ) where
   interval_end_again lo hi rest fits some = tested_again _ _ _ _ (int_again size hi rest fits) (lt-int_lt _ _ some)
 
   pub words_take : (low : ℤ) (bytes : List ℕ) → IsBytes bytes
-      → Has (words_at size low bytes) (Spelled bytes interval_bytes (IntervalKeeps low))
-  unfolding words_at interval_bytes
+      → Has (frame_words_at size low bytes) (Spelled bytes interval_bytes (IntervalKeeps low))
+  unfolding frame_words_at interval_bytes
   words_take low bytes fits =
       field (nothing_taken fits) (first_word_takes size low _) (λ lo h t.
       field t (interval_end_takes lo.0 _) (λ hi g u.
       all_taken u (record { lo_fits = h.0; hi_fits = g.0; apart = h.1; some = g.1 })))
 
   words_again : (low : ℤ) (i : Interval) (rest : List ℕ) → IntervalKeeps low i
-      → words_at size low (interval_bytes i ++ rest) ≡ Ok (i, rest)
-  unfolding words_at interval_bytes
+      → frame_words_at size low (interval_bytes i ++ rest) ≡ Ok (i, rest)
+  unfolding frame_words_at interval_bytes
   words_again low i rest h =
-      ap (words_at size low) (append_assoc (i32_bytes i.lo) (i32_bytes i.hi) rest)
+      ap (frame_words_at size low) (append_assoc (i32_bytes i.lo) (i32_bytes i.hi) rest)
       ∙ step _ (first_word_again size low i.lo (i32_bytes i.hi ++ rest) h.lo_fits h.apart)
       (step _ (interval_end_again i.lo i.hi rest h.hi_fits h.some) refl)
 
@@ -70,13 +70,13 @@ module _ (size : ℕ) where
     unfolding read_words_at
     read_words_take low bytes fits =
         tested_takes _ _ _ _ (words_take low bytes fits)
-        (λ i kept apart. record { interval = kept; apart = none_pass (meet i) writes (not-true _ apart) })
+        (λ i kept apart. record { interval = kept; apart = none_pass (intervals_meet i) writes (not-true _ apart) })
 
     read_words_again : (low : ℤ) (i : Interval) (rest : List ℕ) → ReadKeeps writes low i
         → read_words_at size writes low (interval_bytes i ++ rest) ≡ Ok (i, rest)
     unfolding read_words_at
     read_words_again low i rest h =
-        tested_again _ _ _ _ (words_again low i rest h.interval) (rw (pass_none (meet i) writes h.apart) refl)
+        tested_again _ _ _ _ (words_again low i rest h.interval) (rw (pass_none (intervals_meet i) writes h.apart) refl)
 
   -- ---- parameters
 

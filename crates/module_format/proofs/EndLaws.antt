@@ -14,12 +14,12 @@ use Rattle.module_format.specs.declared.rows.Direction.TheVariants as directions
 use Rattle.module_format.specs.declared.rows.EndRow.{EndRow}
 use Rattle.module_format.specs.declared.rows.EndKey.{EndKey}
 use Rattle.module_format.specs.Order.{IsBytes}
-use Rattle.module_format.specs.Pars.{EndKindKeeps, EndKeeps, kind_of, number_of, element_of}
+use Rattle.module_format.specs.Pars.{EndKindKeeps, EndKeeps, kind_of, end_number_of, end_element_of}
 use Rattle.module_format.specs.Pars.{direction_number, key_of, is_below}
 use Rattle.module_format.specs.Spelling.{u32_bytes, i32_bytes, end_kind_bytes, end_bytes, direction_byte}
-use Rattle.module_format.specs.Reading.{byte_at}
+use Rattle.module_format.specs.Reading.{byte_taken}
 use Rattle.module_format.specs.ReadingPars.{end_kind_at, is_number_of, end_number_at, end_element_at, end_direction_at}
-use Rattle.module_format.specs.ReadingPars.{end_kind, direction_of, end_at}
+use Rattle.module_format.specs.ReadingPars.{end_kind, direction_of, end_row_at}
 use Rattle.module_format.proofs.ReadsInSteps.{Has, has_ok, has_then, step, Spelled, join, tested_takes, tested_again}
 use Rattle.module_format.proofs.FieldLaws.{u32_takes, u32_again, int_takes, int_again, byte_takes}
 
@@ -71,8 +71,8 @@ link_below kind (negsuc n) link e = absurd (grind (arith, nat_tests, ints))
 -- a kind that is made of these fields, and keeps its rules
 record IsMade (kind : ℕ) (number : ℤ) (element : ℕ) (made : EndKind) : Type 0 where
   kind_same : kind_of made ≡ kind
-  number_same : number_of made ≡ number
-  element_same : element_of made ≡ element
+  number_same : end_number_of made ≡ number
+  element_same : end_element_of made ≡ element
   keeps : EndKindKeeps made
 
 end_kind_made : (kind : ℕ) (number : ℤ) (element : ℕ) → kind ≤ 2 → FitsSigned w32 number → element < 2 ^ 32
@@ -101,8 +101,8 @@ end_kind_made (suc (suc (suc kind))) number element least fits small numbered h 
 fields_bytes : ℕ → ℤ → ℕ → ℕ → List ℕ
 fields_bytes kind number element direction = (kind ∷ []) ++ i32_bytes number ++ u32_bytes element ++ (direction ∷ [])
 
-end_kind_spelled : (k : EndKind) → end_kind_bytes k ≡ (kind_of k ∷ []) ++ i32_bytes (number_of k) ++ u32_bytes
-    (element_of k)
+end_kind_spelled : (k : EndKind) → end_kind_bytes k ≡ (kind_of k ∷ []) ++ i32_bytes (end_number_of k) ++ u32_bytes
+    (end_element_of k)
 end_kind_spelled (ends.FrameWord word) = refl
 end_kind_spelled (ends.Parameter number element) = refl
 end_kind_spelled (ends.Link link) = refl
@@ -111,7 +111,7 @@ direction_spelled : (d : Direction) → direction_byte d ≡ direction_number d
 direction_spelled directions.In = refl
 direction_spelled directions.Out = refl
 
-end_fields : (e : EndRow) → end_bytes e ≡ fields_bytes (kind_of e.kind) (number_of e.kind) (element_of e.kind)
+end_fields : (e : EndRow) → end_bytes e ≡ fields_bytes (kind_of e.kind) (end_number_of e.kind) (end_element_of e.kind)
     (direction_number e.direction)
 unfolding end_bytes fields_bytes
 end_fields e = rw (end_kind_spelled e.kind, direction_spelled e.direction) refl
@@ -124,7 +124,7 @@ record IsEnd (kind : ℕ) (number : ℤ) (element direction : ℕ) : Type 0 wher
   numbered : is_number_of kind number ≡ true
   element_is : (eqb kind 1 || eqb element 0) ≡ true
 
-end_kind_kept : (k : EndKind) → EndKindKeeps k → IsEnd (kind_of k) (number_of k) (element_of k) 1
+end_kind_kept : (k : EndKind) → EndKindKeeps k → IsEnd (kind_of k) (end_number_of k) (end_element_of k) 1
 end_kind_kept (ends.FrameWord word) h =
     record { kind_least = omega arith; number_fits = h; element_fits = omega arith; numbered = refl; element_is = refl }
 end_kind_kept (ends.Parameter number element) h =
@@ -139,7 +139,7 @@ end_kind_kept (ends.Link link) h = record {
 }
 
 -- the fields of an end make that end
-end_kind_same : (k : EndKind) → end_kind (kind_of k) (number_of k) (element_of k) ≡ k
+end_kind_same : (k : EndKind) → end_kind (kind_of k) (end_number_of k) (end_element_of k) ≡ k
 end_kind_same (ends.FrameWord word) = refl
 end_kind_same (ends.Parameter number element) = refl
 end_kind_same (ends.Link link) = refl
@@ -165,7 +165,7 @@ module _ (size : ℕ) (before : EndKey) where
 
   end_kind_again : (k : ℕ) (rest : List ℕ) → k ≤ 2 → leb before.kind k ≡ true
       → end_kind_at size before (k ∷ rest) ≡ Ok (k, rest)
-  unfolding end_kind_at byte_at
+  unfolding end_kind_at byte_taken
   end_kind_again k rest least rises = tested_again _ _ _ _ (tested_again _ _ _ _ refl (le-leb _ _ least)) rises
 
   module _ (kind : ℕ) where
@@ -225,7 +225,7 @@ module _ (size : ℕ) (before : EndKey) where
 
         end_direction_again : (d : ℕ) (rest : List ℕ) → (eqb d 1 || eqb d 2) ≡ true → direction_falls d ≡ false
             → end_direction_at size before kind number element (d ∷ rest) ≡ Ok (d, rest)
-        unfolding end_direction_at direction_falls byte_at
+        unfolding end_direction_at direction_falls byte_taken
         end_direction_again d rest known rises = tested_again _ _ _ _ (tested_again _ _ _ _ refl known) (rw rises refl)
 
 -- ---- ends
@@ -267,7 +267,7 @@ module _ (kind : ℕ) (number : ℤ) (element direction : ℕ)
             (sym made_has_key) rises;
       }
 
-made_again : (e : EndRow) → made_end (kind_of e.kind) (number_of e.kind) (element_of e.kind)
+made_again : (e : EndRow) → made_end (kind_of e.kind) (end_number_of e.kind) (end_element_of e.kind)
     (direction_number e.direction) ≡ e
 unfolding made_end
 made_again e = ap₂ (λ (k : EndKind) (d : Direction). record { kind = k; direction = d }) (end_kind_same e.kind)
@@ -275,8 +275,8 @@ made_again e = ap₂ (λ (k : EndKind) (d : Direction). record { kind = k; direc
 
 module _ (size : ℕ) where
   pub end_takes : (before : EndKey) (bytes : List ℕ) → IsBytes bytes
-      → Has (end_at size before bytes) (Spelled bytes end_bytes (EndKeeps before))
-  unfolding end_at element_falls direction_falls made_end made_key fields_bytes
+      → Has (end_row_at size before bytes) (Spelled bytes end_bytes (EndKeeps before))
+  unfolding end_row_at element_falls direction_falls made_end made_key fields_bytes
   end_takes before bytes fits =
       has_then _ _ (end_kind_takes size before bytes fits) (λ kind h.
       has_then _ _ (end_number_takes size before kind.0 kind.1 h.rest_fits) (λ number g.
@@ -300,12 +300,12 @@ module _ (size : ℕ) where
       })))))
 
   pub end_again : (before : EndKey) (e : EndRow) (rest : List ℕ) → EndKeeps before e
-      → end_at size before (end_bytes e ++ rest) ≡ Ok (e, rest)
-  unfolding end_at element_falls direction_falls fields_bytes made_end
+      → end_row_at size before (end_bytes e ++ rest) ≡ Ok (e, rest)
+  unfolding end_row_at element_falls direction_falls fields_bytes made_end
   end_again before e rest h =
       let kind = kind_of e.kind in
-      let number = number_of e.kind in
-      let element = element_of e.kind in
+      let number = end_number_of e.kind in
+      let element = end_element_of e.kind in
       let direction = direction_number e.direction in
       let k = end_kind_kept e.kind h.kind in
       let y = key_of e in
@@ -313,7 +313,7 @@ module _ (size : ℕ) where
       let tail1 = u32_bytes element ++ tail2 in
       let tail0 = i32_bytes number ++ tail1 in
       let regrouped : end_bytes e ++ rest ≡ kind ∷ tail0 = rw (end_fields e) (simp append_assoc) in
-      ap (end_at size before) regrouped
+      ap (end_row_at size before) regrouped
       ∙ step _ (end_kind_again size before kind tail0 k.kind_least (kind_rises before y h.rises))
       (step _ (end_number_again size before kind number tail1 k.number_fits k.numbered (number_rises before y h.rises))
       (step _ (end_element_again size before kind number element tail2 k.element_fits k.element_is

@@ -13,8 +13,8 @@ use Rattle.byteorder.specs.Numbers.{little_number-reads_back}
 use Rattle.module_format.specs.declared.fault.FormatFaultKind.TheVariants as faults
 use Rattle.module_format.specs.Order.{IsBytes, IsInterval}
 use Rattle.module_format.specs.Spelling.{u16_bytes, u32_bytes, u64_bytes, i32_bytes}
-use Rattle.module_format.specs.Reading.{fault, number_at, int_at, limited_at, positive_at, at_most_at, bytes_at}
-use Rattle.module_format.specs.Reading.{byte_at, in_code_at, hi_at, interval_at}
+use Rattle.module_format.specs.Reading.{fault, number_at, int_at, limited_at, positive_at, at_most_at, bytes_taken}
+use Rattle.module_format.specs.Reading.{byte_taken, in_code_at, hi_at, interval_at}
 use Rattle.module_format.proofs.ReadsInSteps.{Has, has_ok, has_err, has_then, has_unless, step, join, Spelled}
 use Rattle.module_format.proofs.ReadsInSteps.{tested_takes}
 use Rattle.module_format.proofs.ReadsInSteps.{tested_again}
@@ -219,8 +219,8 @@ module _ (size : ℕ) where
 
 module _ (size : ℕ) where
   pub bytes_take : (n : ℕ) (bytes : List ℕ) → IsBytes bytes
-      → Has (bytes_at size n bytes) (Spelled bytes (λ run. run) (λ run. (length run ≡ n) × IsBytes run))
-  unfolding bytes_at
+      → Has (bytes_taken size n bytes) (Spelled bytes (λ run. run) (λ run. (length run ≡ n) × IsBytes run))
+  unfolding bytes_taken
   bytes_take n bytes fits =
       has_unless (ltb (length bytes) n) (fault faults.Truncated size) (Ok (take n bytes, drop n bytes)) (λ long.
       has_ok (take n bytes, drop n bytes) (record {
@@ -233,16 +233,16 @@ module _ (size : ℕ) where
         );
       }))
 
-  pub bytes_again : (run rest : List ℕ) → bytes_at size (length run) (run ++ rest) ≡ Ok (run, rest)
-  unfolding bytes_at
+  pub bytes_again : (run rest : List ℕ) → bytes_taken size (length run) (run ++ rest) ≡ Ok (run, rest)
+  unfolding bytes_taken
   bytes_again run rest =
       let long : ltb (length (run ++ rest)) (length run) ≡ false = le-ltb _ _ (omega (arith, length-append run rest)) in
       rw (long, take_at run rest (length run) refl, drop_at run rest (length run) refl) refl
 
   -- one byte
   pub byte_takes : (bytes : List ℕ) → IsBytes bytes
-      → Has (byte_at size bytes) (Spelled bytes (λ b. b ∷ []) (λ b. b < 256))
-  unfolding byte_at
+      → Has (byte_taken size bytes) (Spelled bytes (λ b. b ∷ []) (λ b. b < 256))
+  unfolding byte_taken
   byte_takes [] fits = has_err (fault faults.Truncated size)
   byte_takes (b ∷ bytes) fits =
       has_ok (b, bytes) (record { parts = refl; rest_fits = IsBytes-rest b bytes fits; keeps = fits 0 })

@@ -12,7 +12,7 @@ use Rattle.std.proofs.lemmas.Int.{ints}
 use Rattle.small_laws.proofs.Comparisons.{int_lt-false, le-int_lt, int_le-false, int_le-true, le-int_le, lt-int_lt}
 use Rattle.module_format.specs.declared.rows.Interval.{Interval}
 use Rattle.module_format.specs.Order.{InOrder}
-use Rattle.module_format.specs.Pars.{IntervalKeeps, behind_interval, meet}
+use Rattle.module_format.specs.Pars.{IntervalKeeps, behind_interval, intervals_meet}
 
 -- there is one proof at most that intervals rise
 pub intervals_prop : (low : ℤ) (is : List Interval) → IsProp (InOrder IntervalKeeps behind_interval low is)
@@ -71,19 +71,19 @@ module _ (d : Interval) where
           rw same e
     ]
 
-    passed : (w : Interval) → int_le w.hi i.lo ≡ true → meet i w ≡ false
+    passed : (w : Interval) → int_le w.hi i.lo ≡ true → intervals_meet i w ≡ false
     passed w e = rw (le-int_lt i.lo w.hi (int_le-true w.hi i.lo e)) refl
 
     one_tells : (low : ℤ) (ws : List Interval) (n : ℕ) → InOrder IntervalKeeps behind_interval low ws
         → n < length ws
         → ((k : ℕ) → k < n → int_le (get_or ws k d).hi i.lo ≡ true) → int_le (get_or ws n d).hi i.lo ≡ false
-        → int_lt (get_or ws n d).lo i.hi ≡ list_any (meet i) ws
+        → int_lt (get_or ws n d).lo i.hi ≡ list_any (intervals_meet i) ws
     one_tells low ws n h inside before here =
         let w = get_or ws n d in
         let begins : int_lt i.lo w.hi ≡ true = lt-int_lt i.lo w.hi (int_le-false w.hi i.lo here) in
-        elim (int_lt w.lo i.hi) as (λ b. int_lt w.lo i.hi ≡ b → b ≡ list_any (meet i) ws) [
-          | true ↦ λ e. sym (found (meet i) ws n inside (rw (begins, e) refl))
-          | false ↦ λ e. sym (not_found (meet i) ws (λ k lt. elim (cases_lt k n) [
+        elim (int_lt w.lo i.hi) as (λ b. int_lt w.lo i.hi ≡ b → b ≡ list_any (intervals_meet i) ws) [
+          | true ↦ λ e. sym (found (intervals_meet i) ws n inside (rw (begins, e) refl))
+          | false ↦ λ e. sym (not_found (intervals_meet i) ws (λ k lt. elim (cases_lt k n) [
             | inl less ↦ passed (get_or ws k d) (before k less)
             | inr ge ↦
                 let behind : i.hi ≤ℤ (get_or ws k d).lo = elim (cases_lt n k) [
@@ -102,11 +102,11 @@ module _ (d : Interval) where
 
     pub first_tells : (low : ℤ) (ws : List Interval) (n : ℕ) → InOrder IntervalKeeps behind_interval low ws
         → IsPartitionPoint (λ (w : Interval). int_le w.hi i.lo ≡ true) (λ (w : Interval). int_le w.hi i.lo ≡ false) ws n
-        → n < length ws → d ≡ get_or ws n d → int_lt d.lo i.hi ≡ list_any (meet i) ws
+        → n < length ws → d ≡ get_or ws n d → int_lt d.lo i.hi ≡ list_any (intervals_meet i) ws
     first_tells low ws n h point inside is =
-        subst (λ (w : Interval). int_lt w.lo i.hi ≡ list_any (meet i) ws) (sym is)
+        subst (λ (w : Interval). int_lt w.lo i.hi ≡ list_any (intervals_meet i) ws) (sym is)
         (one_tells low ws n h inside (λ k lt. point.0 k d (omega arith) lt) (point.1 n d (omega arith) inside))
 
     pub none_tells : (ws : List Interval) → ((k : ℕ) → k < length ws → int_le (get_or ws k d).hi i.lo ≡ true)
-        → false ≡ list_any (meet i) ws
-    none_tells ws before = sym (not_found (meet i) ws (λ k lt. passed (get_or ws k d) (before k lt)))
+        → false ≡ list_any (intervals_meet i) ws
+    none_tells ws before = sym (not_found (intervals_meet i) ws (λ k lt. passed (get_or ws k d) (before k lt)))

@@ -7,7 +7,7 @@ use Rattle.module_format.specs.Contents.{Procedure, procedure_of, Contents}
 use Rattle.module_format.specs.Facts.{IsLabelOffset}
 use Rattle.std.specs.Int.{w32, cast_signed}
 use Rattle.byteorder.specs.Endian.{little_number}
-use Rattle.module_format.specs.Procedures.{ProcedureFits, words_of}
+use Rattle.module_format.specs.Procedures.{ProcedureFits, words_in_bytes}
 use Rattle.module_format.specs.Rows.{ProcedureRow}
 use Rattle.module_format.specs.declared.tables.Version.TheVariants as versions
 use Rattle.module_format.specs.declared.fault.FormatFault.{FormatFault}
@@ -43,14 +43,14 @@ procedures_fit (row ∷ rows) =
 -- ---- the words of the constants
 
 pub words_step : (bytes : List ℕ) → 4 ≤ length bytes
-    → words_of bytes ≡ cast_signed w32 (little_number 4 bytes) ∷ words_of (drop 4 bytes)
+    → words_in_bytes bytes ≡ cast_signed w32 (little_number 4 bytes) ∷ words_in_bytes (drop 4 bytes)
 words_step [] h = absurd (omega arith)
 words_step (a ∷ []) h = absurd (omega arith)
 words_step (a ∷ b ∷ []) h = absurd (omega arith)
 words_step (a ∷ b ∷ c ∷ []) h = absurd (omega arith)
 words_step (a ∷ b ∷ c ∷ d ∷ more) h = refl
 
-pub words_end : (bytes : List ℕ) → length bytes < 4 → words_of bytes ≡ []
+pub words_end : (bytes : List ℕ) → length bytes < 4 → words_in_bytes bytes ≡ []
 words_end [] h = refl
 words_end (a ∷ []) h = refl
 words_end (a ∷ b ∷ []) h = refl

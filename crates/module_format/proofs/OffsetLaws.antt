@@ -12,7 +12,7 @@ use Rattle.module_format.specs.Rows.{ProcedureRow}
 use Rattle.module_format.specs.Contents.{procedure_of}
 use Rattle.module_format.specs.Order.{InOrder}
 use Rattle.module_format.specs.Procedures.{ProcedureKeeps, behind_procedure}
-use Rattle.module_format.specs.Offsets.{IsNowhere, IsFirst, EntriesRise}
+use Rattle.module_format.specs.Offsets.{IsNowhere, IsFirst, ProceduresRise}
 
 module _ {X : Type 0} (offset : X → ℕ) where
   -- each row is after the one before it, the first after this offset
@@ -66,7 +66,7 @@ procedures_rise code_len low (row ∷ rows) keeps =
     (keeps.0.rises, procedures_rise code_len row.entry rows keeps.1)
 
 pub rows_rise : (code_len : ℕ) (rows : List ProcedureRow)
-    → InOrder (ProcedureKeeps code_len) behind_procedure 0 (map procedure_of rows) → EntriesRise rows
+    → InOrder (ProcedureKeeps code_len) behind_procedure 0 (map procedure_of rows) → ProceduresRise rows
 rows_rise code_len rows keeps =
     non_decreasing (λ row. row.entry) 0 rows (procedures_rise code_len 0 rows keeps)
 

@@ -1,16 +1,20 @@
 -- What the functions of a file open, under one name for each file.
 use Rattle.std.specs.Prelude.{⊤}
 use Rattle.module_format.specs.ReadingRows.{entry_at, label_row_at, parameter_at, procedure_row_at, table_row_at}
-use Rattle.module_format.specs.ReadingRows.{range_at, step_at, pointed_at, pointer_at, code_address_at, count_at}
-use Rattle.module_format.specs.ReadingRows.{loop_at, fact_at, register_at, word_at, first_word_at, span_at, entries_at}
+use Rattle.module_format.specs.ReadingRows.{number_fact_at, step_at, pointed_at, pointer_at, code_address_at, count_at}
+use Rattle.module_format.specs.ReadingRows.{loop_at, fact_at, register_at, word_fact_at, first_word_at, span_at}
+use Rattle.module_format.specs.ReadingRows.{entries_at}
 use Rattle.module_format.specs.ReadingRows.{registers_at, label_offset_at, label_rows_at, words_range_at}
 use Rattle.module_format.specs.ReadingRows.{region_size_at, region_at, ends_at, channels_at, value_at, kind_at}
-use Rattle.module_format.specs.ReadingRows.{parameter_word_at, parameters_at, frame_start_at, frame_end_at, rising_at}
+use Rattle.module_format.specs.ReadingRows.{parameter_word_at, parameter_rows_at, frame_start_at, frame_end_at}
+use Rattle.module_format.specs.ReadingRows.{rising_at}
 use Rattle.module_format.specs.ReadingRows.{procedure_rows_at, table_start_at, table_end_at, table_rows_at}
-use Rattle.module_format.specs.Reading.{and_then, tested, number_at, byte_at, int_at, bytes_at, limited_at}
+use Rattle.module_format.specs.Reading.{and_then, tested, number_at, byte_taken, int_at, bytes_taken, limited_at}
 use Rattle.module_format.specs.Reading.{positive_at, at_most_at, in_code_at, interval_at, hi_at}
-use Rattle.module_format.specs.ReadingPars.{channel_at, read_words_at, parameter_number_at, end_at, interval_end_at}
-use Rattle.module_format.specs.ReadingPars.{words_at, branch_counts_at, branch_entry_at, branch_row_at, end_kind_at}
+use Rattle.module_format.specs.ReadingPars.{channel_row_at, read_words_at, parameter_number_at, end_row_at}
+use Rattle.module_format.specs.ReadingPars.{interval_end_at}
+use Rattle.module_format.specs.ReadingPars.{frame_words_at, branch_counts_at, branch_entry_at, branch_row_at}
+use Rattle.module_format.specs.ReadingPars.{end_kind_at}
 use Rattle.module_format.specs.ReadingPars.{end_number_at, end_element_at, end_direction_at, context_number_at}
 use Rattle.module_format.specs.ReadingPars.{branch_count_at, par_row_at, par_rows_at}
 use Rattle.module_format.specs.ReadingFile.{tables_at, ended_at, read_file, magic_at, sizes_at, four_lengths_at}
@@ -24,16 +28,16 @@ use Rattle.module_format.specs.Spelling.{procedure_bytes, table_row_bytes, chann
 use Rattle.module_format.specs.Spelling.{branch_bytes, par_bytes}
 
 unfoldable pub listed : ⊤
-unfolding entry_at and_then label_row_at parameter_at procedure_row_at table_row_at tested channel_at read_words_at
-    parameter_number_at end_at
+unfolding entry_at and_then label_row_at parameter_at procedure_row_at table_row_at tested channel_row_at read_words_at
+    parameter_number_at end_row_at
 listed = tt
 
 unfoldable pub reading_branches : ⊤
-unfolding interval_end_at tested words_at and_then branch_counts_at branch_entry_at branch_row_at
+unfolding interval_end_at tested frame_words_at and_then branch_counts_at branch_entry_at branch_row_at
 reading_branches = tt
 
 unfoldable pub reading_cursor : ⊤
-unfolding number_at byte_at int_at and_then bytes_at
+unfolding number_at byte_taken int_at and_then bytes_taken
 reading_cursor = tt
 
 unfoldable pub reading_ends : ⊤
@@ -41,8 +45,9 @@ unfolding end_kind_at tested end_number_at end_element_at end_direction_at
 reading_ends = tt
 
 unfoldable pub reading_facts : ⊤
-unfolding range_at and_then step_at pointed_at pointer_at code_address_at count_at tested loop_at fact_at register_at
-    word_at first_word_at span_at entries_at registers_at
+unfolding number_fact_at and_then step_at pointed_at pointer_at code_address_at count_at tested loop_at fact_at
+    register_at
+    word_fact_at first_word_at span_at entries_at registers_at
 reading_facts = tt
 
 unfoldable pub reading_fields : ⊤
@@ -71,7 +76,7 @@ reading_pars = tt
 
 unfoldable pub reading_procedures : ⊤
 unfolding words_range_at region_size_at tested region_at and_then ends_at channels_at value_at kind_at
-    parameter_word_at parameters_at frame_start_at frame_end_at rising_at procedure_rows_at
+    parameter_word_at parameter_rows_at frame_start_at frame_end_at rising_at procedure_rows_at
 reading_procedures = tt
 
 unfoldable pub reading_references : ⊤

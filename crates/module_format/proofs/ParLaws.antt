@@ -9,7 +9,7 @@ use Rattle.module_format.specs.Order.{IsBytes, InOrder, least_word}
 use Rattle.module_format.specs.Pars.{ChannelKeeps, Before, ParKeeps}
 use Rattle.module_format.specs.Pars.{behind_par, no_branches}
 use Rattle.module_format.specs.Spelling.{u16_bytes, u32_bytes, i32_bytes, channel_bytes, branch_bytes, par_bytes}
-use Rattle.module_format.specs.ReadingPars.{channel_at, context_number_at, branch_count_at, par_row_at}
+use Rattle.module_format.specs.ReadingPars.{channel_row_at, context_number_at, branch_count_at, par_row_at}
 use Rattle.module_format.specs.ReadingPars.{par_rows_at}
 use Rattle.module_format.proofs.ReadsInSteps.{Has, has_ok, step, Spelled}
 use Rattle.module_format.proofs.ReadsInSteps.{nothing_taken, field, all_taken, tested_takes, tested_again}
@@ -23,19 +23,19 @@ use Rattle.module_format.proofs.RowLaws.{first_word_takes, first_word_again}
 
 module _ (size : ℕ) where
   channel_takes : (low : ℤ) (bytes : List ℕ) → IsBytes bytes
-      → Has (channel_at size low bytes) (Spelled bytes channel_bytes (ChannelKeeps low))
-  unfolding channel_at channel_bytes
+      → Has (channel_row_at size low bytes) (Spelled bytes channel_bytes (ChannelKeeps low))
+  unfolding channel_row_at channel_bytes
   channel_takes low bytes fits =
       field (nothing_taken fits) (first_word_takes size low _) (λ word h t.
       field t (positive_takes size MAX_MESSAGE _) (λ len g u.
       all_taken u (record { word_fits = h.0; rises = h.1; has_length = g.0; limit = g.1 })))
 
   channel_again : (low : ℤ) (c : ChannelRow) (rest : List ℕ) → ChannelKeeps low c
-      → channel_at size low (channel_bytes c ++ rest) ≡ Ok (c, rest)
-  unfolding channel_at channel_bytes
+      → channel_row_at size low (channel_bytes c ++ rest) ≡ Ok (c, rest)
+  unfolding channel_row_at channel_bytes
   channel_again low c rest h =
       let small : c.length < 2 ^ 32 = let most = h.limit in omega arith in
-      ap (channel_at size low) (append_assoc (i32_bytes c.word) (u32_bytes c.length) rest)
+      ap (channel_row_at size low) (append_assoc (i32_bytes c.word) (u32_bytes c.length) rest)
       ∙ step _ (first_word_again size low c.word (u32_bytes c.length ++ rest) h.word_fits h.rises)
       (step _ (positive_again size MAX_MESSAGE c.length rest small h.has_length h.limit) refl)
 

@@ -21,14 +21,14 @@ use Rattle.module_format.specs.Contents.{Procedure}
 use Rattle.module_format.specs.Order.{IsBytes, InOrder, IsInterval, least_word, greatest_word, is_multiple_of_four}
 use Rattle.module_format.specs.Procedures.{IsRegion, AreChannels, KindKeeps, ParameterKeeps, behind_parameter}
 use Rattle.module_format.specs.Procedures.{ProcedureKeeps, behind_procedure, RangeFits, KindFits, ProcedureFits}
-use Rattle.module_format.specs.Procedures.{words_of, IsBetween, TableKeeps, behind_table}
+use Rattle.module_format.specs.Procedures.{words_in_bytes, IsBetween, TableKeeps, behind_table}
 use Rattle.module_format.specs.Spelling.{u16_bytes, u32_bytes, u64_bytes, i32_bytes, range_bytes, kind_bytes}
 use Rattle.module_format.specs.Spelling.{parameter_bytes, procedure_bytes, table_row_bytes}
-use Rattle.module_format.specs.Reading.{and_then, fault, place, tested, byte_at, int_at, interval_at, list_at}
+use Rattle.module_format.specs.Reading.{and_then, fault, place, tested, byte_taken, int_at, interval_at, list_at}
 use Rattle.module_format.specs.ReadingRows.{words_range_at, region_size_at, region_at, ends_at, channels_at, value_at}
-use Rattle.module_format.specs.ReadingRows.{kind_at, parameter_word_at, parameter_at, parameters_at, frame_start_at}
+use Rattle.module_format.specs.ReadingRows.{kind_at, parameter_word_at, parameter_at, parameter_rows_at, frame_start_at}
 use Rattle.module_format.specs.ReadingRows.{frame_end_at, rising_at, procedure_row_at, procedure_rows_at}
-use Rattle.module_format.specs.ReadingRows.{table_start_at, table_end_at, is_within, table_row_at, table_rows_at}
+use Rattle.module_format.specs.ReadingRows.{table_start_at, table_end_at, lies_between, table_row_at, table_rows_at}
 use Rattle.module_format.proofs.ReadsInSteps.{Has, has_ok, has_err, has_then, has_if, has_cond, has_weaker, step}
 use Rattle.module_format.proofs.ReadsInSteps.{Spelled}
 use Rattle.module_format.proofs.ReadsInSteps.{nothing_taken, tag_taken, field, regroup, all_taken}
@@ -130,7 +130,7 @@ module _ (size : ℕ) where
       has_ok (record { 0 = bits.0 }, bits.1) (record { parts = h.parts; rest_fits = h.rest_fits; keeps = h.keeps }))
 
   ends_again : (ends : Ends) (rest : List ℕ) → 1 ≤ ends.0 → ends.0 ≤ 3 → ends_at size (ends.0 ∷ rest) ≡ Ok (ends, rest)
-  unfolding ends_at byte_at
+  unfolding ends_at byte_taken
   ends_again ends rest some few = step _ (tested_again _ _ _ _ refl (rw (le-leb _ _ some, le-leb _ _ few) refl)) refl
 
   channels_take : (version : Version) (tag : ℕ) (bytes : List ℕ) → IsBytes bytes → tag ≡ 3
@@ -172,7 +172,7 @@ module _ (size : ℕ) where
 
   kind_takes : (version : Version) (bytes : List ℕ) → IsBytes bytes
       → Has (kind_at size version bytes) (Spelled bytes (kind_bytes version) (KindIn version))
-  unfolding kind_at byte_at and_then
+  unfolding kind_at byte_taken and_then
   kind_takes version [] fits = has_err (fault faults.Truncated size)
   kind_takes version (tag ∷ bytes) fits =
       let behind = IsBytes-rest tag bytes fits in
@@ -196,7 +196,7 @@ module _ (size : ℕ) where
 
   kind_again : (version : Version) (kind : ParameterKind) (rest : List ℕ) → KindIn version kind
       → kind_at size version (kind_bytes version kind ++ rest) ≡ Ok (kind, rest)
-  unfolding kind_at byte_at and_then
+  unfolding kind_at byte_taken and_then
   kind_again version (kinds.Value lo hi) rest h = value_again lo hi rest h.0
   kind_again version (kinds.ReadRegion n lo hi) rest h = region_again version kinds.ReadRegion n lo hi rest h.0 h.1
   kind_again version (kinds.WrittenRegion n lo hi) rest h =
@@ -225,10 +225,10 @@ module _ (size : ℕ) (version : Version) (hi : ℤ) where
       all_taken u (record { rises = h.0; inside = h.1; kind = g.0 }, g.1)))
 
   parameters_take : (bytes : List ℕ) → IsBytes bytes
-      → Has (parameters_at size version hi bytes)
+      → Has (parameter_rows_at size version hi bytes)
       (Spelled bytes (λ ps. u16_bytes (length ps) ++ flat_map (parameter_bytes version) ps)
       (λ ps. (length ps ≤ MAX_PARAMETERS) × InOrder (ParameterIn version hi) behind_parameter 0 ps))
-  unfolding parameters_at
+  unfolding parameter_rows_at
   parameters_take bytes fits =
       has_then _ _ (limited_takes size 2 u16_bytes (2 ^ 16) wide16 MAX_PARAMETERS bytes fits) (λ count h.
       has_weaker (list_at (parameter_at size version hi) behind_parameter count.0 0 count.1)
@@ -259,9 +259,9 @@ module _ (size : ℕ) (version : Version) (hi : ℤ) where
 
     parameters_again : (ps : List Parameter) (rest : List ℕ) → length ps ≤ MAX_PARAMETERS
         → InOrder (ParameterIn version hi) behind_parameter 0 ps
-        → parameters_at size version hi (u16_bytes (length ps) ++ (flat_map (parameter_bytes version) ps ++ rest))
+        → parameter_rows_at size version hi (u16_bytes (length ps) ++ (flat_map (parameter_bytes version) ps ++ rest))
         ≡ Ok (ps, rest)
-    unfolding parameters_at
+    unfolding parameter_rows_at
     parameters_again ps rest few h =
         let lt : length ps < 2 ^ 16 = omega arith in
         step _ (limited_again size 2 u16_bytes (2 ^ 16) wide16 MAX_PARAMETERS (length ps)
@@ -376,16 +376,16 @@ module _ (size : ℕ) (version : Version) (code_len : ℕ) where
 -- ---- table rows
 
 -- words that all lie from lo to hi
-pub all_within : (lo hi : ℤ) (words : List ℤ) → list_all (is_within lo hi) words ≡ true
+pub all_within : (lo hi : ℤ) (words : List ℤ) → list_all (lies_between lo hi) words ≡ true
     → AllByRecursion (IsBetween lo hi) words
 all_within lo hi [] e = tt
 all_within lo hi (word ∷ words) e =
-    let both = and_parts (is_within lo hi word) (list_all (is_within lo hi) words) e in
+    let both = and_parts (lies_between lo hi word) (list_all (lies_between lo hi) words) e in
     let ends = and_parts (int_le lo word) (int_le word hi) both.0 in
     (record { low = int_le-true _ _ ends.0; high = int_le-true _ _ ends.1 }, all_within lo hi words both.1)
 
 pub within_all : (lo hi : ℤ) (words : List ℤ) → AllByRecursion (IsBetween lo hi) words
-    → list_all (is_within lo hi) words ≡ true
+    → list_all (lies_between lo hi) words ≡ true
 within_all lo hi [] h = refl
 within_all lo hi (word ∷ words) h = rw (le-int_le _ _ h.0.low, le-int_le _ _ h.0.high) (within_all lo hi words h.1)
 
@@ -427,7 +427,7 @@ module _ (size : ℕ) (constants : List ℕ) where
   table_takes low bytes fits =
       field (nothing_taken fits) (table_start_takes size low _) (λ start h0 t0.
       field t0 (table_end_takes size (length constants) start.0 _) (λ end h1 t1.
-      let words = words_of (take (end.0 - start.0) (drop start.0 constants)) in
+      let words = words_in_bytes (take (end.0 - start.0) (drop start.0 constants)) in
       let range_takes = λ (some : IsBytes end.1).
       tested_takes {Q = λ r. IsInterval r.0 r.1 × AllByRecursion (IsBetween r.0 r.1) words} _ _ _ _
       (interval_takes size end.1 some) (λ r ordered within. (ordered, all_within r.0 r.1 words within)) in
@@ -464,7 +464,7 @@ module _ (size : ℕ) (constants : List ℕ) where
         (step _ (table_end_again size
         (length constants) row.start row.end tail2 end_fits h.end_aligned h.ordered h.inside)
         (step _ (tested_again _ _ _ _ (interval_again size row.lo row.hi rest h.range)
-        (within_all row.lo row.hi (words_of (take (row.end - row.start)
+        (within_all row.lo row.hi (words_in_bytes (take (row.end - row.start)
         (drop row.start constants))) h.words)) refl))
 
     pub tables_again : (rows : List TableRow) (rest : List ℕ) → InOrder (TableKeeps constants) behind_table 0 rows

@@ -15,13 +15,14 @@ use Rattle.module_format.specs.declared.contexts.Context.{Context}
 use Rattle.module_format.specs.Contents.{Label, Branch, Par, Contents}
 use Rattle.module_format.specs.Contexts.{context_at, parameters_at}
 use Rattle.module_format.specs.Facts.{end_of}
-use Rattle.module_format.specs.Keeping.{FactFits, EntryFits, RowFits, LabelFits, is_region, names, names_end}
+use Rattle.module_format.specs.Keeping.{FactFits, EntryFits, RowFits, LabelFits, is_region, names, end_is_there}
 use Rattle.module_format.specs.Keeping.{BranchFits, ParFits, NamesAreThere}
 use Rattle.module_format.specs.Spelling.{u16_bytes, fact_bytes, entry_bytes, label_bytes, channel_bytes, interval_bytes}
 use Rattle.module_format.specs.Spelling.{end_bytes, branch_bytes, par_bytes}
 use Rattle.module_format.specs.Reading.{fault}
 use Rattle.module_format.specs.Regions.{region_number}
-use Rattle.module_format.specs.References.{passes, fact_references, entry_references, list_references, row_references}
+use Rattle.module_format.specs.References.{is_without_fault, fact_references, entry_references, list_references}
+use Rattle.module_format.specs.References.{row_references}
 use Rattle.module_format.specs.References.{references_in, label_references}
 use Rattle.module_format.specs.References.{parameter_references, end_references, branch_references, par_references}
 use Rattle.module_format.specs.References.{references_at}
@@ -32,12 +33,13 @@ unfolding fact_references
 fact_fits parameters at facts.Unknown = has_ok tt tt
 fact_fits parameters at (facts.Number lo hi) = has_ok tt tt
 fact_fits parameters at (facts.Pointer region lo hi s) =
-    has_if (ltb (region_number region) (2 + parameters)) (fault faults.Range (at + 1)) passes (λ there. has_ok tt (ltb-true _ _ there))
+    has_if (ltb (region_number region) (2 + parameters)) (fault faults.Range (at + 1)) is_without_fault (λ there. has_ok tt (ltb-true _ _ there))
 fact_fits parameters at (facts.CodeAddress offset) = has_ok tt tt
 fact_fits parameters at (facts.Loop base count weight) = has_ok tt tt
 fact_fits parameters at facts.ReturnAddress = has_ok tt tt
 
-fact_passes : (parameters at : ℕ) (f : Fact) → FactFits parameters f → fact_references parameters at f ≡ passes
+fact_passes : (parameters at : ℕ) (f : Fact) → FactFits parameters f
+    → fact_references parameters at f ≡ is_without_fault
 unfolding fact_references
 fact_passes parameters at facts.Unknown h = refl
 fact_passes parameters at (facts.Number lo hi) h = refl
@@ -59,7 +61,8 @@ entry_fits context at e =
     (λ u h.
     record { low = int_lt-false _ _ low; high = int_lt-false _ _ high; fact = h })))
 
-entry_passes : (context : Context) (at : ℕ) (e : Entry) → EntryFits context e → entry_references context at e ≡ passes
+entry_passes : (context : Context) (at : ℕ) (e : Entry) → EntryFits context e
+    → entry_references context at e ≡ is_without_fault
 unfolding entry_references
 entry_passes context at e h =
     rw (le-int_lt _ _ h.low, le-int_lt _ _ h.high) (fact_passes context.parameters (at + 8) e.fact h.fact)
@@ -75,8 +78,9 @@ module _ {A : Type 0} (item : ℕ → A → Result ⊤ FormatFault) (spelled : A
       (list_references item spelled (at + length (spelled x)) xs) (list_fits one (at + length (spelled x)) xs)
       (λ v g. (h, g)))
 
-  list_passes : ((at : ℕ) (x : A) → Fits x → item at x ≡ passes) → (at : ℕ) (xs : List A) → AllByRecursion Fits xs
-      → list_references item spelled at xs ≡ passes
+  list_passes : ((at : ℕ) (x : A) → Fits x → item at x ≡ is_without_fault) → (at : ℕ) (xs : List A)
+      → AllByRecursion Fits xs
+      → list_references item spelled at xs ≡ is_without_fault
   unfolding list_references
   list_passes one at [] h = refl
   list_passes one at (x ∷ xs) h = step _ (one at x h.0) (list_passes one (at + length (spelled x)) xs h.1)
@@ -98,7 +102,8 @@ row_fits context at row =
     (λ x es.
     record { a = a; b = b; c = c; entries = es }))))
 
-row_passes : (context : Context) (at : ℕ) (row : Label) → RowFits row context → row_references context at row ≡ passes
+row_passes : (context : Context) (at : ℕ) (row : Label) → RowFits row context
+    → row_references context at row ≡ is_without_fault
 unfolding row_references
 row_passes context at row h =
     step _ (fact_passes context.parameters _ row.stack.a h.a)
@@ -113,7 +118,7 @@ in_fits None at row = has_err (fault faults.Range (at + 4))
 in_fits (Some context) at row = row_fits context at row
 
 in_passes : (o : Option Context) (at : ℕ) (row : Label) → MatchOption o ⊥ (RowFits row)
-    → references_in o at row ≡ passes
+    → references_in o at row ≡ is_without_fault
 in_passes None at row h = elim h [ ]
 in_passes (Some context) at row h = row_passes context at row h
 
@@ -121,7 +126,7 @@ label_fits : (c : Contents) (at : ℕ) (row : Label) → Has (label_references c
 unfolding label_references
 label_fits c at row = in_fits (context_at c row.context) at row
 
-label_passes : (c : Contents) (at : ℕ) (row : Label) → LabelFits c row → label_references c at row ≡ passes
+label_passes : (c : Contents) (at : ℕ) (row : Label) → LabelFits c row → label_references c at row ≡ is_without_fault
 unfolding label_references
 label_passes c at row h = in_passes (context_at c row.context) at row h
 
@@ -131,21 +136,21 @@ parameter_fits : (parameters : List Parameter) (at j : ℕ)
     → Has (parameter_references parameters at j) (λ _. IsTrue (names is_region parameters j))
 unfolding parameter_references
 parameter_fits parameters at j =
-    has_if (names is_region parameters j) (fault faults.Range at) passes (λ there. has_ok tt there)
+    has_if (names is_region parameters j) (fault faults.Range at) is_without_fault (λ there. has_ok tt there)
 
 parameter_passes : (parameters : List Parameter) (at j : ℕ) → IsTrue (names is_region parameters j)
-    → parameter_references parameters at j ≡ passes
+    → parameter_references parameters at j ≡ is_without_fault
 unfolding parameter_references
 parameter_passes parameters at j there = rw there refl
 
 end_fits : (parameters : List Parameter) (at : ℕ) (e : EndRow)
-    → Has (end_references parameters at e) (λ _. IsTrue (names_end parameters e.kind))
+    → Has (end_references parameters at e) (λ _. IsTrue (end_is_there parameters e.kind))
 unfolding end_references
 end_fits parameters at e =
-    has_if (names_end parameters e.kind) (fault faults.Range (at + 1)) passes (λ there. has_ok tt there)
+    has_if (end_is_there parameters e.kind) (fault faults.Range (at + 1)) is_without_fault (λ there. has_ok tt there)
 
-end_passes : (parameters : List Parameter) (at : ℕ) (e : EndRow) → IsTrue (names_end parameters e.kind)
-    → end_references parameters at e ≡ passes
+end_passes : (parameters : List Parameter) (at : ℕ) (e : EndRow) → IsTrue (end_is_there parameters e.kind)
+    → end_references parameters at e ≡ is_without_fault
 unfolding end_references
 end_passes parameters at e there = rw there refl
 
@@ -156,21 +161,21 @@ module _ (parameters : List Parameter) where
       (parameter_fits parameters) at js
 
   numbers_pass : (at : ℕ) (js : List ℕ) → AllByRecursion (λ j. IsTrue (names is_region parameters j)) js
-      → list_references (parameter_references parameters) u16_bytes at js ≡ passes
+      → list_references (parameter_references parameters) u16_bytes at js ≡ is_without_fault
   numbers_pass at js h = list_passes (parameter_references parameters) u16_bytes
       (λ j. IsTrue (names is_region parameters j))
       (parameter_passes parameters) at js h
 
   ends_fit : (at : ℕ) (es : List EndRow)
       → Has (list_references (end_references parameters) end_bytes at es)
-      (λ _. AllByRecursion (λ (e : EndRow). IsTrue (names_end parameters e.kind)) es)
+      (λ _. AllByRecursion (λ (e : EndRow). IsTrue (end_is_there parameters e.kind)) es)
   ends_fit at es =
-      list_fits (end_references parameters) end_bytes (λ e. IsTrue (names_end parameters e.kind))
+      list_fits (end_references parameters) end_bytes (λ e. IsTrue (end_is_there parameters e.kind))
       (end_fits parameters) at es
 
-  ends_pass : (at : ℕ) (es : List EndRow) → AllByRecursion (λ (e : EndRow). IsTrue (names_end parameters e.kind)) es
-      → list_references (end_references parameters) end_bytes at es ≡ passes
-  ends_pass at es h = list_passes (end_references parameters) end_bytes (λ e. IsTrue (names_end parameters e.kind))
+  ends_pass : (at : ℕ) (es : List EndRow) → AllByRecursion (λ (e : EndRow). IsTrue (end_is_there parameters e.kind)) es
+      → list_references (end_references parameters) end_bytes at es ≡ is_without_fault
+  ends_pass at es h = list_passes (end_references parameters) end_bytes (λ e. IsTrue (end_is_there parameters e.kind))
       (end_passes parameters) at es h
 
   branch_fits : (at : ℕ) (b : Branch) → Has (branch_references parameters at b) (λ _. BranchFits parameters b)
@@ -185,7 +190,7 @@ module _ (parameters : List Parameter) where
       (λ w ends.
       record { written = written; read = read; ends = ends })))
 
-  branch_passes : (at : ℕ) (b : Branch) → BranchFits parameters b → branch_references parameters at b ≡ passes
+  branch_passes : (at : ℕ) (b : Branch) → BranchFits parameters b → branch_references parameters at b ≡ is_without_fault
   unfolding branch_references
   branch_passes at b h = step _ (numbers_pass _ b.written_parameters h.written)
       (step _ (numbers_pass _ b.read_parameters h.read) (ends_pass _ b.ends h.ends))
@@ -197,7 +202,7 @@ par_fits c at row =
     list_fits (branch_references parameters) branch_bytes (BranchFits parameters) (branch_fits parameters)
     (at + 18 + length (flat_map channel_bytes row.channels)) row.branches
 
-par_passes : (c : Contents) (at : ℕ) (row : Par) → ParFits c row → par_references c at row ≡ passes
+par_passes : (c : Contents) (at : ℕ) (row : Par) → ParFits c row → par_references c at row ≡ is_without_fault
 unfolding par_references
 par_passes c at row h =
     let parameters = parameters_at c row.context in
@@ -215,7 +220,7 @@ references_fit at c =
     (list_fits (par_references c) par_bytes (ParFits c) (par_fits c) at_pars c.pars) (λ v pars.
     record { labels = labels; pars = pars }))
 
-pub references_pass : (at : ℕ) (c : Contents) → NamesAreThere c → references_at at c ≡ passes
+pub references_pass : (at : ℕ) (c : Contents) → NamesAreThere c → references_at at c ≡ is_without_fault
 unfolding references_at
 references_pass at c h =
     step _ (list_passes (label_references c) label_bytes (LabelFits c) (label_passes c) at c.labels h.labels)

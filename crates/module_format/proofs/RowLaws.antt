@@ -22,9 +22,9 @@ use Rattle.module_format.specs.Facts.{IsStepped, IsPointer, is_loop_length, IsLo
 use Rattle.module_format.specs.Facts.{behind_entry, EntryKeeps, IsLabelOffset, LabelKeeps, behind_label}
 use Rattle.module_format.specs.Spelling.{u16_bytes, u32_bytes, u64_bytes, i32_bytes, step_size, fact_bytes, entry_bytes}
 use Rattle.module_format.specs.Spelling.{label_bytes}
-use Rattle.module_format.specs.Reading.{and_then, fault, place, byte_at, list_at}
-use Rattle.module_format.specs.ReadingRows.{range_at, step_at, pointed_at, pointer_at, code_address_at, count_at}
-use Rattle.module_format.specs.ReadingRows.{loop_at, fact_at, register_at, word_at, first_word_at, span_at, entry_at, entries_at}
+use Rattle.module_format.specs.Reading.{and_then, fault, place, byte_taken, list_at}
+use Rattle.module_format.specs.ReadingRows.{number_fact_at, step_at, pointed_at, pointer_at, code_address_at, count_at}
+use Rattle.module_format.specs.ReadingRows.{loop_at, fact_at, register_at, word_fact_at, first_word_at, span_at, entry_at, entries_at}
 use Rattle.module_format.specs.ReadingRows.{label_offset_at, registers_at, label_row_at, label_rows_at}
 use Rattle.module_format.proofs.ReadsInSteps.{nothing_taken, tag_taken, field, regroup, all_taken}
 use Rattle.module_format.proofs.ReadsInSteps.{Has, has_ok, has_err, has_then, has_if, has_cond, has_weaker, step}
@@ -76,15 +76,15 @@ module _ (size : ℕ) where
 
   step_again : (lo hi : ℤ) (s : Step) (rest : List ℕ) → IsStepped s lo hi
       → step_at size lo hi (step_size s ∷ rest) ≡ Ok (s, rest)
-  unfolding step_at byte_at
+  unfolding step_at byte_taken
   step_again lo hi steps.Byte rest h = step _ refl refl
   step_again lo hi steps.Word rest h = step _ refl (rw (h.0, h.1) refl)
 
   range_again : (lo hi : ℤ) (rest : List ℕ) → IsInterval lo hi
-      → range_at size ((i32_bytes lo ++ i32_bytes hi) ++ rest) ≡ Ok (facts.Number lo hi, rest)
-  unfolding range_at
+      → number_fact_at size ((i32_bytes lo ++ i32_bytes hi) ++ rest) ≡ Ok (facts.Number lo hi, rest)
+  unfolding number_fact_at
   range_again lo hi rest h =
-      ap (range_at size) (append_assoc (i32_bytes lo) (i32_bytes hi) rest)
+      ap (number_fact_at size) (append_assoc (i32_bytes lo) (i32_bytes hi) rest)
       ∙ step _ (interval_again size lo hi rest h) refl
 
   pointed_takes : (bytes : List ℕ) → IsBytes bytes → Has (pointed_at size bytes)
@@ -148,8 +148,8 @@ module _ (size : ℕ) where
 
 module _ (size code_len : ℕ) where
   range_takes : (tag : ℕ) (bytes : List ℕ) → IsBytes bytes → tag ≡ 1
-      → Has (range_at size bytes) (Spelled (tag ∷ bytes) fact_bytes (IsCommon code_len))
-  unfolding range_at fact_bytes
+      → Has (number_fact_at size bytes) (Spelled (tag ∷ bytes) fact_bytes (IsCommon code_len))
+  unfolding number_fact_at fact_bytes
   range_takes tag bytes fits e =
       field (tag_taken e fits) (interval_takes size _) (λ range h t.
       all_taken t (record { register = h; word = λ span. h }))
@@ -177,7 +177,7 @@ module _ (size code_len : ℕ) where
   unfolding fact_at
   fact_takes at tag bytes fits =
       let wrong = fault faults.Range at in
-      has_cond (eqb tag 1) (range_at size bytes)
+      has_cond (eqb tag 1) (number_fact_at size bytes)
       (cond (eqb tag 2) (pointer_at size bytes)
       (cond (eqb tag 3) (code_address_at size code_len bytes) (Err wrong)))
       (λ one. range_takes tag bytes fits (eqb-true _ _ one)) (λ _.
@@ -188,7 +188,7 @@ module _ (size code_len : ℕ) where
 
   register_takes : (bytes : List ℕ) → IsBytes bytes
       → Has (register_at size code_len bytes) (Spelled bytes fact_bytes (RegisterKeeps code_len))
-  unfolding register_at byte_at and_then fact_bytes
+  unfolding register_at byte_taken and_then fact_bytes
   register_takes [] fits = has_err (fault faults.Truncated size)
   register_takes (tag ∷ bytes) fits =
       let behind = IsBytes-rest tag bytes fits in
@@ -209,8 +209,8 @@ module _ (size code_len : ℕ) where
       all_taken v (two, record { base_fits = h; some = g.0; limit = g.1; last = g.2; weight_fits = k }))))
 
   word_takes : (span : ℕ) (bytes : List ℕ) → IsBytes bytes
-      → Has (word_at size code_len span bytes) (Spelled bytes fact_bytes (WordKeeps code_len span))
-  unfolding word_at byte_at and_then fact_bytes
+      → Has (word_fact_at size code_len span bytes) (Spelled bytes fact_bytes (WordKeeps code_len span))
+  unfolding word_fact_at byte_taken and_then fact_bytes
   word_takes span [] fits = has_err (fault faults.Truncated size)
   word_takes span (tag ∷ bytes) fits =
       let behind = IsBytes-rest tag bytes fits in
@@ -238,7 +238,7 @@ module _ (size code_len : ℕ) (small : code_len < 2 ^ 32) where
 
   register_again : (f : Fact) (rest : List ℕ) → RegisterKeeps code_len f
       → register_at size code_len (fact_bytes f ++ rest) ≡ Ok (f, rest)
-  unfolding register_at byte_at and_then fact_at fact_bytes
+  unfolding register_at byte_taken and_then fact_at fact_bytes
   register_again facts.Unknown rest h = refl
   register_again (facts.Number lo hi) rest h = range_again size lo hi rest h
   register_again (facts.Pointer region lo hi s) rest h = pointer_again size region lo hi s rest h
@@ -247,8 +247,8 @@ module _ (size code_len : ℕ) (small : code_len < 2 ^ 32) where
   register_again facts.ReturnAddress rest h = elim h [ ]
 
   word_again : (span : ℕ) (f : Fact) (rest : List ℕ) → WordKeeps code_len span f
-      → word_at size code_len span (fact_bytes f ++ rest) ≡ Ok (f, rest)
-  unfolding word_at byte_at and_then fact_at fact_bytes
+      → word_fact_at size code_len span (fact_bytes f ++ rest) ≡ Ok (f, rest)
+  unfolding word_fact_at byte_taken and_then fact_at fact_bytes
   word_again span facts.Unknown rest h = elim h [ ]
   word_again span (facts.Number lo hi) rest h = range_again size lo hi rest h
   word_again span (facts.Pointer region lo hi s) rest h = pointer_again size region lo hi s rest h

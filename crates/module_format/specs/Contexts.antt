@@ -15,8 +15,8 @@ abbrev pub procedure_context : Procedure → Context
 procedure_context p = record { lo = p.lo; hi = p.hi; parameters = length p.parameters }
 
 -- the procedure of row n - 1
-abbrev pub procedure_at : Contents → ℕ → Option Procedure
-procedure_at c n = if n == 0 then None else slice_get c.procedures (n - 1)
+abbrev pub procedure_numbered : Contents → ℕ → Option Procedure
+procedure_numbered c n = if n == 0 then None else slice_get c.procedures (n - 1)
 
 -- the root, or the procedure of row n - 1
 abbrev pub own_context : Contents → ℕ → Option Context

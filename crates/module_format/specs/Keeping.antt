@@ -72,17 +72,17 @@ abbrev pub names : (ParameterKind → Bool) → List Parameter → ℕ → Bool
 names is_such parameters j = elim (slice_get parameters j) [ None ↦ false | Some p ↦ is_such p.kind ]
 
 -- the parameter that an end belongs to has that channel
-abbrev pub names_end : List Parameter → EndKind → Bool
-names_end parameters (ends.FrameWord word) = true
-names_end parameters (ends.Parameter (pos j) element) = names (has_element element) parameters j
-names_end parameters (ends.Parameter (negsuc n) element) = false
-names_end parameters (ends.Link link) = true
+abbrev pub end_is_there : List Parameter → EndKind → Bool
+end_is_there parameters (ends.FrameWord word) = true
+end_is_there parameters (ends.Parameter (pos j) element) = names (has_element element) parameters j
+end_is_there parameters (ends.Parameter (negsuc n) element) = false
+end_is_there parameters (ends.Link link) = true
 
 -- what a branch is given of its context's parameters is there
 pub record BranchFits (parameters : List Parameter) (b : Branch) : Type 0 where
   pub written : AllByRecursion (λ j. IsTrue (names is_region parameters j)) b.written_parameters
   pub read : AllByRecursion (λ j. IsTrue (names is_region parameters j)) b.read_parameters
-  pub ends : AllByRecursion (λ (e : EndRow). IsTrue (names_end parameters e.kind)) b.ends
+  pub ends : AllByRecursion (λ (e : EndRow). IsTrue (end_is_there parameters e.kind)) b.ends
 
 abbrev pub ParFits : Contents → Par → Type 0
 ParFits contents row = AllByRecursion (BranchFits (parameters_at contents row.context)) row.branches

@@ -15,8 +15,8 @@ pub record Meaning (T : Type 0) : Type 1 where
   pub Fits : Value → Type 0
 
 -- of an item without lists, which says what it is and is spelled alike in both versions
-abbrev pub plain : {T : Type 0} → (T → List ℕ) → Meaning T
-plain {T = T} bytes = record { Value = T; view = λ item. item; bytes = λ version. bytes; Fits = λ item. ⊤ }
+abbrev pub without_lists : {T : Type 0} → (T → List ℕ) → Meaning T
+without_lists {T = T} bytes = record { Value = T; view = λ item. item; bytes = λ version. bytes; Fits = λ item. ⊤ }
 
 -- of an item with lists
 abbrev pub viewed : {T V : Type 0} → (T → V) → (Version → V → List ℕ) → (V → Type 0) → Meaning T

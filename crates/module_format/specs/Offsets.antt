@@ -15,5 +15,5 @@ pub record IsFirst {X : Type 0} (offset : X → ℕ) (xs : List X) (at n : ℕ) 
   pub before : (k : ℕ) (d : X) → k < n → offset (slice_index_or xs k d) ≢ at
 
 -- procedure rows in the order of their entries
-abbrev pub EntriesRise : List ProcedureRow → Type 0
-EntriesRise rows = IsNonDecreasingBy (λ (row : ProcedureRow). row.entry) rows
+abbrev pub ProceduresRise : List ProcedureRow → Type 0
+ProceduresRise rows = IsNonDecreasingBy (λ (row : ProcedureRow). row.entry) rows

@@ -42,13 +42,13 @@ abbrev pub behind_interval : ℤ → Interval → ℤ
 behind_interval low i = i.hi
 
 -- two intervals have a word in common
-abbrev pub meet : Interval → Interval → Bool
-meet i j = int_lt i.lo j.hi && int_lt j.lo i.hi
+abbrev pub intervals_meet : Interval → Interval → Bool
+intervals_meet i j = int_lt i.lo j.hi && int_lt j.lo i.hi
 
 -- words that are read, none of them one that is written
 pub record ReadKeeps (writes : List Interval) (low : ℤ) (i : Interval) : Type 0 where
   pub interval : IntervalKeeps low i
-  pub apart : AllByRecursion (λ w. meet i w ≡ false) writes
+  pub apart : AllByRecursion (λ w. intervals_meet i w ≡ false) writes
 
 -- ---- parameters and ends
 
@@ -66,15 +66,15 @@ kind_of (ends.FrameWord word) = END_FRAME_WORD
 kind_of (ends.Parameter number element) = END_PARAMETER
 kind_of (ends.Link link) = END_LINK
 
-abbrev pub number_of : EndKind → ℤ
-number_of (ends.FrameWord word) = word
-number_of (ends.Parameter number element) = number
-number_of (ends.Link link) = pos link
+abbrev pub end_number_of : EndKind → ℤ
+end_number_of (ends.FrameWord word) = word
+end_number_of (ends.Parameter number element) = number
+end_number_of (ends.Link link) = pos link
 
-abbrev pub element_of : EndKind → ℕ
-element_of (ends.FrameWord word) = 0
-element_of (ends.Parameter number element) = element
-element_of (ends.Link link) = 0
+abbrev pub end_element_of : EndKind → ℕ
+end_element_of (ends.FrameWord word) = 0
+end_element_of (ends.Parameter number element) = element
+end_element_of (ends.Link link) = 0
 
 abbrev pub direction_number : Direction → ℕ
 direction_number directions.In = DIRECTION_IN
@@ -85,8 +85,8 @@ abbrev pub key_of : EndRow → EndKey
 key_of e =
     record {
       kind = kind_of e.kind;
-      number = number_of e.kind;
-      element = element_of e.kind;
+      number = end_number_of e.kind;
+      element = end_element_of e.kind;
       direction = direction_number e.direction;
     }
 

@@ -45,6 +45,6 @@ pub record AreRowOwners (c : Contents) (count : ℕ) (rows : List RowOwner) : Ty
   pub each : (k : ℕ) (d : RowOwner) → k < length rows → IsRowOwner c k (slice_index_or rows k d)
 
 -- row k is there, and has the owner of context n
-pub record IsRowOf (c : Contents) (rows : List RowOwner) (n k : ℕ) : Type 0 where
+pub record IsOwnersRow (c : Contents) (rows : List RowOwner) (n k : ℕ) : Type 0 where
   pub inside : k < length rows
   pub owner : (d : RowOwner) → (slice_index_or rows k d).owner ≡ owner (first_branch c) c.pars n

@@ -95,9 +95,9 @@ behind_procedure low row = row.entry
 -- ---- table rows
 
 -- the words that bytes are, four by four
-abbrev pub words_of : List ℕ → List ℤ
-words_of (a ∷ b ∷ c ∷ d ∷ more) = cast_signed w32 (little_number 4 (a ∷ b ∷ c ∷ d ∷ more)) ∷ words_of more
-words_of _ = []
+abbrev pub words_in_bytes : List ℕ → List ℤ
+words_in_bytes (a ∷ b ∷ c ∷ d ∷ more) = cast_signed w32 (little_number 4 (a ∷ b ∷ c ∷ d ∷ more)) ∷ words_in_bytes more
+words_in_bytes _ = []
 
 -- a word from lo to hi
 pub record IsBetween (lo hi word : ℤ) : Type 0 where
@@ -113,7 +113,7 @@ pub record TableKeeps (constants : List ℕ) (low : ℕ) (row : TableRow) : Type
   pub inside : row.end ≤ length constants
   pub range : IsInterval row.lo row.hi
   pub words : AllByRecursion (IsBetween row.lo row.hi)
-      (words_of (take (row.end - row.start) (drop row.start constants)))
+      (words_in_bytes (take (row.end - row.start) (drop row.start constants)))
 
 -- a table row leaves its end
 abbrev pub behind_table : ℕ → TableRow → ℕ

@@ -96,14 +96,14 @@ unfoldable pub at_most_at : ℕ → ℕ → List ℕ → Read ℕ
 at_most_at size most rest = tested (number_at size 4 rest) (λ x. nat_le x most) faults.Range (place size rest)
 
 -- n bytes
-unfoldable pub bytes_at : ℕ → ℕ → List ℕ → Read (List ℕ)
-bytes_at size n rest =
+unfoldable pub bytes_taken : ℕ → ℕ → List ℕ → Read (List ℕ)
+bytes_taken size n rest =
     if nat_lt (length rest) n then Err (fault faults.Truncated size) else Ok (take n rest, drop n rest)
 
 -- one byte
-unfoldable pub byte_at : ℕ → List ℕ → Read ℕ
-byte_at size [] = Err (fault faults.Truncated size)
-byte_at size (b ∷ rest) = Ok (b, rest)
+unfoldable pub byte_taken : ℕ → List ℕ → Read ℕ
+byte_taken size [] = Err (fault faults.Truncated size)
+byte_taken size (b ∷ rest) = Ok (b, rest)
 
 -- an offset in the code that isn't its first
 unfoldable pub in_code_at : ℕ → ℕ → List ℕ → Read ℕ

@@ -15,7 +15,7 @@ use Rattle.module_format.specs.declared.reading.header.Header.{Header}
 use Rattle.module_format.specs.Contents.{Procedure, Label, Par, Contents}
 use Rattle.module_format.specs.Spelling.{magic_one, magic_two, label_bytes, par_bytes}
 use Rattle.module_format.specs.Keeping.{max_code, LimitsKeep, RowsKeep}
-use Rattle.module_format.specs.Reading.{◌>>=◌, Read, fault, place, limited_at, positive_at, at_most_at, bytes_at}
+use Rattle.module_format.specs.Reading.{◌>>=◌, Read, fault, place, limited_at, positive_at, at_most_at, bytes_taken}
 use Rattle.module_format.specs.ReadingRows.{procedure_rows_at, label_rows_at, table_rows_at}
 use Rattle.module_format.specs.ReadingPars.{par_rows_at}
 use Rattle.module_format.specs.References.{references_at}
@@ -131,8 +131,8 @@ ended_at size at c rest = do
 -- the code, the constants and the rows, with the place of the label rows
 unfoldable pub tables_at : ℕ → Header → List ℕ → Read (Contents × ℕ)
 tables_at size h rest = do
-  code ← bytes_at size h.sizes.code_len rest
-  constants ← bytes_at size h.sizes.const_len code.1
+  code ← bytes_taken size h.sizes.code_len rest
+  constants ← bytes_taken size h.sizes.const_len code.1
   procedures ← procedure_rows_at size h.version h.sizes.code_len h.counts.procedures constants.1
   labels ← label_rows_at size h.sizes.code_len procedures.0 h.counts.labels procedures.1
   pars ← par_rows_at size (1 + length procedures.0) h.sizes.code_len h.counts.pars labels.1

@@ -16,16 +16,18 @@ use Rattle.module_format.specs.declared.rows.BranchCounts.{BranchCounts}
 use Rattle.module_format.specs.declared.limits.TheConstants.{MAX_BRANCHES, MAX_MESSAGE}
 use Rattle.module_format.specs.Order.{least_word}
 use Rattle.module_format.specs.Contents.{Branch, counts_with, branch_with, Par, par_with}
-use Rattle.module_format.specs.Pars.{behind_channel, behind_interval, meet, behind_number, first_key, behind_end}
+use Rattle.module_format.specs.Pars.{behind_channel, behind_interval, intervals_meet, behind_number, first_key}
+use Rattle.module_format.specs.Pars.{behind_end}
 use Rattle.module_format.specs.Pars.{Before, behind_branch, behind_par, no_branches}
-use Rattle.module_format.specs.Reading.{◌>>=◌, Read, tested, place, number_at, int_at, limited_at, positive_at, byte_at}
+use Rattle.module_format.specs.Reading.{◌>>=◌, Read, tested, place, number_at, int_at, limited_at, positive_at}
+use Rattle.module_format.specs.Reading.{byte_taken}
 use Rattle.module_format.specs.Reading.{in_code_at, list_at}
 use Rattle.module_format.specs.ReadingRows.{first_word_at}
 
 -- ---- channels and intervals
 
-unfoldable pub channel_at : ℕ → ℤ → List ℕ → Read ChannelRow
-channel_at size low rest = do
+unfoldable pub channel_row_at : ℕ → ℤ → List ℕ → Read ChannelRow
+channel_row_at size low rest = do
   word ← first_word_at size low rest
   len ← positive_at size MAX_MESSAGE word.1
   Ok (record { word = word.0; length = len.0 }, len.1)
@@ -35,8 +37,8 @@ unfoldable pub interval_end_at : ℕ → ℤ → List ℕ → Read ℤ
 interval_end_at size lo rest = tested (int_at size rest) (int_lt lo) faults.Range (place size rest)
 
 -- frame words from `low` on
-unfoldable pub words_at : ℕ → ℤ → List ℕ → Read Interval
-words_at size low rest = do
+unfoldable pub frame_words_at : ℕ → ℤ → List ℕ → Read Interval
+frame_words_at size low rest = do
   lo ← first_word_at size low rest
   hi ← interval_end_at size lo.0 lo.1
   Ok (record { lo = lo.0; hi = hi.0 }, hi.1)
@@ -44,7 +46,7 @@ words_at size low rest = do
 -- words that are read, none of them one that is written
 unfoldable pub read_words_at : ℕ → List Interval → ℤ → List ℕ → Read Interval
 read_words_at size writes low rest =
-    tested (words_at size low rest) (λ i. not (list_any (meet i) writes)) faults.Order (place size rest)
+    tested (frame_words_at size low rest) (λ i. not (list_any (intervals_meet i) writes)) faults.Order (place size rest)
 
 -- ---- parameters and ends
 
@@ -55,7 +57,7 @@ parameter_number_at size low rest = tested (number_at size 2 rest) (nat_le low) 
 -- a kind of end, which is not below that of the end before
 unfoldable pub end_kind_at : ℕ → EndKey → List ℕ → Read ℕ
 end_kind_at size before rest =
-    let known = tested (byte_at size rest) (λ kind. nat_le kind END_LINK) faults.Range (place size rest) in
+    let known = tested (byte_taken size rest) (λ kind. nat_le kind END_LINK) faults.Range (place size rest) in
     tested known (nat_le before.kind) faults.Order (place size rest)
 
 -- a link has a number from 0 to 7
@@ -81,7 +83,7 @@ unfoldable pub end_direction_at : ℕ → EndKey → ℕ → ℤ → ℕ → Lis
 end_direction_at size before kind number element rest =
     let same = (kind == before.kind) && (int_le number before.number && int_le before.number number) in
     let is_known = λ (direction : ℕ). (direction == DIRECTION_IN) || (direction == DIRECTION_OUT) in
-    let known = tested (byte_at size rest) is_known faults.Range (place size rest) in
+    let known = tested (byte_taken size rest) is_known faults.Range (place size rest) in
     let falls = λ (direction : ℕ). same && (element == before.element) && nat_le direction before.direction in
     tested known (λ direction. not (falls direction)) faults.Order (place size rest)
 
@@ -93,8 +95,8 @@ end_kind (suc (suc n)) number element = ends.Link (unsigned_abs number)
 abbrev pub direction_of : ℕ → Direction
 direction_of n = if n == DIRECTION_IN then directions.In else directions.Out
 
-unfoldable pub end_at : ℕ → EndKey → List ℕ → Read EndRow
-end_at size before rest = do
+unfoldable pub end_row_at : ℕ → EndKey → List ℕ → Read EndRow
+end_row_at size before rest = do
   kind ← end_kind_at size before rest
   number ← end_number_at size before kind.0 kind.1
   element ← end_element_at size before kind.0 number.0 number.1
@@ -124,11 +126,11 @@ branch_row_at size code_len before rest = do
   entry ← branch_entry_at size code_len before rest
   workspace ← int_at size entry.1
   counts ← branch_counts_at size workspace.1
-  writes ← list_at (words_at size) behind_interval counts.0.writes least_word counts.1
+  writes ← list_at (frame_words_at size) behind_interval counts.0.writes least_word counts.1
   reads ← list_at (read_words_at size writes.0) behind_interval counts.0.reads least_word writes.1
   written ← list_at (parameter_number_at size) behind_number counts.0.written_parameters 0 reads.1
   read ← list_at (parameter_number_at size) behind_number counts.0.read_parameters 0 written.1
-  ends ← list_at (end_at size) behind_end counts.0.ends first_key read.1
+  ends ← list_at (end_row_at size) behind_end counts.0.ends first_key read.1
   Ok (branch_with entry.0 workspace.0 writes.0 reads.0 written.0 read.0 ends.0, ends.1)
 
 -- ---- rows
@@ -150,7 +152,7 @@ par_row_at size own code_len before rest = do
   successor ← in_code_at size code_len block.1
   channel_count ← number_at size 2 successor.1
   branch_count ← branch_count_at size channel_count.1
-  channels ← list_at (channel_at size) behind_channel channel_count.0 least_word branch_count.1
+  channels ← list_at (channel_row_at size) behind_channel channel_count.0 least_word branch_count.1
   branches ← list_at (branch_row_at size code_len) behind_branch branch_count.0 before channels.1
   Ok (par_with context.0 depth.0 block.0 successor.0 channels.0 branches.0, branches.1)
 

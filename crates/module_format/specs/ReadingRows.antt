@@ -29,21 +29,21 @@ use Rattle.module_format.specs.Order.{least_word, greatest_word, is_multiple_of_
 use Rattle.module_format.specs.Contents.{Procedure, Label, label_with}
 use Rattle.module_format.specs.Facts.{is_loop_length, behind_entry, behind_label}
 use Rattle.module_format.specs.Procedures.{is_region_size, are_ends, is_frame_start, is_frame_end, behind_parameter}
-use Rattle.module_format.specs.Procedures.{behind_procedure, words_of, behind_table}
+use Rattle.module_format.specs.Procedures.{behind_procedure, words_in_bytes, behind_table}
 use Rattle.module_format.specs.Reading.{◌>>=◌, Read, tested, fault, place, number_at, int_at, limited_at, positive_at}
-use Rattle.module_format.specs.Reading.{at_most_at, byte_at, in_code_at, interval_at, list_at}
+use Rattle.module_format.specs.Reading.{at_most_at, byte_taken, in_code_at, interval_at, list_at}
 
 -- ---- facts
 
-unfoldable pub range_at : ℕ → List ℕ → Read Fact
-range_at size rest = do
+unfoldable pub number_fact_at : ℕ → List ℕ → Read Fact
+number_fact_at size rest = do
   range ← interval_at size rest
   Ok (facts.Number range.0.0 range.0.1, range.1)
 
 -- a step of 1, or of 4 where both bounds are multiples of it
 unfoldable pub step_at : ℕ → ℤ → ℤ → List ℕ → Read Step
 step_at size lo hi rest = do
-  step ← byte_at size rest
+  step ← byte_taken size rest
   if step.0 == 1 then Ok (steps.Byte, step.1)
       else (if (step.0 == 4) && is_stepped lo && is_stepped hi then Ok (steps.Word, step.1)
       else Err (fault faults.Range (place size rest)))
@@ -80,20 +80,20 @@ loop_at size rest = do
 -- a fact that registers and words have alike, after its tag at an offset
 unfoldable pub fact_at : ℕ → ℕ → ℕ → ℕ → List ℕ → Read Fact
 fact_at size code_len at tag rest =
-    if tag == TAG_NUMBER then range_at size rest
+    if tag == TAG_NUMBER then number_fact_at size rest
     else (if tag == TAG_POINTER then pointer_at size rest
     else (if tag == TAG_CODE_ADDRESS then code_address_at size code_len rest else Err (fault faults.Range at)))
 
 -- a fact of a register
 unfoldable pub register_at : ℕ → ℕ → List ℕ → Read Fact
 register_at size code_len rest = do
-  tag ← byte_at size rest
+  tag ← byte_taken size rest
   if tag.0 == TAG_UNKNOWN then Ok (facts.Unknown, tag.1) else fact_at size code_len (place size rest) tag.0 tag.1
 
 -- a fact of `span` frame words
-unfoldable pub word_at : ℕ → ℕ → ℕ → List ℕ → Read Fact
-word_at size code_len span rest = do
-  tag ← byte_at size rest
+unfoldable pub word_fact_at : ℕ → ℕ → ℕ → List ℕ → Read Fact
+word_fact_at size code_len span rest = do
+  tag ← byte_taken size rest
   if (tag.0 == TAG_LOOP) && (span == 2) then loop_at size tag.1
       else (if (tag.0 == TAG_RETURN_ADDRESS) && (span == 1) then Ok (facts.ReturnAddress, tag.1)
       else fact_at size code_len (place size rest) tag.0 tag.1)
@@ -112,7 +112,7 @@ unfoldable pub entry_at : ℕ → ℕ → ℤ → List ℕ → Read Entry
 entry_at size code_len low rest = do
   word ← first_word_at size low rest
   span ← span_at size word.1
-  fact ← word_at size code_len span.0 span.1
+  fact ← word_fact_at size code_len span.0 span.1
   Ok (record { word = word.0; span = span.0; fact = fact.0 }, fact.1)
 
 -- the entries of a label row, after their number
@@ -176,7 +176,7 @@ region_at size version kind rest = do
 -- one end or both
 unfoldable pub ends_at : ℕ → List ℕ → Read Ends
 ends_at size rest = do
-  bits ← tested (byte_at size rest) are_ends faults.Range (place size rest)
+  bits ← tested (byte_taken size rest) are_ends faults.Range (place size rest)
   Ok (record { 0 = bits.0 }, bits.1)
 
 -- a number of channels, at least 1
@@ -194,7 +194,7 @@ value_at size rest = do
 
 unfoldable pub kind_at : ℕ → Version → List ℕ → Read ParameterKind
 kind_at size version rest = do
-  kind ← byte_at size rest
+  kind ← byte_taken size rest
   if kind.0 == KIND_VALUE then value_at size kind.1
       else (if kind.0 == KIND_READ_REGION then region_at size version kinds.ReadRegion kind.1
       else (if kind.0 == KIND_WRITTEN_REGION then region_at size version kinds.WrittenRegion kind.1
@@ -213,8 +213,8 @@ parameter_at size version hi low rest = do
   kind ← kind_at size version word.1
   Ok (record { word = word.0; kind = kind.0 }, kind.1)
 
-unfoldable pub parameters_at : ℕ → Version → ℤ → List ℕ → Read (List Parameter)
-parameters_at size version hi rest = do
+unfoldable pub parameter_rows_at : ℕ → Version → ℤ → List ℕ → Read (List Parameter)
+parameter_rows_at size version hi rest = do
   count ← limited_at size 2 MAX_PARAMETERS rest
   list_at (parameter_at size version hi) behind_parameter count.0 0 count.1
 
@@ -235,7 +235,7 @@ procedure_row_at size version code_len low rest = do
   lo ← frame_start_at size entry.1
   hi ← frame_end_at size lo.1
   number ← number_at size 8 hi.1
-  parameters ← parameters_at size version hi.0 number.1
+  parameters ← parameter_rows_at size version hi.0 number.1
   Ok (record { entry = entry.0; lo = lo.0; hi = hi.0; number = number.0; parameters = parameters.0 }, parameters.1)
 
 unfoldable pub procedure_rows_at : ℕ → Version → ℕ → ℕ → List ℕ → Read (List Procedure)
@@ -257,13 +257,13 @@ table_end_at size const_len start rest =
     tested (number_at size 4 rest) is_inside faults.Range (place size rest)
 
 -- the word lies from lo to hi
-abbrev pub is_within : ℤ → ℤ → ℤ → Bool
-is_within lo hi word = int_le lo word && int_le word hi
+abbrev pub lies_between : ℤ → ℤ → ℤ → Bool
+lies_between lo hi word = int_le lo word && int_le word hi
 
 -- the words of the constants from byte `start` up to byte `end` lie in a range
 abbrev pub words_lie_in : List ℕ → ℕ → ℕ → ℤ × ℤ → Bool
 words_lie_in constants start end range =
-    list_all (is_within range.0 range.1) (words_of (take (end - start) (drop start constants)))
+    list_all (lies_between range.0 range.1) (words_in_bytes (take (end - start) (drop start constants)))
 
 unfoldable pub table_row_at : ℕ → List ℕ → ℕ → List ℕ → Read TableRow
 table_row_at size constants low rest = do

@@ -19,16 +19,16 @@ use Rattle.module_format.specs.Spelling.{u16_bytes, fact_bytes, entry_bytes, lab
 use Rattle.module_format.specs.Spelling.{end_bytes, branch_bytes, par_bytes}
 use Rattle.module_format.specs.Contexts.{context_at, parameters_at}
 use Rattle.module_format.specs.Facts.{end_of}
-use Rattle.module_format.specs.Keeping.{is_region, names, names_end}
+use Rattle.module_format.specs.Keeping.{is_region, names, end_is_there}
 use Rattle.module_format.specs.Reading.{◌>>=◌, fault}
 
-abbrev pub passes : Result ⊤ FormatFault
-passes = Ok tt
+abbrev pub is_without_fault : Result ⊤ FormatFault
+is_without_fault = Ok tt
 
 -- each item in turn, where `at` is the place of the first and spelled gives the bytes of one
 unfoldable pub list_references : {A : Type 0} → (ℕ → A → Result ⊤ FormatFault) → (A → List ℕ) → ℕ → List A
     → Result ⊤ FormatFault
-list_references item spelled at [] = passes
+list_references item spelled at [] = is_without_fault
 list_references item spelled at (x ∷ xs) = do
   _ ← item at x
   list_references item spelled (at + length (spelled x)) xs
@@ -37,13 +37,14 @@ list_references item spelled at (x ∷ xs) = do
 
 -- a pointer's region is there; `at` is the place of the fact, and its region is after the tag
 unfoldable pub fact_references : ℕ → ℕ → Fact → Result ⊤ FormatFault
-fact_references parameters at facts.Unknown = passes
-fact_references parameters at (facts.Number lo hi) = passes
+fact_references parameters at facts.Unknown = is_without_fault
+fact_references parameters at (facts.Number lo hi) = is_without_fault
 fact_references parameters at (facts.Pointer region lo hi step) =
-    if nat_lt (region_number region) (2 + parameters) then passes else Err (fault faults.Range (at + TAG_SIZE))
-fact_references parameters at (facts.CodeAddress offset) = passes
-fact_references parameters at (facts.Loop base count weight) = passes
-fact_references parameters at facts.ReturnAddress = passes
+    if nat_lt (region_number region) (2 + parameters) then is_without_fault else Err
+    (fault faults.Range (at + TAG_SIZE))
+fact_references parameters at (facts.CodeAddress offset) = is_without_fault
+fact_references parameters at (facts.Loop base count weight) = is_without_fault
+fact_references parameters at facts.ReturnAddress = is_without_fault
 
 -- an entry's words lie in the frame; `at` is the place of the entry, and its fact is 8 bytes after it
 unfoldable pub entry_references : Context → ℕ → Entry → Result ⊤ FormatFault
@@ -77,11 +78,12 @@ label_references c at row = references_in (context_at c row.context) at row
 
 -- a parameter that a branch is given is a region
 unfoldable pub parameter_references : List Parameter → ℕ → ℕ → Result ⊤ FormatFault
-parameter_references parameters at j = if names is_region parameters j then passes else Err (fault faults.Range at)
+parameter_references parameters at j = if names is_region parameters j then is_without_fault else Err
+    (fault faults.Range at)
 
 -- the parameter that an end belongs to has that channel; its number is after the kind
 unfoldable pub end_references : List Parameter → ℕ → EndRow → Result ⊤ FormatFault
-end_references parameters at e = if names_end parameters e.kind then passes else Err
+end_references parameters at e = if end_is_there parameters e.kind then is_without_fault else Err
     (fault faults.Range (at + TAG_SIZE))
 
 -- what a branch is given is there; its intervals are 18 bytes after its place, and the parameters and ends after

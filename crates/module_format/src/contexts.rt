@@ -3,7 +3,7 @@
 
 ghost use Rattle.std.specs.Prelude.{◌≡◌, option_map};
 ghost use Rattle.module_format.specs.Contents.{procedure_of, contents_of};
-ghost use Rattle.module_format.specs.Contexts.{root_context, procedure_context, procedure_at, own_context};
+ghost use Rattle.module_format.specs.Contexts.{root_context, procedure_context, procedure_numbered, own_context};
 ghost use Rattle.module_format.specs.Contexts.{own_parameters};
 
 use crate::places::{Place, owner_of};
@@ -43,7 +43,7 @@ fn procedure_context(row: &ProcedureRow) -> Context
 
 /// The procedure that is the context of a number.
 fn procedure_at<'t>(tables: &'t Tables, number: u32) -> Option<&'t ProcedureRow>
-    ensures { option_map (λ row. procedure_of row.now) result ≡ procedure_at (contents_of tables.now) number }
+    ensures { option_map (λ row. procedure_of row.now) result ≡ procedure_numbered (contents_of tables.now) number }
 {
     if number == 0 {
         return None;
@@ -58,7 +58,7 @@ fn own_context(tables: &Tables, number: u32) -> Option<Context>
     if number == 0 {
         return Some(root_context(tables));
     }
-    match procedure_at(tables, number) {
+    match procedure_numbered(tables, number) {
         Some(row) => Some(procedure_context(row)),
         None => None,
     }
@@ -68,7 +68,7 @@ fn own_context(tables: &Tables, number: u32) -> Option<Context>
 fn own_parameters<'t>(tables: &'t Tables, number: u32) -> &'t [Parameter]
     ensures { result.now ≡ own_parameters (contents_of tables.now) number }
 {
-    match procedure_at(tables, number) {
+    match procedure_numbered(tables, number) {
         Some(row) => &row.parameters,
         None => &[],
     }

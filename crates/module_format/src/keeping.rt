@@ -10,7 +10,7 @@ ghost use Rattle.std.specs.Prelude.{◌≡◌, ◌↔◌, ◌≤◌, IsTrue, map
 ghost use Rattle.std.specs.List.{AllByRecursion};
 ghost use Rattle.module_format.specs.Contents.{contents_of, label_of, procedure_of};
 ghost use Rattle.module_format.specs.Facts.{LabelKeeps, behind_label};
-ghost use Rattle.module_format.specs.Offsets.{EntriesRise};
+ghost use Rattle.module_format.specs.Offsets.{ProceduresRise};
 ghost use Rattle.module_format.specs.Order.{InOrder, IsBytes};
 ghost use Rattle.module_format.specs.Keeping.{SizesKeep, BoundsKeep, LimitsKeep, RowsKeep, NamesAreThere, Keeps};
 ghost use Rattle.module_format.specs.Keeping.{FitsVersion};
@@ -84,7 +84,7 @@ fn limits_keep(tables: &Tables) -> bool
 
 /// The label rows.
 fn labels_keep(code_len: usize, procedures: &[ProcedureRow], rows: &[LabelRow]) -> bool
-    requires { EntriesRise procedures.now }
+    requires { ProceduresRise procedures.now }
     ensures { IsTrue result
         ↔ InOrder (LabelKeeps code_len (map procedure_of procedures.now)) behind_label 0 (map label_of rows.now) }
 {

@@ -6,13 +6,13 @@ ghost use Rattle.std.specs.Prelude.{◌≡◌, ◌↔◌, IsTrue, ℕ, ℤ, List
 ghost use Rattle.module_format.specs.Contents.{label_of, procedure_of};
 ghost use Rattle.module_format.specs.Facts.{EntryKeeps, behind_entry, LabelKeeps, behind_label};
 ghost use Rattle.module_format.specs.Meaning.{Listing, listed, listed_as};
-ghost use Rattle.module_format.specs.Offsets.{EntriesRise};
+ghost use Rattle.module_format.specs.Offsets.{ProceduresRise};
 ghost use Rattle.module_format.specs.Order.{InOrder, least_word};
 ghost use Rattle.module_format.specs.Pars.{ChannelKeeps, behind_channel, IntervalKeeps, behind_interval, ReadKeeps};
 ghost use Rattle.module_format.specs.Pars.{NumberKeeps, behind_number, EndKeeps, behind_end};
 ghost use Rattle.module_format.specs.Procedures.{ParameterKeeps, behind_parameter, ProcedureKeeps, behind_procedure};
 ghost use Rattle.module_format.specs.Procedures.{TableKeeps, behind_table};
-ghost use Rattle.module_format.specs.ReadingPars.{channel_at, words_at, read_words_at, parameter_number_at, end_at};
+ghost use Rattle.module_format.specs.ReadingPars.{channel_row_at, frame_words_at, read_words_at, parameter_number_at, end_row_at};
 ghost use Rattle.module_format.specs.ReadingRows.{entry_at, label_row_at, parameter_at, procedure_row_at};
 ghost use Rattle.module_format.specs.ReadingRows.{table_row_at};
 ghost use Rattle.module_format.specs.Taking.{Takes};
@@ -85,7 +85,7 @@ impl Listed<usize> for Entry {
 pub(crate) struct Labelled<'p> {
     pub code_len: usize,
     pub procedures: &'p [ProcedureRow],
-    ghost rise: { EntriesRise procedures.now },
+    ghost rise: { ProceduresRise procedures.now },
 }
 
 /// Label rows.
@@ -243,7 +243,7 @@ impl Listed<Constants<'_>> for TableRow {
 impl Listed<()> for ChannelRow {
     type Low = i64;
 
-    ghost listing = { listed (λ _. channel_at) behind_channel };
+    ghost listing = { listed (λ _. channel_row_at) behind_channel };
 
     ghost Keeps = { λ _. ChannelKeeps };
 
@@ -266,7 +266,7 @@ impl Listed<()> for ChannelRow {
 impl Listed<()> for Interval {
     type Low = i64;
 
-    ghost listing = { listed (λ _. words_at) behind_interval };
+    ghost listing = { listed (λ _. frame_words_at) behind_interval };
 
     ghost Keeps = { λ _. IntervalKeeps };
 
@@ -345,7 +345,7 @@ impl Listed<()> for u16 {
 impl Listed<()> for EndRow {
     type Low = EndKey;
 
-    ghost listing = { listed (λ _. end_at) behind_end };
+    ghost listing = { listed (λ _. end_row_at) behind_end };
 
     ghost Keeps = { λ _. EndKeeps };
 

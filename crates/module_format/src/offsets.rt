@@ -4,7 +4,7 @@ ghost use Rattle.std.specs.Prelude.{◌≡◌, ◌==◌, ℕ, map, MatchOption};
 ghost use Rattle.std.specs.List.{list_any};
 ghost use Rattle.std.specs.List.Sorted.{IsNonDecreasingBy};
 ghost use Rattle.module_format.specs.Contents.{procedure_of};
-ghost use Rattle.module_format.specs.Offsets.{IsNowhere, IsFirst, EntriesRise};
+ghost use Rattle.module_format.specs.Offsets.{IsNowhere, IsFirst, ProceduresRise};
 
 use crate::rows::{LabelRow, ProcedureRow};
 
@@ -48,7 +48,7 @@ pub fn row_at<T: AtOffset>(rows: &[T], offset: u32) -> Option<(usize, &T)>
 
 /// Whether a procedure begins at an offset.
 pub(crate) fn is_entry(rows: &[ProcedureRow], offset: u32) -> bool
-    requires { EntriesRise rows.now }
+    requires { ProceduresRise rows.now }
     ensures { result ≡ list_any (λ p. p.entry == offset) (map procedure_of rows.now) }
 {
     row_at(rows, offset).is_some()

@@ -4,7 +4,7 @@ ghost use Rattle.std.specs.Prelude.{◌≡◌, ◌<◌, ◌≤◌, length};
 ghost use Rattle.module_format.specs.Contents.{Contents, contents_of};
 ghost use Rattle.module_format.specs.Contexts.{owner, first_branch};
 ghost use Rattle.module_format.specs.Keeping.{LimitsKeep, RowsKeep};
-ghost use Rattle.module_format.specs.Places.{rows_end, AreRowOwners, IsRowOf};
+ghost use Rattle.module_format.specs.Places.{rows_end, AreRowOwners, IsOwnersRow};
 
 use crate::limits::MAX_PARS;
 use crate::rows::ParRow;
@@ -37,7 +37,7 @@ pub(crate) fn rows_end(tables: &Tables, rows: &[RowOwner]) -> usize
 /// The PAR row of a branch, where the first PAR rows have these owners. It takes logarithmic time.
 fn row_of(rows: &[RowOwner], context: usize) -> usize
     ensures { (c : Contents) → first_branch c ≤ context → context < rows_end c (length rows.now)
-        → AreRowOwners c (length rows.now) rows.now → IsRowOf c rows.now context result }
+        → AreRowOwners c (length rows.now) rows.now → IsOwnersRow c rows.now context result }
 {
     rows.partition_point(|row| row.end <= context)
 }

@@ -12,7 +12,7 @@ use Rattle.machine_state.specs.Site.{Site, Local, Outcome, fails, waits}
 use Rattle.machine_state.specs.declared.fault.FaultKind.TheVariants.{NotOwn, OutsideCode, Unaligned, CountRange}
 use Rattle.machine_state.specs.LocalStep.{alone, while_enabling, uses, aligned, address, leads_to, turned}
 use Rattle.machine_state.specs.LocalStep.{holds_scheduling_words, schedules, writes, followed_by_code}
-use Rattle.machine_state.specs.LocalStep.{without_registers, counts, replaces_two, shifted, operation_step}
+use Rattle.machine_state.specs.LocalStep.{without_registers, counts, replaces_two, shift_result, operation_step}
 use Rattle.machine_state.specs.Performing.{Performs}
 use Rattle.machine_state.proofs.Scheduling.{schedules-is}
 use Rattle.operations.specs.Loops.{loop_target, counts_turn, tests_block}
@@ -50,13 +50,13 @@ counts-within least most v k within = ap (λ (b : Bool). cond b (k (nat_abs v)) 
 pub shifts-word : (s : Site) (l : Local) (op : Shift) (a b : ℤ) (n : ℕ)
     → ((k : ℤ → Outcome) → alone s.mode (uses l.registers.stack.a k) ≡ k a)
     → l.registers.stack.b ≡ Some b → (int_le (pos 0) a && int_le a (pos 31)) ≡ true → n ≡ nat_abs a
-    → operation_step s (ops.Shift op) l ≡ replaces_two s (shifted op b n) l
+    → operation_step s (ops.Shift op) l ≡ replaces_two s (shift_result op b n) l
 unfolding operation_step
 shifts-word s l op a b n finds b_is within n_is =
-    finds (λ a. uses l.registers.stack.b (λ b. counts 0 31 a (λ n. replaces_two s (shifted op b n) l)))
-    ∙ (uses-some l.registers.stack.b b (λ b. counts 0 31 a (λ n. replaces_two s (shifted op b n) l)) b_is
-    ∙ (counts-within 0 31 a (λ n. replaces_two s (shifted op b n) l) within
-    ∙ ap (λ (n : ℕ). replaces_two s (shifted op b n) l) (sym n_is)))
+    finds (λ a. uses l.registers.stack.b (λ b. counts 0 31 a (λ n. replaces_two s (shift_result op b n) l)))
+    ∙ (uses-some l.registers.stack.b b (λ b. counts 0 31 a (λ n. replaces_two s (shift_result op b n) l)) b_is
+    ∙ (counts-within 0 31 a (λ n. replaces_two s (shift_result op b n) l) within
+    ∙ ap (λ (n : ℕ). replaces_two s (shift_result op b n) l) (sym n_is)))
 
 -- where the words that scheduling takes are not the process's own, altwt is at fault
 pub waits-unscheduled : (s : Site) (l : Local) → ((o : Outcome) → while_enabling s.mode o ≡ o)

@@ -15,12 +15,12 @@ use Rattle.module_format.specs.declared.fact.Fact.TheVariants.{ReturnAddress}
 use Rattle.module_format.specs.Facts.{end_of}
 use Rattle.module_format.specs.Order.{least_word}
 use Rattle.module_format.specs.Contents.{Contents, Branch, Label}
-use Rattle.certificate.specs.Starting.{is_seen, is_unknown, entry_is_seen}
+use Rattle.certificate.specs.Starting.{is_read_beside_scheduling, is_unknown, entry_is_seen}
 use Rattle.certificate.specs.Words.{all_words}
 use Rattle.states.specs.declared.known.WordFact.{WordFact}
 use Rattle.states.specs.declared.known.WordFact.TheVariants.{Alone, Index, Count}
 use Rattle.states.specs.State.{State, Facts, by_itself, handed_out, plain, is_alone, said_of, entry_fact}
-use Rattle.states.specs.Below.{implies, is_constant, says, words_say, entries_hold, is_whole, holds_constant}
+use Rattle.states.specs.Below.{implies, is_exactly, says, words_say, entries_hold, is_whole, holds_constant}
 use Rattle.states.specs.Below.{price}
 use Rattle.states.specs.Rows.{rise_from, AreApart}
 use Rattle.states.specs.Cutting.{AreLoopsApart}
@@ -41,7 +41,7 @@ handed-implies (CodeAddress offset) (CodeAddress offset') other h = h
 handed-implies ReturnAddress ReturnAddress other h = absurd (other refl)
 handed-implies fact wanted other h = absurd (cc)
 
-handed-constant : (fact : Fact) (number : ℤ) → is_constant (handed_out fact) number ≡ is_constant fact number
+handed-constant : (fact : Fact) (number : ℤ) → is_exactly (handed_out fact) number ≡ is_exactly fact number
 handed-constant Unknown number = refl
 handed-constant (Number lo hi) number = refl
 handed-constant (Pointer region lo hi step) number = refl
@@ -93,25 +93,25 @@ module _ (m : Contents) (n : ℕ) (workspace : ℤ) (facts : Facts) where
   abbrev view : Facts
   view = branch_facts m n workspace facts
 
-  view-seen : (k : ℤ) → is_seen m n workspace k ≡ true → view k ≡ Alone (plain (facts k))
+  view-seen : (k : ℤ) → is_read_beside_scheduling m n workspace k ≡ true → view k ≡ Alone (plain (facts k))
   view-seen k seen = ap (λ (b : Bool). if b then Alone (plain (facts k)) else Alone Unknown) seen
 
   view-alone : (k : ℤ) → is_alone (view k) ≡ true
-  view-alone k = either (is_seen m n workspace k) where
+  view-alone k = either (is_read_beside_scheduling m n workspace k) where
     either : (b : Bool) → is_alone (if b then Alone (plain (facts k)) else Alone Unknown) ≡ true
     either true = refl
     either false = refl
 
   -- words of an entry
   words-view : (entry : Entry) (count : ℕ) → (entry.fact ≡ ReturnAddress → ⊥)
-      → all_words (is_seen m n workspace) entry.word count ≡ true
+      → all_words (is_read_beside_scheduling m n workspace) entry.word count ≡ true
       → ((i : ℕ) → i < count
       → is_alone (facts (entry.word +ℤ pos i)) || is_alone (said_of entry.fact (eqb i 0)) ≡ true)
       → words_say facts entry count ≡ true → words_say view entry count ≡ true
   words-view entry zero other seen apart h = refl
   words-view entry (suc more) other seen apart h =
-      let here : (is_seen m n workspace (entry.word +ℤ pos more) ≡ true)
-      × (all_words (is_seen m n workspace) entry.word more ≡ true) = and_parts _ _ seen in
+      let here : (is_read_beside_scheduling m n workspace (entry.word +ℤ pos more) ≡ true)
+      × (all_words (is_read_beside_scheduling m n workspace) entry.word more ≡ true) = and_parts _ _ seen in
       let said : (says (facts (entry.word +ℤ pos more)) (said_of entry.fact (eqb more 0)) ≡ true)
       × (words_say facts entry more ≡ true) = and_parts _ _ h in
       and_from _ _
@@ -140,7 +140,7 @@ module _ (m : Contents) (n : ℕ) (workspace : ℤ) (facts : Facts) where
       → is_alone (facts (entry.word +ℤ pos i)) || is_alone (said_of entry.fact (eqb i 0)) ≡ true
 
   plain-agrees : (entry : Entry) → (entry.fact ≡ ReturnAddress → ⊥)
-      → all_words (is_seen m n workspace) entry.word entry.span ≡ true → IsApart entry
+      → all_words (is_read_beside_scheduling m n workspace) entry.word entry.span ≡ true → IsApart entry
       → words_say facts entry entry.span ≡ true → is_whole view entry ≡ true
       → price view entry ≡ price facts entry → Agrees entry
   plain-agrees entry other seen apart h whole due =
@@ -152,19 +152,20 @@ module _ (m : Contents) (n : ℕ) (workspace : ℤ) (facts : Facts) where
   loop-whole entry base count weight is =
       rw (is, view-alone entry.word, view-alone (entry.word +ℤ pos 1)) refl
 
-  seen-at : (first : ℤ) (count i : ℕ) → all_words (is_seen m n workspace) first count ≡ true → i < count
-      → is_seen m n workspace (first +ℤ pos i) ≡ true
+  seen-at : (first : ℤ) (count i : ℕ) → all_words (is_read_beside_scheduling m n workspace) first count ≡ true
+      → i < count
+      → is_read_beside_scheduling m n workspace (first +ℤ pos i) ≡ true
   seen-at first zero i seen low = absurd (omega arith)
   seen-at first (suc more) i seen low =
-      let both : (is_seen m n workspace (first +ℤ pos more) ≡ true)
-      × (all_words (is_seen m n workspace) first more ≡ true) = and_parts _ _ seen in
+      let both : (is_read_beside_scheduling m n workspace (first +ℤ pos more) ≡ true)
+      × (all_words (is_read_beside_scheduling m n workspace) first more ≡ true) = and_parts _ _ seen in
       elim (cases_eq i more) [
-        | inl e ↦ ap (λ (j : ℕ). is_seen m n workspace (first +ℤ pos j)) e ∙ both.0
+        | inl e ↦ ap (λ (j : ℕ). is_read_beside_scheduling m n workspace (first +ℤ pos j)) e ∙ both.0
         | inr e ↦ seen-at first more i both.1 (omega arith)
       ]
 
   loop-due : (entry : Entry) (base : ℤ) (count weight : ℕ) → entry.fact ≡ Loop base count weight → entry.span ≡ 2
-      → all_words (is_seen m n workspace) entry.word entry.span ≡ true → IsApart entry
+      → all_words (is_read_beside_scheduling m n workspace) entry.word entry.span ≡ true → IsApart entry
       → price view entry ≡ price facts entry
   loop-due entry base count weight is span seen apart =
       let at_zero : entry.word +ℤ pos 0 ≡ entry.word = omega (arith, ints) in
@@ -179,7 +180,7 @@ module _ (m : Contents) (n : ℕ) (workspace : ℤ) (facts : Facts) where
       ∙ apart 1 (omega (arith, span))) in
       let first : holds_constant (view entry.word) base ≡ holds_constant (facts entry.word) base =
       ap (λ (f : WordFact). holds_constant f base)
-      (view-seen entry.word (ap (is_seen m n workspace) (sym at_zero)
+      (view-seen entry.word (ap (is_read_beside_scheduling m n workspace) (sym at_zero)
       ∙ seen-at entry.word entry.span 0 seen (omega (arith, span))))
       ∙ plain-constant (facts entry.word) base first_alone in
       let second : holds_constant (view (entry.word +ℤ pos 1)) (pos count)
@@ -194,7 +195,7 @@ module _ (m : Contents) (n : ℕ) (workspace : ℤ) (facts : Facts) where
       ∙ ap (λ (b : Bool). if holds_constant (facts entry.word) base && b then weight * (count - 1) else 0) second)
 
   entry-agrees-by : (entry : Entry) (fact : Fact) → entry.fact ≡ fact
-      → is_unknown entry.fact || all_words (is_seen m n workspace) entry.word entry.span ≡ true
+      → is_unknown entry.fact || all_words (is_read_beside_scheduling m n workspace) entry.word entry.span ≡ true
       → is_readable entry ≡ true → IsApart entry → words_say facts entry entry.span ≡ true → Agrees entry
   entry-agrees-by entry Unknown is seen readable apart h = record {
     words = words-unknown entry entry.span is;
@@ -211,7 +212,7 @@ module _ (m : Contents) (n : ℕ) (workspace : ℤ) (facts : Facts) where
       plain-agrees entry (λ e. let clash : CodeAddress offset ≡ ReturnAddress = sym is ∙ e in cc) (rw is at seen)
       apart h (rw is refl) (rw is refl)
   entry-agrees-by entry (Loop base count weight) is seen readable apart h =
-      let all : all_words (is_seen m n workspace) entry.word entry.span ≡ true = rw is at seen in
+      let all : all_words (is_read_beside_scheduling m n workspace) entry.word entry.span ≡ true = rw is at seen in
       let two : eqb entry.span 2 ≡ true = rw is at readable in
       let span : entry.span ≡ 2 = grind (arith, nat_tests) in
       plain-agrees entry (λ e. let clash : Loop base count weight ≡ ReturnAddress = sym is ∙ e in cc) all apart h

@@ -11,15 +11,15 @@ use Rattle.module_format.specs.Contents.{Contents, Par, Branch}
 use Rattle.certificate.specs.Branches.{numbered_branch}
 use Rattle.certificate.specs.Rights.{has_end, listed_length}
 use Rattle.certificate.specs.Siblings.{brings_channel, has_ends_of}
-use Rattle.states.specs.State.{is_word}
+use Rattle.states.specs.State.{is_same_number}
 use Rattle.rulings.specs.Remaining.{is_own_end}
 use Rattle.par_rules.specs.Gifts.{has_end_to_give}
 
 listed : (k : ℤ) (cs : List ChannelRow)
-    → is_some (listed_length cs k) ≡ list_any (λ (c : ChannelRow). is_word c.word k) cs
+    → is_some (listed_length cs k) ≡ list_any (λ (c : ChannelRow). is_same_number c.word k) cs
 listed k [] = refl
 listed k (c ∷ cs) = elim (int_le c.word k && int_le k c.word) as (λ b. (int_le c.word k && int_le k c.word) ≡ b
-    → is_some (listed_length (c ∷ cs) k) ≡ list_any (λ (x : ChannelRow). is_word x.word k) (c ∷ cs)) [
+    → is_some (listed_length (c ∷ cs) k) ≡ list_any (λ (x : ChannelRow). is_same_number x.word k) (c ∷ cs)) [
       | true ↦ λ e. rw e refl
       | false ↦ λ e. rw e (listed k cs)
     ] refl

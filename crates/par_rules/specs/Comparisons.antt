@@ -8,10 +8,10 @@ use Rattle.module_format.specs.declared.fact.Fact.TheVariants.{Unknown}
 use Rattle.module_format.specs.Stack.{of_empty}
 use Rattle.module_format.specs.Contents.{Contents, Par, Branch, Label}
 use Rattle.certificate.specs.Rights.{may_write_word}
-use Rattle.certificate.specs.Starting.{is_seen, is_written, says_of_hidden}
+use Rattle.certificate.specs.Starting.{is_read_beside_scheduling, is_written, says_of_hidden}
 use Rattle.states.specs.declared.known.WordFact.{WordFact}
 use Rattle.states.specs.declared.known.WordFact.TheVariants.{Alone}
-use Rattle.states.specs.State.{State, Facts, plain, is_word, is_alone, is_silent, said_of}
+use Rattle.states.specs.State.{State, Facts, plain, is_same_number, is_alone, is_silent, said_of}
 use Rattle.states.specs.Below.{View, says, price, is_whole}
 
 -- ---- words of a label, by a test
@@ -32,7 +32,7 @@ label_passes test t = list_all (λ entry. words_pass test entry entry.span) t.en
 -- those that scheduling takes
 abbrev pub branch_facts : Contents → ℕ → ℤ → Facts → Facts
 branch_facts m context workspace facts = λ k.
-    if is_seen m context workspace k then Alone (plain (facts k)) else Alone Unknown
+    if is_read_beside_scheduling m context workspace k then Alone (plain (facts k)) else Alone Unknown
 
 -- what the label of a branch is compared with
 abbrev pub branch_view : Contents → ℕ → Branch → State → View
@@ -49,7 +49,7 @@ branch_view m context b s = record {
 -- The label is where the PAR leads, and says nothing of the registers, the block and the channels.
 abbrev pub is_after : Par → Label → Bool
 is_after par t =
-    (t.context == par.context) && is_word t.depth par.block
+    (t.context == par.context) && is_same_number t.depth par.block
     && is_silent (Alone t.stack.a) && is_silent (Alone t.stack.b) && is_silent (Alone t.stack.c)
     && not (list_any (says_of_hidden par) t.entries)
 

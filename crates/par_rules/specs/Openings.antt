@@ -15,7 +15,7 @@ use Rattle.module_format.specs.Contexts.{parameters_at}
 use Rattle.certificate.specs.Rights.{may_write_word, may_read_word}
 use Rattle.states.specs.declared.known.WordFact.{WordFact}
 use Rattle.states.specs.declared.known.WordFact.TheVariants.{Alone}
-use Rattle.states.specs.State.{State, is_word}
+use Rattle.states.specs.State.{State, is_same_number}
 use Rattle.states.specs.Below.{holds_constant}
 
 -- the word is the address of this code offset
@@ -38,7 +38,7 @@ channel_is_empty m s c = may_write_word m s.context c.word && holds_constant (s.
 -- the word is the address of the first byte of what parameter j names
 abbrev pub is_start_of : ℕ → WordFact → Bool
 is_start_of j (Alone (Pointer (regions.Parameter number) lo hi Word)) =
-    (number == j) && is_word lo (pos 0) && is_word hi (pos 0)
+    (number == j) && is_same_number lo (pos 0) && is_same_number hi (pos 0)
 is_start_of j fact = false
 
 -- the word of parameter j may be read, and has what the procedure was given

@@ -49,8 +49,8 @@ abbrev pub entry : ℤ → Fact → Entry
 entry word fact = record { word = word; span = 1; fact = fact }
 
 -- the address of a word of the frame, by its offset
-abbrev pub address : ℤ → Fact
-address offset = Pointer Frame offset offset Word
+abbrev pub frame_pointer : ℤ → Fact
+frame_pointer offset = Pointer Frame offset offset Word
 
 -- ---- the module
 
@@ -115,30 +115,30 @@ abbrev pub first_start : Variation → Ruling
 first_start v =
     let s = written (pos 0) (CodeAddress 25) (written (pos 1) (exactly (pos 3)) (root_state (pair v))) in
     startp_rule (place_in (pair v) 10)
-    (with_registers (address (negsuc 23)) (exactly (pos v.distance)) 10 (written (negsuc 6) v.scheduled s))
+    (with_registers (frame_pointer (negsuc 23)) (exactly (pos v.distance)) 10 (written (negsuc 6) v.scheduled s))
 
 abbrev pub second_start : Variation → State → Ruling
 second_start v s =
-    startp_rule (place_in (pair v) 14) (with_registers (address (negsuc 35)) (exactly (pos 6)) 3 s)
+    startp_rule (place_in (pair v) 14) (with_registers (frame_pointer (negsuc 35)) (exactly (pos 6)) 3 s)
 
 -- of the process that starts the branches, up to its end
 abbrev pub opener_ruling : Variation → Ruling
 opener_ruling v =
     followed_by (first_start v) (λ s.
     followed_by (second_start v s) (λ s.
-    endp_rule (place_in (pair v) 16) (with_registers (address (pos 0)) Unknown 1 s)))
+    endp_rule (place_in (pair v) 16) (with_registers (frame_pointer (pos 0)) Unknown 1 s)))
 
 -- of the first branch, from this label to its end
 abbrev pub first_branch_ruling : Variation → Label → Ruling
 first_branch_ruling v t =
     endp_rule (place_in (pair v) 20)
-    (with_registers (address (pos 0)) Unknown 3 (written (pos 2) (exactly (pos 1)) (label_state t)))
+    (with_registers (frame_pointer (pos 0)) Unknown 3 (written (pos 2) (exactly (pos 1)) (label_state t)))
 
 -- of the second one
 abbrev pub second_branch_ruling : Variation → Label → Ruling
 second_branch_ruling v t =
     endp_rule (place_in (pair v) 24)
-    (with_registers (address (pos 0)) Unknown 3 (written (pos 3) (exactly (pos 2)) (label_state t)))
+    (with_registers (frame_pointer (pos 0)) Unknown 3 (written (pos 3) (exactly (pos 2)) (label_state t)))
 
 -- ---- variations
 

@@ -12,7 +12,7 @@ use Rattle.states.specs.declared.rule.Rule.TheVariants as rules
 use Rattle.states.specs.State.{written, root_state, label_state}
 use Rattle.rulings.specs.Rulings.{Ruling, ends, breaks}
 use Rattle.par_rules.specs.ParRules.{startp_rule, endp_rule}
-use Rattle.par_rules.specs.Pair.{words, branch_with_words, label_at_offset, exactly, entry, address, place_in}
+use Rattle.par_rules.specs.Pair.{words, branch_with_words, label_at_offset, exactly, entry, frame_pointer, place_in}
 use Rattle.par_rules.specs.Pair.{followed_by, with_registers}
 
 -- What a variation of the module has: the words of the branch that sends, the end that the other one is given, and what
@@ -65,21 +65,21 @@ abbrev pub first_start : Variation → Ruling
 first_start v =
     let cleared = written (pos 2) (exactly least_word) (root_state (sending v)) in
     let s = written (pos 0) (CodeAddress 34) (written (pos 1) (exactly (pos 3)) cleared) in
-    startp_rule (place_in (sending v) 13) (with_registers (address (negsuc 23)) (exactly (pos 6)) 13 s)
+    startp_rule (place_in (sending v) 13) (with_registers (frame_pointer (negsuc 23)) (exactly (pos 6)) 13 s)
 
 -- of the process that starts the branches, up to its end
 abbrev pub opener_ruling : Variation → Ruling
 opener_ruling v =
     followed_by (first_start v) (λ s.
     followed_by
-    (startp_rule (place_in (sending v) 17) (with_registers (address (negsuc 35)) (exactly (pos 10)) 3 s))
-    (λ s. endp_rule (place_in (sending v) 19) (with_registers (address (pos 0)) Unknown 1 s)))
+    (startp_rule (place_in (sending v) 17) (with_registers (frame_pointer (negsuc 35)) (exactly (pos 10)) 3 s))
+    (λ s. endp_rule (place_in (sending v) 19) (with_registers (frame_pointer (pos 0)) Unknown 1 s)))
 
 -- of the branch that receives any number, at its end
 abbrev pub receiver_ruling : Variation → Ruling
 receiver_ruling v =
     endp_rule (place_in (sending v) 33)
-    (with_registers (address (pos 0)) Unknown 5
+    (with_registers (frame_pointer (pos 0)) Unknown 5
     (written (pos 3) (Number least_word greatest_word) (label_state receiver_label)))
 
 abbrev pub well : Variation

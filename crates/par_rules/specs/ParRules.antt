@@ -17,7 +17,7 @@ use Rattle.machine_state.specs.LocalStep.{target}
 use Rattle.states.specs.declared.rule.Rule.TheVariants as rules
 use Rattle.states.specs.declared.known.Mode.{Mode}
 use Rattle.states.specs.declared.known.Mode.TheVariants.{Plain, Enabling, Disabling, Starting}
-use Rattle.states.specs.State.{State, is_word}
+use Rattle.states.specs.State.{State, is_same_number}
 use Rattle.states.specs.Below.{is_plain, step_implies, cost, agrees}
 use Rattle.rulings.specs.Rulings.{Ruling, Site, starts, ends, breaks, uses, wants, outside_alternation, pays}
 use Rattle.rulings.specs.Rulings.{without_registers}
@@ -31,19 +31,20 @@ use Rattle.par_rules.specs.Comparisons.{branch_view, is_after, agrees_after, cos
 
 -- the exact pointer to word k of the frame
 abbrev pub is_at_word : ℤ → Fact → Bool
-is_at_word k (Pointer region lo hi step) = is_frame region && is_word lo (pos 4 *ℤ k) && is_word hi (pos 4 *ℤ k)
+is_at_word k (Pointer region lo hi step) = is_frame region && is_same_number lo (pos 4 *ℤ k)
+    && is_same_number hi (pos 4 *ℤ k)
 is_at_word k fact = false
 
 -- the same, with a step of words
 abbrev pub is_workspace : ℤ → Fact → Bool
 is_workspace k (Pointer region lo hi step) =
-    is_frame region && is_word lo (pos 4 *ℤ k) && is_word hi (pos 4 *ℤ k) && step_implies step Word
+    is_frame region && is_same_number lo (pos 4 *ℤ k) && is_same_number hi (pos 4 *ℤ k) && step_implies step Word
 is_workspace k fact = false
 
 -- the branch that begins a constant number of bytes after the instruction
 abbrev pub named_branch : Site → Fact → Option Found
 named_branch site (Number lo hi) =
-    if is_word lo hi then found_at site.contents (target (site.at + site.length) lo) else None
+    if is_same_number lo hi then found_at site.contents (target (site.at + site.length) lo) else None
 named_branch site fact = None
 
 -- ---- which branch is started
@@ -68,7 +69,7 @@ is_next (Starting row started) found = (found.row == row) && (found.number == st
 -- It is the next one of a PAR that is here, and A is its workspace.
 abbrev pub is_in_turn : State → Fact → Found → Bool
 is_in_turn s a found =
-    is_next s.mode found && (found.par.context == s.context) && is_word found.par.depth s.depth
+    is_next s.mode found && (found.par.context == s.context) && is_same_number found.par.depth s.depth
     && is_workspace found.branch.workspace a
 
 -- The context has the words and the parameters that the branch is given, and none of them is hidden.

@@ -6,7 +6,7 @@ use Rattle.module_format.specs.Order.{InOrder, least_word}
 use Rattle.module_format.specs.Pars.{IntervalKeeps, behind_interval}
 use Rattle.certificate.specs.Rights.{is_among}
 use Rattle.states.specs.declared.known.WordFact.{WordFact}
-use Rattle.states.specs.State.{Facts, is_word}
+use Rattle.states.specs.State.{Facts, is_same_number}
 use Rattle.states.specs.Below.{says, implies}
 use Rattle.states.specs.Views.{state_of}
 use Rattle.par_rules.specs.declared.sights.Sight.{Sight}
@@ -35,5 +35,5 @@ IsOrdered asked = ⊤
 -- branch's view
 abbrev pub begins_there : ℕ → ℤ → Label → Bool
 begins_there context workspace t =
-    (context == t.context) && is_word workspace t.depth && true && implies Unknown t.stack.a
+    (context == t.context) && is_same_number workspace t.depth && true && implies Unknown t.stack.a
     && implies Unknown t.stack.b && implies Unknown t.stack.c

@@ -4,7 +4,7 @@ ghost use Rattle.std.specs.Prelude.{◌≡◌, ◌&&◌, pos, ◌+ℤ◌, map, l
 ghost use Rattle.std.specs.List.{list_all};
 ghost use Rattle.module_format.specs.Contents.{branch_of, par_of};
 ghost use Rattle.certificate.specs.Rights.{may_write_word};
-ghost use Rattle.states.specs.State.{is_word};
+ghost use Rattle.states.specs.State.{is_same_number};
 ghost use Rattle.states.specs.Below.{holds_constant};
 ghost use Rattle.states.specs.Views.{state_of};
 ghost use Rattle.par_rules.specs.Openings.{is_code_address, block_is_prepared, channel_is_empty, is_start_of};
@@ -38,7 +38,7 @@ fn is_code_address(fact: WordFact, to: u32) -> bool
 
 /// Whether a number is one above another.
 fn is_one_more(value: i32, count: i64) -> bool
-    ensures { result ≡ is_word value (count +ℤ pos 1) }
+    ensures { result ≡ is_same_number value (count +ℤ pos 1) }
 {
     i64::from(value) - 1 == count
 }

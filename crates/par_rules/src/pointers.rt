@@ -1,14 +1,14 @@
 //! What the registers of starts and ends name.
 
 ghost use Rattle.std.specs.Prelude.{◌≡◌, ◌*ℤ◌, pos};
-ghost use Rattle.states.specs.State.{is_word};
+ghost use Rattle.states.specs.State.{is_same_number};
 ghost use Rattle.par_rules.specs.ParRules.{is_at_word, is_workspace};
 
 use module_format::{Fact, Step};
 
 /// Whether an offset in the frame is that of a word.
 fn is_offset_of(word: i32, offset: i32) -> bool
-    ensures { result ≡ is_word offset (pos 4 *ℤ word) }
+    ensures { result ≡ is_same_number offset (pos 4 *ℤ word) }
 {
     i64::from(offset) == 4 * i64::from(word)
 }

@@ -20,7 +20,8 @@ use Rattle.prefix_decoder.specs.declared.decoding.DecodeFault.TheVariants.{EndOf
 use Rattle.prefix_decoder.specs.Functions.{pfix, nfix, fun_of, function_code, nibble, IsPrefix}
 use Rattle.prefix_decoder.specs.Operand.{IsRegister, with_nibble, after_prefix}
 use Rattle.prefix_decoder.specs.Spelling.{IsSpelling, spelling}
-use Rattle.prefix_decoder.specs.Fetching.{ended_or, read, checked, fetched, EndsTooSoon, IsTooLong, IsSecondSpelling}
+use Rattle.prefix_decoder.specs.Fetching.{ended_or, read, if_spelled_once, fetched, EndsTooSoon, IsTooLong}
+use Rattle.prefix_decoder.specs.Fetching.{IsSecondSpelling}
 use Rattle.prefix_decoder.specs.Fetching.{StandsAt}
 use Rattle.prefix_decoder.proofs.Operands.{IsRegister-zero, IsRegister-after, FitsSigned-with_nibble}
 use Rattle.prefix_decoder.proofs.Spellings.{IsSpelling-spelling, IsSpelling-same, not_empty, at_most_eight}
@@ -184,7 +185,7 @@ taken_is bytes prefixes last rest len parts len-is =
 checked-spelling : (f : Fun) (e : ℤ) (front rest bytes : List ℕ)
     → IsSpelling f e front
     → bytes ≡ front ++ rest
-    → checked bytes (read 8 bytes (pos 0) 0) ≡ Ok (record { fun = f; operand = e; len = length front })
+    → if_spelled_once bytes (read 8 bytes (pos 0) 0) ≡ Ok (record { fun = f; operand = e; len = length front })
 checked-spelling f e front rest bytes s parts =
     let first : take (length front) (front ++ rest) ≡ spelling f e = take_at front rest (length front) refl
     ∙ IsSpelling-same f e front (spelling f e) s (IsSpelling-spelling f e s.fits) in
@@ -195,7 +196,7 @@ checked-spelling f e front rest bytes s parts =
 -- when each fault is reported
 ends_is : (bytes : List ℕ) (r : Result Instr DecodeFault)
     → Outcome 8 bytes 0 r
-    → (checked bytes r ≡ Err EndOfCode) ↔ EndsTooSoon bytes
+    → (if_spelled_once bytes r ≡ Err EndOfCode) ↔ EndsTooSoon bytes
 ends_is bytes r (too_long h all) = (λ is. absurd cc, λ s. absurd (omega (arith, s.0)))
 ends_is bytes r (too_soon h all) = (λ is. (h, all), λ s. refl)
 ends_is bytes r (found prefixes last rest f e len parts short all not ok len-is) = (
@@ -206,7 +207,7 @@ ends_is bytes r (found prefixes last rest f e len parts short all not ok len-is)
 
 long_is : (bytes : List ℕ) (r : Result Instr DecodeFault)
     → Outcome 8 bytes 0 r
-    → (checked bytes r ≡ Err TooLong) ↔ IsTooLong bytes
+    → (if_spelled_once bytes r ≡ Err TooLong) ↔ IsTooLong bytes
 long_is bytes r (too_long h all) = (λ is. (h, all), λ s. refl)
 long_is bytes r (too_soon h all) = (λ is. absurd cc, λ s. absurd (omega (arith, s.0)))
 long_is bytes r (found prefixes last rest f e len parts short all not ok len-is) = (
@@ -219,7 +220,7 @@ long_is bytes r (found prefixes last rest f e len parts short all not ok len-is)
 second_is : (bytes : List ℕ) (r : Result Instr DecodeFault)
     → read 8 bytes (pos 0) 0 ≡ r
     → Outcome 8 bytes 0 r
-    → (checked bytes r ≡ Err SecondSpelling) ↔ IsSecondSpelling bytes
+    → (if_spelled_once bytes r ≡ Err SecondSpelling) ↔ IsSecondSpelling bytes
 second_is bytes r was (too_long h all) = (
   λ is. absurd cc,
   λ s. absurd (s.no_prefix (All-middle_taken 8 s.prefixes s.last s.rest s.short
@@ -263,7 +264,7 @@ second_is bytes r was (found prefixes last rest f e len parts short all not ok l
 found_is : (bytes : List ℕ) (r : Result Instr DecodeFault)
     → Outcome 8 bytes 0 r
     → (i : Instr)
-    → checked bytes r ≡ Ok i
+    → if_spelled_once bytes r ≡ Ok i
     → IsSpelling i.fun i.operand (take i.len bytes) × (i.len ≤ length bytes)
 found_is bytes r (too_long h all) i is = absurd cc
 found_is bytes r (too_soon h all) i is = absurd cc

@@ -14,7 +14,7 @@ use Rattle.states.specs.State.{State, Facts}
 use Rattle.rulings.specs.Meaning.{Activation, word_at_place, frame_word, ComesFrom, from_nowhere, from_word, from_test}
 use Rattle.rulings.specs.Meaning.{MeansKnown, Knows}
 use Rattle.rulings.specs.Fitting.{Described}
-use Rattle.rulings.specs.Regions.{Scope, Keeps}
+use Rattle.rulings.specs.Regions.{Scope, KeepsMemory}
 use Rattle.rulings.proofs.Words.{means_same, frame_word_is}
 use Rattle.rulings.proofs.Regions.{named_left, bytes_read}
 use Rattle.rulings.proofs.Combining.{same_frame}
@@ -46,7 +46,7 @@ knows_agree {m} {counts} {act} {said} {facts} {stack} {memory} {later} same know
 
 module _ (h : Holding) (memory later : Memory) (size : length later ≡ length memory)
     (agree : (place : ℕ) → may_read h place ≡ true → byte_at later place ≡ byte_at memory place) where
-  pub agree_keeps : (m : Contents) (scope : Scope) → Keeps m h scope memory later
+  pub agree_keeps : (m : Contents) (scope : Scope) → KeepsMemory m h scope memory later
   agree_keeps m scope = record {
     size = size;
     bytes = λ place e. inl (agree place e);

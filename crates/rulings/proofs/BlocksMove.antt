@@ -24,7 +24,7 @@ use Rattle.machine_state.specs.Memory.{Memory, byte_at, word_at, with_byte, plac
 use Rattle.machine_state.specs.Holding.{Holding, may_read, may_write}
 use Rattle.machine_state.specs.World.{constants_start}
 use Rattle.machine_state.specs.Spans.{all_places}
-use Rattle.machine_state.specs.LocalStep.{copied, meet}
+use Rattle.machine_state.specs.LocalStep.{copied, places_meet}
 use Rattle.machine_state.specs.Site.{Local}
 use Rattle.machine_state.proofs.Copying.{copied-none, copied-more, copied-beside}
 use Rattle.machine_state.proofs.Reading.{length-with_byte, byte_at-with_byte, word_at_same}
@@ -35,8 +35,9 @@ use Rattle.states.specs.Below.{lies_within}
 use Rattle.states.proofs.SpanFacts.{in-span}
 use Rattle.rulings.specs.Meaning.{Layout, Activation, Means, says_nothing, place_in, frame_word, words_in, IsOwnWord}
 use Rattle.rulings.specs.Meaning.{IsWellFormed}
-use Rattle.rulings.specs.Regions.{parameter_used, Scope, scope_of, IsByteOf, IsRegion, IsNamed, IsWrittenAt, IsNamedAt}
-use Rattle.rulings.specs.Regions.{Keeps}
+use Rattle.rulings.specs.Regions.{parameter_used, Scope, scope_of, IsByteOf, IsHeldRegion, IsNamed, IsWrittenAt}
+use Rattle.rulings.specs.Regions.{IsNamedAt}
+use Rattle.rulings.specs.Regions.{KeepsMemory}
 use Rattle.rulings.specs.Reach.{word_of_byte, words_touched, all_touched, lie_in, may_read_bytes, may_write_bytes}
 use Rattle.rulings.specs.Reach.{readable_bytes, readable_size, writable_bytes, parameter_range, kept_range}
 use Rattle.rulings.specs.Pointers.{byte_read, stored_byte, is_full, is_number_in}
@@ -94,7 +95,7 @@ copied-inside from source to (suc n) m (suc i) less inside =
     ∙ ap (byte_at from) (let e : source + 1 + i ≡ source + suc i = omega arith in e))
 
 -- two blocks that meet have a place in common
-pub meet_tells : (p n q k : ℕ) → meet p n q k ≡ true → (p < q + k) × (q < p + n)
+pub meet_tells : (p n q k : ℕ) → places_meet p n q k ≡ true → (p < q + k) × (q < p + n)
 meet_tells p n q k t =
     let both = and_parts (nat_lt p (q + k)) (nat_lt q (p + n)) t in
     (less p (q + k) both.0, less q (p + n) both.1)
@@ -253,7 +254,7 @@ module _ (m : Contents) (h : Holding) (scope : Scope) (memory : Memory) (place :
   named_too (Channels count len ends) start at = at
 
   in_region : {may_use : ℕ → Bool} {start size : ℕ} {lo hi : ℤ}
-      → IsRegion m may_use scope memory start size lo hi → (k : ℤ)
+      → IsHeldRegion m may_use scope memory start size lo hi → (k : ℤ)
       → scope.words.reads k ≡ true → IsByteOf scope.layout.origin k place → start ≤ place → place < start + size → ⊥
   in_region {may_use} {start} r k counts b low high =
       r.beside k (place - start) counts (omega arith)
@@ -364,7 +365,7 @@ pub record Room (h : Holding) (size : ℕ) (start offset : ℤ) (n : ℕ) : Type
 pub record Moved {m : Contents} {h : Holding} {mode : machine.Mode} {act : Activation} {s : State} {l : Local}
     (a : Within ArePlain m h mode act s l) (from : Memory) (source place n : ℕ) (left : State) : Type 0 where
   pub after : Within ArePlain m h mode act left (record l { memory = copied from source place n l.memory })
-  pub keeps : Keeps m h (scope_of m s.context act.layout) l.memory (copied from source place n l.memory)
+  pub keeps : KeepsMemory m h (scope_of m s.context act.layout) l.memory (copied from source place n l.memory)
 
 -- ---- where bytes may go
 
@@ -425,7 +426,7 @@ module _ {m : Contents} {h : Holding} {mode : machine.Mode} {act : Activation} {
       of_region size r q is fits =
           let start : ℕ = place_of (act.layout.starts j) in
           let length_small = a.frame.small in
-          let region : IsRegion m (may_write h) (scope_of m s.context act.layout) l.memory start size r.lo r.hi =
+          let region : IsHeldRegion m (may_write h) (scope_of m s.context act.layout) l.memory start size r.lo r.hi =
           subst (λ (kind : ParameterKind). IsNamed m h (scope_of m s.context act.layout) l.memory kind
           (act.layout.starts j)) r.is (a.named.each j r.parameter r.found) in
           let whole : size % 4 ≡ 0 = eqb-true (size % 4) 0 region.whole in
@@ -528,15 +529,15 @@ module _ {m : Contents} {h : Holding} {mode : machine.Mode} {act : Activation} {
         record { low = omega (arith, ints); high = omega (arith, ints) }
 
     -- one byte after another is written
-    frame_kept : (k : ℕ) → k ≤ n → Keeps m h all l.memory (copied from source to k l.memory)
+    frame_kept : (k : ℕ) → k ≤ n → KeepsMemory m h all l.memory (copied from source to k l.memory)
     frame_kept zero few =
-        subst (λ (x : Memory). Keeps m h all l.memory x) (sym (copied-none from source to l.memory)) keeps_all
+        subst (λ (x : Memory). KeepsMemory m h all l.memory x) (sym (copied-none from source to l.memory)) keeps_all
     frame_kept (suc k) few =
         let so_far = frame_kept k (omega arith) in
         let w = word k (omega arith) in
         let before = copied from source to k l.memory in
         let byte = byte_at from (source + k) in
-        keeps_more so_far (subst (λ (x : Memory). Keeps m h all before x)
+        keeps_more so_far (subst (λ (x : Memory). KeepsMemory m h all before x)
         (sym (copied-more from source to k l.memory))
         (frame_keeps m h all w.word before (with_byte before (to + k) byte) w.may
         (written_readable m s.context w.word w.may)
@@ -688,7 +689,7 @@ module _ {m : Contents} {h : Holding} {mode : machine.Mode} {act : Activation} {
         at : room.place ≡ start + q
         at = let there = room.is in omega (arith, ints)
 
-        region : IsRegion m (may_write h) all l.memory start size r.lo r.hi
+        region : IsHeldRegion m (may_write h) all l.memory start size r.lo r.hi
         region = subst (λ (kind : ParameterKind). IsNamed m h all l.memory kind (act.layout.starts j)) r.is
             (a.named.each j r.parameter r.found)
 

@@ -19,7 +19,7 @@ use Rattle.module_format.specs.Contents.{Contents}
 use Rattle.states.specs.State.{State}
 use Rattle.rulings.specs.Meaning.{Activation, place_in}
 use Rattle.rulings.specs.Regions.{IsByteOf}
-use Rattle.rulings.specs.Fitting.{Here}
+use Rattle.rulings.specs.Fitting.{Situation}
 use Rattle.rulings.specs.Buffers.{message_place, is_filled, is_of_message}
 use Rattle.rulings.proofs.Within.{Modes, Within, ArePlain}
 use Rattle.rulings.proofs.Words.{int_le_tells}
@@ -127,7 +127,7 @@ off_scheduling {m} {h} {mode} {act} {s} {l} a may region place differ read =
         (written_in_frame (s.depth +ℤ negsuc 2) refl may.third b)
     none (suc (suc (suc n))) less b = omega arith
 
-module _ {E : Modes} {x : Here} {s : State} {l : Local} (d : Scheduled x E s l) where
+module _ {E : Modes} {x : Situation} {s : State} {l : Local} (d : Scheduled x E s l) where
   -- a byte that is none of them stays
   pub off_stays : (memory : Memory) (place : ℕ) → IsOff x.act.layout.origin s.depth place
       → byte_at (step.without_scheduling_words memory l.registers.workspace) place ≡ byte_at memory place
@@ -164,10 +164,10 @@ module _ {E : Modes} {x : Here} {s : State} {l : Local} (d : Scheduled x E s l) 
   -- `n` bytes of which each is beside them do not meet them
   pub beside_scheduling : (place n : ℕ) → 0 < n
       → ((i : ℕ) → i < n → IsOff x.act.layout.origin s.depth (place + i))
-      → not (step.meet place n (place_of (scheduling_word l.registers.workspace 2)) 12) ≡ true
+      → not (step.places_meet place n (place_of (scheduling_word l.registers.workspace 2)) 12) ≡ true
   beside_scheduling place n some off =
       let third = place_of (scheduling_word l.registers.workspace 2) in
-      elim (cases_Bool (step.meet place n third 12)) [
+      elim (cases_Bool (step.places_meet place n third 12)) [
         | inr t ↦ ap not t
         | inl t ↦
             let tells = meet_tells place n third 12 t in

@@ -37,14 +37,14 @@ use Rattle.states.specs.declared.rule.Rule.{Rule}
 use Rattle.states.specs.declared.rule.Rule.TheVariants as rules
 use Rattle.states.specs.State.{State, unknown, one_word, written}
 use Rattle.states.specs.Below.{below}
-use Rattle.rulings.specs.Regions.{Scope, scope_of, Keeps}
+use Rattle.rulings.specs.Regions.{Scope, scope_of, KeepsMemory}
 use Rattle.rulings.proofs.Regions.{keeps_more, write_keeps}
 use Rattle.rulings.specs.Rulings as rule
 use Rattle.rulings.specs.Rulings.{Ruling, falls, leads, breaks, leading}
 use Rattle.rulings.specs.Meaning.{Layout, Activation, Means, says_nothing, IsOwnWord, Words, words_in, HasFrame}
 use Rattle.rulings.specs.Meaning.{from_nowhere, MeansKnown, IsWellFormed, SameMode, both_plain, both_enabling}
 use Rattle.rulings.specs.Meaning.{both_disabling, both_starting, dues, owed, label_turns, place_in}
-use Rattle.rulings.specs.Fitting.{Changes, Described, After, Here, rule_site, step_site, Fits, it_falls, it_leads}
+use Rattle.rulings.specs.Fitting.{Changes, Described, After, Situation, rule_site, step_site, Fits, it_falls, it_leads}
 use Rattle.rulings.specs.Fitting.{it_breaks, GoesTo, goes_behind, is_jump, HasNext, Stays, StandsAt}
 use Rattle.rulings.proofs.Within.{Modes, Within, ArePlain, AreStill, is_starting, whole_after}
 use Rattle.rulings.proofs.Words.{local_place, knows_changed, write_follows}
@@ -53,7 +53,7 @@ use Rattle.rulings.proofs.Dues.{written_owed, label_owed}
 use Rattle.rulings.specs.Reach.{may_read_bytes, may_write_bytes}
 use Rattle.rulings.specs.Pointers.{reads_bytes, writes_bytes}
 
-abbrev pub FitsIf : Here → Ruling → Outcome → Type 0
+abbrev pub FitsIf : Situation → Ruling → Outcome → Type 0
 FitsIf x r o = HasNext x r → Fits x r o
 
 wider : (a b c d p q r t : Bool) → (a && b && c && d) ≡ true → ((a || p) && (b || q) && (c || r) && (d || t)) ≡ true
@@ -121,13 +121,13 @@ abbrev pub scheduled : Local → Memory
 scheduled l = step.without_scheduling_words l.memory l.registers.workspace
 
 -- Scheduling takes the three words: they are the process's own, and all else that is known holds without them.
-pub record Scheduled (x : Here) (E : Modes) (s : State) (l : Local) : Type 0 where
+pub record Scheduled (x : Situation) (E : Modes) (s : State) (l : Local) : Type 0 where
   pub may : step.holds_scheduling_words x.h l.registers.workspace ≡ true
   pub places : (n : ℕ) → n < 3
       → pos (place_of (scheduling_word l.registers.workspace n)) ≡ place_in x.act.layout.origin (s.depth +ℤ negsuc n)
   pub after : Within E x.m x.h x.mode x.act (unscheduled s) (record l { memory = scheduled l })
   pub own : ChangesOwn x.h l.memory (scheduled l)
-  pub keeps : Keeps x.m x.h (scope_of x.m s.context x.act.layout) l.memory (scheduled l)
+  pub keeps : KeepsMemory x.m x.h (scope_of x.m s.context x.act.layout) l.memory (scheduled l)
 
 pub below_not : (a b : ℕ) → a < b → ltb a b ≡ false → ⊥
 below_not a b low t = elim (leb_tells (suc a) b) [
@@ -193,7 +193,7 @@ still_rule {p} {q} same r = on p same.still
     on (states_modes.Disabling done) e = refl
     on (states_modes.Starting row started) e = absurd (cc)
 
-module _ (x : Here) where
+module _ (x : Situation) where
   pub on_rule_test : (b : Bool) (one other : Ruling) (o : Outcome) → (b ≡ true → FitsIf x one o)
       → (b ≡ false → FitsIf x other o) → FitsIf x (cond b one other) o
   on_rule_test true one other o f g = f refl
@@ -409,7 +409,7 @@ module _ (x : Here) where
     after : Within E x.m x.h x.mode x.act (written (s.depth +ℤ e) Unknown s)
         (record l { memory = with_word l.memory place None })
     own : ChangesOwn x.h l.memory (with_word l.memory place None)
-    keeps : Keeps x.m x.h (scope_of x.m s.context x.act.layout) l.memory (with_word l.memory place None)
+    keeps : KeepsMemory x.m x.h (scope_of x.m s.context x.act.layout) l.memory (with_word l.memory place None)
 
   undefines : {E : Modes} (s : State) (l : Local) (e : ℤ) → FitsSigned w32 e → Within E x.m x.h x.mode x.act s l
       → rights.may_write_word x.m s.context (s.depth +ℤ e) ≡ true
@@ -467,7 +467,7 @@ module _ (x : Here) where
   scheduled_changes {E} {s} {l} d same changes = record {
     own = changes_more x.h x.memory l.memory (scheduled l) changes.own d.own;
     keeps = keeps_more changes.keeps
-        (subst (λ (n : ℕ). Keeps x.m x.h (scope_of x.m n x.act.layout) l.memory (scheduled l)) same d.keeps);
+        (subst (λ (n : ℕ). KeepsMemory x.m x.h (scope_of x.m n x.act.layout) l.memory (scheduled l)) same d.keeps);
   }
 
   -- what is owed is no more

@@ -10,7 +10,7 @@ use Rattle.std.specs.Int.{w32, cast_signed}
 use Rattle.small_laws.proofs.Comparisons.{int_le-true}
 use Rattle.module_format.specs.declared.rows.TableRow.{TableRow}
 use Rattle.module_format.specs.Order.{InOrder}
-use Rattle.module_format.specs.Procedures.{words_of, IsBetween, TableKeeps, behind_table}
+use Rattle.module_format.specs.Procedures.{words_in_bytes, IsBetween, TableKeeps, behind_table}
 use Rattle.rulings.specs.Reach.{lie_in_row}
 
 -- the word that four bytes make, of which this is the first
@@ -21,7 +21,7 @@ word_in bytes i = cast_signed w32
 
 -- each word of some bytes lies between the bounds in which all lie
 word_within : (lo hi : ℤ) (bytes : List ℕ) (i n : ℕ) → n ≡ 4 * i → n + 4 ≤ length bytes
-    → AllByRecursion (IsBetween lo hi) (words_of bytes) → IsBetween lo hi (word_in bytes n)
+    → AllByRecursion (IsBetween lo hi) (words_in_bytes bytes) → IsBetween lo hi (word_in bytes n)
 word_within lo hi [] i n e low all = absurd (omega arith)
 word_within lo hi (a ∷ []) i n e low all = absurd (omega arith)
 word_within lo hi (a ∷ b ∷ []) i n e low all = absurd (omega arith)

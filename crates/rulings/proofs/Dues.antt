@@ -14,7 +14,7 @@ use Rattle.states.specs.declared.known.Loop.{Loop as CountedLoop}
 use Rattle.states.specs.declared.known.WordFact.{WordFact}
 use Rattle.states.specs.declared.known.WordFact.TheVariants.{Alone, Index, Count}
 use Rattle.states.specs.State.{State, Facts, Change, one_word, no_facts, by_itself, is_alone, is_parted, changed}
-use Rattle.states.specs.State.{is_word, is_about, said_of, entry_fact, written, label_state}
+use Rattle.states.specs.State.{is_same_number, is_about, said_of, entry_fact, written, label_state}
 use Rattle.states.specs.Below.{below, says, words_say, entries_hold, are_alike, is_whole, price}
 use Rattle.states.proofs.Prices.{price-due}
 use Rattle.rulings.specs.Meaning.{Activation, ArePairs, IsSpan, loop_due, dues_from, farthest_word, dues, owed}
@@ -96,7 +96,7 @@ dues_at_from facts wanted turns t word (suc more) =
 -- ---- the price of an entry, paid at its first word
 
 abbrev once : ℤ → ℕ → ℤ → ℕ
-once first paid word = cond (is_word first word) paid 0
+once first paid word = cond (is_same_number first word) paid 0
 
 abbrev once_from : ℤ → ℕ → ℤ → ℕ → ℕ
 once_from first paid word zero = 0
@@ -113,7 +113,7 @@ never_from first paid word (suc more) low = elim (word_test first word) [
 ]
 
 -- it is paid in full at that word
-once_at : (first : ℤ) (paid : ℕ) (word : ℤ) (more : ℕ) → first ≡ word → is_word first word ≡ true
+once_at : (first : ℤ) (paid : ℕ) (word : ℤ) (more : ℕ) → first ≡ word → is_same_number first word ≡ true
     → once first paid word + once_from first paid (word +ℤ pos 1) more ≡ paid
 once_at first paid word more same t =
     let here : once first paid word ≡ paid = ap (λ (b : Bool). cond b paid 0) t in
@@ -229,12 +229,12 @@ entered_here facts entry entries k pair said whole = elim (cases_Bool (is_about 
     on_other (Loop base count weight) is = ap (λ (x : Fact). entered (is_alone (facts k)) (said_of x false)) is
     on_other f is = ap (λ (x : Fact). entered (is_alone (facts k)) (said_of x false)) is
 
-    on_word : ((is_word entry.word k ≡ true) × (entry.word ≡ k))
-        ⊎ ((is_word entry.word k ≡ false) × (entry.word ≡ k → ⊥))
-        → entered (is_alone (facts k)) (said_of entry.fact (is_word entry.word k))
+    on_word : ((is_same_number entry.word k ≡ true) × (entry.word ≡ k))
+        ⊎ ((is_same_number entry.word k ≡ false) × (entry.word ≡ k → ⊥))
+        → entered (is_alone (facts k)) (said_of entry.fact (is_same_number entry.word k))
         ≤ once entry.word (price facts entry) k
     on_word (inl p) =
-        let first : entered (is_alone (facts k)) (said_of entry.fact (is_word entry.word k))
+        let first : entered (is_alone (facts k)) (said_of entry.fact (is_same_number entry.word k))
         ≡ entered (is_alone (facts entry.word)) (said_of entry.fact true) =
         ap (λ (b : Bool). entered (is_alone (facts k)) (said_of entry.fact b)) p.0
         ∙ ap (λ (j : ℤ). entered (is_alone (facts j)) (said_of entry.fact true)) (sym p.1) in
@@ -243,7 +243,7 @@ entered_here facts entry entries k pair said whole = elim (cases_Bool (is_about 
         let less = on_first entry.fact refl in
         omega (arith, first, whole_price, less)
     on_word (inr p) =
-        let none : entered (is_alone (facts k)) (said_of entry.fact (is_word entry.word k)) ≡ 0 =
+        let none : entered (is_alone (facts k)) (said_of entry.fact (is_same_number entry.word k)) ≡ 0 =
         ap (λ (b : Bool). entered (is_alone (facts k)) (said_of entry.fact b)) p.0 ∙ on_other entry.fact refl in
         omega (arith, none)
 
@@ -299,7 +299,7 @@ label_owed s t paid act pairs is =
 
 -- the turns left, where the loop whose index is in word k has one less
 abbrev pub one_turn_less : (ℤ → ℕ) → ℤ → ℤ → ℕ
-one_turn_less turns k = λ j. cond (is_word k j) (turns j - 1) (turns j)
+one_turn_less turns k = λ j. cond (is_same_number k j) (turns j - 1) (turns j)
 
 -- what is paid once in a stretch of words is paid in full where the word lies in the stretch
 once_there : (first : ℤ) (paid : ℕ) (word : ℤ) (more : ℕ) → word ≤ℤ first → first <ℤ (word +ℤ pos more)

@@ -23,7 +23,8 @@ use Rattle.module_format.specs.Contexts.{first_branch, context_at, parameters_at
 use Rattle.module_format.specs.Keeping.{Keeps}
 use Rattle.module_format.specs.Order.{InOrder, least_word}
 use Rattle.module_format.specs.Procedures.{KindKeeps, ParameterKeeps, behind_parameter}
-use Rattle.module_format.specs.Pars.{kind_of, number_of, element_of, first_key, key_of, direction_number, ChannelKeeps}
+use Rattle.module_format.specs.Pars.{kind_of, end_number_of, end_element_of, first_key, key_of, direction_number}
+use Rattle.module_format.specs.Pars.{ChannelKeeps}
 use Rattle.module_format.specs.Pars.{behind_channel, EndKeeps, behind_end, EndKindKeeps}
 use Rattle.certificate.specs.Branches.{numbered_branch}
 use Rattle.certificate.specs.Rights.{has_end, gives_link, gives_element, gives_parameter, is_same_end, listed_length}
@@ -49,8 +50,8 @@ parameter_keeps hi low (p ∷ ps) (suc j) q keeps h = parameter_keeps hi p.word 
 
 -- an end with the kind, the number and the element of a listed one is numbered as one
 numbered_by : (e k : EndKind) → EndKindKeeps k → (kind_of k == kind_of e) ≡ true
-    → (int_le (number_of k) (number_of e) && int_le (number_of e) (number_of k)) ≡ true
-    → (element_of k == element_of e) ≡ true → IsNumbered e
+    → (int_le (end_number_of k) (end_number_of e) && int_le (end_number_of e) (end_number_of k)) ≡ true
+    → (end_element_of k == end_element_of e) ≡ true → IsNumbered e
 numbered_by (ends.FrameWord w) (ends.FrameWord v) keeps kind number element =
     subst (λ (z : ℤ). FitsSigned w32 z) (same_word_by v w number) keeps
 numbered_by (ends.Parameter j a) (ends.Parameter i b) keeps kind number element = elim (eqb_tells b a) [

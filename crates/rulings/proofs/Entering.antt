@@ -30,9 +30,9 @@ use Rattle.states.specs.declared.known.WordFact.TheVariants.{Alone, Index, Count
 use Rattle.states.specs.declared.rule.Rule.{Rule}
 use Rattle.states.specs.declared.rule.Rule.TheVariants as rules
 use Rattle.states.specs.declared.known.Known.{Known}
-use Rattle.states.specs.State.{State, Facts, known, label_state, is_word, is_about, by_itself, is_alone, said_of}
+use Rattle.states.specs.State.{State, Facts, known, label_state, is_same_number, is_about, by_itself, is_alone, said_of}
 use Rattle.states.specs.State.{entry_fact}
-use Rattle.states.specs.Below.{below, agrees, implies, step_implies, is_constant, is_same_loop, says, words_say}
+use Rattle.states.specs.Below.{below, agrees, implies, step_implies, is_exactly, is_same_loop, says, words_say}
 use Rattle.states.specs.Below.{entries_hold, are_alike, is_whole, is_plain, view, cost}
 use Rattle.states.specs.Rows.{IsRowOf, LoopFits, rise_from}
 use Rattle.rulings.specs.Meaning.{Layout, Activation, with_turns, Means, says_nothing, is_number, is_pointer}
@@ -47,7 +47,7 @@ use Rattle.rulings.proofs.Within.{Within, AreStill, is_starting, within}
 use Rattle.rulings.specs.Fitting.{After}
 use Rattle.rulings.proofs.Words.{means_same, word_test, int_le_tells, itself_means}
 
-same_word : (j k : ℤ) → is_word j k ≡ true → j ≡ k
+same_word : (j k : ℤ) → is_same_number j k ≡ true → j ≡ k
 same_word j k h = elim (word_test j k) [ inl p ↦ p.1 | inr p ↦ let no' : true ≡ false = sym h ∙ p.0 in absurd (cc) ]
 
 -- ---- facts of one value
@@ -96,11 +96,11 @@ same_loop loop other t =
 
 -- a number that is exactly this one
 pub constant_means : (m : Contents) (layout : Layout) (f : Fact) (v : Option ℤ) (number : ℤ)
-    → is_constant f number ≡ true
+    → is_exactly f number ≡ true
     → Means m layout f v → (FitsSigned w32 number) × (v ≡ Some number)
 constant_means m layout (Number lo hi) None number t means = elim means [ ]
 constant_means m layout (Number lo hi) (Some x) number t (is_number low high fits) =
-    let both = and_parts (is_word lo number) (is_word hi number) t in
+    let both = and_parts (is_same_number lo number) (is_same_number hi number) t in
     let first = same_word lo number both.0 in
     let last = same_word hi number both.1 in
     let is : x ≡ number = omega (arith, ints) in
@@ -154,7 +154,7 @@ module _ (m : Contents) (act : Activation) (turns : ℤ → ℕ) (k : ℤ) where
 -- ---- entries
 
 -- the first word of an entry
-pub first_word : (word k : ℤ) (more : ℕ) → k ≡ word +ℤ pos more → (more == 0) ≡ is_word word k
+pub first_word : (word k : ℤ) (more : ℕ) → k ≡ word +ℤ pos more → (more == 0) ≡ is_same_number word k
 first_word word k zero e = elim (word_test word k) [ inl p ↦ sym p.0 | inr p ↦ absurd (p.1 (omega (arith, ints))) ]
 first_word word k (suc more) e =
     let later : eqb (suc more) 0 ≡ false = grind (arith, nat_tests) in
@@ -173,27 +173,27 @@ below_last k word more high differ = elim (int_le_tells (word +ℤ pos more) k) 
 
 -- each word that an entry is about
 words_said : (facts : Facts) (entry : Entry) (k : ℤ) (span : ℕ) → words_say facts entry span ≡ true → entry.word ≤ℤ k
-    → k <ℤ (entry.word +ℤ pos span) → says (facts k) (said_of entry.fact (is_word entry.word k)) ≡ true
+    → k <ℤ (entry.word +ℤ pos span) → says (facts k) (said_of entry.fact (is_same_number entry.word k)) ≡ true
 words_said facts entry k zero t low high = absurd (omega (arith, ints))
 words_said facts entry k (suc more) t low high =
     let both = and_parts _ _ t in
     elim (word_test k (entry.word +ℤ pos more)) [
       | inl e ↦
-          ap (λ (j : ℤ). says (facts j) (said_of entry.fact (is_word entry.word k))) e.1
+          ap (λ (j : ℤ). says (facts j) (said_of entry.fact (is_same_number entry.word k))) e.1
           ∙ ap (λ (b : Bool). says (facts (entry.word +ℤ pos more)) (said_of entry.fact b))
           (sym (first_word entry.word k more e.1)) ∙ both.0
       | inr e ↦ words_said facts entry k more both.1 low (below_last k entry.word more high e.1)
     ]
 
 pub entry_here : (entry : Entry) (entries : List Entry) (k : ℤ) → is_about entry k ≡ true
-    → entry_fact (entry ∷ entries) k ≡ said_of entry.fact (is_word entry.word k)
+    → entry_fact (entry ∷ entries) k ≡ said_of entry.fact (is_same_number entry.word k)
 entry_here entry entries k e =
-    ap (λ (b : Bool). cond b (said_of entry.fact (is_word entry.word k)) (entry_fact entries k)) e
+    ap (λ (b : Bool). cond b (said_of entry.fact (is_same_number entry.word k)) (entry_fact entries k)) e
 
 pub entry_later : (entry : Entry) (entries : List Entry) (k : ℤ) → is_about entry k ≡ false
     → entry_fact (entry ∷ entries) k ≡ entry_fact entries k
 entry_later entry entries k e =
-    ap (λ (b : Bool). cond b (said_of entry.fact (is_word entry.word k)) (entry_fact entries k)) e
+    ap (λ (b : Bool). cond b (said_of entry.fact (is_same_number entry.word k)) (entry_fact entries k)) e
 
 -- what is known says of each word what the entries say
 pub entries_said : (facts : Facts) (entries : List Entry) (k : ℤ) → entries_hold facts entries ≡ true
@@ -252,7 +252,8 @@ count_behind_index facts low (entry ∷ entries) k loop rise pairs whole h =
     let both = and_parts (is_whole facts entry) (list_all (is_whole facts) entries) whole in
     let parts = rise-parts low entry entries rise in
     elim (cases_Bool (is_about entry k)) [
-      | inl e ↦ here e (count_of entry.fact (is_word entry.word k) loop (sym (entry_here entry entries k e) ∙ h)) both.0
+      | inl e ↦ here e (count_of entry.fact (is_same_number entry.word k) loop (sym (entry_here entry entries k e) ∙ h))
+          both.0
       | inr e ↦
           let later = count_behind_index facts (end_of entry) entries k loop parts.1 pairs.1 both.1
           (sym (entry_later entry entries k e) ∙ h) in
@@ -266,7 +267,7 @@ count_behind_index facts low (entry ∷ entries) k loop rise pairs whole h =
     ]
   where
     here : is_about entry k ≡ true → (entry.fact ≡ Loop loop.base loop.count loop.weight)
-        × (is_word entry.word k ≡ false)
+        × (is_same_number entry.word k ≡ false)
         → is_whole facts entry ≡ true → HasIndex facts (entry ∷ entries) k loop
     here e known alike =
         let place = and_parts (int_le entry.word k) (int_lt k (entry.word +ℤ pos entry.span)) e in
@@ -282,7 +283,7 @@ count_behind_index facts low (entry ∷ entries) k loop rise pairs whole h =
                 index =
                     entry_here entry entries (k -ℤ pos 1)
                     (about-within entry (k -ℤ pos 1) (omega (arith, ints)) (omega (arith, ints)))
-                    ∙ ap (λ (f : Fact). said_of f (is_word entry.word (k -ℤ pos 1))) known.0
+                    ∙ ap (λ (f : Fact). said_of f (is_same_number entry.word (k -ℤ pos 1))) known.0
                     ∙ ap (λ (b : Bool). said_of (Loop loop.base loop.count loop.weight) b) (is_same first);
                 alike =
                     ap (λ (j : ℤ). are_alike (is_alone (facts j)) (is_alone (facts k))) first
@@ -303,7 +304,7 @@ count_behind_index facts low (entry ∷ entries) k loop rise pairs whole h =
           | inr p ↦ let above : entry.word <ℤ k = p.1 in omega (arith, ints)
         ]
 
-        is_same : k -ℤ pos 1 ≡ entry.word → is_word entry.word (k -ℤ pos 1) ≡ true
+        is_same : k -ℤ pos 1 ≡ entry.word → is_same_number entry.word (k -ℤ pos 1) ≡ true
         is_same first = elim (word_test entry.word (k -ℤ pos 1)) [ inl p ↦ p.0 | inr p ↦ absurd (p.1 (sym first)) ]
 
 -- ---- labels

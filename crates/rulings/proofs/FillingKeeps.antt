@@ -20,8 +20,8 @@ use Rattle.machine_state.specs.Site.{Local}
 use Rattle.states.specs.State.{State}
 use Rattle.states.specs.Below.{lies_within}
 use Rattle.rulings.specs.Meaning.{Activation}
-use Rattle.rulings.specs.Regions.{Scope, scope_of, IsByteOf, IsRegion, IsNamed, IsWrittenAt, HoldsNamed, MayChange}
-use Rattle.rulings.specs.Regions.{in_frame, in_region, Keeps}
+use Rattle.rulings.specs.Regions.{Scope, scope_of, IsByteOf, IsHeldRegion, IsNamed, IsWrittenAt, HoldsNamed, MayChange}
+use Rattle.rulings.specs.Regions.{in_frame, in_region, KeepsMemory}
 use Rattle.rulings.specs.Reach.{all_touched, lie_in, may_write_bytes, writable_bytes, kept_range, parameter_range}
 use Rattle.rulings.specs.Pointers.{is_full, wanted_range}
 use Rattle.rulings.specs.Buffers.{IsByte, Fills}
@@ -76,7 +76,7 @@ module _ (m : Contents) (h : Holding) (scope : Scope) (awaited : ℕ → Bool)
     reads : scope.words.reads word ≡ true
     byte : IsByteOf scope.layout.origin word place
 
-  frame_filled : ((place : ℕ) → awaited place ≡ true → InFrame place) → Keeps m h scope old new
+  frame_filled : ((place : ℕ) → awaited place ≡ true → InFrame place) → KeepsMemory m h scope old new
   frame_filled word = record {
     size = fills.size;
     bytes = changes_bytes (λ place t. let w = word place t in in_frame w.word w.writes w.byte);
@@ -105,8 +105,8 @@ module _ (m : Contents) (h : Holding) (scope : Scope) (awaited : ℕ → Bool)
           | inl t ↦ elim (fills.come place held t) [ inl same ↦ stays same | inr byte ↦ byte ]
         ]
 
-    again : HoldsNamed m h scope old → IsRegion m (may_write h) scope old start size lo hi
-        → IsRegion m (may_write h) scope new start size lo hi
+    again : HoldsNamed m h scope old → IsHeldRegion m (may_write h) scope old start size lo hi
+        → IsHeldRegion m (may_write h) scope new start size lo hi
     again has region = record {
       aligned = region.aligned;
       whole = region.whole;
@@ -140,7 +140,7 @@ module _ (m : Contents) (h : Holding) (scope : Scope) (awaited : ℕ → Bool)
       | inr differ ↦ inl (λ place at t. has.apart j i p q found there (λ e. differ (sym e)) place (inside place t) at)
     ]
 
-    region_filled : Keeps m h scope old new
+    region_filled : KeepsMemory m h scope old new
     region_filled = record {
       size = fills.size;
       bytes = changes_bytes (λ place t. in_region j p found (inside place t));
@@ -164,7 +164,7 @@ module _ {m : Contents} {h : Holding} {mode : machine.Mode} {act : Activation} {
     to : (q : ℕ) → awaited q ≡ true → q < place + n
 
   in_words : all_touched (context_writes m s.context) low high ≡ true → Awaits act.layout.origin → (old new : Memory)
-      → Fills h awaited old new → Keeps m h all old new
+      → Fills h awaited old new → KeepsMemory m h all old new
   in_words may b old new fills = frame_filled m h all awaited b.own old new fills (λ q t.
       let from = b.from q t in
       let to = b.to q t in
@@ -182,7 +182,7 @@ module _ {m : Contents} {h : Holding} {mode : machine.Mode} {act : Activation} {
 
   in_parameter : (j : ℕ) → lie_in (writable_bytes m s.context j) low high ≡ true
       → is_full (parameter_range m s.context j) ≡ true → Awaits (pos (place_of (act.layout.starts j)))
-      → (old new : Memory) → Fills h awaited old new → Keeps m h all old new
+      → (old new : Memory) → Fills h awaited old new → KeepsMemory m h all old new
   in_parameter j inside wide b old new fills =
       let f = lies_inside (writable_bytes m s.context j) low high inside in
       let from = f.2 in
@@ -217,7 +217,7 @@ module _ {m : Contents} {h : Holding} {mode : machine.Mode} {act : Activation} {
       → is_full (wanted_range m s.context region) ≡ true
       → (room : Room h (length l.memory) (region_place m act.layout region) lo n)
       → ((q : ℕ) → awaited q ≡ true → (room.place ≤ q) × (q < room.place + n)) → (old new : Memory)
-      → Fills h awaited old new → Keeps m h all old new
+      → Fills h awaited old new → KeepsMemory m h all old new
   unfolding may_write_bytes
   fills_keep regions.Frame may wide room tells = in_words may (awaits_in _ room tells)
   fills_keep regions.Constants may wide room tells = absurd (cc)

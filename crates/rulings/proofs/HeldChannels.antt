@@ -21,14 +21,14 @@ use Rattle.rulings.specs.Pointers.{is_near_pointer}
 use Rattle.rulings.specs.Meaning.{Means, is_fact}
 use Rattle.rulings.specs.Regions.{channel_address}
 use Rattle.rulings.specs.Channels.{channel_of, names_channel, further}
-use Rattle.rulings.specs.Fitting.{Here, step_site, it_breaks}
+use Rattle.rulings.specs.Fitting.{Situation, step_site, it_breaks}
 use Rattle.rulings.proofs.Within.{Modes, Within}
 use Rattle.rulings.proofs.Ends.{names}
 use Rattle.rulings.proofs.EvenChannels.{channel_even}
 use Rattle.rulings.proofs.Combining.{FitsIf, wants_fits, on_step_test, holds_fits}
 
 -- A value is the address of a channel: the context has the end in a direction.
-pub record IsHeldChannel (x : Here) (s : State) (direction : Direction) (kind : EndKind) (v : ℤ) : Type 0 where
+pub record IsHeldChannel (x : Situation) (s : State) (direction : Direction) (kind : EndKind) (v : ℤ) : Type 0 where
   pub address : channel_address x.act.layout kind ≡ step.address v
   pub even : step.address v % 4 ≡ 0
   pub held : has_end x.h (record { address = step.address v; direction = direction }) ≡ true
@@ -40,7 +40,7 @@ none_further (ends.Parameter number element) =
     let e : element + 0 ≡ element = omega arith in ap (ends.Parameter number) e
 none_further (ends.Link link) = let e : link + 0 ≡ link = omega arith in ap ends.Link e
 
-pub held_channel : {E : Modes} (x : Here) (s : State) (l : Local) → Within E x.m x.h x.mode x.act s l
+pub held_channel : {E : Modes} (x : Situation) (s : State) (l : Local) → Within E x.m x.h x.mode x.act s l
     → (direction : Direction) (fact : Fact) (v : ℤ) → Means x.m x.act.layout fact (Some v) → (kind : EndKind)
     → channel_of (Alone fact) ≡ Some kind
     → rights.has_end x.m s.context (record { kind = kind; direction = direction }) ≡ true
@@ -66,7 +66,7 @@ held_channel x s l a direction fact v means kind named end =
         below k low = omega arith
 
 -- what is wanted of a word that names one
-pub names_channel_fits : (x : Here) (fact : Fact) (r : EndKind → Ruling) (o : Outcome)
+pub names_channel_fits : (x : Situation) (fact : Fact) (r : EndKind → Ruling) (o : Outcome)
     → ((kind : EndKind) → channel_of (Alone fact) ≡ Some kind → FitsIf x (r kind) o)
     → FitsIf x (names_channel fact r) o
 unfolding names_channel
@@ -79,7 +79,7 @@ names_channel_fits x fact r o go =
     on (Some kind) e = go kind e
 
 -- the machine looks at it
-pub held_channel_fits : (x : Here) {s : State} {kind : EndKind} (direction : Direction) (v : ℤ) (r : Ruling)
+pub held_channel_fits : (x : Situation) {s : State} {kind : EndKind} (direction : Direction) (v : ℤ) (r : Ruling)
     (o : ℕ → Outcome) → IsHeldChannel x s direction kind v → FitsIf x r (o (step.address v))
     → FitsIf x r (step.channel (step_site x) v direction o)
 unfolding step.channel step.aligned

@@ -16,8 +16,8 @@ use Rattle.machine_state.specs.Memory.{Memory, byte_at, word_at, place_of}
 use Rattle.machine_state.specs.Holding.{Holding, may_read}
 use Rattle.machine_state.proofs.Reading.{word_at_same}
 use Rattle.rulings.specs.Meaning.{Layout, Means, is_number, place_in}
-use Rattle.rulings.specs.Regions.{IsByteOf, Scope, IsRegion, IsNamed, HoldsNamed, IsWrittenAt, IsNamedAt, MayChange}
-use Rattle.rulings.specs.Regions.{in_frame, in_region, Keeps}
+use Rattle.rulings.specs.Regions.{IsByteOf, Scope, IsHeldRegion, IsNamed, HoldsNamed, IsWrittenAt, IsNamedAt, MayChange}
+use Rattle.rulings.specs.Regions.{in_frame, in_region, KeepsMemory}
 use Rattle.rulings.specs.Lends.{IsRegionKind, IsPart, of_frame, of_constants, of_parameter, Part, Lends}
 use Rattle.rulings.proofs.Words.{int_le_tells}
 use Rattle.rulings.proofs.Combining.{readable_byte}
@@ -123,7 +123,8 @@ pub record Touched (scope : Scope) (place : ℕ) : Type 0 where
   pub change : MayChange scope at
 
 -- a word that may be read is the same, or one of its bytes may change
-pub word_kept : {m : Contents} {h : Holding} {scope : Scope} {memory later : Memory} → Keeps m h scope memory later
+pub word_kept : {m : Contents} {h : Holding} {scope : Scope} {memory later : Memory}
+    → KeepsMemory m h scope memory later
     → (place : ℕ) → may_read h place ≡ true → may_read h (place + 1) ≡ true → may_read h (place + 2) ≡ true
     → may_read h (place + 3) ≡ true → (word_at later place ≡ word_at memory place) ⊎ Touched scope place
 word_kept {scope = scope} {memory = memory} {later = later} keeps place a b c d =
@@ -171,12 +172,12 @@ named_at kind total start lo hi place (inr is) low high =
     subst (λ (k : ParameterKind). IsNamedAt k start place) (sym is) (low, high)
 
 module _ (m : Contents) (h : Holding) (caller callee : Scope) (base : ℤ) (lends : Lends m caller callee base)
-    (memory later : Memory) (keeps : Keeps m h callee memory later) (has : HoldsNamed m h caller memory)
+    (memory later : Memory) (keeps : KeepsMemory m h callee memory later) (has : HoldsNamed m h caller memory)
     (mine : HoldsNamed m h callee later) where
   -- the callee changes a region that its caller's parameter names only where the same parameter was lent
   in_part : {may_use : ℕ → Bool} (q : ℕ) (p : Parameter) (total : ℕ) (lo hi : ℤ) (i : ℕ)
       → caller.parameters q ≡ Some p → IsRegionKind p.kind total lo hi
-      → IsRegion m may_use caller memory (place_of (caller.layout.starts q)) total lo hi → i < total
+      → IsHeldRegion m may_use caller memory (place_of (caller.layout.starts q)) total lo hi → i < total
       → MayChange callee (place_of (caller.layout.starts q) + i)
       → InPart m callee (place_of (caller.layout.starts q)) lo hi i
   in_part q p total lo hi i found kind region inside (in_frame k t b) =
@@ -240,8 +241,8 @@ module _ (m : Contents) (h : Holding) (caller callee : Scope) (base : ℤ) (lend
   region_kept : {may_use : ℕ → Bool} (q : ℕ) (p : Parameter) (total : ℕ) (lo hi : ℤ)
       → ((place : ℕ) → may_use place ≡ true → may_read h place ≡ true)
       → caller.parameters q ≡ Some p → IsRegionKind p.kind total lo hi
-      → IsRegion m may_use caller memory (place_of (caller.layout.starts q)) total lo hi
-      → IsRegion m may_use caller later (place_of (caller.layout.starts q)) total lo hi
+      → IsHeldRegion m may_use caller memory (place_of (caller.layout.starts q)) total lo hi
+      → IsHeldRegion m may_use caller later (place_of (caller.layout.starts q)) total lo hi
   region_kept {may_use} q p total lo hi reads found kind region = record {
     aligned = region.aligned;
     whole = region.whole;
@@ -311,8 +312,8 @@ module _ (m : Contents) (h : Holding) (caller callee : Scope) (base : ℤ) (lend
 
 -- whatever keeps the callee's scope keeps its caller's
 pub lift : (m : Contents) (h : Holding) (caller callee : Scope) (base : ℤ) → Lends m caller callee base
-    → (memory later : Memory) → HoldsNamed m h callee memory → Keeps m h callee memory later
-    → Keeps m h caller memory later
+    → (memory later : Memory) → HoldsNamed m h callee memory → KeepsMemory m h callee memory later
+    → KeepsMemory m h caller memory later
 lift m h caller callee base lends memory later mine keeps = record {
   size = keeps.size;
   bytes = λ place e. lifted place (keeps.bytes place e);

@@ -9,7 +9,7 @@ use Rattle.std.proofs.lemmas.Bool.Decides.{eqb_tells}
 use Rattle.std.proofs.lemmas.List.{get_or_past}
 use Rattle.std.proofs.lemmas.Int.{ints, of_z-to_z, to_z-of_z}
 use Rattle.module_format.specs.Order.{is_stepped}
-use Rattle.machine_state.specs.Memory.{Memory, place_of, data_start, byte_at, word_at, joined}
+use Rattle.machine_state.specs.Memory.{Memory, place_of, data_start, byte_at, word_at, word_from_bytes}
 use Rattle.rulings.specs.Meaning.{word_of}
 use Rattle.certificate.specs.Words.{all_words}
 use Rattle.rulings.specs.Reach.{word_of_byte, words_touched}
@@ -56,7 +56,7 @@ defined_inside memory place x is = elim (cases_lt (place + 3) (length memory)) [
       (byte_at memory (place + 3)) (get_or_past memory (place + 3) None high) is)
 ]
   where
-    last : (p q r s : Option ℕ) → s ≡ None → joined p q r s ≡ Some x → ⊥
+    last : (p q r s : Option ℕ) → s ≡ None → word_from_bytes p q r s ≡ Some x → ⊥
     last None q r s e h = cc
     last (Some p) None r s e h = cc
     last (Some p) (Some q) None s e h = cc

@@ -26,14 +26,14 @@ use Rattle.rulings.specs.Pointers.{reads_bytes, writes_bytes, leaves_words, numb
 use Rattle.rulings.specs.Channels.{channel_of, names_channel}
 use Rattle.rulings.specs.Filling.{filled, become_numbers, word_behind, words_within}
 use Rattle.rulings.specs.declared.pointers.Pointed.{Pointed}
-use Rattle.rulings.specs.Fitting.{Here, it_breaks}
+use Rattle.rulings.specs.Fitting.{Situation, it_breaks}
 use Rattle.rulings.proofs.Within.{is_starting}
 use Rattle.rulings.proofs.Combining.{FitsIf}
 
 abbrev pub Breaks : Ruling → Type 0
 Breaks r = (broken : Rule) × (r ≡ breaks broken)
 
-pub breaks_fit : {x : Here} {r : Ruling} {o : Outcome} → Breaks r → FitsIf x r o
+pub breaks_fit : {x : Situation} {r : Ruling} {o : Outcome} → Breaks r → FitsIf x r o
 breaks_fit {x} {r} {o} b = subst (λ (q : Ruling). FitsIf x q o) (sym b.1) (λ next. it_breaks)
 
 -- ---- combinators

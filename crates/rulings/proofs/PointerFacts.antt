@@ -9,7 +9,7 @@ use Rattle.module_format.specs.declared.fact.Fact.TheVariants.{Unknown, Number, 
 use Rattle.module_format.specs.declared.fact.Fact.TheVariants.{ReturnAddress}
 use Rattle.module_format.specs.Contents.{Contents}
 use Rattle.states.specs.declared.rule.Rule.{Rule}
-use Rattle.states.specs.State.{is_word as is_same}
+use Rattle.states.specs.State.{is_same_number as is_same}
 use Rattle.rulings.specs.declared.pointers.Pointed.{Pointed}
 use Rattle.rulings.specs.Pointers.{are_near, pointer_of, constant_of, exact_pointer}
 use Rattle.rulings.specs.Meaning.{Layout, Means, is_number}

@@ -16,13 +16,13 @@ use Rattle.module_format.specs.declared.rows.ParameterKind.{ParameterKind}
 use Rattle.module_format.specs.declared.rows.ParameterKind.TheVariants.{Value, ReadRegion, WrittenRegion, Channels}
 use Rattle.module_format.specs.Contents.{Contents}
 use Rattle.module_format.specs.Contexts.{parameters_at}
-use Rattle.machine_state.specs.Memory.{Memory, byte_at, word_at, joined, place_of}
+use Rattle.machine_state.specs.Memory.{Memory, byte_at, word_at, word_from_bytes, place_of}
 use Rattle.machine_state.specs.Holding.{Holding, may_read, may_write, may_read_word, may_write_word}
 use Rattle.states.specs.declared.span.Together.{Together}
 use Rattle.states.specs.State.{Facts, plain, is_alone}
 use Rattle.states.specs.Spans.{with_plain, together}
 use Rattle.rulings.specs.Meaning.{Layout, Activation, Means, is_number, says_nothing, MeansWord}
-use Rattle.rulings.specs.Regions.{Scope, IsRegion, IsNamed, kind_used, parameter_used}
+use Rattle.rulings.specs.Regions.{Scope, IsHeldRegion, IsNamed, kind_used, parameter_used}
 use Rattle.rulings.specs.Remaining.{only_read, not_used}
 use Rattle.rulings.specs.Reach.{readable_size, readable_bytes, may_read_parameter, kept_range, parameter_range}
 use Rattle.rulings.specs.Reach.{writable_size, writable_bytes, may_write_parameter}
@@ -140,19 +140,19 @@ no_byte memory place zero less e =
     no_first_byte memory place (ap (byte_at memory) (let is : place ≡ place + 0 = omega arith in is) ∙ e)
 no_byte memory place (suc zero) less e = rw e (second (byte_at memory place))
   where
-    second : (p : Option ℕ) → joined p None (byte_at memory (place + 2)) (byte_at memory (place + 3)) ≡ None
+    second : (p : Option ℕ) → word_from_bytes p None (byte_at memory (place + 2)) (byte_at memory (place + 3)) ≡ None
     second None = refl
     second (Some p) = refl
 no_byte memory place (suc (suc zero)) less e = rw e (third (byte_at memory place) (byte_at memory (place + 1)))
   where
-    third : (p q : Option ℕ) → joined p q None (byte_at memory (place + 3)) ≡ None
+    third : (p q : Option ℕ) → word_from_bytes p q None (byte_at memory (place + 3)) ≡ None
     third None q = refl
     third (Some p) None = refl
     third (Some p) (Some q) = refl
 no_byte memory place (suc (suc (suc zero))) less e =
     rw e (fourth (byte_at memory place) (byte_at memory (place + 1)) (byte_at memory (place + 2)))
   where
-    fourth : (p q r : Option ℕ) → joined p q r None ≡ None
+    fourth : (p q r : Option ℕ) → word_from_bytes p q r None ≡ None
     fourth None q r = refl
     fourth (Some p) None r = refl
     fourth (Some p) (Some q) None = refl
@@ -273,14 +273,14 @@ module _ (m : Contents) (context j size : ℕ) where
 pub readable_region : (m : Contents) (h : Holding) (scope : Scope) (memory : Memory) (kind : ParameterKind)
     (start size : ℕ)
     → readable_size kind ≡ Some size → IsNamed m h scope memory kind start
-    → IsRegion m (may_read h) scope memory (place_of start) size (kept_range kind).lo (kept_range kind).hi
+    → IsHeldRegion m (may_read h) scope memory (place_of start) size (kept_range kind).lo (kept_range kind).hi
 readable_region m h scope memory (Value lo hi) start size e named = absurd (cc)
 readable_region m h scope memory (ReadRegion bytes lo hi) start size e named =
     let same : bytes ≡ size = cc in
-    subst (λ (n : ℕ). IsRegion m (may_read h) scope memory (place_of start) n lo hi) same named
+    subst (λ (n : ℕ). IsHeldRegion m (may_read h) scope memory (place_of start) n lo hi) same named
 readable_region m h scope memory (WrittenRegion bytes lo hi) start size e named =
     let same : bytes ≡ size = cc in
-    subst (λ (n : ℕ). IsRegion m (may_read h) scope memory (place_of start) n lo hi) same (record {
+    subst (λ (n : ℕ). IsHeldRegion m (may_read h) scope memory (place_of start) n lo hi) same (record {
       aligned = named.aligned;
       whole = named.whole;
       held = λ i inside. may_too h (place_of start + i) (named.held i inside);

@@ -25,7 +25,7 @@ use Rattle.machine_state.specs.Site.{Local}
 use Rattle.states.specs.State.{State, plain}
 use Rattle.states.specs.Spans.{together}
 use Rattle.rulings.specs.Meaning.{Layout, Activation, Means, is_number, says_nothing, frame_word, IsWellFormed}
-use Rattle.rulings.specs.Regions.{Scope, scope_of, IsRegion, HasBytes}
+use Rattle.rulings.specs.Regions.{Scope, scope_of, IsHeldRegion, HasBytes}
 use Rattle.rulings.specs.Reach.{word_of_byte, words_touched, all_touched, lie_in, lie_in_row, readable_bytes}
 use Rattle.rulings.specs.Reach.{may_read_bytes, kept_range, constant_range, parameter_range, region_range}
 use Rattle.rulings.specs.Pointers.{number_within, frame_read, word_read, byte_read}
@@ -79,7 +79,7 @@ record Readable (m : Contents) (h : Holding) (scope : Scope) (context : ℕ) (me
   size : ℕ
   range : Ends
   range_is : parameter_range m context j ≡ range
-  region : IsRegion m (may_read h) scope memory (place_of (scope.layout.starts j)) size range.lo range.hi
+  region : IsHeldRegion m (may_read h) scope memory (place_of (scope.layout.starts j)) size range.lo range.hi
   from : pos 0 ≤ℤ first
   to : end ≤ℤ pos size
 
@@ -194,7 +194,7 @@ module _ {m : Contents} {h : Holding} {mode : machine.Mode} {act : Activation} {
       (of_region (place_of (act.layout.starts j)) r.size r.range.lo r.range.hi r.region r.from r.to)
     where
       of_region : (start size : ℕ) (least most : ℤ)
-          → IsRegion m (may_read h) (scope_of m s.context act.layout) l.memory start size least most
+          → IsHeldRegion m (may_read h) (scope_of m s.context act.layout) l.memory start size least most
           → pos 0 ≤ℤ lo → (hi +ℤ pos 4) ≤ℤ pos size
           → WordThrough m h act.layout l.memory (pos start) offset (Number least most)
       of_region start size least most region from to =
@@ -334,7 +334,7 @@ module _ {m : Contents} {h : Holding} {mode : machine.Mode} {act : Activation} {
       of_region (place_of (act.layout.starts j)) r.size r.range.lo r.range.hi r.region r.from r.to
     where
       of_region : (start size : ℕ) (least most : ℤ)
-          → IsRegion m (may_read h) (scope_of m s.context act.layout) l.memory start size least most
+          → IsHeldRegion m (may_read h) (scope_of m s.context act.layout) l.memory start size least most
           → pos 0 ≤ℤ lo → (hi +ℤ pos 1) ≤ℤ pos size
           → ByteThrough m h act.layout l.memory (pos start) offset (Number (pos 0) (pos 255))
       of_region start size least most region from to =

@@ -18,14 +18,14 @@ use Rattle.machine_state.specs.Holding.{Holding, covers, may_read, may_write, ma
 use Rattle.machine_state.proofs.Reading.{length-with_word, length-with_byte, byte_at-with_byte}
 use Rattle.machine_state.proofs.Reading.{byte_at-with_byte_other, byte_at-with_word_other, word_at_same}
 use Rattle.rulings.specs.Meaning.{Means, IsOwnWord}
-use Rattle.rulings.specs.Regions.{Scope, IsByteOf, IsRegion, IsNamed, IsNamedAt, HasConstants, HasBytes, HoldsNamed}
-use Rattle.rulings.specs.Regions.{MayChange, in_frame, Keeps}
+use Rattle.rulings.specs.Regions.{Scope, IsByteOf, IsHeldRegion, IsNamed, IsNamedAt, HasConstants, HasBytes, HoldsNamed}
+use Rattle.rulings.specs.Regions.{MayChange, in_frame, KeepsMemory}
 
-pub keeps_all : {m : Contents} {h : Holding} {scope : Scope} {memory : Memory} → Keeps m h scope memory memory
+pub keeps_all : {m : Contents} {h : Holding} {scope : Scope} {memory : Memory} → KeepsMemory m h scope memory memory
 keeps_all = record { size = refl; bytes = λ place e. inl refl; named = λ has. has }
 
-pub keeps_more : {m : Contents} {h : Holding} {scope : Scope} {old new later : Memory} → Keeps m h scope old new
-    → Keeps m h scope new later → Keeps m h scope old later
+pub keeps_more : {m : Contents} {h : Holding} {scope : Scope} {old new later : Memory} → KeepsMemory m h scope old new
+    → KeepsMemory m h scope new later → KeepsMemory m h scope old later
 keeps_more {m} {h} {scope} {old} {new} {later} first second = record {
   size = second.size ∙ first.size;
   bytes = λ place e. both place (first.bytes place e) (second.bytes place e);
@@ -158,7 +158,7 @@ module _ (m : Contents) (h : Holding) (scope : Scope) (old new : Memory) (change
   -- a region none of whose bytes has changed
   region_left : {may_use : ℕ → Bool} {place size : ℕ} {lo hi : ℤ}
       → ((q : ℕ) → may_use q ≡ true → may_read h q ≡ true) → ((q : ℕ) → place ≤ q → q < place + size → changed q → ⊥)
-      → IsRegion m may_use scope old place size lo hi → IsRegion m may_use scope new place size lo hi
+      → IsHeldRegion m may_use scope old place size lo hi → IsHeldRegion m may_use scope new place size lo hi
   region_left {may_use} {place} {size} {lo} {hi} reads beside r = record {
     aligned = r.aligned;
     whole = r.whole;
@@ -236,7 +236,8 @@ module _ (m : Contents) (h : Holding) (scope : Scope) (k : ℤ) (memory new : Me
     small = λ place b held found. alters.small place b found;
   }
 
-  region_beside : {may_use : ℕ → Bool} {start size : ℕ} {lo hi : ℤ} → IsRegion m may_use scope memory start size lo hi
+  region_beside : {may_use : ℕ → Bool} {start size : ℕ} {lo hi : ℤ}
+      → IsHeldRegion m may_use scope memory start size lo hi
       → (place : ℕ) → start ≤ place → place < start + size → IsByteOf scope.layout.origin k place → ⊥
   region_beside {may_use} {start} r place low high b =
       r.beside k (place - start) counts (omega arith)
@@ -251,7 +252,7 @@ module _ (m : Contents) (h : Holding) (scope : Scope) (k : ℤ) (memory new : Me
   beside (Channels count len ends) start named place at b = at
 
   -- a change of a word of the frame is one that the activation may make
-  pub frame_keeps : Keeps m h scope memory new
+  pub frame_keeps : KeepsMemory m h scope memory new
   frame_keeps = record {
     size = alters.size;
     bytes = λ place e. elim (alters.kept place) [ inl same ↦ inl same | inr b ↦ inr (in_frame k inside b) ];
@@ -280,7 +281,8 @@ word_written h origin k memory v w = record {
 
 pub write_keeps : (m : Contents) (h : Holding) (scope : Scope) (k : ℤ) (memory : Memory) (v : Option ℤ)
     → scope.words.writes k ≡ true → scope.words.reads k ≡ true
-    → (w : IsOwnWord h (length memory) scope.layout.origin k) → Keeps m h scope memory (with_word memory w.place v)
+    → (w : IsOwnWord h (length memory) scope.layout.origin k)
+    → KeepsMemory m h scope memory (with_word memory w.place v)
 write_keeps m h scope k memory v inside counts w =
     frame_keeps m h scope k memory (with_word memory w.place v) inside counts w
     (word_written h scope.layout.origin k memory v w)

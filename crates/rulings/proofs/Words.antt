@@ -18,7 +18,8 @@ use Rattle.states.specs.declared.known.WordFact.TheVariants.{Alone, Index, Count
 use Rattle.states.specs.declared.known.Known.{Known}
 use Rattle.states.specs.declared.known.Source.{Source}
 use Rattle.states.specs.declared.known.Source.TheVariants.{Nowhere, From, Test}
-use Rattle.states.specs.State.{Facts, Change, is_word, is_parted, by_itself, handed_out, plain, changed, one_word}
+use Rattle.states.specs.State.{Facts, Change, is_same_number, is_parted, by_itself, handed_out, plain, changed}
+use Rattle.states.specs.State.{one_word}
 use Rattle.states.specs.State.{without_source, forgets}
 use Rattle.module_format.specs.declared.stack.Stack.{Stack}
 use Rattle.module_format.specs.Stack.{mapped}
@@ -44,7 +45,7 @@ local_place {h} {size} {words} {origin} {depth} {workspace} f e fits place is in
 pub int_le_tells : (j k : ℤ) → ((int_le j k ≡ true) × (j ≤ℤ k)) ⊎ ((int_le j k ≡ false) × (k <ℤ j))
 int_le_tells j k = grind (arith, ints)
 
-pub word_test : (j k : ℤ) → ((is_word j k ≡ true) × (j ≡ k)) ⊎ ((is_word j k ≡ false) × (j ≡ k → ⊥))
+pub word_test : (j k : ℤ) → ((is_same_number j k ≡ true) × (j ≡ k)) ⊎ ((is_same_number j k ≡ false) × (j ≡ k → ⊥))
 word_test j k = elim (int_le_tells j k) [
   | inr p ↦ inr (ap (λ (b : Bool). b && int_le k j) p.0, λ e. let low : k <ℤ j = p.1 in absurd (omega (arith, ints)))
   | inl p ↦ elim (int_le_tells k j) [
@@ -58,7 +59,7 @@ word_test j k = elim (int_le_tells j k) [
 ]
 
 -- words that pass the test are the same
-pub same_word_by : (j k : ℤ) → is_word j k ≡ true → j ≡ k
+pub same_word_by : (j k : ℤ) → is_same_number j k ≡ true → j ≡ k
 same_word_by j k e = elim (word_test j k) [
   | inl p ↦ p.1
   | inr p ↦ let no' : false ≡ true = sym p.0 ∙ e in absurd (cc)

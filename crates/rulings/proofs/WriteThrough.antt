@@ -27,8 +27,8 @@ use Rattle.states.specs.Spans.{is_in_span, widened, left_of, on_span, after_chan
 use Rattle.states.proofs.SpanFacts.{in-span}
 use Rattle.rulings.specs.Meaning.{Layout, Activation, Means, says_nothing, is_number, place_in, frame_word, IsOwnWord}
 use Rattle.rulings.specs.Meaning.{words_in, ComesFrom, from_nowhere, from_word, from_test, MeansKnown}
-use Rattle.rulings.specs.Regions.{Scope, scope_of, IsByteOf, IsRegion, IsNamed, IsWrittenAt, HoldsNamed, HasBytes}
-use Rattle.rulings.specs.Regions.{in_region, Keeps, parameter_used}
+use Rattle.rulings.specs.Regions.{Scope, scope_of, IsByteOf, IsHeldRegion, IsNamed, IsWrittenAt, HoldsNamed, HasBytes}
+use Rattle.rulings.specs.Regions.{in_region, KeepsMemory, parameter_used}
 use Rattle.rulings.specs.Reach.{word_of_byte, words_touched, all_touched, writable_size, writable_bytes, kept_range}
 use Rattle.rulings.specs.Reach.{parameter_range}
 use Rattle.rulings.specs.Pointers.{widened_by}
@@ -145,7 +145,7 @@ module _ {m : Contents} {h : Holding} {mode : machine.Mode} {act : Activation} {
   -- what is known changes as memory does
   pub after_followed : (change : Change) (new : Memory)
       → Follows m (words_in m s.context).reads act.layout change l.memory new
-      → Keeps m h (scope_of m s.context act.layout) l.memory new
+      → KeepsMemory m h (scope_of m s.context act.layout) l.memory new
       → Within ArePlain m h mode act (after_change change s) (record l { memory = new })
   unfolding after_change
   after_followed change new follows keeps = record {
@@ -160,7 +160,7 @@ module _ {m : Contents} {h : Holding} {mode : machine.Mode} {act : Activation} {
   -- what is known of a span changes as one of its words does
   pub after_span : (first : ℤ) (count : ℕ) (leaving : Leaving) (k : ℤ) (new : Memory) → is_in_span first count k ≡ true
       → LeavesWell m act.layout first count leaving k l.memory new
-      → Keeps m h (scope_of m s.context act.layout) l.memory new
+      → KeepsMemory m h (scope_of m s.context act.layout) l.memory new
       → Within ArePlain m h mode act (after_change (on_span first count leaving) s) (record l { memory = new })
   after_span first count leaving k new there leaves keeps =
       after_followed (on_span first count leaving) new
@@ -170,7 +170,7 @@ module _ {m : Contents} {h : Holding} {mode : machine.Mode} {act : Activation} {
 
   pub after_beside : (new : Memory) → ((k : ℤ) → (words_in m s.context).reads k ≡ true
       → frame_word new act.layout.origin k ≡ frame_word l.memory act.layout.origin k)
-      → Keeps m h (scope_of m s.context act.layout) l.memory new
+      → KeepsMemory m h (scope_of m s.context act.layout) l.memory new
       → Within ArePlain m h mode act s (record l { memory = new })
   after_beside new same keeps = record {
     frame = same_frame (sym keeps.size) a.frame;
@@ -255,7 +255,7 @@ module _ (m : Contents) (h : Holding) (scope : Scope) (old new : Memory) (has : 
   abbrev start : ℕ
   start = place_of (scope.layout.starts j)
 
-  region : IsRegion m (may_write h) scope old start size lo hi
+  region : IsHeldRegion m (may_write h) scope old start size lo hi
   region = subst (λ (kind : ParameterKind). IsNamed m h scope old kind (scope.layout.starts j)) is (has.each j p found)
 
   is_written : (place : ℕ) → Lies from width place → IsWrittenAt p.kind (scope.layout.starts j) place
@@ -282,7 +282,7 @@ module _ (m : Contents) (h : Holding) (scope : Scope) (old new : Memory) (has : 
 
   again : IsNamed m h scope new p.kind (scope.layout.starts j)
   again = subst (λ (kind : ParameterKind). IsNamed m h scope new kind (scope.layout.starts j)) (sym is)
-      (let r : IsRegion m (may_write h) scope new start size lo hi = record {
+      (let r : IsHeldRegion m (may_write h) scope new start size lo hi = record {
         aligned = region.aligned;
         whole = region.whole;
         held = region.held;
@@ -303,7 +303,7 @@ module _ (m : Contents) (h : Holding) (scope : Scope) (old new : Memory) (has : 
   ]
 
   -- it is a change that the activation may make
-  pub region_keeps : Keeps m h scope old new
+  pub region_keeps : KeepsMemory m h scope old new
   region_keeps = record {
     size = alters.long;
     bytes = λ place held. elim (alters.kept place) [

@@ -18,7 +18,7 @@ use Rattle.module_format.specs.Pars.{direction_number}
 use Rattle.word_arithmetic.specs.Word.{least_word}
 use Rattle.states.specs.declared.known.WordFact.{WordFact}
 use Rattle.states.specs.declared.known.WordFact.TheVariants.{Alone}
-use Rattle.states.specs.State.{is_word}
+use Rattle.states.specs.State.{is_same_number}
 use Rattle.states.specs.declared.rule.Rule.TheVariants as rules
 use Rattle.rulings.specs.Reach.{word_of_byte}
 use Rattle.rulings.specs.Rulings.{Ruling, breaks, wants}
@@ -43,8 +43,8 @@ channel_in (regions.Parameter j) offset =
 
 -- the channel that a word names
 unfoldable pub channel_of : WordFact → Option EndKind
-channel_of (Alone (Number lo hi)) = if is_word lo hi then link_at lo else None
-channel_of (Alone (Pointer region lo hi Word)) = if is_word lo hi then channel_in region lo else None
+channel_of (Alone (Number lo hi)) = if is_same_number lo hi then link_at lo else None
+channel_of (Alone (Pointer region lo hi Word)) = if is_same_number lo hi then channel_in region lo else None
 channel_of _ = None
 
 -- the fact is that of a word which names a channel
@@ -73,7 +73,7 @@ runs_meet first count other more = int_lt first (other +ℤ pos more) && int_lt 
 abbrev pub channels_meet : EndKind → ℕ → EndKind → ℕ → Bool
 channels_meet (ends.FrameWord word) count (ends.FrameWord other) more = runs_meet word count other more
 channels_meet (ends.Parameter j element) count (ends.Parameter k other) more =
-    is_word j k && runs_meet (pos element) count (pos other) more
+    is_same_number j k && runs_meet (pos element) count (pos other) more
 channels_meet (ends.Link link) count (ends.Link other) more = runs_meet (pos link) count (pos other) more
 channels_meet _ count _ more = false
 

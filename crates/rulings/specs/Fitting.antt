@@ -26,7 +26,7 @@ use Rattle.states.specs.declared.known.GuardKind.TheVariants.{Channel, Skip}
 use Rattle.states.specs.declared.known.GuardName.{GuardName}
 use Rattle.states.specs.declared.known.Mode.TheVariants.{Plain, Enabling, Disabling}
 use Rattle.states.specs.State.{State, unknown, label_state, procedure_state}
-use Rattle.rulings.specs.Regions.{Scope, scope_of, scope_in, channel_address, HoldsNamed, Keeps}
+use Rattle.rulings.specs.Regions.{Scope, scope_of, scope_in, channel_address, HoldsNamed, KeepsMemory}
 use Rattle.rulings.specs.Buffers.{message_place, is_of_message, IsByte, Fills}
 use Rattle.rulings.specs.Guarding.{guard_value, GuardsFit}
 use Rattle.rulings.specs.Lends.{Lends}
@@ -49,7 +49,7 @@ After m h mode act s l = Described m h mode act s l (scope_in m s act.layout)
 
 -- where an instruction runs: the module, what the process holds, its context, state and activation, its mode, memory
 -- and what it owed before, and the place of the instruction
-pub record Here : Type 0 where
+pub record Situation : Type 0 where
   pub m : Contents
   pub h : Holding
   pub context : ℕ
@@ -62,26 +62,26 @@ pub record Here : Type 0 where
   pub len : ℕ
 
 -- A state and what the machine has are those before the instruction.
-pub record StandsAt (x : Here) (s : State) (l : Local) : Type 0 where
+pub record StandsAt (x : Situation) (s : State) (l : Local) : Type 0 where
   pub state : x.before ≡ s
   pub memory : l.memory ≡ x.memory
 
 -- An instruction that goes on in the middle of something changes registers alone.
-pub record Stays (x : Here) (s : State) (l : Local) : Type 0 where
+pub record Stays (x : Situation) (s : State) (l : Local) : Type 0 where
   pub mode : s.mode ≡ x.before.mode
   pub guards : s.guards ≡ x.before.guards
   pub depth : s.depth ≡ x.before.depth
   pub memory : l.memory ≡ x.memory
 
 -- What an instruction leaves of memory: it changes own bytes only, and no others than its activation may.
-pub record Changes (x : Here) (new : Memory) : Type 0 where
+pub record Changes (x : Situation) (new : Memory) : Type 0 where
   pub own : ChangesOwn x.h x.memory new
-  pub keeps : Keeps x.m x.h (scope_of x.m x.context x.act.layout) x.memory new
+  pub keeps : KeepsMemory x.m x.h (scope_of x.m x.context x.act.layout) x.memory new
 
-abbrev pub rule_site : Here → rule.Site
+abbrev pub rule_site : Situation → rule.Site
 rule_site x = record { contents = x.m; at = x.at; length = x.len }
 
-abbrev pub step_site : Here → steps.Site
+abbrev pub step_site : Situation → steps.Site
 step_site x = record {
   code_start = data_start + 4 * x.m.data_words;
   code_length = length x.m.code;
@@ -120,16 +120,16 @@ pub record Waits (m : Contents) (h : Holding) (context : ℕ) (layout : Layout) 
   pub base : ℤ
   pub lends : Lends m (scope_of m c.state.context c.act.layout) (scope_of m context layout) base
   pub lengths : layout.lengths ≡ c.act.layout.lengths
-  pub resumes : (later : Memory) → Keeps m h (scope_of m context layout) memory later → Resumes m h c later
+  pub resumes : (later : Memory) → KeepsMemory m h (scope_of m context layout) memory later → Resumes m h c later
 
 -- the process goes on at this code offset
-pub data GoesTo (x : Here) : Outcome → ℕ → Local → Type 0 where
+pub data GoesTo (x : Situation) : Outcome → ℕ → Local → Type 0 where
   goes_behind : {l : Local} → GoesTo x (goes l) (x.at + x.len) l
   is_jump : {to : ℕ} {l : Local} → GoesTo x (jumps to l) to l
   is_landing : {to : ℕ} {l : Local} → GoesTo x (lands to l) to l
 
 -- A channel of which the activation has the end in a direction, and whose messages have the length of this one.
-pub record GoesOver (x : Here) (direction : Direction) (e : Exchange) : Type 0 where
+pub record GoesOver (x : Situation) (direction : Direction) (e : Exchange) : Type 0 where
   pub kind : EndKind
   pub end : (scope_of x.m x.context x.act.layout).ends kind direction ≡ true
   pub address : channel_address x.act.layout kind ≡ e.channel
@@ -139,11 +139,11 @@ pub record GoesOver (x : Here) (direction : Direction) (e : Exchange) : Type 0 w
 -- The process may write the buffer of a message that comes. Whatever bytes come there, and whatever happens to bytes
 -- that it may not read, what is known of the state holds once all are there; and as long as some come, it keeps the
 -- rest.
-pub record Receives (x : Here) (s : State) (l : Local) (e : Exchange) : Type 0 where
+pub record Receives (x : Situation) (s : State) (l : Local) (e : Exchange) : Type 0 where
   pub over : GoesOver x In e
   pub room : (place : ℕ) → is_of_message e place ≡ true → (may_write x.h place ≡ true) × (place < length l.memory)
   pub fills : (old new : Memory) → Fills x.h (is_of_message e) old new
-      → Keeps x.m x.h (scope_in x.m s x.act.layout) old new
+      → KeepsMemory x.m x.h (scope_in x.m s x.act.layout) old new
   pub after : (later : Memory) → length later ≡ length l.memory
       → ((place : ℕ) → may_read x.h place ≡ true → is_of_message e place ≡ false
       → byte_at later place ≡ byte_at l.memory place)
@@ -151,14 +151,14 @@ pub record Receives (x : Here) (s : State) (l : Local) (e : Exchange) : Type 0 w
       → After x.m x.h x.mode x.act s (record l { memory = later })
 
 -- The process may read the bytes of a message that goes out, and they are bytes.
-pub record Sends (x : Here) (s : State) (l : Local) (e : Exchange) : Type 0 where
+pub record Sends (x : Situation) (s : State) (l : Local) (e : Exchange) : Type 0 where
   pub over : GoesOver x Out e
   pub bytes : (j : ℕ) → j < e.length
       → (may_read x.h (message_place e j) ≡ true) × IsByte (byte_at l.memory (message_place e j))
   pub after : After x.m x.h x.mode x.act s l
 
 -- An instruction of plain mode that asks for a message: the state after it, what it leaves of memory, and what it pays.
-pub record Exchanges (x : Here) (r : Ruling) (s : State) (l : Local) : Type 0 where
+pub record Exchanges (x : Situation) (r : Ruling) (s : State) (l : Local) : Type 0 where
   pub is : falling r ≡ Some s
   pub plain : s.mode ≡ Plain
   pub in_plain_mode : x.mode ≡ machine_modes.Plain
@@ -170,7 +170,7 @@ pub record Exchanges (x : Here) (r : Ruling) (s : State) (l : Local) : Type 0 wh
 -- ---- alternations
 
 -- An instruction of an alternation: the state after it, what it leaves of memory, and what it pays.
-pub record Alters (x : Here) (r : Ruling) (s : State) (l : Local) : Type 0 where
+pub record Alters (x : Situation) (r : Ruling) (s : State) (l : Local) : Type 0 where
   pub is : falling r ≡ Some s
   pub low : x.at + x.len < length x.m.code
   pub same : s.context ≡ x.context
@@ -178,27 +178,27 @@ pub record Alters (x : Here) (r : Ruling) (s : State) (l : Local) : Type 0 where
   pub pay : owed s x.act + x.len ≤ x.owed
 
 -- It begins with no guards.
-pub record Begins (x : Here) (s : State) (l : Local) : Type 0 where
+pub record Begins (x : Situation) (s : State) (l : Local) : Type 0 where
   pub before : x.before.mode ≡ Plain
   pub mode : s.mode ≡ Enabling
   pub none : s.guards ≡ []
   pub after : After x.m x.h (machine_modes.Enabling false) x.act s l
 
 -- The guards of the state after the instruction fit as those before it did, each of which still has its value.
-pub record KeepsGuards (x : Here) (s : State) (l : Local) : Type 0 where
+pub record KeepsGuards (x : Situation) (s : State) (l : Local) : Type 0 where
   pub fit : GuardsFit x.m x.before → GuardsFit x.m s
   pub values : GuardsFit x.m x.before → (i : ℕ) (g : Guard) → slice_get x.before.guards i ≡ Some g
       → guard_value l.memory x.act g.name ≡ guard_value x.memory x.act g.name
 
 -- The value of a guard's name, and whether that is true.
-pub record HasTruth (x : Here) (name : GuardName) (holds : Bool) : Type 0 where
+pub record HasTruth (x : Situation) (name : GuardName) (holds : Bool) : Type 0 where
   pub value : ℤ
   pub is : guard_value x.memory x.act name ≡ Some value
   pub yes : holds ≡ true → value ≡ pos 0 → ⊥
   pub no : holds ≡ false → value ≡ pos 0
 
 -- One guard more is enabled, if it is true, whatever was ready before.
-pub record Enables (x : Here) (kind : GuardKind) (holds : Bool) (s : State) (l : Local) : Type 0 where
+pub record Enables (x : Situation) (kind : GuardKind) (holds : Bool) (s : State) (l : Local) : Type 0 where
   pub before : x.before.mode ≡ Enabling
   pub mode : s.mode ≡ Enabling
   pub name : GuardName
@@ -209,7 +209,7 @@ pub record Enables (x : Here) (kind : GuardKind) (holds : Bool) (s : State) (l :
   pub after : (is_ready : Bool) → After x.m x.h (machine_modes.Enabling is_ready) x.act s l
 
 -- It waits until a guard is ready.
-pub record AwaitsGuards (x : Here) (s : State) (l : Local) : Type 0 where
+pub record AwaitsGuards (x : Situation) (s : State) (l : Local) : Type 0 where
   pub before : x.before.mode ≡ Enabling
   pub mode : s.mode ≡ Disabling 0
   pub list : s.guards ≡ x.before.guards
@@ -217,27 +217,28 @@ pub record AwaitsGuards (x : Here) (s : State) (l : Local) : Type 0 where
   pub after : (selection : Option ℤ) → After x.m x.h (machine_modes.Disabling selection) x.act s l
 
 -- The next guard is disabled, whatever was selected before. A says whether it is selected.
-pub record Disables (x : Here) (kind : GuardKind) (holds : Bool) (distance : ℤ) (s : State) (l : Local) : Type 0 where
-  pub done : ℕ
-  pub before : x.before.mode ≡ Disabling done
-  pub mode : s.mode ≡ Disabling (done + 1)
-  pub guard : Guard
-  pub there : slice_get x.before.guards done ≡ Some guard
-  pub kind_is : guard.kind ≡ kind
-  pub list : s.guards ≡ slice_set x.before.guards done (record guard { exit = Some distance })
-  pub truth : HasTruth x guard.name holds
-  pub keeps : KeepsGuards x s l
-  pub after : (selection : Option ℤ) (a : ℤ) → pos 0 ≤ℤ a → a ≤ℤ pos 1
-      → After x.m x.h (machine_modes.Disabling selection) x.act s (with_a_alone (Some a) l)
+pub record Disables (x : Situation) (kind : GuardKind) (holds : Bool) (distance : ℤ) (s : State) (l : Local) : Type 0
+  where
+    pub done : ℕ
+    pub before : x.before.mode ≡ Disabling done
+    pub mode : s.mode ≡ Disabling (done + 1)
+    pub guard : Guard
+    pub there : slice_get x.before.guards done ≡ Some guard
+    pub kind_is : guard.kind ≡ kind
+    pub list : s.guards ≡ slice_set x.before.guards done (record guard { exit = Some distance })
+    pub truth : HasTruth x guard.name holds
+    pub keeps : KeepsGuards x s l
+    pub after : (selection : Option ℤ) (a : ℤ) → pos 0 ≤ℤ a → a ≤ℤ pos 1
+        → After x.m x.h (machine_modes.Disabling selection) x.act s (with_a_alone (Some a) l)
 
 -- A channel from which the activation may receive has this address.
-pub record IsAtChannel (x : Here) (kind : EndKind) (address : ℕ) : Type 0 where
+pub record IsAtChannel (x : Situation) (kind : EndKind) (address : ℕ) : Type 0 where
   pub end : (scope_of x.m x.context x.act.layout).ends kind In ≡ true
   pub address_is : channel_address x.act.layout kind ≡ address
 
 -- What the instruction asks of the world is what the ruling says, and the world may grant it. Each family of
 -- instructions that ask something has its constructors here.
-pub data Asks (x : Here) (r : Ruling) : Outcome → Type 0 where
+pub data Asks (x : Situation) (r : Ruling) : Outcome → Type 0 where
   -- a message comes, or goes, and after that the process goes on after the instruction
   to_receive : {s : State} {l : Local} {e : Exchange} → Exchanges x r s l → Receives x s l e → Asks x r (receives e l)
   to_send : {s : State} {l : Local} {e : Exchange} → Exchanges x r s l → Sends x s l e → Asks x r (sends e l)
@@ -262,7 +263,7 @@ IsOneOf to offsets = (n : ℕ) × (slice_get offsets n ≡ Some to)
 
 -- A ruling and an outcome fit each other. After the instruction the activation is the same; at a label its loops may
 -- have other turns left. Of what was owed each byte of the instruction is paid.
-pub data Fits (x : Here) : Ruling → Outcome → Type 0 where
+pub data Fits (x : Situation) : Ruling → Outcome → Type 0 where
   it_falls : {r : Ruling} {o : Outcome} {s : State} {l : Local} → falling r ≡ Some s → GoesTo x o (x.at + x.len) l
       → x.at + x.len < length x.m.code → After x.m x.h x.mode x.act s l → s.context ≡ x.context → Changes x l.memory
       → owed s x.act + x.len ≤ x.owed → ((x.mode ≡ machine_modes.Plain → ⊥) → Stays x s l) → Fits x r o
@@ -292,5 +293,5 @@ pub data Fits (x : Here) : Ruling → Outcome → Type 0 where
   it_breaks : {broken : Rule} {o : Outcome} → Fits x (breaks broken) o
 
 -- what falls through has code after it
-abbrev pub HasNext : Here → Ruling → Type 0
+abbrev pub HasNext : Situation → Ruling → Type 0
 HasNext x r = (s : State) → falling r ≡ Some s → x.at + x.len < length x.m.code

@@ -12,7 +12,7 @@ use Rattle.states.specs.declared.rule.Rule.{Rule}
 use Rattle.states.specs.declared.rule.Rule.TheVariants as rules
 use Rattle.word_arithmetic.specs.Range.{Ends, full}
 use Rattle.states.specs.declared.span.Together.{Together}
-use Rattle.states.specs.State.{State, Facts, plain, is_word as is_same}
+use Rattle.states.specs.State.{State, Facts, plain, is_same_number as is_same}
 use Rattle.states.specs.declared.span.Leaving.{Leaving}
 use Rattle.states.specs.declared.span.Leaving.TheVariants.{Become, Widen}
 use Rattle.states.specs.Spans.{together, on_span, after_change}
@@ -56,9 +56,9 @@ exact_pointer (Pointer region lo hi step) =
 exact_pointer _ = Err rules.Pointer
 
 -- the bounds of a number
-unfoldable pub number_of : Fact → Result Bounds Rule
-number_of (Number lo hi) = Ok (record { lo = lo; hi = hi })
-number_of _ = Err rules.Number
+unfoldable pub bounds_of : Fact → Result Bounds Rule
+bounds_of (Number lo hi) = Ok (record { lo = lo; hi = hi })
+bounds_of _ = Err rules.Number
 
 -- the number that a fact says it is
 unfoldable pub constant_of : Fact → Result ℤ Rule

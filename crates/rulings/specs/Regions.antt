@@ -95,7 +95,7 @@ scope_in m s layout = scope_among m s.context s.mode layout
 
 -- A region: its `size` bytes from a place on, both multiples of 4, each of which may be used so. No word of the frame
 -- that counts as read has one of them, and each word is a number from lo to hi.
-pub record IsRegion (m : Contents) (may_use : ℕ → Bool) (scope : Scope) (memory : Memory) (place size : ℕ)
+pub record IsHeldRegion (m : Contents) (may_use : ℕ → Bool) (scope : Scope) (memory : Memory) (place size : ℕ)
     (lo hi : ℤ) : Type 0 where
   pub aligned : IsTrue (is_multiple_of_four place)
   pub whole : IsTrue (is_multiple_of_four size)
@@ -108,9 +108,9 @@ pub record IsRegion (m : Contents) (may_use : ℕ → Bool) (scope : Scope) (mem
 abbrev pub IsNamed : Contents → Holding → Scope → Memory → ParameterKind → ℕ → Type 0
 IsNamed m h scope memory (Value lo hi) start = ⊤
 IsNamed m h scope memory (ReadRegion size lo hi) start =
-    IsRegion m (may_read h) scope memory (place_of start) size lo hi
+    IsHeldRegion m (may_read h) scope memory (place_of start) size lo hi
 IsNamed m h scope memory (WrittenRegion size lo hi) start =
-    IsRegion m (may_write h) scope memory (place_of start) size lo hi
+    IsHeldRegion m (may_write h) scope memory (place_of start) size lo hi
 IsNamed m h scope memory (Channels count len ends) start = IsTrue (is_multiple_of_four start)
 
 -- ---- what an activation changes
@@ -178,7 +178,7 @@ pub data MayChange (scope : Scope) (place : ℕ) : Type 0 where
 
 -- What steps of an activation leave of memory: of the bytes that the process may read only those have changed that the
 -- activation may change, and what its parameters name is still there.
-pub record Keeps (m : Contents) (h : Holding) (scope : Scope) (old new : Memory) : Type 0 where
+pub record KeepsMemory (m : Contents) (h : Holding) (scope : Scope) (old new : Memory) : Type 0 where
   pub size : length new ≡ length old
   pub bytes : (place : ℕ) → may_read h place ≡ true → (byte_at new place ≡ byte_at old place) ⊎ MayChange scope place
   pub named : HoldsNamed m h scope old → HoldsNamed m h scope new

@@ -13,7 +13,7 @@ use Rattle.module_format.specs.Contents.{Contents, Par, Branch}
 use Rattle.module_format.specs.Pars.{key_of}
 use Rattle.certificate.specs.Rights as rights
 use Rattle.certificate.specs.Rights.{is_among, is_same_end}
-use Rattle.states.specs.State.{is_word}
+use Rattle.states.specs.State.{is_same_number}
 use Rattle.rulings.specs.Reach.{is_listed}
 
 -- one of the first `started` branches passes a test
@@ -24,11 +24,11 @@ some_started par started test = list_any test (take started par.branches)
 
 -- word k is a channel of the PAR
 abbrev pub is_channel_word : Par → ℤ → Bool
-is_channel_word par k = list_any (λ (c : ChannelRow). is_word c.word k) par.channels
+is_channel_word par k = list_any (λ (c : ChannelRow). is_same_number c.word k) par.channels
 
 -- word k is one of the block, or a channel of the PAR: no branch has it
 abbrev pub is_hidden : Par → ℤ → Bool
-is_hidden par k = is_word par.block k || is_word (par.block +ℤ pos 1) k || is_channel_word par k
+is_hidden par k = is_same_number par.block k || is_same_number (par.block +ℤ pos 1) k || is_channel_word par k
 
 -- one of the first `started` branches has word `k` to write, or has it to read
 abbrev pub word_given_to_write : Par → ℕ → ℤ → Bool

@@ -1,7 +1,7 @@
 //! What facts say of pointers and numbers, each result with the rule that it keeps.
 
 ghost use Rattle.std.specs.Prelude.{IfOk, true, ◌≡◌, ◌≤ℤ◌, pos, negsuc};
-ghost use Rattle.rulings.specs.Pointers.{is_near, near, are_near, pointer_of, number_of, constant_of, exact_pointer};
+ghost use Rattle.rulings.specs.Pointers.{is_near, near, are_near, pointer_of, bounds_of, constant_of, exact_pointer};
 ghost use Rattle.rulings.specs.Pointers.{is_near_pointer};
 ghost use Rattle.rulings.specs.Rulings.{settles};
 ghost use Rattle.rulings.specs.Telling.{Admits, Gives};
@@ -126,9 +126,9 @@ pub fn exact_pointer(fact: Fact) -> Result<Pointed, Rule>
 }
 
 /// The bounds of a number.
-#[tactic(auto, unfolding(crate::specs::Rulings::settles, crate::specs::Pointers::number_of))]
-pub fn number_of(fact: Fact) -> Result<Bounds, Rule>
-    ensures { Gives (λ bounds. bounds) result (settles (number_of fact)) }
+#[tactic(auto, unfolding(crate::specs::Rulings::settles, crate::specs::Pointers::bounds_of))]
+pub fn bounds_of(fact: Fact) -> Result<Bounds, Rule>
+    ensures { Gives (λ bounds. bounds) result (settles (bounds_of fact)) }
 {
     match fact {
         Fact::Number { lo, hi } => Ok(Bounds { lo, hi }),

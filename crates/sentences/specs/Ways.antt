@@ -9,7 +9,7 @@ use Rattle.states.specs.declared.known.Source.{Source}
 use Rattle.states.specs.declared.known.Source.TheVariants.{Test}
 use Rattle.states.specs.declared.known.WordFact.{WordFact}
 use Rattle.states.specs.declared.known.WordFact.TheVariants.{Alone}
-use Rattle.states.specs.State.{State, Facts, by_itself, is_parted, is_word}
+use Rattle.states.specs.State.{State, Facts, by_itself, is_parted, is_same_number}
 use Rattle.states.specs.Below.{is_plain}
 use Rattle.sentences.specs.declared.ways.Way.{Way}
 use Rattle.sentences.specs.declared.ways.Way.TheVariants.{Falls, Jumps, Tests, Selects}
@@ -45,7 +45,7 @@ left_fact inside lo hi fact = elim (range_of fact) [
 
 -- what is known of a word where what comes from there is 0
 abbrev pub tested_fact : Source → ℤ → WordFact → WordFact
-tested_fact (Test word lo hi inside) k fact = if is_word k word then left_fact (not inside) lo hi fact else fact
+tested_fact (Test word lo hi inside) k fact = if is_same_number k word then left_fact (not inside) lo hi fact else fact
 tested_fact source k fact = fact
 
 -- ---- all

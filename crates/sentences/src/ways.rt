@@ -4,7 +4,7 @@ ghost use Rattle.std.specs.Prelude.{◌≡◌, negsuc, pos, ◌≤ℤ◌};
 ghost use Rattle.std.specs.Option.{option_map};
 ghost use Rattle.word_arithmetic.specs.Range.{ends_of};
 ghost use Rattle.states.specs.Rows.{LoopFits};
-ghost use Rattle.states.specs.State.{is_parted, is_word};
+ghost use Rattle.states.specs.State.{is_parted, is_same_number};
 ghost use Rattle.states.specs.Views.{state_of};
 ghost use Rattle.sentences.specs.Ways.{is_hidden, hidden_fact, range_of, number_in, left_fact, tested_fact};
 ghost use Rattle.sentences.specs.Ways.{seen_in, seen_of, seen_of_a, is_settled};
@@ -100,7 +100,7 @@ fn left_fact(is_inside: bool, lo: i32, hi: i32, fact: WordFact) -> WordFact
 
 /// Whether two numbers are one.
 fn is_word(word: i64, other: i64) -> bool
-    ensures { result ≡ is_word word other }
+    ensures { result ≡ is_same_number word other }
 {
     word <= other && other <= word
 }

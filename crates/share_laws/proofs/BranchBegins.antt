@@ -23,7 +23,7 @@ use Rattle.rulings.proofs.Combining.{unknown_means}
 use Rattle.rulings.proofs.Words.{word_test, means_same}
 use Rattle.share_laws.specs.GoingOn.{BeginsAs, BranchesBegin}
 use Rattle.share_laws.specs.Starts.{CanStart, BranchHolds, held_by_branch}
-use Rattle.share_laws.specs.Taking.{IsScheduling, after_start, StartTakes}
+use Rattle.share_laws.specs.Taking.{IsScheduling, memory_after_start, StartTakes}
 use Rattle.share_laws.proofs.BranchHolds.{branches_hold_their_shares}
 use Rattle.share_laws.proofs.TakenWords.{takes_its_words}
 
@@ -51,28 +51,29 @@ scheduling_test found k = elim (word_test k (found.branch.workspace +ℤ negsuc 
 module _ (m : Contents) (found : Found) (act : Activation) (base : ℕ) (addresses : List (Option ℕ)) (h : Holding)
     (memory : Memory) (depth : ℤ) (workspace : ℕ) (s : State) (l : Local)
     (can : CanStart m found act.layout base addresses h memory depth workspace)
-    (begins : BeginsAs m found act memory s) (memory_is : l.memory ≡ after_start found base memory)
+    (begins : BeginsAs m found act memory s) (memory_is : l.memory ≡ memory_after_start found base memory)
     (at : l.registers.workspace ≡ frame_address base found.branch.workspace) where
   abbrev new : Memory
-  new = after_start found base memory
+  new = memory_after_start found base memory
 
   abbrev mine : Holding
   mine = held_by_branch m found base addresses (length memory)
 
   -- what the start takes
-  taken : StartTakes m found act.layout base addresses h memory (after_start found base memory) depth workspace
+  taken : StartTakes m found act.layout base addresses h memory (memory_after_start found base memory) depth workspace
   taken = takes_its_words m found act.layout base addresses h memory depth workspace can
 
   -- what the branch holds then
   holds : BranchHolds m found act.layout base
-      (held_by_branch m found base addresses (length (after_start found base memory)))
-      (after_start found base memory)
-  holds = branches_hold_their_shares m found act.layout base addresses h (after_start found base memory) depth workspace
+      (held_by_branch m found base addresses (length (memory_after_start found base memory)))
+      (memory_after_start found base memory)
+  holds = branches_hold_their_shares m found act.layout base addresses h (memory_after_start found base memory) depth
+      workspace
       taken.can
 
   -- what is known of a word of the branch
   word : (k : ℤ) → may_read_word m (context_of m found) k ≡ true
-      → MeansWord m act k (s.frame k) (frame_word (after_start found base memory) act.layout.origin k)
+      → MeansWord m act k (s.frame k) (frame_word (memory_after_start found base memory) act.layout.origin k)
   word k t = elim (scheduling_test found k) [
     | inl such ↦ means_same (is_fact says_nothing) (sym (begins.taken k such)) refl
     | inr other ↦ means_same (begins.words k t other) refl (sym (taken.others k other))

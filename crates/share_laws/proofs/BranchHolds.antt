@@ -31,7 +31,8 @@ use Rattle.machine_state.proofs.SpanLaws.{runs_tell}
 use Rattle.rulings.specs.Channels.{message_length}
 use Rattle.rulings.specs.Lends.{IsRegionKind}
 use Rattle.rulings.specs.Meaning.{Layout, HasFrame, IsOwnWord, IsReadableWord, place_in, words_in, frame_lo, frame_hi}
-use Rattle.rulings.specs.Regions.{Scope, scope_of, scope_left, IsRegion, IsNamed, HoldsNamed, IsWrittenAt, IsNamedAt}
+use Rattle.rulings.specs.Regions.{Scope, scope_of, scope_left, IsHeldRegion, IsNamed, HoldsNamed, IsWrittenAt}
+use Rattle.rulings.specs.Regions.{IsNamedAt}
 use Rattle.rulings.specs.Regions.{HasConstants, channel_address, length_left}
 use Rattle.rulings.proofs.Combining.{readable_byte, readable}
 use Rattle.rulings.proofs.Words.{moved_workspace}
@@ -209,9 +210,9 @@ module _ (m : Contents) (found : Found) (layout : Layout) (base : ℕ) (addresse
           → IsNamed m h left_scope memory theirs (layout.starts j)
           → IsNamed m mine (scope_of m (context_of m found) layout) memory p.kind (layout.starts j)
       on theirs (takes_to_write raw size lo hi here long listed kind is) named =
-          let r : IsRegion m (may_write h) left_scope memory (place_of (layout.starts j)) size lo hi =
+          let r : IsHeldRegion m (may_write h) left_scope memory (place_of (layout.starts j)) size lo hi =
           subst (λ (k : ParameterKind). IsNamed m h left_scope memory k (layout.starts j)) is named in
-          let region : IsRegion m (may_write mine) (scope_of m (context_of m found) layout) memory
+          let region : IsHeldRegion m (may_write mine) (scope_of m (context_of m found) layout) memory
           (place_of (layout.starts j)) size lo hi = record {
             aligned = r.aligned;
             whole = r.whole;
@@ -228,7 +229,7 @@ module _ (m : Contents) (found : Found) (layout : Layout) (base : ℕ) (addresse
           (layout.starts j)) (sym kind) region
       on theirs (takes_to_read raw size lo hi here long listed kind is) named =
           let r = region_to_read m h left_scope memory theirs (layout.starts j) size lo hi is named in
-          let region : IsRegion m (may_read mine) (scope_of m (context_of m found) layout) memory
+          let region : IsHeldRegion m (may_read mine) (scope_of m (context_of m found) layout) memory
           (place_of (layout.starts j)) size lo hi = record {
             aligned = r.aligned;
             whole = r.whole;

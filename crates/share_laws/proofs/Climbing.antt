@@ -13,8 +13,8 @@ use Rattle.machine_state.specs.World.{constants_start}
 use Rattle.machine_state.proofs.Reading.{word_at_same}
 use Rattle.rulings.specs.Lends.{IsRegionKind, IsPart, of_frame, of_constants, of_parameter, PartOf, Lends}
 use Rattle.rulings.specs.Meaning.{frame_word, word_at_place, place_in}
-use Rattle.rulings.specs.Regions.{Scope, IsByteOf, IsRegion, IsNamed, HoldsNamed, IsWrittenAt, MayChange, in_frame}
-use Rattle.rulings.specs.Regions.{in_region, Keeps}
+use Rattle.rulings.specs.Regions.{Scope, IsByteOf, IsHeldRegion, IsNamed, HoldsNamed, IsWrittenAt, MayChange, in_frame}
+use Rattle.rulings.specs.Regions.{in_region, KeepsMemory}
 use Rattle.rulings.proofs.Combining.{readable_byte}
 use Rattle.rulings.proofs.Lending.{byte_index, same_word, run_byte, lift_change, lift_named, frame_byte}
 use Rattle.rulings.proofs.Regions.{byte_of_own, bytes_read}
@@ -144,7 +144,7 @@ module _ (m : Contents) (theirs mine : Holding) (opener branch : Scope) (old new
   part_written (of_constants n a b c is fits) i low = absurd (cc)
   part_written {lo = lo} {hi = hi} {place = place}
       (of_parameter q p n total low' high' a b there kind writes c d is fits) i low =
-      let named : IsRegion m (may_write theirs) opener old (place_of (opener.layout.starts q)) total lo hi =
+      let named : IsHeldRegion m (may_write theirs) opener old (place_of (opener.layout.starts q)) total lo hi =
       subst (λ (k : ParameterKind). IsNamed m theirs opener old k (opener.layout.starts q)) (writes refl)
       (rung.opener_named.each q p there) in
       subst (λ x. may_write theirs x ≡ true)
@@ -201,7 +201,7 @@ module _ (m : Contents) (theirs mine : Holding) (opener branch : Scope) (old new
   }
 
   -- of the bytes that the opener may read only what the branch may change has changed
-  keeps_endless : Keeps m theirs endless old new
+  keeps_endless : KeepsMemory m theirs endless old new
   keeps_endless = record {
     size = within.keeps.size;
     bytes = λ place held. elim (each_byte place) [ inl same ↦ inl same | inr change ↦ inr (without_ends change) ];
@@ -259,7 +259,7 @@ module _ (m : Contents) (theirs mine : Holding) (opener branch : Scope) (old new
           by_kind (Channels count len ends) e at = at
           by_kind (WrittenRegion size lo hi) e at =
               let q = rung.lent.regions j p size lo hi there e in
-              let region : IsRegion m (may_write theirs) opener old (place_of (opener.layout.starts j)) size lo hi =
+              let region : IsHeldRegion m (may_write theirs) opener old (place_of (opener.layout.starts j)) size lo hi =
               subst (λ (k : ParameterKind). IsNamed m theirs opener old k (opener.layout.starts j)) q.2
               (rung.opener_named.each j q.0 q.1) in
               let start : place_of (branch.layout.starts j) ≡ place_of (opener.layout.starts j) =

@@ -33,7 +33,7 @@ use Rattle.rulings.proofs.Words.{means_same}
 use Rattle.share_laws.specs.GoingOn.{GoesOnAs, StartersGoOn, OpenersGoOn, OpeningsCanStart, act_with}
 use Rattle.share_laws.specs.Opening.{layout_with, held_by_opener}
 use Rattle.share_laws.specs.Starts.{CanStart, held_by_starter, StarterHolds}
-use Rattle.share_laws.specs.Taking.{after_start, after_opening, StartTakes, OpeningTakes}
+use Rattle.share_laws.specs.Taking.{memory_after_start, after_opening, StartTakes, OpeningTakes}
 use Rattle.share_laws.proofs.OpenerHolds.{openers_hold_the_rest, none_started}
 use Rattle.share_laws.proofs.StarterHolds.{starters_hold_the_rest}
 use Rattle.share_laws.proofs.TakenWords.{takes_its_words, opening_takes_its_words}
@@ -108,7 +108,7 @@ module _ (m : Contents) (found : Found) (act : Activation) (h : Holding) (memory
 goes_on : (m : Contents) (found : Found) (act : Activation) (base : ℕ) (addresses : List (Option ℕ)) (h : Holding)
     (memory : Memory) (n : ℕ) (depth : ℤ) (workspace : ℕ) (s : State) (l : Local) → length memory ≡ n
     → CanStart m found act.layout base addresses h memory depth workspace → GoesOnAs m found act memory depth s
-    → l.memory ≡ after_start found base memory → l.registers.workspace ≡ workspace
+    → l.memory ≡ memory_after_start found base memory → l.registers.workspace ≡ workspace
     → After m (held_by_starter m found base addresses h n) machine.Starting act s l
 goes_on m found act base addresses h memory n depth workspace s l long can says memory_is at =
     among_starts m found act (held_by_starter m found base addresses h n) memory depth workspace s l can.is.row
@@ -126,18 +126,19 @@ goes_on m found act base addresses h memory n depth workspace s l long can says 
     (sym (taken.words k t) ∙ ap (λ (x : Memory). frame_word x act.layout.origin k) (sym memory_is)))
   where
     new : Memory
-    new = after_start found base memory
+    new = memory_after_start found base memory
 
-    taken : StartTakes m found act.layout base addresses h memory (after_start found base memory) depth workspace
+    taken : StartTakes m found act.layout base addresses h memory (memory_after_start found base memory) depth workspace
     taken = takes_its_words m found act.layout base addresses h memory depth workspace can
 
-    same : length (after_start found base memory) ≡ n
+    same : length (memory_after_start found base memory) ≡ n
     same = taken.size ∙ long
 
     after : StarterHolds m found act.layout
-        (held_by_starter m found base addresses h (length (after_start found base memory)))
-        (after_start found base memory) depth workspace
-    after = starters_hold_the_rest m found act.layout base addresses h (after_start found base memory) depth workspace
+        (held_by_starter m found base addresses h (length (memory_after_start found base memory)))
+        (memory_after_start found base memory) depth workspace
+    after = starters_hold_the_rest m found act.layout base addresses h (memory_after_start found base memory) depth
+        workspace
         taken.can
 
 -- after a later start

@@ -23,7 +23,7 @@ use Rattle.machine_state.specs.Spans.{Stretch, stretches_over, writes_place}
 use Rattle.machine_state.specs.StartPlans.{hidden}
 use Rattle.machine_state.proofs.Among.{any_among}
 use Rattle.machine_state.proofs.EvenWords.{next_place}
-use Rattle.states.specs.State.{is_word}
+use Rattle.states.specs.State.{is_same_number}
 use Rattle.rulings.specs.Meaning.{Layout, HasFrame, IsOwnWord, words_in}
 use Rattle.rulings.specs.Regions.{IsByteOf, channel_address}
 use Rattle.rulings.specs.Remaining.{is_hidden, is_channel_word}
@@ -34,7 +34,7 @@ use Rattle.share_laws.proofs.Rows.{among_at, each_at}
 use Rattle.share_laws.proofs.ShareBytes.{frame_channel}
 
 -- a word is the one that it is
-pub is_itself : (k : ℤ) → is_word k k ≡ true
+pub is_itself : (k : ℤ) → is_same_number k k ≡ true
 is_itself k = elim (word_test k k) [ inl t ↦ t.0 | inr t ↦ absurd (t.1 refl) ]
 
 -- what a row's words may be
@@ -85,22 +85,22 @@ module _ (m : Contents) (row : ℕ) (par : Par) (layout : Layout) (base : ℕ) (
 
   -- the first word of the block is hidden
   pub block_hides : is_hidden par par.block ≡ true
-  block_hides = or_left _ (is_channel_word par par.block) (or_left _ (is_word (par.block +ℤ pos 1) par.block)
+  block_hides = or_left _ (is_channel_word par par.block) (or_left _ (is_same_number (par.block +ℤ pos 1) par.block)
       (is_itself par.block))
 
   -- so is the second
   pub next_hides : is_hidden par (par.block +ℤ pos 1) ≡ true
   next_hides = or_left _ (is_channel_word par (par.block +ℤ pos 1))
-      (or_right (is_word par.block (par.block +ℤ pos 1)) _ (is_itself (par.block +ℤ pos 1)))
+      (or_right (is_same_number par.block (par.block +ℤ pos 1)) _ (is_itself (par.block +ℤ pos 1)))
 
   -- the word of a channel in the row is a channel's
   pub channel_is_word : (c : ChannelRow) → IsAmong c par.channels → is_channel_word par c.word ≡ true
-  channel_is_word c among = any_among (λ (x : ChannelRow). is_word x.word c.word) par.channels c among (is_itself
+  channel_is_word c among = any_among (λ (x : ChannelRow). is_same_number x.word c.word) par.channels c among (is_itself
       c.word)
 
   -- and is hidden
   pub channel_hides : (k : ℤ) → is_channel_word par k ≡ true → is_hidden par k ≡ true
-  channel_hides k is = or_right (is_word par.block k || is_word (par.block +ℤ pos 1) k) _ is
+  channel_hides k is = or_right (is_same_number par.block k || is_same_number (par.block +ℤ pos 1) k) _ is
 
   -- ---- bytes
 
@@ -168,9 +168,9 @@ module _ (m : Contents) (row : ℕ) (par : Par) (layout : Layout) (base : ℕ) (
   channel_fits k is = on par.channels (λ c among. fits_words.channels c among) is
     where
       on : (cs : List ChannelRow) → ((c : ChannelRow) → IsAmong c cs → FitsSigned w32 c.word)
-          → list_any (λ (c : ChannelRow). is_word c.word k) cs ≡ true → FitsSigned w32 k
+          → list_any (λ (c : ChannelRow). is_same_number c.word k) cs ≡ true → FitsSigned w32 k
       on [] all h = absurd (cc)
-      on (c ∷ cs) all h = elim (or_cases (is_word c.word k) _ h) [
+      on (c ∷ cs) all h = elim (or_cases (is_same_number c.word k) _ h) [
         | inl here ↦ elim (word_test c.word k) [
           | inl t ↦ subst (λ (z : ℤ). FitsSigned w32 z) t.1 (all c (inl refl))
           | inr t ↦ let no' : false ≡ true = sym t.0 ∙ here in absurd (cc)

@@ -25,7 +25,7 @@ use Rattle.machine_state.proofs.SpanLaws.{runs_have, runs_tell}
 use Rattle.rulings.specs.Lends.{IsRegionKind}
 use Rattle.rulings.specs.Meaning.{place_in, Layout, words_left}
 use Rattle.rulings.specs.Reach.{is_listed}
-use Rattle.rulings.specs.Regions.{Scope, scope_of, scope_left, IsByteOf, IsRegion, IsNamed, IsWrittenAt, IsNamedAt}
+use Rattle.rulings.specs.Regions.{Scope, scope_of, scope_left, IsByteOf, IsHeldRegion, IsNamed, IsWrittenAt, IsNamedAt}
 use Rattle.rulings.specs.Remaining.{is_hidden, word_given_to_write, word_given_to_read}
 use Rattle.rulings.proofs.Combining.{written_readable, readable_byte}
 use Rattle.rulings.proofs.Lending.{same_word, byte_index, named_at}
@@ -171,10 +171,10 @@ module _ (m : Contents) (h : Holding) (scope : Scope) (memory : Memory) (kind : 
     (lo hi : ℤ) where
   -- a region that a parameter names may be read
   pub region_to_read : IsRegionKind kind size lo hi → IsNamed m h scope memory kind start
-      → IsRegion m (may_read h) scope memory (place_of start) size lo hi
+      → IsHeldRegion m (may_read h) scope memory (place_of start) size lo hi
   region_to_read (inl is) named = subst (λ (k : ParameterKind). IsNamed m h scope memory k start) is named
   region_to_read (inr is) named =
-      let r : IsRegion m (may_write h) scope memory (place_of start) size lo hi =
+      let r : IsHeldRegion m (may_write h) scope memory (place_of start) size lo hi =
       subst (λ (k : ParameterKind). IsNamed m h scope memory k start) is named in
       record {
         aligned = r.aligned;
@@ -233,7 +233,7 @@ module _ (m : Contents) (found : Found) (layout : Layout) (base : ℕ) (addresse
 
   -- the bytes of a region that is left
   region_held : (j : ℕ) (raw : Parameter) (r : IsRegionLeft m found layout j raw)
-      → IsRegion m (may_read h) scope memory (place_of (layout.starts j)) r.size r.lo r.hi
+      → IsHeldRegion m (may_read h) scope memory (place_of (layout.starts j)) r.size r.lo r.hi
   region_held j raw r = region_to_read m h scope memory r.theirs.kind (layout.starts j) r.size r.lo r.hi r.kind
       (s.named.each j r.theirs r.found_there)
 
@@ -294,7 +294,7 @@ module _ (m : Contents) (found : Found) (layout : Layout) (base : ℕ) (addresse
       on (of_region j raw listed there low high) =
           let r = written_left m found layout s.left j raw there listed in
           let b = in_region_left j place raw r.0 low high in
-          let region : IsRegion m (may_write h) scope memory (place_of (layout.starts j)) r.0.size r.0.lo r.0.hi =
+          let region : IsHeldRegion m (may_write h) scope memory (place_of (layout.starts j)) r.0.size r.0.lo r.0.hi =
           subst (λ (k : ParameterKind). IsNamed m h scope memory k (layout.starts j)) r.1
           (s.named.each j r.0.theirs r.0.found_there) in
           let long = r.0.long in
@@ -335,7 +335,7 @@ module _ (m : Contents) (found : Found) (layout : Layout) (base : ℕ) (addresse
 
   -- the region that has the byte
   region_of : (j : ℕ) (q : Parameter) (place : ℕ) (b : HasByte j q place)
-      → IsRegion m (may_read h) scope memory (place_of (layout.starts j)) b.size b.lo b.hi
+      → IsHeldRegion m (may_read h) scope memory (place_of (layout.starts j)) b.size b.lo b.hi
   region_of j q place b = region_to_read m h scope memory q.kind (layout.starts j) b.size b.lo b.hi b.kind
       (s.named.each j q b.found_there)
 

@@ -23,16 +23,17 @@ use Rattle.machine_state.specs.BranchShares.{frame_address}
 use Rattle.machine_state.specs.Holding.{Holding, has_end}
 use Rattle.machine_state.specs.Memory.{Memory, place_of}
 use Rattle.machine_state.specs.Ownership.{IsAmong, to_write, to_read, to_use}
-use Rattle.machine_state.specs.Spans.{less, writes_place, is_listed}
+use Rattle.machine_state.specs.Spans.{less, writes_place, is_among_ends}
 use Rattle.machine_state.specs.StartPlans.{hidden, with_ends, channel_addresses}
 use Rattle.machine_state.specs.World.{constants_start}
 use Rattle.machine_state.proofs.Among.{among_left, among_right, among_more, filter_keeps}
 use Rattle.machine_state.proofs.Shares.{left_claims, end_among, end_held}
-use Rattle.states.specs.State.{is_word}
+use Rattle.states.specs.State.{is_same_number}
 use Rattle.rulings.specs.Channels.{message_length}
 use Rattle.rulings.specs.Meaning.{Layout, HasFrame, words_left}
 use Rattle.rulings.specs.Reach as reach
-use Rattle.rulings.specs.Regions.{Scope, scope_of, scope_left, parameter_used, IsByteOf, IsRegion, IsNamed, HoldsNamed}
+use Rattle.rulings.specs.Regions.{Scope, scope_of, scope_left, parameter_used, IsByteOf, IsHeldRegion, IsNamed}
+use Rattle.rulings.specs.Regions.{HoldsNamed}
 use Rattle.rulings.specs.Regions.{IsWrittenAt, IsNamedAt, HasConstants, channel_address, length_left}
 use Rattle.rulings.specs.Remaining.{some_started, is_hidden, is_channel_word, is_own_end, kind_left}
 use Rattle.rulings.specs.Remaining.{parameter_given_to_write, parameter_given_to_read}
@@ -76,7 +77,7 @@ kind_whole par j kind = left_whole (parameter_given_to_write par 0 j) (parameter
 ends_more : (addresses : List ℕ) (held : List End) (e : End) → IsAmong e held → IsAmong e (with_ends addresses held)
 ends_more [] held e among = among
 ends_more (a ∷ addresses) held e among =
-    on (λ more there. ends_more addresses more e there) (is_listed held (record { address = a; direction = In }))
+    on (λ more there. ends_more addresses more e there) (is_among_ends held (record { address = a; direction = In }))
   where
     on : ((more : List End) → IsAmong e more → IsAmong e (with_ends addresses more)) → (b : Bool)
         → IsAmong e (with_ends addresses (if b then held
@@ -101,7 +102,7 @@ both_ends : (addresses : List ℕ) (held : List End) → HaveBoth addresses held
 both_ends [] held both a direction among = absurd among
 both_ends (x ∷ addresses) held both a direction among =
     on (λ more kept there. both_ends addresses more kept a direction there)
-    (is_listed held (record { address = x; direction = In })) refl among
+    (is_among_ends held (record { address = x; direction = In })) refl among
   where
     both_more : HaveBoth addresses (held ++ record { address = x; direction = In } ∷ record {
       address = x;
@@ -126,7 +127,7 @@ both_ends (x ∷ addresses) held both a direction among =
 
     on : ((more : List End) → HaveBoth addresses more → IsAmong a addresses
         → IsAmong (record { address = a; direction = direction }) (with_ends addresses more)) → (b : Bool)
-        → is_listed held (record { address = x; direction = In }) ≡ b → (x ≡ a) ⊎ IsAmong a addresses
+        → is_among_ends held (record { address = x; direction = In }) ≡ b → (x ≡ a) ⊎ IsAmong a addresses
         → IsAmong (record { address = a; direction = direction }) (with_ends addresses (if b then held
         else held ++ record { address = x; direction = In } ∷ record { address = x; direction = Out } ∷ []))
     on further true e (inr there) = further held (λ b among. both b (inr among)) there
@@ -175,7 +176,7 @@ lengths_listed : (layout : Layout) (cs : List ChannelRow) (word : ℤ) (len : �
 lengths_listed layout [] word len h once = absurd (cc)
 lengths_listed layout (c ∷ cs) word len h once = elim (word_test c.word word) [
   | inl t ↦
-      let first : Some c.length ≡ Some len = sym (by_test (is_word c.word word) t.0) ∙ h in
+      let first : Some c.length ≡ Some len = sym (by_test (is_same_number c.word word) t.0) ∙ h in
       let is : c.length ≡ len = cc in
       ap (λ (b : Bool). if b then c.length else lengths_with layout cs (channel_address layout (FrameWord word)))
       (eq-eqb (channel_address layout (FrameWord c.word)) (channel_address layout (FrameWord word))
@@ -185,7 +186,8 @@ lengths_listed layout (c ∷ cs) word len h once = elim (word_test c.word word) 
       (false_from_ne_true (channel_address layout (FrameWord c.word) == channel_address layout (FrameWord word))
       (λ e. t.1 (once c (inl refl) (eqb-true (channel_address layout (FrameWord c.word))
       (channel_address layout (FrameWord word)) e))))
-      ∙ lengths_listed layout cs word len (sym (not_here (is_word c.word word) t.0) ∙ h) (λ d among. once d (inr among))
+      ∙ lengths_listed layout cs word len (sym (not_here (is_same_number c.word word) t.0) ∙ h)
+          (λ d among. once d (inr among))
 ]
   where
     by_test : (b : Bool) → b ≡ true
@@ -202,11 +204,12 @@ lengths_listed layout (c ∷ cs) word len h once = elim (word_test c.word word) 
 
 -- a word that is no channel's has no length there, and a channel's has one
 listed_channel : (cs : List ChannelRow) (word : ℤ) (len : ℕ) → listed_length cs word ≡ Some len
-    → list_any (λ (c : ChannelRow). is_word c.word word) cs ≡ true
+    → list_any (λ (c : ChannelRow). is_same_number c.word word) cs ≡ true
 listed_channel [] word len h = absurd (cc)
 listed_channel (c ∷ cs) word len h = elim (word_test c.word word) [
   | inl t ↦ or_left _ _ t.0
-  | inr t ↦ or_right (is_word c.word word) _ (listed_channel cs word len (sym (not_here (is_word c.word word) t.0) ∙ h))
+  | inr t ↦ or_right (is_same_number c.word word) _
+      (listed_channel cs word len (sym (not_here (is_same_number c.word word) t.0) ∙ h))
 ]
   where
     not_here : (b : Bool) → b ≡ false
@@ -217,13 +220,13 @@ listed_channel (c ∷ cs) word len h = elim (word_test c.word word) [
 
 -- the word of a channel has a length in the row
 channel_listed : (cs : List ChannelRow) (word : ℤ) → listed_length cs word ≡ None
-    → list_any (λ (c : ChannelRow). is_word c.word word) cs ≡ true → ⊥
+    → list_any (λ (c : ChannelRow). is_same_number c.word word) cs ≡ true → ⊥
 channel_listed [] word h any = absurd (cc)
 channel_listed (c ∷ cs) word h any = elim (word_test c.word word) [
-  | inl t ↦ absurd (by_test (is_word c.word word) t.0 h)
-  | inr t ↦ elim (or_cases (is_word c.word word) _ any) [
+  | inl t ↦ absurd (by_test (is_same_number c.word word) t.0 h)
+  | inr t ↦ elim (or_cases (is_same_number c.word word) _ any) [
     | inl here ↦ let no' : false ≡ true = sym t.0 ∙ here in cc
-    | inr there ↦ channel_listed cs word (sym (not_here (is_word c.word word) t.0) ∙ h) there
+    | inr there ↦ channel_listed cs word (sym (not_here (is_same_number c.word word) t.0) ∙ h) there
   ]
 ]
   where
@@ -316,7 +319,7 @@ module _ (m : Contents) (row : ℕ) (par : Par) (layout : Layout) (base : ℕ) (
 
   -- a byte of a region is none of a hidden word
   region_shown : {may_use : ℕ → Bool} (place size i : ℕ) (lo hi : ℤ)
-      → IsRegion m may_use before memory place size lo hi → i < size
+      → IsHeldRegion m may_use before memory place size lo hi → i < size
       → writes_place (hidden base par) (place + i) ≡ false
   region_shown place size i lo hi region low = false_from_ne_true _ (λ w.
       let hides = hidden_byte m row par layout base h memory depth workspace o (place + i) w in
@@ -452,13 +455,13 @@ module _ (m : Contents) (row : ℕ) (par : Par) (layout : Layout) (base : ℕ) (
   -- none of the ends is taken with the hidden words
   whole_ends : (e : End) → IsAmong e h.ends → IsAmong e words_rest.ends
   unfolding less
-  whole_ends e among = filter_keeps (λ end. not (is_listed [] end)) h.ends e among refl
+  whole_ends e among = filter_keeps (λ end. not (is_among_ends [] end)) h.ends e among refl
 
   -- a channel's address is one of the row's
-  address_among : (cs : List ChannelRow) (k : ℤ) → list_any (λ (c : ChannelRow). is_word c.word k) cs ≡ true
+  address_among : (cs : List ChannelRow) (k : ℤ) → list_any (λ (c : ChannelRow). is_same_number c.word k) cs ≡ true
       → IsAmong (frame_address base k) (map (λ (c : ChannelRow). frame_address base c.word) cs)
   address_among [] k h = absurd (cc)
-  address_among (c ∷ cs) k h = elim (or_cases (is_word c.word k) _ h) [
+  address_among (c ∷ cs) k h = elim (or_cases (is_same_number c.word k) _ h) [
     | inl here ↦ inl (ap (frame_address base) (same_word_by c.word k here))
     | inr there ↦ inr (address_among cs k there)
   ]

@@ -26,7 +26,7 @@ use Rattle.machine_state.specs.Memory.{Memory, place_of, data_start, word_at}
 use Rattle.machine_state.specs.Ownership.{IsAmong}
 use Rattle.machine_state.specs.StartPlans.{Plan, word_in, first_plan, later_plan, block_addresses, channel_addresses}
 use Rattle.machine_state.specs.StartPlans.{ends_are_there, share_is_there, words_are_held, words_are_defined}
-use Rattle.machine_state.specs.StartPlans.{word_is_defined, is_word, is_prepared, is_next, first_fault, first_faults}
+use Rattle.machine_state.specs.StartPlans.{word_is_defined, holds_word, is_prepared, is_next, first_fault, first_faults}
 use Rattle.states.proofs.FrameBounds.{frame-is-small}
 use Rattle.rulings.specs.Remaining.{is_hidden}
 use Rattle.rulings.specs.Meaning.{Layout, Activation, frame_word, word_of, code_address}
@@ -92,7 +92,7 @@ named_at par j (suc i) (q ∷ ps) p there names =
 
 -- a word with this value passes the test for it
 word_passes : (memory : Memory) (a : ℕ) (u v : ℤ) → word_at memory (place_of a) ≡ Some u
-    → cast_unsigned w32 u ≡ cast_unsigned w32 v → is_word memory a v ≡ true
+    → cast_unsigned w32 u ≡ cast_unsigned w32 v → holds_word memory a v ≡ true
 word_passes memory a u v is same = ap (λ (o : Option ℤ). elim o as (λ o. Bool) [
   | None ↦ false
   | Some u ↦ cast_unsigned w32 u == cast_unsigned w32 v
@@ -245,7 +245,7 @@ module _ (m : Contents) (p : ℕ) (found : Found) (layout : Layout) (h : Holding
       (cast_signed w32 ((data_start + 4 * m.data_words + found.par.successor) % 2 ^ 32)) block_word code_word)
       (word_passes memory (frame_address (frame_address base found.par.block) (pos 1))
       (pos (length found.par.branches + 1)) (pos (length found.par.branches + 1)) count_word refl))
-      (channel_each (λ a. is_word memory a least_word) (λ c among.
+      (channel_each (λ a. holds_word memory a least_word) (λ c among.
       word_passes memory (frame_address base c.word) least_word least_word (channel_word c among) refl))
 
   -- ---- where parameters lie

@@ -13,13 +13,13 @@ use Rattle.module_format.specs.declared.rows.EndKind.TheVariants as ends
 use Rattle.module_format.specs.declared.rows.EndRow.{EndRow}
 use Rattle.module_format.specs.Contents.{Contents, Par, Branch}
 use Rattle.module_format.specs.Contexts.{context_at, parameters_at}
-use Rattle.module_format.specs.Pars.{key_of, kind_of, number_of, element_of, direction_number}
+use Rattle.module_format.specs.Pars.{key_of, kind_of, end_number_of, end_element_of, direction_number}
 use Rattle.certificate.specs.Branches.{numbered_branch}
 use Rattle.certificate.specs.Rights.{is_same_end, has_end, gives_link, gives_parameter}
 use Rattle.machine_state.specs.declared.holding.End.{End}
 use Rattle.machine_state.specs.Holding.{same_direction}
 use Rattle.machine_state.specs.Ownership.{IsAmong}
-use Rattle.machine_state.specs.Spans.{is_listed}
+use Rattle.machine_state.specs.Spans.{is_among_ends}
 use Rattle.machine_state.proofs.Among.{any_among}
 use Rattle.rulings.proofs.Words.{same_word_by}
 
@@ -32,8 +32,8 @@ same_direction_by Out In h = absurd (cc)
 
 -- channels with one kind, number and element are one
 same_kind_by : (a b : EndKind) → (kind_of a == kind_of b) ≡ true
-    → (int_le (number_of a) (number_of b) && int_le (number_of b) (number_of a)) ≡ true
-    → (element_of a == element_of b) ≡ true → a ≡ b
+    → (int_le (end_number_of a) (end_number_of b) && int_le (end_number_of b) (end_number_of a)) ≡ true
+    → (end_element_of a == end_element_of b) ≡ true → a ≡ b
 same_kind_by (ends.FrameWord w) (ends.FrameWord v) kind number element = ap ends.FrameWord (same_word_by w v number)
 same_kind_by (ends.Parameter j a) (ends.Parameter i b) kind number element =
     ap₂ ends.Parameter (same_word_by j i number) (eqb-true a b element)
@@ -59,9 +59,9 @@ same_end_by a b h =
 -- an end has its own key
 pub end_itself : (e : EndRow) → is_same_end (key_of e) (key_of e) ≡ true
 end_itself e = and_from _ _ (and_from _ _ (and_from _ _ (eqb-self (kind_of e.kind))
-    (and_from _ _ (le-int_le (number_of e.kind) (number_of e.kind) (omega (arith, ints)))
-    (le-int_le (number_of e.kind) (number_of e.kind) (omega (arith, ints)))))
-    (eqb-self (element_of e.kind))) (eqb-self (direction_number e.direction))
+    (and_from _ _ (le-int_le (end_number_of e.kind) (end_number_of e.kind) (omega (arith, ints)))
+    (le-int_le (end_number_of e.kind) (end_number_of e.kind) (omega (arith, ints)))))
+    (eqb-self (end_element_of e.kind))) (eqb-self (direction_number e.direction))
 
 -- an end whose key is listed is in the list
 pub listed_end : (es : List EndRow) (e : EndRow)
@@ -98,7 +98,7 @@ direction_is In Out same = absurd (cc)
 direction_is Out In same = absurd (cc)
 
 -- an end that is listed is in the list
-pub listed_among : (xs : List End) (e : End) → is_listed xs e ≡ true → IsAmong e xs
+pub listed_among : (xs : List End) (e : End) → is_among_ends xs e ≡ true → IsAmong e xs
 listed_among [] e listed = absurd (cc)
 listed_among (x ∷ xs) e listed =
     elim (or_cases ((e.address == x.address) && same_direction e.direction x.direction) _ listed) [

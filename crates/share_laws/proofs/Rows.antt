@@ -14,7 +14,7 @@ use Rattle.module_format.specs.declared.rows.EndRow.{EndRow}
 use Rattle.module_format.specs.declared.rows.EndKey.{EndKey}
 use Rattle.module_format.specs.Contents.{Contents, Par, Branch}
 use Rattle.module_format.specs.Contexts.{parameters_at, first_branch}
-use Rattle.module_format.specs.Keeping.{Keeps, BranchFits, ParFits, names_end, names, has_element, is_region}
+use Rattle.module_format.specs.Keeping.{Keeps, BranchFits, ParFits, end_is_there, names, has_element, is_region}
 use Rattle.module_format.specs.Order.{InOrder, least_word}
 use Rattle.module_format.proofs.OrderLaws.{each}
 use Rattle.module_format.specs.Pars.{BranchKeeps, behind_branch, ParKeeps, behind_par, no_branches, GiftsKeep}
@@ -71,7 +71,7 @@ named_found parameters j element (Some p) e h = record { j = j; is = refl; p = p
 
 -- and the parameter of an end in a valid row is found
 pub element_found : (parameters : List Parameter) (number : ℤ) (element : ℕ)
-    → IsTrue (names_end parameters (ends.Parameter number element)) → HasElement parameters number element
+    → IsTrue (end_is_there parameters (ends.Parameter number element)) → HasElement parameters number element
 element_found parameters (pos j) element h = named_found parameters j element (slice_get parameters j) refl h
 element_found parameters (negsuc n) element h = absurd (cc)
 
@@ -117,8 +117,8 @@ module _ (m : Contents) (found : Found) (keeps : Keeps m) (is : IsBranch m found
 
   -- and names what is there
   pub end_fits : (e : EndRow) → IsAmong e found.branch.ends
-      → IsTrue (names_end (parameters_at m found.par.context) e.kind)
-  end_fits e among = each_at (λ (e : EndRow). IsTrue (names_end (parameters_at m found.par.context) e.kind))
+      → IsTrue (end_is_there (parameters_at m found.par.context) e.kind)
+  end_fits e among = each_at (λ (e : EndRow). IsTrue (end_is_there (parameters_at m found.par.context) e.kind))
       found.branch.ends e fits.ends among
 
   -- what the branch names its row names

@@ -13,10 +13,10 @@ use Rattle.module_format.specs.declared.rows.EndKind.TheVariants as ends
 use Rattle.module_format.specs.declared.rows.EndRow.{EndRow}
 use Rattle.module_format.specs.Contents.{Contents}
 use Rattle.module_format.specs.Contexts.{parameters_at}
-use Rattle.module_format.specs.Keeping.{Keeps, names_end}
+use Rattle.module_format.specs.Keeping.{Keeps, end_is_there}
 use Rattle.module_format.specs.Pars.{EndKindKeeps}
 use Rattle.machine_state.specs.declared.holding.End.{End}
-use Rattle.machine_state.specs.BranchShares.{frame_address, words_of, region_of, address_of, end_of}
+use Rattle.machine_state.specs.BranchShares.{frame_address, words_of, region_of, address_of, end_named}
 use Rattle.machine_state.specs.JoinLookups.{Found, row_names}
 use Rattle.machine_state.specs.Memory.{place_of, data_start, local_address}
 use Rattle.machine_state.specs.Ownership.{IsAmong}
@@ -65,11 +65,11 @@ place_around s = omega arith
 
 -- the ends that rows name, each found
 ends_are : (base : ℕ) (addresses : List (Option ℕ)) (layout : Layout) (es : List EndRow)
-    → ((e : EndRow) → IsAmong e es → end_of base addresses e ≡ end_at layout e ∷ [])
-    → flat_map (end_of base addresses) es ≡ map (end_at layout) es
+    → ((e : EndRow) → IsAmong e es → end_named base addresses e ≡ end_at layout e ∷ [])
+    → flat_map (end_named base addresses) es ≡ map (end_at layout) es
 ends_are base addresses layout [] each = refl
 ends_are base addresses layout (e ∷ es) each =
-    ap (λ (xs : List End). xs ++ flat_map (end_of base addresses) es) (each e (inl refl))
+    ap (λ (xs : List End). xs ++ flat_map (end_named base addresses) es) (each e (inl refl))
     ∙ ap (λ (xs : List End). end_at layout e ∷ xs) (ends_are base addresses layout es (λ x among. each x (inr among)))
 
 module _ (m : Contents) (found : Found) (layout : Layout) (base : ℕ) (addresses : List (Option ℕ)) (keeps : Keeps m)
@@ -78,7 +78,7 @@ module _ (m : Contents) (found : Found) (layout : Layout) (base : ℕ) (addresse
   parameters = parameters_at m found.par.context
 
   -- each end of the branch is found
-  end_is : (e : EndRow) → IsAmong e found.branch.ends → end_of base addresses e ≡ end_at layout e ∷ []
+  end_is : (e : EndRow) → IsAmong e found.branch.ends → end_named base addresses e ≡ end_at layout e ∷ []
   end_is e among = on e.kind refl (end_keeps m found keeps is e among) (end_fits m found keeps is e among)
     where
       one : (a b : ℕ) → a ≡ b → ◌≡◌ {A = List End} (record { address = a; direction = e.direction } ∷ [])
@@ -110,7 +110,7 @@ module _ (m : Contents) (found : Found) (layout : Layout) (base : ℕ) (addresse
           (slice_get_within parameters h.j h.p h.found))
           ∙ one _ _ (around (layout.starts h.j) (4 * element)))
 
-      on : (kind : EndKind) → e.kind ≡ kind → EndKindKeeps kind → IsTrue (names_end parameters kind)
+      on : (kind : EndKind) → e.kind ≡ kind → EndKindKeeps kind → IsTrue (end_is_there parameters kind)
           → by_kind kind ≡ record { address = channel_address layout kind; direction = e.direction } ∷ []
       on (ends.FrameWord word) kind k f = one _ _ (frame_channel layout base word laid.origin k)
       on (ends.Parameter number element) kind k f = of_element number element kind (element_found parameters number

@@ -34,8 +34,9 @@ use Rattle.machine_state.specs.Holding.{Holding, may_write, may_read, same_direc
 use Rattle.machine_state.specs.JoinLookups.{Found}
 use Rattle.machine_state.specs.Memory.{Memory, place_of, data_start, scheduling_word}
 use Rattle.machine_state.specs.Ownership.{IsAmong}
-use Rattle.machine_state.specs.Spans.{Stretch, Share, lies_in, is_within, all_places, stretches_over, writes_place}
-use Rattle.machine_state.specs.Spans.{is_listed, is_same_end, differ}
+use Rattle.machine_state.specs.Spans.{Stretch, Share, lies_in, all_pass_within, all_places, stretches_over}
+use Rattle.machine_state.specs.Spans.{writes_place}
+use Rattle.machine_state.specs.Spans.{is_among_ends, is_same_end, differ}
 use Rattle.machine_state.specs.StartPlans.{word_passes, scheduling_places}
 use Rattle.machine_state.proofs.Among.{among_more, any_among}
 use Rattle.machine_state.proofs.Shares.{end_among}
@@ -96,7 +97,7 @@ places_from test first (suc size) each =
 -- a stretch that is not empty lies in memory, if each of its places passes a test that only places of memory pass
 stretch_within : (n : ℕ) (test : ℕ → Bool) (first size : ℕ) → 1 ≤ size
     → ((x : ℕ) → first ≤ x → x < first + size → test x ≡ true) → ((x : ℕ) → test x ≡ true → x < n)
-    → is_within n test (record { start = pos first; size = size }) ≡ true
+    → all_pass_within n test (record { start = pos first; size = size }) ≡ true
 stretch_within n test first size some each inside =
     let last = inside (first + (size - 1)) (each (first + (size - 1)) (omega arith) (omega (arith, some))) in
     and_from (lies_in n (record { start = pos first; size = size })) (all_places test first size)
@@ -121,16 +122,16 @@ IsSome s = (first : ℕ) × (s.start ≡ pos first) × (1 ≤ s.size)
 stretches_within : (n : ℕ) (test : ℕ → Bool) (stretches : List Stretch)
     → ((s : Stretch) → IsAmong s stretches → IsSome s)
     → ((x : ℕ) → list_any (λ s. stretches_over s x) stretches ≡ true → test x ≡ true)
-    → ((x : ℕ) → test x ≡ true → x < n) → list_all (is_within n test) stretches ≡ true
-stretches_within n test stretches some each inside = all_from (is_within n test) stretches
+    → ((x : ℕ) → test x ≡ true → x < n) → list_all (all_pass_within n test) stretches ≡ true
+stretches_within n test stretches some each inside = all_from (all_pass_within n test) stretches
     (λ s among. let first = some s among in within s among first.0 first.1 first.2)
   where
     within : (s : Stretch) → IsAmong s stretches → (first : ℕ) → s.start ≡ pos first → 1 ≤ s.size
-        → is_within n test s ≡ true
+        → all_pass_within n test s ≡ true
     within s among first start size =
         let same : s ≡ record { start = pos first; size = s.size } =
         ap (λ (z : ℤ). let t : Stretch = record { start = z; size = s.size } in t) start in
-        subst (λ (t : Stretch). is_within n test t ≡ true) (sym same)
+        subst (λ (t : Stretch). all_pass_within n test t ≡ true) (sym same)
         (stretch_within n test first s.size size (λ x low high. each x
         (any_among (λ (s : Stretch). stretches_over s x) stretches s among
         (subst (λ (t : Stretch). stretches_over t x ≡ true) (sym same) (over_from first s.size x low high)))) inside)
@@ -178,7 +179,7 @@ same_as_itself In = refl
 same_as_itself Out = refl
 
 -- an end that is in the list is listed
-among_listed : (xs : List End) (e : End) → IsAmong e xs → is_listed xs e ≡ true
+among_listed : (xs : List End) (e : End) → IsAmong e xs → is_among_ends xs e ≡ true
 among_listed xs e among = any_among (is_same_end e) xs e among
     (and_from _ _ (eqb-self e.address) (same_as_itself e.direction))
 
@@ -286,20 +287,20 @@ module _ (m : Contents) (found : Found) (layout : Layout) (base : ℕ) (addresse
       ]
 
   -- the stretches to write lie within what the starter may write
-  pub writes_are_there : list_all (is_within (length memory) (may_write h)) gift.writes ≡ true
+  pub writes_are_there : list_all (all_pass_within (length memory) (may_write h)) gift.writes ≡ true
   writes_are_there = stretches_within (length memory) (may_write h) gift.writes written_some
       (λ x w. written_held m found layout base addresses h memory depth workspace s x w)
       (λ x own. s.inside x (readable_byte h x own))
 
   -- those to read within what it may read
-  pub reads_are_there : list_all (is_within (length memory) (may_read h)) gift.reads ≡ true
+  pub reads_are_there : list_all (all_pass_within (length memory) (may_read h)) gift.reads ≡ true
   reads_are_there = stretches_within (length memory) (may_read h) gift.reads read_some
       (λ x r. read_held m found layout base addresses h memory depth workspace s x r) (λ x read. s.inside x read)
 
   -- ---- ends
 
   -- each end of the branch is held
-  held_end : (e : EndRow) → IsAmong e found.branch.ends → is_listed h.ends (end_at layout e) ≡ true
+  held_end : (e : EndRow) → IsAmong e found.branch.ends → is_among_ends h.ends (end_at layout e) ≡ true
   held_end e among = among_listed h.ends (end_at layout e)
       (end_among h (end_at layout e) (s.named.ends e.kind e.direction (s.left.ends e among)))
 
@@ -316,12 +317,12 @@ module _ (m : Contents) (found : Found) (layout : Layout) (base : ℕ) (addresse
       ap₂ (λ (k : EndKind) (d : Direction). let e : EndRow = record { kind = k; direction = d } in e) kinds direction
 
   -- all ends are held
-  pub ends_held : list_all (is_listed h.ends) gift.ends ≡ true
-  ends_held = subst (λ (es : List End). list_all (is_listed h.ends) es ≡ true)
+  pub ends_held : list_all (is_among_ends h.ends) gift.ends ≡ true
+  ends_held = subst (λ (es : List End). list_all (is_among_ends h.ends) es ≡ true)
       (sym (of_words m found layout base addresses h memory depth workspace s).ends)
-      (all_from (is_listed h.ends) (map (end_at layout) found.branch.ends) (λ e among.
+      (all_from (is_among_ends h.ends) (map (end_at layout) found.branch.ends) (λ e among.
       let r = among_map (end_at layout) found.branch.ends e among in
-      subst (λ (x : End). is_listed h.ends x ≡ true) r.2 (held_end r.0 r.1)))
+      subst (λ (x : End). is_among_ends h.ends x ≡ true) r.2 (held_end r.0 r.1)))
 
   -- each is named once
   pub ends_once : differ gift.ends ≡ true
@@ -365,7 +366,7 @@ module _ (m : Contents) (found : Found) (layout : Layout) (base : ℕ) (addresse
 pub shares_are_there : SharesAreThere
 shares_are_there m found layout plan memory depth workspace same s = record {
   ends = subst (λ (ps : List Parameter).
-      (list_all (is_listed plan.rest.ends) (share_of plan.base ps plan.addresses found.branch).ends
+      (list_all (is_among_ends plan.rest.ends) (share_of plan.base ps plan.addresses found.branch).ends
       && differ (share_of plan.base ps plan.addresses found.branch).ends) ≡ true) (sym same)
       (and_from _ _ (ends_held m found layout plan.base plan.addresses plan.rest memory depth workspace s)
       (ends_once m found layout plan.base plan.addresses plan.rest memory depth workspace s));
@@ -373,9 +374,9 @@ shares_are_there m found layout plan memory depth workspace same s = record {
       (list_all (word_passes (λ place. may_write plan.rest place
       && writes_place (share_of plan.base ps plan.addresses found.branch) place))
       (scheduling_places (frame_address plan.base found.branch.workspace))
-      && list_all (is_within (length memory) (may_write plan.rest))
+      && list_all (all_pass_within (length memory) (may_write plan.rest))
       (share_of plan.base ps plan.addresses found.branch).writes
-      && list_all (is_within (length memory) (may_read plan.rest))
+      && list_all (all_pass_within (length memory) (may_read plan.rest))
       (share_of plan.base ps plan.addresses found.branch).reads) ≡ true) (sym same)
       (and_from _ _ (and_from _ _
       (scheduling_is_there m found layout plan.base plan.addresses plan.rest memory depth workspace s)

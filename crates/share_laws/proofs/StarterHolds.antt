@@ -18,14 +18,15 @@ use Rattle.machine_state.specs.Holding.{Holding, may_write, may_read, has_end}
 use Rattle.machine_state.specs.JoinLookups.{Found}
 use Rattle.machine_state.specs.Memory.{Memory, place_of}
 use Rattle.machine_state.specs.Ownership.{IsAmong, to_write, to_read}
-use Rattle.machine_state.specs.Spans.{Share, less, writes_place, reads_place, is_listed}
+use Rattle.machine_state.specs.Spans.{Share, less, writes_place, reads_place, is_among_ends}
 use Rattle.machine_state.specs.World.{constants_start}
 use Rattle.machine_state.proofs.Among.{filter_keeps}
 use Rattle.machine_state.proofs.Shares.{left_claims, end_among, end_held}
 use Rattle.rulings.specs.Lends.{IsRegionKind}
 use Rattle.rulings.specs.Meaning.{Layout, HasFrame, words_left}
 use Rattle.rulings.specs.Reach as reach
-use Rattle.rulings.specs.Regions.{Scope, scope_left, IsByteOf, IsRegion, IsNamed, HoldsNamed, IsWrittenAt, IsNamedAt}
+use Rattle.rulings.specs.Regions.{Scope, scope_left, IsByteOf, IsHeldRegion, IsNamed, HoldsNamed, IsWrittenAt}
+use Rattle.rulings.specs.Regions.{IsNamedAt}
 use Rattle.rulings.specs.Regions.{HasConstants, channel_address}
 use Rattle.rulings.specs.Remaining.{some_started, is_hidden, word_given_to_write, word_given_to_read, end_given}
 use Rattle.rulings.specs.Remaining.{is_own_end}
@@ -235,9 +236,9 @@ module _ (m : Contents) (found : Found) (layout : Layout) (base : ℕ) (addresse
       on : (q : Parameter) → before.parameters j ≡ Some q → Remains found j p.kind q.kind
           → IsNamed m h before memory q.kind (layout.starts j) → IsNamed m mine after memory p.kind (layout.starts j)
       on q here (still_written size lo hi w r kind is) named =
-          let r' : IsRegion m (may_write h) before memory (place_of (layout.starts j)) size lo hi =
+          let r' : IsHeldRegion m (may_write h) before memory (place_of (layout.starts j)) size lo hi =
           subst (λ (k : ParameterKind). IsNamed m h before memory k (layout.starts j)) is named in
-          let region : IsRegion m (may_write mine) after memory (place_of (layout.starts j)) size lo hi = record {
+          let region : IsHeldRegion m (may_write mine) after memory (place_of (layout.starts j)) size lo hi = record {
             aligned = r'.aligned;
             whole = r'.whole;
             held = λ i low. less_written (length memory) h gift (place_of (layout.starts j) + i)
@@ -251,7 +252,7 @@ module _ (m : Contents) (found : Found) (layout : Layout) (base : ℕ) (addresse
           subst (λ (k : ParameterKind). IsNamed m mine after memory k (layout.starts j)) (sym kind) region
       on q here (still_read size lo hi w kind is) named =
           let r' = region_to_read m h before memory q.kind (layout.starts j) size lo hi is named in
-          let region : IsRegion m (may_read mine) after memory (place_of (layout.starts j)) size lo hi = record {
+          let region : IsHeldRegion m (may_read mine) after memory (place_of (layout.starts j)) size lo hi = record {
             aligned = r'.aligned;
             whole = r'.whole;
             held = λ i low. less_read (length memory) h gift (place_of (layout.starts j) + i)
@@ -320,7 +321,7 @@ module _ (m : Contents) (found : Found) (layout : Layout) (base : ℕ) (addresse
   starter_ends kind direction t =
       let l = left_end kind direction t in
       let e : End = record { address = channel_address layout kind; direction = direction } in
-      end_held mine e (filter_keeps (λ end. not (is_listed gift.ends end)) h.ends e
+      end_held mine e (filter_keeps (λ end. not (is_among_ends gift.ends end)) h.ends e
       (end_among h e (s.named.ends kind direction l.before_it))
       (not_from_false _ (false_from_ne_true _ (λ listed. l.not_given (of_share kind direction l.before_it
       (subst (λ (xs : List End). IsAmong e xs)

@@ -18,7 +18,7 @@ use Rattle.machine_state.specs.Ownership.{IsAmong}
 use Rattle.machine_state.specs.StartPlans.{scheduling_addresses, block_addresses, channel_addresses}
 use Rattle.machine_state.proofs.Reading.{length-with_word}
 use Rattle.rulings.specs.Meaning.{Layout, IsOwnWord, HasFrame, words_in, words_left, frame_word}
-use Rattle.rulings.specs.Regions.{Scope, Keeps, scope_of, scope_left}
+use Rattle.rulings.specs.Regions.{Scope, KeepsMemory, scope_of, scope_left}
 use Rattle.rulings.specs.Remaining.{is_hidden, word_given_to_write}
 use Rattle.rulings.proofs.Combining.{same_frame, written_readable}
 use Rattle.rulings.proofs.Regions.{keeps_all, keeps_more, write_keeps}
@@ -26,7 +26,7 @@ use Rattle.rulings.proofs.Words.{local_place, moved_workspace, word_elsewhere}
 use Rattle.share_laws.specs.Opening.{CanOpen}
 use Rattle.share_laws.specs.Shares.{IsBranch}
 use Rattle.share_laws.specs.Starts.{CanStart, IsLeft}
-use Rattle.share_laws.specs.Taking.{IsScheduling, after_start, after_opening, StartTakes, StartsTakeTheirWords}
+use Rattle.share_laws.specs.Taking.{IsScheduling, memory_after_start, after_opening, StartTakes, StartsTakeTheirWords}
 use Rattle.share_laws.specs.Taking.{OpeningTakes, OpeningsTakeTheirWords, StartsKeepOpeners}
 use Rattle.share_laws.proofs.BranchHolds.{branches_hold_their_shares}
 use Rattle.share_laws.proofs.HiddenWords.{hidden_place, second_place, block_hides, next_hides, channel_hides}
@@ -47,7 +47,7 @@ module _ (m : Contents) (h : Holding) (scope : Scope)
     (counts : (k : ℤ) → scope.words.writes k ≡ true → scope.words.reads k ≡ true) (is_such : ℤ → Type 0) where
   -- words that are taken are such words, and all others stay
   pub record Takes (memory new : Memory) : Type 0 where
-    pub keeps : Keeps m h scope memory new
+    pub keeps : KeepsMemory m h scope memory new
     pub others : (k : ℤ) → (is_such k → ⊥)
         → frame_word new scope.layout.origin k ≡ frame_word memory scope.layout.origin k
 
@@ -75,7 +75,7 @@ module _ (m : Contents) (h : Holding) (scope : Scope)
         such = u.such;
       }) in
       record {
-        keeps = keeps_more (subst (λ (p : ℕ). Keeps m h scope memory (with_word memory p None)) (sym t.place)
+        keeps = keeps_more (subst (λ (p : ℕ). KeepsMemory m h scope memory (with_word memory p None)) (sym t.place)
             (write_keeps m h scope t.k memory None t.writes (counts t.k t.writes) t.word)) rest.keeps;
         others = λ k never. rest.others k never ∙ subst (λ (p : ℕ).
             frame_word (with_word memory p None) scope.layout.origin k ≡ frame_word memory scope.layout.origin k)
@@ -110,7 +110,7 @@ module _ (m : Contents) (found : Found) (layout : Layout) (base : ℕ) (addresse
 
   -- the three words that scheduling takes
   start_takes : Takes m h left_scope (left_readable m found.par found.par.context found.number)
-      (IsScheduling found) memory (after_start found base memory)
+      (IsScheduling found) memory (memory_after_start found base memory)
   start_takes = takes_words m h left_scope (left_readable m found.par found.par.context found.number)
       (IsScheduling found)
       (scheduling_addresses (frame_address base found.branch.workspace)) memory each
@@ -126,10 +126,10 @@ module _ (m : Contents) (found : Found) (layout : Layout) (base : ℕ) (addresse
       each a (inr (inr (inr never))) = absurd never
 
   -- what is known of the starter still holds
-  pub takes_its_words : StartTakes m found layout base addresses h memory (after_start found base memory) depth
+  pub takes_its_words : StartTakes m found layout base addresses h memory (memory_after_start found base memory) depth
       workspace
   takes_its_words =
-      let size : length (after_start found base memory) ≡ length memory = start_takes.keeps.size in
+      let size : length (memory_after_start found base memory) ≡ length memory = start_takes.keeps.size in
       record {
         can = record {
           keeps = s.keeps;
@@ -303,7 +303,7 @@ module _ (m : Contents) (found : Found) (layout : Layout) (base : ℕ) (h : Hold
 
   -- and are
   opener_takes : Takes m h opener_scope (λ k t. written_readable m found.par.context k t) (IsScheduling found) memory
-      (after_start found base memory)
+      (memory_after_start found base memory)
   opener_takes = takes_words m h opener_scope (λ k t. written_readable m found.par.context k t) (IsScheduling found)
       (scheduling_addresses (frame_address base found.branch.workspace)) memory each
     where

@@ -41,7 +41,7 @@ BranchesAreLent = (m : Contents) (found : Found) (layout other : Layout) → Kee
 -- A process changes bytes of its own, and of those that it may read only what a scope allows.
 pub record ChangesWithin (m : Contents) (h : Holding) (scope : Scope) (old new : Memory) : Type 0 where
   pub own : ChangesOwn h old new
-  pub keeps : regions.Keeps m h scope old new
+  pub keeps : regions.KeepsMemory m h scope old new
 
 -- one rung of the tree of processes: what a branch holds and began with, and what its opener holds and waits in
 pub record IsRung (m : Contents) (memory : Memory) (theirs mine : Holding) (opener branch : Scope) : Type 0 where
@@ -74,7 +74,8 @@ pub data LeadsUp (m : Contents) (memory : Memory) (own : ℕ → Holding) (began
     is_branch : (p : ℕ) → IsRung m memory (own q) (own p) (waits_in q) (began p)
         → LeadsUp m memory own began waits_in q p
     is_under : (p o : ℕ) → IsRung m memory (own o) (own p) (waits_in o) (began p)
-        → ((new : Memory) → regions.Keeps m (own o) (waits_in o) memory new → regions.Keeps m (own o) (began o) memory
+        → ((new : Memory) → regions.KeepsMemory m (own o) (waits_in o) memory new
+            → regions.KeepsMemory m (own o) (began o) memory
         new)
         → LeadsUp m memory own began waits_in q o → LeadsUp m memory own began waits_in q p
 

@@ -20,7 +20,7 @@ use Rattle.rulings.specs.Meaning.{Activation, MeansWord, words_left, frame_word}
 use Rattle.share_laws.specs.Opening.{layout_with, held_by_opener, CanOpen}
 use Rattle.share_laws.specs.Shares.{IsBranch, IsLaidOut}
 use Rattle.share_laws.specs.Starts.{CanStart, IsLeft, held_by_branch, held_by_starter}
-use Rattle.share_laws.specs.Taking.{IsScheduling, after_start, after_opening}
+use Rattle.share_laws.specs.Taking.{IsScheduling, memory_after_start, after_opening}
 
 -- A state among the starts of a row, after this one: nothing is known of registers, and of words that are left what was
 -- so before.
@@ -38,7 +38,7 @@ abbrev pub StartersGoOn : Type 0
 StartersGoOn = (m : Contents) (found : Found) (act : Activation) (base : ℕ) (addresses : List (Option ℕ))
     (h : Holding) (memory : Memory) (depth : ℤ) (workspace : ℕ) (s : State) (l : Local)
     → CanStart m found act.layout base addresses h memory depth workspace → GoesOnAs m found act memory depth s
-    → l.memory ≡ after_start found base memory → l.registers.workspace ≡ workspace
+    → l.memory ≡ memory_after_start found base memory → l.registers.workspace ≡ workspace
     → After m (held_by_starter m found base addresses h (length memory)) machine.Starting act s l
 
 -- the same activation, which knows how long messages are on the channels of a PAR
@@ -52,7 +52,8 @@ OpenersGoOn = (m : Contents) (found : Found) (act : Activation) (base : ℕ) (ad
     → CanOpen m found.row found.par act.layout base h memory depth workspace → found.number ≡ 0
     → CanStart m found (layout_with act.layout found.par) base addresses
     (held_by_opener found.par base (length memory) h) (after_opening found.par base memory) depth workspace
-    → GoesOnAs m found act memory depth s → l.memory ≡ after_start found base (after_opening found.par base memory)
+    → GoesOnAs m found act memory depth s
+        → l.memory ≡ memory_after_start found base (after_opening found.par base memory)
     → l.registers.workspace ≡ workspace
     → After m (held_by_starter m found base addresses (held_by_opener found.par base (length memory) h) (length memory))
     machine.Starting (act_with act found) s l
@@ -75,7 +76,8 @@ abbrev pub BranchesBegin : Type 0
 BranchesBegin = (m : Contents) (found : Found) (act : Activation) (base : ℕ) (addresses : List (Option ℕ))
     (h : Holding) (memory : Memory) (depth : ℤ) (workspace : ℕ) (s : State) (l : Local)
     → CanStart m found act.layout base addresses h memory depth workspace → BeginsAs m found act memory s
-    → l.memory ≡ after_start found base memory → l.registers.workspace ≡ frame_address base found.branch.workspace
+    → l.memory ≡ memory_after_start found base memory
+        → l.registers.workspace ≡ frame_address base found.branch.workspace
     → After m (held_by_branch m found base addresses (length memory)) machine.Plain act s l
 
 -- ---- the first start

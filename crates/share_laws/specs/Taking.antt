@@ -10,14 +10,15 @@ use Rattle.machine_state.specs.Joins.{without_words}
 use Rattle.machine_state.specs.Memory.{Memory, data_start}
 use Rattle.machine_state.specs.StartPlans.{scheduling_addresses, block_addresses, channel_addresses}
 use Rattle.rulings.specs.Meaning.{Layout, HasFrame, words_in, words_left, frame_word}
-use Rattle.rulings.specs.Regions.{scope_of, Keeps}
+use Rattle.rulings.specs.Regions.{scope_of, KeepsMemory}
 use Rattle.share_laws.specs.Opening.{CanOpen}
 use Rattle.share_laws.specs.Shares.{IsBranch}
 use Rattle.share_laws.specs.Starts.{CanStart, IsLeft}
 
 -- memory without the words that scheduling takes of a branch
-abbrev pub after_start : Found → ℕ → Memory → Memory
-after_start found base memory = without_words (scheduling_addresses (frame_address base found.branch.workspace)) memory
+abbrev pub memory_after_start : Found → ℕ → Memory → Memory
+memory_after_start found base memory = without_words (scheduling_addresses (frame_address base found.branch.workspace))
+    memory
 
 -- memory without the words of the block and the channels
 abbrev pub after_opening : Par → ℕ → Memory → Memory
@@ -43,13 +44,13 @@ abbrev pub StartsTakeTheirWords : Type 0
 StartsTakeTheirWords = (m : Contents) (found : Found) (layout : Layout) (base : ℕ) (addresses : List (Option ℕ))
     (h : Holding) (memory : Memory) (depth : ℤ) (workspace : ℕ)
     → CanStart m found layout base addresses h memory depth workspace
-    → StartTakes m found layout base addresses h memory (after_start found base memory) depth workspace
+    → StartTakes m found layout base addresses h memory (memory_after_start found base memory) depth workspace
 
 pub record OpeningTakes (m : Contents) (row : ℕ) (par : Par) (layout : Layout) (base : ℕ) (h : Holding)
     (memory new : Memory) (depth : ℤ) (workspace : ℕ) : Type 0 where
   pub can : CanOpen m row par layout base h new depth workspace
   pub size : length new ≡ length memory
-  pub keeps : Keeps m h (scope_of m par.context layout) memory new
+  pub keeps : KeepsMemory m h (scope_of m par.context layout) memory new
   pub words : (k : ℤ) → (words_left m par par.context 0).reads k ≡ true
       → frame_word new layout.origin k ≡ frame_word memory layout.origin k
 
@@ -62,7 +63,7 @@ OpeningsTakeTheirWords = (m : Contents) (row : ℕ) (par : Par) (layout : Layout
 -- context has, and all words but the three below the branch's workspace.
 pub record OpenerKeeps (m : Contents) (found : Found) (layout : Layout) (h : Holding)
     (memory new : Memory) : Type 0 where
-  pub keeps : Keeps m h (scope_of m found.par.context layout) memory new
+  pub keeps : KeepsMemory m h (scope_of m found.par.context layout) memory new
   pub others : (k : ℤ) → (IsScheduling found k → ⊥)
       → frame_word new layout.origin k ≡ frame_word memory layout.origin k
 
@@ -71,4 +72,4 @@ StartsKeepOpeners = (m : Contents) (found : Found) (layout : Layout) (base : ℕ
     (depth : ℤ) (workspace : ℕ) → formats.Keeps m → IsBranch m found → IsLeft m found
     → pos base ≡ pos data_start +ℤ layout.origin
     → HasFrame h (length memory) (words_in m found.par.context) layout.origin depth workspace
-    → OpenerKeeps m found layout h memory (after_start found base memory)
+    → OpenerKeeps m found layout h memory (memory_after_start found base memory)

@@ -18,7 +18,7 @@ use Rattle.module_format.specs.Contents.{Par, Branch, Label}
 use Rattle.certificate.specs.Rights.{is_among}
 use Rattle.certificate.specs.Starting.{is_unknown, is_written, is_loop, is_written_loop, says_of_hidden}
 use Rattle.states.specs.declared.known.WordFact.TheVariants.{Alone}
-use Rattle.states.specs.State.{is_word, is_about, is_alone, is_silent, said_of, entry_fact}
+use Rattle.states.specs.State.{is_same_number, is_about, is_alone, is_silent, said_of, entry_fact}
 use Rattle.rulings.specs.Meaning.{IsSpan, ArePairs}
 use Rattle.rulings.specs.Remaining.{is_hidden, is_channel_word, word_given_to_write}
 use Rattle.rulings.proofs.Entering.{entry_here, entry_later}
@@ -74,7 +74,7 @@ after_tells par t h =
     let d = and_parts _ (is_silent (Alone t.stack.c)) e.0 in
     let c = and_parts _ (is_silent (Alone t.stack.b)) d.0 in
     let b = and_parts _ (is_silent (Alone t.stack.a)) c.0 in
-    let a = and_parts (t.context == par.context) (is_word t.depth par.block) b.0 in
+    let a = and_parts (t.context == par.context) (is_same_number t.depth par.block) b.0 in
     record {
       context = eqb-true t.context par.context a.0;
       depth = same_word_by t.depth par.block a.1;
@@ -87,17 +87,17 @@ entry_silent : (par : Par) (entry : Entry) (k : ℤ) → says_of_hidden par entr
     → is_about entry k ≡ true → is_unknown entry.fact ≡ true
 entry_silent par entry k quiet hides about = on (is_unknown entry.fact) refl
   where
-    channel : (channels : List ChannelRow) → list_any (λ (c : ChannelRow). is_word c.word k) channels ≡ true
+    channel : (channels : List ChannelRow) → list_any (λ (c : ChannelRow). is_same_number c.word k) channels ≡ true
         → list_any (λ (c : ChannelRow). is_about entry c.word) channels ≡ true
     channel [] some = absurd (cc)
-    channel (c ∷ channels) some = elim (or_cases (is_word c.word k) _ some) [
+    channel (c ∷ channels) some = elim (or_cases (is_same_number c.word k) _ some) [
       | inl it ↦ or_left _ _ (ap (is_about entry) (same_word_by c.word k it) ∙ about)
       | inr later ↦ or_right (is_about entry c.word) _ (channel channels later)
     ]
 
-    of_block : (is_word par.block k || is_word (par.block +ℤ pos 1) k) ≡ true
+    of_block : (is_same_number par.block k || is_same_number (par.block +ℤ pos 1) k) ≡ true
         → (is_about entry par.block || is_about entry (par.block +ℤ pos 1)) ≡ true
-    of_block block = elim (or_cases (is_word par.block k) _ block) [
+    of_block block = elim (or_cases (is_same_number par.block k) _ block) [
       | inl first ↦ or_left _ _ (ap (is_about entry) (same_word_by par.block k first) ∙ about)
       | inr second ↦ or_right (is_about entry par.block) _
           (ap (is_about entry) (same_word_by (par.block +ℤ pos 1) k second) ∙ about)
@@ -128,7 +128,7 @@ says_nothing_hidden par (entry ∷ entries) k quiet hides =
     let both = or_parts (says_of_hidden par entry) (list_any (says_of_hidden par) entries) quiet in
     elim (cases_Bool (is_about entry k)) [
       | inl e ↦ entry_here entry entries k e
-          ∙ unknown_said entry.fact (is_word entry.word k) (unknown_is entry.fact
+          ∙ unknown_said entry.fact (is_same_number entry.word k) (unknown_is entry.fact
           (entry_silent par entry k both.0 hides e))
       | inr e ↦ entry_later entry entries k e ∙ says_nothing_hidden par entries k both.1 hides
     ]
@@ -170,7 +170,7 @@ written_alone par (entry ∷ entries) k pairs none writes =
     elim (cases_Bool (is_about entry k)) [
       | inr e ↦ ap is_alone (entry_later entry entries k e) ∙ written_alone par entries k pairs.1 both.1 writes
       | inl e ↦ ap is_alone (entry_here entry entries k e)
-          ∙ alone_said entry.fact (is_word entry.word k)
+          ∙ alone_said entry.fact (is_same_number entry.word k)
           (false_from_ne_true (is_loop entry.fact) (λ loop. here e loop both.0))
     ]
   where

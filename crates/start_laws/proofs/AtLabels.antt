@@ -17,7 +17,7 @@ use Rattle.machine_state.specs.JoinLookups.{Found}
 use Rattle.machine_state.specs.Memory.{Memory}
 use Rattle.states.specs.declared.rule.Rule.TheVariants as rules
 use Rattle.states.specs.declared.known.WordFact.TheVariants.{Alone}
-use Rattle.states.specs.State.{State, Facts, begun, plain}
+use Rattle.states.specs.State.{State, Facts, fresh_state, plain}
 use Rattle.states.specs.Below.{cost, agrees, below, view}
 use Rattle.rulings.specs.Meaning.{Activation, MeansWord, is_fact, nothing_known, frame_word, IsWellFormed, loop_due}
 use Rattle.rulings.specs.Meaning.{dues_from, dues, farthest_word, label_turns}
@@ -70,7 +70,7 @@ module _ (m : Contents) (found : Found) (s : State) (t : Label) where
 
   -- the state in which the branch begins, with what its label costs
   abbrev pub state_there : State
-  state_there = begun (context_of m found) found.branch.workspace label_cost facts_there
+  state_there = fresh_state (context_of m found) found.branch.workspace label_cost facts_there
 
   -- its words are in no loop
   nothing_due : (turns : ℤ → ℕ) (k : ℤ) → loop_due (facts_there k) (turns k) ≡ 0

@@ -21,7 +21,7 @@ use Rattle.states.specs.declared.known.WordFact.TheVariants.{Alone, Index, Count
 use Rattle.states.specs.declared.rule.Rule.TheVariants as rules
 use Rattle.states.specs.State.{State, entry_fact, is_alone, by_itself}
 use Rattle.states.specs.Below.{is_plain, says}
-use Rattle.rulings.specs.Fitting.{Described, After, Here, rule_site, step_site}
+use Rattle.rulings.specs.Fitting.{Described, After, Situation, rule_site, step_site}
 use Rattle.rulings.specs.Meaning.{Layout, Activation, MeansWord, is_fact, frame_word, SameMode, both_plain}
 use Rattle.rulings.specs.Meaning.{both_enabling, both_disabling, both_starting}
 use Rattle.rulings.specs.Regions.{Scope, scope_of, scope_left, scope_among, channel_address}
@@ -116,7 +116,7 @@ plain_mode both_starting e = absurd (cc)
 
 -- ---- whose block it is
 
-module _ (x : Here) (s : State) (l : Local) (a : After x.m x.h x.mode x.act s l) where
+module _ (x : Situation) (s : State) (l : Local) (a : After x.m x.h x.mode x.act s l) where
   -- the process has started all branches
   started_all : (row started : ℕ) (par : Par) → s.mode ≡ Starting row started
       → ended_par x.m s.context (Starting row started) ≡ Some par → StartedAll x s par

@@ -20,9 +20,9 @@ use Rattle.machine_state.specs.JoinLookups.{Found}
 use Rattle.machine_state.specs.Site.{Local}
 use Rattle.states.specs.declared.known.Mode as states
 use Rattle.states.specs.declared.known.Mode.TheVariants.{Plain}
-use Rattle.states.specs.State.{State, Facts, begun, is_word}
+use Rattle.states.specs.State.{State, Facts, fresh_state, is_same_number}
 use Rattle.states.specs.Below.{agrees, below, cost, view, implies, entries_hold, is_whole, price}
-use Rattle.rulings.specs.Fitting.{Described, After, Here}
+use Rattle.rulings.specs.Fitting.{Described, After, Situation}
 use Rattle.rulings.specs.Meaning.{MeansWord, words_left, frame_word}
 use Rattle.rulings.specs.Meaning.{IsWellFormed, dues, owed, label_turns}
 use Rattle.rulings.specs.Regions.{Scope, scope_of, scope_among}
@@ -64,7 +64,7 @@ has_label : (m : Contents) (par : Par) (o : Option Label) → label_at m par.suc
 has_label m par None e h = absurd (cc)
 has_label m par (Some t) e h = record { label = t; at = e; is = after_tells par t h }
 
-module _ (x : Here) (s : State) (l : Local) (wf : IsWellFormed x.m) (keeps : Keeps x.m)
+module _ (x : Situation) (s : State) (l : Local) (wf : IsWellFormed x.m) (keeps : Keeps x.m)
     (a : After x.m x.h x.mode x.act s l) (found : Found) (is : IsBranch x.m found) (plain : s.mode ≡ Plain)
     (first : found.number ≡ 0) (context : found.par.context ≡ s.context)
     (opens : may_open x.m s found.par ≡ true) (loops : leaves_loops x.m found.par ≡ true) where
@@ -126,7 +126,7 @@ module _ (x : Here) (s : State) (l : Local) (wf : IsWellFormed x.m) (keeps : Kee
 
     -- a state that would go on there
     abbrev there : State
-    there = begun found.par.context found.par.block
+    there = fresh_state found.par.context found.par.block
         (both.1.label.number + sum_by (price facts) both.1.label.entries) facts
 
     goes_below : below there both.1.label ≡ Ok (cost (view there) both.1.label)
@@ -136,7 +136,7 @@ module _ (x : Here) (s : State) (l : Local) (wf : IsWellFormed x.m) (keeps : Kee
         (let same : cost (view there) both.1.label ≤ cost (view there) both.1.label = omega arith in same)
         (and_from _ _ (and_from _ _ (and_from _ _ (and_from _ _ (and_from _ _ (and_from _ _ (and_from _ _
         (ap (λ (c : ℕ). found.par.context == c) i.context ∙ eqb-self found.par.context)
-        (ap (is_word found.par.block) i.depth ∙ is_itself found.par.block)) refl)
+        (ap (is_same_number found.par.block) i.depth ∙ is_itself found.par.block)) refl)
         (ap (λ (stack : Stack Fact). implies Unknown stack.a) i.registers))
         (ap (λ (stack : Stack Fact). implies Unknown stack.b) i.registers))
         (ap (λ (stack : Stack Fact). implies Unknown stack.c) i.registers)) hold) whole)

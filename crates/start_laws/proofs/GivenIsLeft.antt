@@ -27,7 +27,7 @@ use Rattle.machine_state.specs.BranchContexts.{context_of}
 use Rattle.machine_state.specs.JoinLookups.{Found}
 use Rattle.machine_state.specs.Ownership.{IsAmong}
 use Rattle.machine_state.proofs.Among.{all_among, any_among}
-use Rattle.states.specs.State.{State, is_word}
+use Rattle.states.specs.State.{State, is_same_number}
 use Rattle.rulings.specs.Reach.{is_listed, may_write_parameter, may_read_parameter, writable_size, readable_size}
 use Rattle.rulings.specs.Remaining.{is_hidden, is_channel_word}
 use Rattle.rulings.proofs.Words.{same_word_by}
@@ -148,7 +148,7 @@ module _ (m : Contents) (s : State) (found : Found) (t : IsTested m s found) whe
       let two = and_parts (not (may_read_word m (context_of m found) found.par.block)) _ three.0 in
       elim (or_cases _ (is_channel_word found.par k) hides) [
         | inr channel ↦ of_channel found.par.channels three.1 channel
-        | inl block ↦ elim (or_cases (is_word found.par.block k) _ block) [
+        | inl block ↦ elim (or_cases (is_same_number found.par.block k) _ block) [
           | inl first ↦ ap (may_read_word m (context_of m found)) (sym (same_word_by found.par.block k first))
               ∙ not-true _ two.0
           | inr second ↦ ap (may_read_word m (context_of m found))
@@ -158,12 +158,12 @@ module _ (m : Contents) (s : State) (found : Found) (t : IsTested m s found) whe
     where
       of_channel : (channels : List ChannelRow)
           → list_all (λ (c : ChannelRow). not (may_read_word m (context_of m found) c.word)) channels ≡ true
-          → list_any (λ (c : ChannelRow). is_word c.word k) channels ≡ true
+          → list_any (λ (c : ChannelRow). is_same_number c.word k) channels ≡ true
           → may_read_word m (context_of m found) k ≡ false
       of_channel [] all some = absurd (cc)
       of_channel (c ∷ channels) all some =
           let both = and_parts (not (may_read_word m (context_of m found) c.word)) _ all in
-          elim (or_cases (is_word c.word k) _ some) [
+          elim (or_cases (is_same_number c.word k) _ some) [
             | inl it ↦ ap (may_read_word m (context_of m found)) (sym (same_word_by c.word k it)) ∙ not-true _ both.0
             | inr later ↦ of_channel channels both.1 later
           ]

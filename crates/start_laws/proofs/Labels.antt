@@ -10,7 +10,7 @@ use Rattle.module_format.specs.Rows.{Entry}
 use Rattle.module_format.specs.declared.fact.Fact.TheVariants.{Unknown}
 use Rattle.states.specs.declared.known.WordFact.{WordFact}
 use Rattle.states.specs.declared.known.WordFact.TheVariants.{Alone}
-use Rattle.states.specs.State.{is_word, is_about, said_of, entry_fact}
+use Rattle.states.specs.State.{is_same_number, is_about, said_of, entry_fact}
 use Rattle.rulings.proofs.Entering.{first_word, below_last, entry_here, entry_later}
 use Rattle.rulings.proofs.Words.{word_test}
 use Rattle.par_rules.specs.Comparisons.{words_pass}
@@ -18,13 +18,13 @@ use Rattle.par_rules.specs.Comparisons.{words_pass}
 module _ (test : ℤ → WordFact → Bool) where
   -- a word that an entry is about passes, with what the entry says of it
   pub entry_passes : (entry : Entry) (k : ℤ) (span : ℕ) → words_pass test entry span ≡ true → entry.word ≤ℤ k
-      → k <ℤ (entry.word +ℤ pos span) → test k (said_of entry.fact (is_word entry.word k)) ≡ true
+      → k <ℤ (entry.word +ℤ pos span) → test k (said_of entry.fact (is_same_number entry.word k)) ≡ true
   entry_passes entry k zero t low high = absurd (omega (arith, ints, low, high))
   entry_passes entry k (suc more) t low high =
       let both = and_parts _ _ t in
       elim (word_test k (entry.word +ℤ pos more)) [
         | inl e ↦
-            ap (λ (j : ℤ). test j (said_of entry.fact (is_word entry.word k))) e.1
+            ap (λ (j : ℤ). test j (said_of entry.fact (is_same_number entry.word k))) e.1
             ∙ ap (λ (b : Bool). test (entry.word +ℤ pos more) (said_of entry.fact b))
             (sym (first_word entry.word k more e.1)) ∙ both.0
         | inr e ↦ entry_passes entry k more both.1 low (below_last k entry.word more high e.1)

@@ -17,7 +17,7 @@ use Rattle.states.specs.declared.known.Mode as states
 use Rattle.states.specs.declared.known.Mode.TheVariants.{Starting}
 use Rattle.states.specs.State.{State}
 use Rattle.states.specs.Below.{agrees}
-use Rattle.rulings.specs.Fitting.{Described, After, Here}
+use Rattle.rulings.specs.Fitting.{Described, After, Situation}
 use Rattle.rulings.specs.Meaning.{MeansWord, SameMode, both_plain, both_enabling}
 use Rattle.rulings.specs.Meaning.{both_disabling, both_starting, words_left, frame_word, IsWellFormed}
 use Rattle.rulings.specs.Regions.{Scope, scope_of, scope_left, scope_among, scope_in}
@@ -85,7 +85,7 @@ among_mode both_enabling e = absurd (cc)
 among_mode both_disabling e = absurd (cc)
 among_mode both_starting e = refl
 
-module _ (x : Here) (s : State) (l : Local) (wf : IsWellFormed x.m) (keeps : Keeps x.m)
+module _ (x : Situation) (s : State) (l : Local) (wf : IsWellFormed x.m) (keeps : Keeps x.m)
     (a : After x.m x.h x.mode x.act s l) (found : Found) (is : IsBranch x.m found)
     (mode : s.mode ≡ Starting found.row found.number) (context : found.par.context ≡ s.context) where
   -- the state's scope is what is left
@@ -166,7 +166,7 @@ module _ (x : Here) (s : State) (l : Local) (wf : IsWellFormed x.m) (keeps : Kee
 -- ---- what the starter goes on with
 
 -- among the starts of its row a starter knows of the words that are left what it knew before
-pub goes_on_as : (x : Here) (s : State) (l : Local) (found : Found) (price number : ℕ)
+pub goes_on_as : (x : Situation) (s : State) (l : Local) (found : Found) (price number : ℕ)
     → found.par.context ≡ s.context
     → ((k : ℤ) → (words_left x.m found.par found.par.context (found.number + 1)).reads k ≡ true
     → MeansWord x.m x.act k (s.frame k) (frame_word l.memory x.act.layout.origin k))

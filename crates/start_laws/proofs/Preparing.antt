@@ -25,7 +25,7 @@ use Rattle.machine_state.specs.Ownership.{IsAmong}
 use Rattle.machine_state.proofs.Among.{all_among, any_all}
 use Rattle.states.specs.declared.known.WordFact.{WordFact}
 use Rattle.states.specs.declared.known.WordFact.TheVariants.{Alone, Index, Count}
-use Rattle.states.specs.State.{State, is_word}
+use Rattle.states.specs.State.{State, is_same_number}
 use Rattle.states.specs.Below.{holds_constant}
 use Rattle.rulings.specs.Meaning.{Activation, is_pointer, is_code_address, MeansWord, is_fact}
 use Rattle.rulings.specs.Meaning.{frame_word, word_of, code_address}
@@ -70,8 +70,8 @@ start_value m act k (Alone (Pointer (regions.Parameter number) lo hi Byte)) j v 
 start_value m act k (Alone (Pointer (regions.Parameter number) lo hi Word)) j None t (is_fact means) = elim means [ ]
 start_value m act k (Alone (Pointer (regions.Parameter number) lo hi Word)) j (Some x) t
     (is_fact (is_pointer offset low high stepped is)) =
-    let both = and_parts _ (is_word hi (pos 0)) t in
-    let one = and_parts (number == j) (is_word lo (pos 0)) both.0 in
+    let both = and_parts _ (is_same_number hi (pos 0)) t in
+    let one = and_parts (number == j) (is_same_number lo (pos 0)) both.0 in
     let first = same_word_by lo (pos 0) one.1 in
     let last = same_word_by hi (pos 0) both.1 in
     let none : offset ≡ pos 0 = omega (arith, ints, first, last, low, high) in
@@ -127,10 +127,11 @@ module _ (m : Contents) (s : State) (act : Activation) (memory : Memory) (par : 
       (all_among (channel_is_empty m s) par.channels c three.1 among)
 
   -- a channel's word is one of a row
-  channel_word : (k : ℤ) (channels : List ChannelRow) → list_any (λ (c : ChannelRow). is_word c.word k) channels ≡ true
+  channel_word : (k : ℤ) (channels : List ChannelRow)
+      → list_any (λ (c : ChannelRow). is_same_number c.word k) channels ≡ true
       → list_all (channel_is_empty m s) channels ≡ true → may_write_word m s.context k ≡ true
   channel_word k channels some all =
-      let c = any_all (λ (c : ChannelRow). is_word c.word k) (channel_is_empty m s) channels some all in
+      let c = any_all (λ (c : ChannelRow). is_same_number c.word k) (channel_is_empty m s) channels some all in
       ap (may_write_word m s.context) (sym (same_word_by c.0.word k c.1))
       ∙ (and_parts (may_write_word m s.context c.0.word) _ c.2).0
 
@@ -138,7 +139,7 @@ module _ (m : Contents) (s : State) (act : Activation) (memory : Memory) (par : 
   pub hidden_own : (k : ℤ) → is_hidden par k ≡ true → may_write_word m par.context k ≡ true
   hidden_own k hides = may_write k (elim (or_cases _ (is_channel_word par k) hides) [
     | inr there ↦ channel_word k par.channels there three.1
-    | inl block ↦ elim (or_cases (is_word par.block k) _ block) [
+    | inl block ↦ elim (or_cases (is_same_number par.block k) _ block) [
       | inl first ↦ ap (may_write_word m s.context) (sym (same_word_by par.block k first)) ∙ first_of_block.0
       | inr second ↦ ap (may_write_word m s.context) (sym (same_word_by (par.block +ℤ pos 1) k second))
           ∙ second_of_block.0

@@ -15,9 +15,9 @@ use Rattle.machine_state.specs.Ownership.{IsAmong}
 use Rattle.machine_state.specs.Site.{Outcome, Local, starts}
 use Rattle.states.specs.declared.known.Mode as states
 use Rattle.states.specs.declared.known.Mode.TheVariants.{Plain, Enabling, Disabling, Starting}
-use Rattle.states.specs.State.{State, is_word}
+use Rattle.states.specs.State.{State, is_same_number}
 use Rattle.states.specs.Below.{agrees}
-use Rattle.rulings.specs.Fitting.{After, HasNext, Here, rule_site, step_site}
+use Rattle.rulings.specs.Fitting.{After, HasNext, Situation, rule_site, step_site}
 use Rattle.rulings.specs.Meaning.{Layout, IsWellFormed, MeansWord, words_left, frame_word}
 use Rattle.rulings.specs.Rulings as rule
 use Rattle.rulings.specs.Rulings.{Ruling, breaks, falling}
@@ -46,14 +46,14 @@ next_mode row started found_row number h =
     ap (λ (r : ℕ). Starting r started) (sym (eqb-true found_row row both.0))
     ∙ ap (Starting found_row) (sym (eqb-true number started both.1))
 
-module _ (x : Here) (s : State) (l : Local) (wf : IsWellFormed x.m) (keeps : Keeps x.m)
+module _ (x : Situation) (s : State) (l : Local) (wf : IsWellFormed x.m) (keeps : Keeps x.m)
     (a : After x.m x.h x.mode x.act s l) where
   module _ {r : Ruling} (p : HasPassed (rule_site x) s r) (next : HasNext x r) where
     turn : (is_next s.mode p.found ≡ true) × (p.found.par.context ≡ s.context) × (p.found.par.depth ≡ s.depth)
         × (is_workspace p.found.branch.workspace s.stack.a.fact ≡ true)
     turn =
         let three = and_parts _ (is_workspace p.found.branch.workspace s.stack.a.fact) p.turn in
-        let two = and_parts _ (is_word p.found.par.depth s.depth) three.0 in
+        let two = and_parts _ (is_same_number p.found.par.depth s.depth) three.0 in
         let one = and_parts (is_next s.mode p.found) (p.found.par.context == s.context) two.0 in (
           one.0,
           eqb-true p.found.par.context s.context one.1,

@@ -21,7 +21,7 @@ use Rattle.machine_state.specs.LocalStep.{target}
 use Rattle.machine_state.specs.Memory.{data_start}
 use Rattle.machine_state.specs.Site as steps
 use Rattle.machine_state.specs.Site.{Local, starts, joins, fails}
-use Rattle.states.specs.State.{is_word}
+use Rattle.states.specs.State.{is_same_number}
 use Rattle.rulings.specs.Meaning.{Layout, Means, is_number, is_pointer, region_start, word_of, place_in}
 use Rattle.rulings.specs.Regions.{channel_address}
 use Rattle.rulings.specs.Rulings.{Site}
@@ -54,7 +54,7 @@ pub word_address : (m : Contents) (layout : Layout) (fact : Fact) (k : ℤ) (v :
     → Means m layout fact v → IsAddress layout k v
 word_address m layout (Pointer regions.Frame lo hi step) k None t means = elim means [ ]
 word_address m layout (Pointer regions.Frame lo hi step) k (Some x) t (is_pointer offset low high stepped is) =
-    let both = and_parts (is_word lo (pos 4 *ℤ k)) (is_word hi (pos 4 *ℤ k)) t in
+    let both = and_parts (is_same_number lo (pos 4 *ℤ k)) (is_same_number hi (pos 4 *ℤ k)) t in
     record {
       value = x;
       is = refl;
@@ -101,9 +101,10 @@ pub record IsNamed (site : Site) (found : Found) (v : Option ℤ) : Type 0 where
 pub named_found : (site : Site) (layout : Layout) (fact : Fact) (found : Found) (v : Option ℤ)
     → named_branch site fact ≡ Some found → Means site.contents layout fact v → IsNamed site found v
 named_found site layout (Number lo hi) found None named means = elim means [ ]
-named_found site layout (Number lo hi) found (Some x) named (is_number low high fits) = on (is_word lo hi) refl named
+named_found site layout (Number lo hi) found (Some x) named (is_number low high fits) = on (is_same_number lo hi) refl
+    named
   where
-    on : (b : Bool) → is_word lo hi ≡ b
+    on : (b : Bool) → is_same_number lo hi ≡ b
         → ◌≡◌ {A = Option Found} (if b then found_at site.contents (target (site.at + site.length) lo) else None)
         (Some found) → IsNamed site found (Some x)
     on true one is =

@@ -16,7 +16,7 @@ use Rattle.rulings.specs.Fitting.{After}
 use Rattle.rulings.specs.Meaning.{Activation, MeansWord, with_turns, frame_word, words_in, dues}
 use Rattle.rulings.specs.Remaining.{is_hidden, word_given_to_write}
 use Rattle.share_laws.specs.Starts.{CanStart, held_by_branch}
-use Rattle.share_laws.specs.Taking.{after_start}
+use Rattle.share_laws.specs.Taking.{memory_after_start}
 
 -- what is owed at a label, where the loops have these turns left
 abbrev pub owed_at_label : Label → (ℤ → ℕ) → ℕ
@@ -36,7 +36,8 @@ abbrev pub BeginsAtLabel : {m : Contents} {found : Found} → BranchLabel m foun
 BeginsAtLabel {m = m} {found = found} b act h memory depth workspace =
     (base : ℕ) (addresses : List (Option ℕ)) (l : Local)
     → CanStart m found act.layout base addresses h memory depth workspace
-    → l.memory ≡ after_start found base memory → l.registers.workspace ≡ frame_address base found.branch.workspace
+    → l.memory ≡ memory_after_start found base memory
+        → l.registers.workspace ≡ frame_address base found.branch.workspace
     → After m (held_by_branch m found base addresses (length memory)) machine.Plain (with_turns b.turns act)
     (label_state b.label) l
 

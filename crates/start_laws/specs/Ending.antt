@@ -11,7 +11,7 @@ use Rattle.machine_state.specs.Site.{Outcome, Local, joins}
 use Rattle.states.specs.declared.known.Mode.TheVariants.{Plain, Starting}
 use Rattle.states.specs.declared.rule.Rule.{Rule}
 use Rattle.states.specs.State.{State, entry_fact, is_alone}
-use Rattle.rulings.specs.Fitting.{After, Here, rule_site, step_site}
+use Rattle.rulings.specs.Fitting.{After, Situation, rule_site, step_site}
 use Rattle.rulings.specs.Meaning.{Activation, MeansWord, frame_word}
 use Rattle.rulings.specs.Regions.{channel_address}
 use Rattle.rulings.specs.Rulings.{Ruling, ends, breaks}
@@ -19,7 +19,7 @@ use Rattle.par_rules.specs.ParRules.{endp_rule}
 use Rattle.share_laws.specs.Climbing.{LieAlike}
 
 -- The process has started all branches of a row.
-pub record StartedAll (x : Here) (s : State) (par : Par) : Type 0 where
+pub record StartedAll (x : Situation) (s : State) (par : Par) : Type 0 where
   pub row : ℕ
   pub is : slice_get x.m.pars row ≡ Some par
   pub mode : s.mode ≡ Starting row (length par.branches)
@@ -27,7 +27,7 @@ pub record StartedAll (x : Here) (s : State) (par : Par) : Type 0 where
 
 -- The process is a branch in plain mode. What the label after the PAR says of a word that the branch may write, by
 -- itself, is so in each activation whose regions lie where the branch's do, and that returns where it does.
-pub record LeavesAgreed (x : Here) (s : State) (l : Local) (par : Par) : Type 0 where
+pub record LeavesAgreed (x : Situation) (s : State) (l : Local) (par : Par) : Type 0 where
   pub branch : Branch
   pub is : numbered_branch x.m s.context ≡ Some (par, branch)
   pub mode : s.mode ≡ Plain
@@ -38,7 +38,7 @@ pub record LeavesAgreed (x : Here) (s : State) (l : Local) (par : Par) : Type 0 
       → MeansWord x.m other k (entry_fact t.entries k) (frame_word l.memory other.layout.origin k)
 
 -- A ruling of `endp` and the outcome of its step fit each other: the process ends at the block of its PAR.
-pub data EndFits (x : Here) (s : State) (l : Local) : Ruling → Outcome → Type 0 where
+pub data EndFits (x : Situation) (s : State) (l : Local) : Ruling → Outcome → Type 0 where
   to_end_own : (par : Par) → StartedAll x s par → x.len ≤ s.number
       → EndFits x s l ends (joins (channel_address x.act.layout (FrameWord par.block)) l)
   to_end_branch : (par : Par) → LeavesAgreed x s l par → x.len ≤ s.number
@@ -46,5 +46,5 @@ pub data EndFits (x : Here) (s : State) (l : Local) : Ruling → Outcome → Typ
   end_breaks : {broken : Rule} {o : Outcome} → EndFits x s l (breaks broken) o
 
 abbrev pub EndFitsStep : Type 0
-EndFitsStep = (x : Here) (s : State) (l : Local) → After x.m x.h x.mode x.act s l
+EndFitsStep = (x : Situation) (s : State) (l : Local) → After x.m x.h x.mode x.act s l
     → EndFits x s l (endp_rule (rule_site x) s) (step.operation_step (step_site x) EndProcess l)

@@ -12,7 +12,7 @@ use Rattle.machine_state.specs.Site.{Outcome, Local, starts}
 use Rattle.states.specs.declared.known.Mode.TheVariants.{Plain, Starting}
 use Rattle.states.specs.declared.rule.Rule.{Rule}
 use Rattle.states.specs.State.{State}
-use Rattle.rulings.specs.Fitting.{After, HasNext, Here, rule_site, step_site}
+use Rattle.rulings.specs.Fitting.{After, HasNext, Situation, rule_site, step_site}
 use Rattle.rulings.specs.Meaning.{IsWellFormed, owed}
 use Rattle.rulings.specs.Rulings as rule
 use Rattle.rulings.specs.Rulings.{Ruling, breaks}
@@ -26,17 +26,18 @@ use Rattle.share_laws.specs.Taking.{after_opening}
 use Rattle.start_laws.specs.BranchLabels.{BranchLabel, BeginsAtLabel, LabelAfter, owed_at_label}
 
 -- all that the process may read lies in memory
-abbrev pub LiesInside : Here → Memory → Type 0
+abbrev pub LiesInside : Situation → Memory → Type 0
 LiesInside x memory = (place : ℕ) → may_read x.h place ≡ true → place < length memory
 
 -- this base is that of the frame
-abbrev pub IsBase : Here → ℕ → Type 0
+abbrev pub IsBase : Situation → ℕ → Type 0
 IsBase x base = pos base ≡ pos data_start +ℤ x.act.layout.origin
 
 -- A branch is started that begins at this offset, with a workspace at this address: it is one of the PAR in whose
 -- context and at whose depth the process is, and its share is left. The process goes on after the instruction, in this
 -- state among the starts.
-pub record StartsBranch (x : Here) (s after : State) (l : Local) (found : Found) (target workspace : ℕ) : Type 0 where
+pub record StartsBranch (x : Situation) (s after : State) (l : Local) (found : Found) (target workspace : ℕ) : Type 0
+    where
   pub found_is : found_at x.m target ≡ Some found
   pub is : IsBranch x.m found
   pub left : IsLeft x.m found
@@ -48,7 +49,7 @@ pub record StartsBranch (x : Here) (s after : State) (l : Local) (found : Found)
 
 -- The branch is the next one of a PAR, of which some are started. If the join's base and the addresses of its
 -- parameters are those of the starter's layout, it can start the branch, whose label is paid by the number.
-pub record StartsNext (x : Here) (s after : State) (l : Local) (found : Found) : Type 0 where
+pub record StartsNext (x : Situation) (s after : State) (l : Local) (found : Found) : Type 0 where
   pub mode : s.mode ≡ Starting found.row found.number
   pub machine_mode : x.mode ≡ machine.Starting
   pub can : (base : ℕ) (addresses : List (Option ℕ)) → IsLaidOut x.m found.par x.act.layout base addresses
@@ -60,7 +61,7 @@ pub record StartsNext (x : Here) (s after : State) (l : Local) (found : Found) :
 
 -- The branch is the first one of its PAR. The process can open it, if no end that it holds lies in a word of its own;
 -- the words that the PAR wants are prepared; and besides the label of the branch the one after the PAR is paid.
-pub record StartsFirst (x : Here) (s after : State) (l : Local) (found : Found) : Type 0 where
+pub record StartsFirst (x : Situation) (s after : State) (l : Local) (found : Found) : Type 0 where
   pub mode : s.mode ≡ Plain
   pub machine_mode : x.mode ≡ machine.Plain
   pub first : found.number ≡ 0
@@ -76,7 +77,7 @@ pub record StartsFirst (x : Here) (s after : State) (l : Local) (found : Found) 
       + owed_at_label goes_after.label goes_after.turns + x.len ≤ owed s x.act
 
 -- A ruling of `startp` and the outcome of its step fit each other.
-pub data StartFits (x : Here) (s : State) (l : Local) : Ruling → Outcome → Type 0 where
+pub data StartFits (x : Situation) (s : State) (l : Local) : Ruling → Outcome → Type 0 where
   to_start_next : {after : State} {target workspace : ℕ} (found : Found)
       → StartsBranch x s after l found target workspace → StartsNext x s after l found
       → StartFits x s l (rule.starts after (found.branch.entry ∷ []))
@@ -88,6 +89,6 @@ pub data StartFits (x : Here) (s : State) (l : Local) : Ruling → Outcome → T
   start_breaks : {broken : Rule} {o : Outcome} → StartFits x s l (breaks broken) o
 
 abbrev pub StartFitsStep : Type 0
-StartFitsStep = (x : Here) (s : State) (l : Local) → IsWellFormed x.m → Keeps x.m → After x.m x.h x.mode x.act s l
+StartFitsStep = (x : Situation) (s : State) (l : Local) → IsWellFormed x.m → Keeps x.m → After x.m x.h x.mode x.act s l
     → HasNext x (startp_rule (rule_site x) s)
     → StartFits x s l (startp_rule (rule_site x) s) (step.operation_step (step_site x) StartProcess l)

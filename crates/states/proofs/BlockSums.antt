@@ -21,7 +21,7 @@ use Rattle.states.specs.declared.span.Together.{Together}
 use Rattle.states.specs.State.{Facts, plain, is_alone}
 use Rattle.states.specs.Frames.{with_alone}
 use Rattle.states.specs.Spans.{of_none, with_plain, with_one, together, joined}
-use Rattle.states.specs.Blocks.{block_words, no_block, block_at, first_of, AreSummed}
+use Rattle.states.specs.Blocks.{block_words, no_block, block_numbered, first_of, AreSummed}
 use Rattle.states.proofs.FrameFacts.{word-cases}
 
 -- ---- one span after the other
@@ -138,11 +138,11 @@ together-same facts others first (suc n) same =
 -- ---- what is kept for blocks
 
 pub kept-set : (blocks : List Block) (number n : ℕ) (block : Block) → number < length blocks
-    → block_at (set blocks number block) n ≡ cond (eqb n number) block (block_at blocks n)
+    → block_numbered (set blocks number block) n ≡ cond (eqb n number) block (block_numbered blocks n)
 kept-set blocks number n block low = elim (cases_eq n number) [
   | inl e ↦
       let yes : eqb n number ≡ true = grind (arith, nat_tests) in
-      rw yes (ap (block_at (set blocks number block)) e ∙ get_or-set_same blocks number block no_block low)
+      rw yes (ap (block_numbered (set blocks number block)) e ∙ get_or-set_same blocks number block no_block low)
   | inr d ↦
       let no : eqb n number ≡ false = grind (arith, nat_tests) in
       rw no (get_or-set_other blocks number n block no_block d)
@@ -166,11 +166,11 @@ no-sum block sum none some =
 pub none-summed : (facts : Facts) (lo : ℤ) (blocks : List Block) → blocks ≡ [] → AreSummed facts lo blocks
 unfolding AreSummed
 none-summed facts lo blocks none = λ n sum is.
-    absurd (no-sum (block_at blocks n) sum (ap (λ (bs : List Block). block_at bs n) none) is)
+    absurd (no-sum (block_numbered blocks n) sum (ap (λ (bs : List Block). block_numbered bs n) none) is)
 
 -- what is kept of a block is the sum of its words
 pub sum-is : (facts : Facts) (lo : ℤ) (blocks : List Block) (number : ℕ) (found : Option Together)
-    → AreSummed facts lo blocks → found ≡ (block_at blocks number).sum
+    → AreSummed facts lo blocks → found ≡ (block_numbered blocks number).sum
     → (sum : Together) → found ≡ Some sum → sum ≡ together facts (first_of lo number) block_words
 unfolding AreSummed
 sum-is facts lo blocks number found summed is sum some = summed number sum (sym is ∙ some)
@@ -192,18 +192,19 @@ other-block facts lo word index number j fact word_is other below =
 pub summed-write : (facts new : Facts) (lo word : ℤ) (index number : ℕ) (fact : Fact) (blocks others : List Block)
     → AreSummed facts lo blocks → new ≡ with_alone word fact facts → word ≡ lo +ℤ pos index
     → number ≡ index / block_words
-    → ((n : ℕ) → block_at others n ≡ cond (eqb n number) no_block (block_at blocks n)) → AreSummed new lo others
+    → ((n : ℕ) → block_numbered others n ≡ cond (eqb n number) no_block (block_numbered blocks n))
+    → AreSummed new lo others
 unfolding AreSummed
 summed-write facts new lo word index number fact blocks others summed new_is word_is number_is kept =
     λ n sum is. elim (cases_eq n number) [
       | inl e ↦
           let yes : eqb n number ≡ true = grind (arith, nat_tests) in
-          absurd (no-sum (block_at others n) sum
-          (kept n ∙ ap (λ (b : Bool). cond b no_block (block_at blocks n)) yes) is)
+          absurd (no-sum (block_numbered others n) sum
+          (kept n ∙ ap (λ (b : Bool). cond b no_block (block_numbered blocks n)) yes) is)
       | inr d ↦
           let no : eqb n number ≡ false = grind (arith, nat_tests) in
-          let same : block_at others n ≡ block_at blocks n =
-          kept n ∙ ap (λ (b : Bool). cond b no_block (block_at blocks n)) no in
+          let same : block_numbered others n ≡ block_numbered blocks n =
+          kept n ∙ ap (λ (b : Bool). cond b no_block (block_numbered blocks n)) no in
           summed n sum (sym (ap (λ (b : Block). b.sum) same) ∙ is)
           ∙ (together-same facts (with_alone word fact facts) (first_of lo n) block_words
           (λ j below. other-block facts lo word index n j fact word_is (λ h. d (h ∙ sym number_is)) below)
@@ -214,27 +215,29 @@ summed-write facts new lo word index number fact blocks others summed new_is wor
 pub summed-more : (facts : Facts) (lo word : ℤ) (number : ℕ) (all : Together) (block : Block)
     (blocks others : List Block) → AreSummed facts lo blocks → block.sum ≡ Some all → word ≡ first_of lo number
     → all ≡ together facts word block_words
-    → ((n : ℕ) → block_at others n ≡ cond (eqb n number) block (block_at blocks n)) → AreSummed facts lo others
+    → ((n : ℕ) → block_numbered others n ≡ cond (eqb n number) block (block_numbered blocks n))
+    → AreSummed facts lo others
 unfolding AreSummed
 summed-more facts lo word number all block blocks others summed all_is word_is right kept =
     λ n sum is. elim (cases_eq n number) [
       | inl e ↦
           let yes : eqb n number ≡ true = grind (arith, nat_tests) in
-          let here : block_at others n ≡ block = kept n ∙ ap (λ (b : Bool). cond b block (block_at blocks n)) yes in
+          let here : block_numbered others n ≡ block = kept n
+          ∙ ap (λ (b : Bool). cond b block (block_numbered blocks n)) yes in
           let same : Some sum ≡ Some all = sym is ∙ (ap (λ (b : Block). b.sum) here ∙ all_is) in
           let sum_is : sum ≡ all = cc in
           sum_is ∙ (right ∙ (ap (λ (w : ℤ). together facts w block_words) word_is
           ∙ ap (λ (k : ℕ). together facts (first_of lo k) block_words) (sym e)))
       | inr d ↦
           let no : eqb n number ≡ false = grind (arith, nat_tests) in
-          let same : block_at others n ≡ block_at blocks n =
-          kept n ∙ ap (λ (b : Bool). cond b block (block_at blocks n)) no in
+          let same : block_numbered others n ≡ block_numbered blocks n =
+          kept n ∙ ap (λ (b : Bool). cond b block (block_numbered blocks n)) no in
           summed n sum (sym (ap (λ (b : Block). b.sum) same) ∙ is)
     ]
 
 -- the sum of the block that begins at a word
 pub sum-at : (facts : Facts) (lo word : ℤ) (number : ℕ) (blocks : List Block) (found : Option Together)
-    → AreSummed facts lo blocks → found ≡ (block_at blocks number).sum → first_of lo number ≡ word
+    → AreSummed facts lo blocks → found ≡ (block_numbered blocks number).sum → first_of lo number ≡ word
     → IfSome found (λ sum. sum ≡ together facts word block_words)
 unfolding AreSummed
 sum-at facts lo word number blocks None summed is begins = tt

@@ -18,10 +18,10 @@ use Rattle.states.specs.declared.overlay.Written.{Written}
 use Rattle.states.specs.Lookup.{lookup, fact_of_index, facts_over}
 use Rattle.states.specs.declared.blocks.Block.{Block}
 use Rattle.states.specs.declared.span.Leaving.{Leaving}
-use Rattle.states.specs.Blocks.{block_words, no_block, block_at, first_of, left_by, leaving_at, facts_left}
+use Rattle.states.specs.Blocks.{block_words, no_block, block_numbered, first_of, fact_left_by, leaving_at, facts_left}
 use Rattle.states.specs.declared.known.WordFact.{WordFact}
 use Rattle.states.specs.declared.known.WordFact.TheVariants.{Alone}
-use Rattle.states.specs.State.{Facts, by_itself, is_word, is_about, said_of, entry_fact}
+use Rattle.states.specs.State.{Facts, by_itself, is_same_number, is_about, said_of, entry_fact}
 use Rattle.states.specs.Below.{implies, says, words_say, entries_hold}
 use Rattle.module_format.specs.Order.{least_word}
 use Rattle.module_format.specs.Facts.{end_of}
@@ -46,7 +46,7 @@ says-unknown fact = implies-unknown (by_itself fact)
 -- ---- the words of an entry
 
 -- a word of an entry is its first word, or another one
-pub first-test : (word : ℤ) (n : ℕ) → is_word word (word +ℤ pos n) ≡ eqb n 0
+pub first-test : (word : ℤ) (n : ℕ) → is_same_number word (word +ℤ pos n) ≡ eqb n 0
 first-test word zero = is_word-same word (word +ℤ pos 0) (omega (arith, ints))
 first-test word (suc n) =
     let no : eqb (suc n) 0 ≡ false = grind (arith, nat_tests) in
@@ -103,7 +103,7 @@ words_say-more facts entry k n m fact wanted at m_is fact_is wanted_is holds ear
 says-rest : (facts : Facts) (entry : Entry) (entries : List Entry) (k : ℤ) → is_about entry k ≡ false
     → says (facts k) (entry_fact entries k) ≡ true → says (facts k) (entry_fact (entry ∷ entries) k) ≡ true
 says-rest facts entry entries k none h =
-    ap (λ b. says (facts k) (cond b (said_of entry.fact (is_word entry.word k)) (entry_fact entries k))) none ∙ h
+    ap (λ b. says (facts k) (cond b (said_of entry.fact (is_same_number entry.word k)) (entry_fact entries k))) none ∙ h
 
 pub entries_hold-says : (facts : Facts) (entries : List Entry) → entries_hold facts entries ≡ true
     → SaysAll facts (entry_fact entries)
@@ -119,7 +119,7 @@ entries_hold-says facts (entry ∷ entries) h = λ k.
           let inside : n < entry.span = omega (arith, ints) in
           let at = words_say-at facts entry entry.span n p.0 inside in
           ap (says (facts k)) (entry_fact-within k entry entries l b)
-          ∙ (ap (λ j. says (facts j) (said_of entry.fact (is_word entry.word j))) far
+          ∙ (ap (λ j. says (facts j) (said_of entry.fact (is_same_number entry.word j))) far
           ∙ (ap (λ c. says (facts (entry.word +ℤ pos n)) (said_of entry.fact c)) (first-test entry.word n) ∙ at))
       | behind l b ↦ says-rest facts entry entries k (about-behind entry k b) rest
     ]
@@ -137,7 +137,8 @@ says-entries_hold low facts (entry ∷ entries) r h =
     ∙ h k)))
     (says-entries_hold (end_of entry) facts entries p.1 (λ k. by_lt_z k (end_of entry)
     (λ l. ap (says (facts k)) (unknown-below (end_of entry) k entries p.1 l) ∙ says-unknown (facts k))
-    (λ l. sym (ap (λ b. says (facts k) (cond b (said_of entry.fact (is_word entry.word k)) (entry_fact entries k)))
+    (λ l. sym (ap (λ b. says (facts k)
+    (cond b (said_of entry.fact (is_same_number entry.word k)) (entry_fact entries k)))
     (about-behind entry k l)) ∙ h k)))
 
 pub entries_hold-true : (facts : Facts) (entries : List Entry) → AreApart entries → SaysAll facts (entry_fact entries)
@@ -157,10 +158,10 @@ entries_hold-false facts entries h = elim (cases_Bool (entries_hold facts entrie
 -- says or what is known does.
 combined-at : (left : Option Leaving) (o : Option Fact) (said wanted : WordFact)
     → ((leaving : Leaving) → left ≡ Some leaving
-    → says (left_by left (unwrap_or (option_map Alone o) said)) wanted ≡ true)
-    → ((f : Fact) → o ≡ Some f → says (left_by left (unwrap_or (option_map Alone o) said)) wanted ≡ true)
-    → (says said wanted ≡ true) ⊎ (says (left_by left (unwrap_or (option_map Alone o) said)) wanted ≡ true)
-    → says (left_by left (unwrap_or (option_map Alone o) said)) wanted ≡ true
+    → says (fact_left_by left (unwrap_or (option_map Alone o) said)) wanted ≡ true)
+    → ((f : Fact) → o ≡ Some f → says (fact_left_by left (unwrap_or (option_map Alone o) said)) wanted ≡ true)
+    → (says said wanted ≡ true) ⊎ (says (fact_left_by left (unwrap_or (option_map Alone o) said)) wanted ≡ true)
+    → says (fact_left_by left (unwrap_or (option_map Alone o) said)) wanted ≡ true
 combined-at (Some leaving) o said wanted left written h = left leaving refl
 combined-at None (Some f) said wanted left written h = written f refl
 combined-at None None said wanted left written h = elim h [ inl p ↦ p | inr p ↦ p ]
@@ -190,19 +191,19 @@ block-more first facts wanted n earlier here = λ j h. elim (cases_lt j n) [
 -- of each word of the first `count` blocks that was left, at least what is wanted is known
 abbrev pub BlocksSay : List Block → ℤ → Facts → Facts → ℕ → Type 0
 BlocksSay blocks lo facts wanted count =
-    (n : ℕ) → n < count → is_some (block_at blocks n).left ≡ true
+    (n : ℕ) → n < count → is_some (block_numbered blocks n).left ≡ true
     → BlockSaysAll (first_of lo n) facts wanted block_words
 
 -- one block more
 pub blocks-more : (blocks : List Block) (lo : ℤ) (facts wanted : Facts) (n : ℕ) → BlocksSay blocks lo facts wanted n
-    → (is_some (block_at blocks n).left ≡ true → BlockSaysAll (first_of lo n) facts wanted block_words)
+    → (is_some (block_numbered blocks n).left ≡ true → BlockSaysAll (first_of lo n) facts wanted block_words)
     → BlocksSay blocks lo facts wanted (n + 1)
 blocks-more blocks lo facts wanted n earlier here = λ m h. elim (cases_lt m n) [
   | inl l ↦ earlier m l
   | inr l ↦
       let same : m ≡ n = omega arith in
       λ left. subst (λ (i : ℕ). BlockSaysAll (first_of lo i) facts wanted block_words) (sym same)
-      (here (ap (λ (i : ℕ). is_some (block_at blocks i).left) (sym same) ∙ left))
+      (here (ap (λ (i : ℕ). is_some (block_numbered blocks i).left) (sym same) ∙ left))
 ]
 
 -- each word that was left is one of a block's

@@ -20,11 +20,11 @@ use Rattle.states.specs.declared.cutting.Side.{Side}
 use Rattle.states.specs.declared.cutting.Side.TheVariants.{Inside, Outside}
 use Rattle.states.specs.declared.known.WordFact.{WordFact}
 use Rattle.states.specs.declared.known.WordFact.TheVariants.{Alone}
-use Rattle.states.specs.State.{Facts, is_word, is_alone, is_about, said_of, entry_fact}
+use Rattle.states.specs.State.{Facts, is_same_number, is_alone, is_about, said_of, entry_fact}
 use Rattle.states.specs.Below.{says, entries_hold, is_whole, price}
 use Rattle.states.specs.Comparing.{loop_of}
 use Rattle.states.specs.Rows.{rise_from, AreApart}
-use Rattle.states.specs.Cutting.{keeps, kept_facts, rise_between, AreCut, IsCutTo, IsCutBefore, CutsOn, CutsEntry}
+use Rattle.states.specs.Cutting.{is_on_side, kept_facts, rise_between, AreCut, IsCutTo, IsCutBefore, CutsOn, CutsEntry}
 use Rattle.states.specs.Cutting.{SaysOutside, SaysInside}
 use Rattle.states.proofs.RowFacts.{about-before, about-behind, rise-parts}
 use Rattle.states.proofs.RowFacts.{unknown-below, entry_fact-before, entry_fact-within, entry_fact-behind}
@@ -81,7 +81,7 @@ more-before : (entries : List Entry) (piece : Entry) (k : ℤ) → k <ℤ piece.
     → entry_fact (entries ++ (piece ∷ [])) k ≡ entry_fact entries k
 more-before [] piece k h = rw (about-before piece k h) refl
 more-before (entry ∷ entries) piece k h =
-    ap (λ (f : WordFact). cond (is_about entry k) (said_of entry.fact (is_word entry.word k)) f)
+    ap (λ (f : WordFact). cond (is_about entry k) (said_of entry.fact (is_same_number entry.word k)) f)
     (more-before entries piece k h)
 
 -- from its first word on it says all
@@ -122,9 +122,9 @@ module _ (side : Side) (intervals : List Interval) (row rest further pieces : Li
     (alone : (k : ℤ) → word ≤ℤ k → k <ℤ end → is_among intervals k ≡ true → is_alone (entry_fact row k) ≡ true) where
   -- words are passed of which nothing is kept
   pub cut-skip : ((k : ℤ) → word ≤ℤ k → k <ℤ end → kept_facts side intervals (entry_fact row) k ≡ Alone Unknown)
-      → ((facts : Facts) → keeps side false ≡ true
+      → ((facts : Facts) → is_on_side side false ≡ true
       → list_all (is_whole facts) rest ≡ list_all (is_whole facts) further)
-      → ((facts : Facts) → keeps side false ≡ true → sum_by (price facts) rest ≡ sum_by (price facts) further)
+      → ((facts : Facts) → is_on_side side false ≡ true → sum_by (price facts) rest ≡ sum_by (price facts) further)
       → IsCutTo side intervals row further pieces next end
   cut-skip none whole due = record {
     later = λ k l. same_left k l ∙ cut.later k (omega (arith, ints));
@@ -142,9 +142,9 @@ module _ (side : Side) (intervals : List Interval) (row rest further pieces : Li
   pub cut-keep : (piece : Entry) → piece.word ≡ word → end_of piece ≡ end
       → ((k : ℤ) → word ≤ℤ k → k <ℤ end
       → entry_fact (piece ∷ []) k ≡ kept_facts side intervals (entry_fact row) k)
-      → ((facts : Facts) → keeps side false ≡ true
+      → ((facts : Facts) → is_on_side side false ≡ true
       → list_all (is_whole facts) rest ≡ (is_whole facts piece && list_all (is_whole facts) further))
-      → ((facts : Facts) → keeps side false ≡ true
+      → ((facts : Facts) → is_on_side side false ≡ true
       → sum_by (price facts) rest ≡ price facts piece + sum_by (price facts) further)
       → IsCutTo side intervals row further (pieces ++ (piece ∷ [])) next end
   cut-keep piece first last kept whole due = record {
@@ -184,14 +184,14 @@ module _ (side : Side) (entry : Entry) (pieces : List Entry) (left next : List I
       → word ≤ℤ k → k <ℤ end → entry_fact row k ≡ Alone entry.fact
   said-here row later k same l h =
       same k l ∙ (entry_fact-within k entry later (omega (arith, ints)) (omega (arith, ints))
-      ∙ plain-said entry.fact (is_word entry.word k) alone)
+      ∙ plain-said entry.fact (is_same_number entry.word k) alone)
 
   test-here : (intervals : List Interval) (k : ℤ) → ((k : ℤ) → word ≤ℤ k → is_among left k ≡ is_among intervals k)
-      → word ≤ℤ k → k <ℤ end → keeps side (is_among intervals k) ≡ keeps side b
-  test-here intervals k same l h = ap (keeps side) (sym (same k l) ∙ alike k l h)
+      → word ≤ℤ k → k <ℤ end → is_on_side side (is_among intervals k) ≡ is_on_side side b
+  test-here intervals k same l h = ap (is_on_side side) (sym (same k l) ∙ alike k l h)
 
   -- words that are not kept
-  pub run-skipped : keeps side b ≡ false → CutsOn side entry pieces pieces left next word end
+  pub run-skipped : is_on_side side b ≡ false → CutsOn side entry pieces pieces left next word end
   run-skipped skips = λ intervals row later cut.
       cut-skip side intervals row (entry ∷ later) (entry ∷ later) pieces left next word end cut
       (omega (arith, ints)) (λ k l. later_same k (omega (arith, ints))) (λ k l. refl)
@@ -202,7 +202,7 @@ module _ (side : Side) (entry : Entry) (pieces : List Entry) (left next : List I
 
   -- words that are kept
   pub run-kept : (piece : Entry) → piece.word ≡ word → end_of piece ≡ end → piece.fact ≡ entry.fact
-      → keeps side b ≡ true → CutsOn side entry pieces (pieces ++ (piece ∷ [])) left next word end
+      → is_on_side side b ≡ true → CutsOn side entry pieces (pieces ++ (piece ∷ [])) left next word end
   run-kept piece first last fact kept = λ intervals row later cut.
       let plain : loop_of piece.fact ≡ None = ap loop_of fact ∙ alone in
       cut-keep side intervals row (entry ∷ later) (entry ∷ later) pieces left next word end cut
@@ -211,7 +211,7 @@ module _ (side : Side) (entry : Entry) (pieces : List Entry) (left next : List I
       piece first last
       (λ k l h.
       entry_fact-within k piece [] (omega (arith, ints, first)) (omega (arith, ints, last))
-      ∙ (plain-said piece.fact (is_word piece.word k) plain ∙ (ap (λ (f : Fact). Alone f) fact
+      ∙ (plain-said piece.fact (is_same_number piece.word k) plain ∙ (ap (λ (f : Fact). Alone f) fact
       ∙ (sym (said-here row later k cut.same l h)
       ∙ sym (ap (λ (t : Bool). if t then entry_fact row k else Alone Unknown)
       (test-here intervals k cut.later l h ∙ kept))))))
@@ -255,20 +255,20 @@ module _ (side : Side) (entry : Entry) (pieces : List Entry) (left next : List I
   among-none intervals k same l h = sym (same k l) ∙ none k l h
 
   -- it is not kept
-  pub loop-skipped : keeps side false ≡ false → CutsEntry side entry pieces pieces left next
+  pub loop-skipped : is_on_side side false ≡ false → CutsEntry side entry pieces pieces left next
   loop-skipped skips = λ intervals row later cut.
       cut-skip side intervals row (entry ∷ later) later pieces left next entry.word (end_of entry) cut
       (omega (arith, ints)) (λ k l. later_same k (omega (arith, ints)))
       (λ k l. entry_fact-behind k (end_of entry) entry later (omega (arith, ints)) l)
       (λ k l h is. let clash : true ≡ false = sym is ∙ among-none intervals k cut.later l h in absurd (cc))
-      (λ k l h. ap (λ (t : Bool). if keeps side t then entry_fact row k else Alone Unknown)
+      (λ k l h. ap (λ (t : Bool). if is_on_side side t then entry_fact row k else Alone Unknown)
       (among-none intervals k cut.later l h)
       ∙ ap (λ (t : Bool). if t then entry_fact row k else Alone Unknown) skips)
       (λ facts is. let clash : true ≡ false = sym is ∙ skips in absurd (cc))
       (λ facts is. let clash : true ≡ false = sym is ∙ skips in absurd (cc))
 
   -- it is kept
-  pub loop-kept : keeps side false ≡ true → CutsEntry side entry pieces (pieces ++ (entry ∷ [])) left next
+  pub loop-kept : is_on_side side false ≡ true → CutsEntry side entry pieces (pieces ++ (entry ∷ [])) left next
   loop-kept kept = λ intervals row later cut.
       cut-keep side intervals row (entry ∷ later) later pieces left next entry.word (end_of entry) cut
       (omega (arith, ints)) (λ k l. later_same k (omega (arith, ints)))
@@ -277,7 +277,7 @@ module _ (side : Side) (entry : Entry) (pieces : List Entry) (left next : List I
       entry refl refl
       (λ k l h.
       entry_fact-within k entry [] l h ∙ (sym (entry_fact-within k entry later l h) ∙ (sym (cut.same k l)
-      ∙ sym (ap (λ (t : Bool). if keeps side t then entry_fact row k else Alone Unknown)
+      ∙ sym (ap (λ (t : Bool). if is_on_side side t then entry_fact row k else Alone Unknown)
       (among-none intervals k cut.later l h)
       ∙ ap (λ (t : Bool). if t then entry_fact row k else Alone Unknown) kept))))
       (λ facts is. refl) (λ facts is. sum_by-cons (price facts) entry later)
@@ -292,7 +292,7 @@ cut-begun side intervals row apart = record {
   cut = record {
     later = λ k l. refl;
     apart = le-int_le least_word least_word (omega (arith, ints));
-    kept = λ k h. sym (kept-none (keeps side (is_among intervals k)) (entry_fact row k)
+    kept = λ k h. sym (kept-none (is_on_side side (is_among intervals k)) (entry_fact row k)
         (unknown-below least_word k row apart h));
     same = λ k l. refl;
     alone = λ k h is. ap is_alone (unknown-below least_word k row apart h);
@@ -311,7 +311,7 @@ before-entry side intervals row later pieces left entry word rises cut =
     cut.same k l ∙ entry_fact-before word k entry later rises h in
     cut-skip side intervals row (entry ∷ later) (entry ∷ later) pieces left left word entry.word cut
     (rise-parts word entry later rises).0 (λ k l. refl) (λ k l. refl) (λ k l h is. ap is_alone (unsaid k l h))
-    (λ k l h. kept-none (keeps side (is_among intervals k)) (entry_fact row k) (unsaid k l h)) (λ facts is. refl)
+    (λ k l h. kept-none (is_on_side side (is_among intervals k)) (entry_fact row k) (unsaid k l h)) (λ facts is. refl)
     (λ facts is. refl)
 
 pub cut-next : (side : Side) (intervals : List Interval) (row rest pieces : List Entry) (left : List Interval)
@@ -337,7 +337,7 @@ cut-done side intervals row rest pieces left before is =
       apart = between-rises least_word before.word pieces cut.apart;
       kept = λ k. by_lt_z k before.word (λ low. cut.kept k low)
           (λ high. unknown-behind least_word before.word k pieces cut.apart high
-          ∙ sym (kept-none (keeps side (is_among intervals k)) (entry_fact row k) (unsaid k high)));
+          ∙ sym (kept-none (is_on_side side (is_among intervals k)) (entry_fact row k) (unsaid k high)));
       alone = λ k among. by_lt_z k before.word (λ low. cut.alone k low among)
           (λ high. ap is_alone (unsaid k high));
       whole = λ facts kept.
@@ -354,7 +354,7 @@ cut-done side intervals row rest pieces left before is =
 
 kept-said : (side : Side) (intervals : List Interval) (entries pieces : List Entry) (facts : Facts) (k : ℤ)
     → AreCut side intervals entries pieces → entries_hold facts pieces ≡ true
-    → keeps side (is_among intervals k) ≡ true → says (facts k) (entry_fact entries k) ≡ true
+    → is_on_side side (is_among intervals k) ≡ true → says (facts k) (entry_fact entries k) ≡ true
 kept-said side intervals entries pieces facts k cut hold kept =
     ap (says (facts k)) (sym (cut.kept k
     ∙ ap (λ (t : Bool). if t then entry_fact entries k else Alone Unknown) kept))

@@ -23,11 +23,11 @@ use Rattle.states.specs.declared.blocks.Block.{Block}
 use Rattle.states.specs.declared.known.Loop.{Loop as CountedLoop}
 use Rattle.states.specs.declared.known.WordFact.{WordFact}
 use Rattle.states.specs.declared.known.WordFact.TheVariants.{Alone, Index, Count}
-use Rattle.states.specs.State.{Facts, by_itself, is_word, said_of, entry_fact}
-use Rattle.states.specs.Below.{View, implies, is_constant, is_same_loop, says, entries_hold, is_whole, holds_constant}
+use Rattle.states.specs.State.{Facts, by_itself, is_same_number, said_of, entry_fact}
+use Rattle.states.specs.Below.{View, implies, is_exactly, is_same_loop, says, entries_hold, is_whole, holds_constant}
 use Rattle.states.specs.Below.{price, cost, agrees, compared}
 use Rattle.states.specs.declared.span.Leaving.{Leaving}
-use Rattle.states.specs.Blocks.{left_by, leaving_at, facts_left}
+use Rattle.states.specs.Blocks.{fact_left_by, leaving_at, facts_left}
 use Rattle.states.specs.Lookup.{lookup, fact_of_index, facts_over}
 use Rattle.states.specs.Rows.{rise_from, AreApart}
 use Rattle.states.specs.Comparing.{OneSays, OneSaysAll, SaysEntry, IsPast, loop_of, IsDue, EntryHolds, IsEntered}
@@ -97,9 +97,9 @@ over-entered (entry ∷ later) wanted said facts over same =
     let low = over.0 in
     let high = over.1 in
     plain-entered said facts wanted (implied-plain entry.fact wanted.fact over.2) (λ k l h.
-    inl (ap (λ (f : WordFact). says f (said_of wanted.fact (is_word wanted.word k)))
+    inl (ap (λ (f : WordFact). says f (said_of wanted.fact (is_same_number wanted.word k)))
     (sym (same k l) ∙ entry_fact-within k entry later (omega (arith, ints)) (omega (arith, ints)))
-    ∙ implies-said entry.fact wanted.fact (is_word entry.word k) (is_word wanted.word k) over.2))
+    ∙ implies-said entry.fact wanted.fact (is_same_number entry.word k) (is_same_number wanted.word k) over.2))
 
 -- ---- entries of loops
 
@@ -138,7 +138,7 @@ same-loop loop =
     (eqb-self loop.weight)
 
 -- a constant is said of each word alike
-constant-said : (fact : Fact) (t : Bool) (number : ℤ) → is_constant fact number ≡ true → said_of fact t ≡ Alone fact
+constant-said : (fact : Fact) (t : Bool) (number : ℤ) → is_exactly fact number ≡ true → said_of fact t ≡ Alone fact
 constant-said (Number lo hi) t number h = refl
 constant-said fact t number h = absurd (cc)
 
@@ -192,7 +192,7 @@ past-more row left entry later word end next further wanted past is begun ahead 
           ap (λ (f : WordFact). says f (said_of wanted t))
           (sym (past.same k high) ∙ (ap (λ (es : List Entry). entry_fact es k) is
           ∙ entry_fact-within k entry later (omega (arith, ints)) (inside k high h)))
-          ∙ implies-said entry.fact wanted (is_word entry.word k) t implied);
+          ∙ implies-said entry.fact wanted (is_same_number entry.word k) t implied);
     }
 
 -- ---- the words of an entry
@@ -200,7 +200,7 @@ past-more row left entry later word end next further wanted past is begun ahead 
 -- where what is left of the one row is what it says, an entry holds up to a word
 abbrev pub HeldTo : Facts → Facts → List Entry → Entry → ℤ → Type 0
 HeldTo said facts base entry word = IsBase said base entry.word → (k : ℤ) → entry.word ≤ℤ k → k <ℤ word
-    → OneSays (said k) (facts k) (said_of entry.fact (is_word entry.word k))
+    → OneSays (said k) (facts k) (said_of entry.fact (is_same_number entry.word k))
 
 -- words are passed of which the row says what is wanted
 pub held-past : (said facts : Facts) (base rest left : List Entry) (entry : Entry) (word end next : ℤ)
@@ -208,8 +208,8 @@ pub held-past : (said facts : Facts) (base rest left : List Entry) (entry : Entr
     → IsPast rest word end entry.fact left next → HeldTo said facts base entry next
 held-past said facts base rest left entry word end next held same past = λ is_base k l h.
     by_lt_z k word (λ low. held is_base k l low) (λ high.
-    inl (ap (λ (f : WordFact). says f (said_of entry.fact (is_word entry.word k)))
-    (sym (is_base k l) ∙ sym (same k high)) ∙ past.each k high h (is_word entry.word k)))
+    inl (ap (λ (f : WordFact). says f (said_of entry.fact (is_same_number entry.word k)))
+    (sym (is_base k l) ∙ sym (same k high)) ∙ past.each k high h (is_same_number entry.word k)))
 
 -- a word is passed that says by itself what is wanted
 pub held-word : (said facts : Facts) (base : List Entry) (entry : Entry) (word next : ℤ)
@@ -218,7 +218,7 @@ pub held-word : (said facts : Facts) (base : List Entry) (entry : Entry) (word n
 held-word said facts base entry word next held holds next_is = λ is_base k l h.
     by_lt_z k word (λ low. held is_base k l low) (λ high.
     let at : word ≡ k = omega (arith, ints) in
-    inr (alone-said (facts k) entry.fact (is_word entry.word k)
+    inr (alone-said (facts k) entry.fact (is_same_number entry.word k)
     (ap (λ (j : ℤ). says (facts j) (Alone entry.fact)) (sym at) ∙ holds)))
 
 -- two entries of a row
@@ -392,14 +392,14 @@ walk-pair said facts row base rest first entry others later paid walk base_is is
 -- a word of which an entry alone says a number, and which is what the row says
 constant-word : (said facts : Facts) (base : List Entry) (first : Entry) (later : List Entry) (word number : ℤ)
     → base ≡ first ∷ later → IsBase said base word → IsConstantAt first word number → facts word ≡ said word
-    → (fact : Fact) × (facts word ≡ Alone fact) × (is_constant fact number ≡ true)
+    → (fact : Fact) × (facts word ≡ Alone fact) × (is_exactly fact number ≡ true)
 constant-word said facts base first later word number is same constant kept =
     let at = constant.0 in
     let one = constant.1 in (
       first.fact,
       kept ∙ (sym (same word (omega (arith, ints))) ∙ (ap (λ (es : List Entry). entry_fact es word) is
           ∙ (entry_fact-within word first later (omega (arith, ints)) (omega (arith, ints))
-          ∙ constant-said first.fact (is_word first.word word) number constant.2))),
+          ∙ constant-said first.fact (is_same_number first.word word) number constant.2))),
       constant.2,
     )
 
@@ -460,14 +460,14 @@ kept-fact lo row written blocks k none not_left = rw (not_left, none) refl
 pub written-fact : (lo : ℤ) (row : List Entry) (written : List Written) (blocks : List Block) (word : ℤ) (index : ℕ)
     (fact : Fact) (left : Option Leaving) → lookup written index ≡ Some fact → word ≡ lo +ℤ pos index
     → left ≡ leaving_at blocks (word -ℤ lo)
-    → left_by left (Alone fact) ≡ facts_left lo blocks (facts_over lo row written) (lo +ℤ pos index)
+    → fact_left_by left (Alone fact) ≡ facts_left lo blocks (facts_over lo row written) (lo +ℤ pos index)
 unfolding facts_left
 written-fact lo row written blocks word index fact left found word_is left_is =
     let k = lo +ℤ pos index in
     let at : k -ℤ lo ≡ pos index = omega (arith, ints) in
-    sym (ap (λ (o : Option Leaving). left_by o (facts_over lo row written k))
+    sym (ap (λ (o : Option Leaving). fact_left_by o (facts_over lo row written k))
     (ap (λ (z : ℤ). leaving_at blocks (z -ℤ lo)) (sym word_is) ∙ sym left_is)
-    ∙ ap (λ (o : Option Fact). left_by left (unwrap_or (option_map Alone o) (entry_fact row k)))
+    ∙ ap (λ (o : Option Fact). fact_left_by left (unwrap_or (option_map Alone o) (entry_fact row k)))
     (ap (fact_of_index written) at ∙ found))
 
 -- a test for none

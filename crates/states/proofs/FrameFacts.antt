@@ -11,7 +11,7 @@ use Rattle.module_format.specs.Rows.{Fact}
 use Rattle.module_format.specs.Rows.{Entry}
 use Rattle.states.specs.declared.overlay.Written.{Written}
 use Rattle.states.specs.Lookup.{lookup, fact_of_index, facts_over}
-use Rattle.states.specs.State.{Facts, by_itself, is_word, is_at, is_parted, with_fact, entry_fact}
+use Rattle.states.specs.State.{Facts, by_itself, is_same_number, is_at, is_parted, with_fact, entry_fact}
 use Rattle.states.specs.declared.known.Loop.{Loop}
 use Rattle.states.specs.declared.known.LoopWord.{LoopWord}
 use Rattle.states.specs.declared.known.LoopWord.TheVariants as words
@@ -19,30 +19,30 @@ use Rattle.states.specs.declared.known.WordFact.{WordFact}
 use Rattle.states.specs.declared.known.WordFact.TheVariants.{Alone, Index, Count}
 use Rattle.states.specs.Frames.{with_alone, is_loop_word, parted}
 
-pub is_word-same : (j k : ℤ) → j ≡ k → is_word j k ≡ true
+pub is_word-same : (j k : ℤ) → j ≡ k → is_same_number j k ≡ true
 is_word-same j k e = and_from _ _ (le-int_le j k (omega (arith, ints))) (le-int_le k j (omega (arith, ints)))
 
-pub is_word-below : (j k : ℤ) → j <ℤ k → is_word j k ≡ false
+pub is_word-below : (j k : ℤ) → j <ℤ k → is_same_number j k ≡ false
 is_word-below j k h = rw (lt-int_le k j h) (false-right (int_le j k)) where
   false-right : (b : Bool) → b && false ≡ false
   false-right true = refl
   false-right false = refl
 
-pub is_word-above : (j k : ℤ) → k <ℤ j → is_word j k ≡ false
+pub is_word-above : (j k : ℤ) → k <ℤ j → is_same_number j k ≡ false
 is_word-above j k h = rw (lt-int_le j k h) refl
 
 -- one more written
 write-at : (written new : List Written) (fact : Fact) (rest : WordFact) (lo word k : ℤ) (i : ℕ) (z : ℤ) → z ≡ k -ℤ lo
     → word ≡ lo +ℤ pos i → ((j : ℕ) → lookup new j ≡ cond (eqb j i) (Some fact) (lookup written j))
     → unwrap_or (option_map Alone (fact_of_index new z)) rest
-    ≡ cond (is_word k word) (Alone fact) (unwrap_or (option_map Alone (fact_of_index written z)) rest)
+    ≡ cond (is_same_number k word) (Alone fact) (unwrap_or (option_map Alone (fact_of_index written z)) rest)
 write-at written new fact rest lo word k i (pos n) z_is word_is each = elim (cases_eq n i) [
   | inl e ↦
       let yes : eqb n i ≡ true = grind (arith, nat_tests) in
       rw (each n, yes, is_word-same k word (omega (arith, ints))) refl
   | inr d ↦
       let no : eqb n i ≡ false = grind (arith, nat_tests) in
-      let other : is_word k word ≡ false = elim (cases_lt n i) [
+      let other : is_same_number k word ≡ false = elim (cases_lt n i) [
         | inl h ↦ is_word-below k word (omega (arith, ints))
         | inr h ↦ is_word-above k word (omega (arith, ints))
       ] in
@@ -60,7 +60,7 @@ facts_over-write lo word row written new fact i is each =
 -- ---- the words of loops
 
 -- a word is this one, or another one
-pub word-cases : (j k : ℤ) → ((is_word j k ≡ true) × (j ≡ k)) ⊎ (is_word j k ≡ false)
+pub word-cases : (j k : ℤ) → ((is_same_number j k ≡ true) × (j ≡ k)) ⊎ (is_same_number j k ≡ false)
 word-cases j k = by_lt_z j k (λ l. inr (is_word-below j k l)) (λ h. by_lt_z k j (λ l. inr (is_word-above j k l)) (λ l.
     let same : j ≡ k = omega (arith, ints) in
     inl (is_word-same j k same, same)))
@@ -101,7 +101,7 @@ part-index true behind loop = refl
 part-index false behind loop = refl
 
 -- two numbers are the same where two others are that lie as far apart
-as-far : (j k u w : ℤ) → j -ℤ k ≡ u -ℤ w → is_word j k ≡ is_word u w
+as-far : (j k u w : ℤ) → j -ℤ k ≡ u -ℤ w → is_same_number j k ≡ is_same_number u w
 as-far j k u w far = elim (word-cases j k) [
   | inl h ↦ let same = h.1 in h.0 ∙ sym (is_word-same u w (omega (arith, ints)))
   | inr h ↦ h ∙ sym (elim (word-cases u w) [
@@ -116,11 +116,11 @@ as-far j k u w far = elim (word-cases j k) [
 
 -- what is known of a word once those are parted that are in a loop with word w
 parted-word : (w j : ℤ) (fact : WordFact)
-    → parted_if (is_word j (w +ℤ pos 1)) words.Count (parted_if (is_word j (w -ℤ pos 1)) words.Index fact)
+    → parted_if (is_same_number j (w +ℤ pos 1)) words.Count (parted_if (is_same_number j (w -ℤ pos 1)) words.Index fact)
     ≡ cond (is_parted (is_at w) j fact) (Alone (by_itself fact)) fact
 parted-word w j (Alone fact) = refl
 parted-word w j (Index loop) =
-    part-index (is_word j (w -ℤ pos 1)) (is_word j (w +ℤ pos 1)) loop
+    part-index (is_same_number j (w -ℤ pos 1)) (is_same_number j (w +ℤ pos 1)) loop
     ∙ ap (λ b. cond b (Alone (by_itself (Index loop))) (Index loop))
     (as-far j (w -ℤ pos 1) (j +ℤ pos 1) w (omega (arith, ints)))
 parted-word w j (Count loop) =

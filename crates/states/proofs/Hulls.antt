@@ -14,7 +14,7 @@ use Rattle.module_format.specs.declared.fact.Fact.TheVariants.{ReturnAddress}
 use Rattle.states.specs.declared.known.WordFact.{WordFact}
 use Rattle.states.specs.declared.known.WordFact.TheVariants.{Alone}
 use Rattle.states.specs.declared.span.Together.{Together}
-use Rattle.states.specs.State.{Facts, by_itself, is_alone, handed_out, is_word, said_of, entry_fact}
+use Rattle.states.specs.State.{Facts, by_itself, is_alone, handed_out, is_same_number, said_of, entry_fact}
 use Rattle.states.specs.Below.{says, implies}
 use Rattle.states.specs.Comparing.{BlockSaysAll, loop_of}
 use Rattle.states.specs.Blocks.{block_words}
@@ -172,7 +172,7 @@ implied-more row rest entry later first end fact is either so_far = λ k low hig
           | inr said ↦ inr (record {
             fact = entry.fact;
             is = here ∙ (entry_fact-within k entry later l b
-                ∙ plain-said entry.fact (is_word entry.word k) said.0);
+                ∙ plain-said entry.fact (is_same_number entry.word k) said.0);
             implied = said.1;
           })
         ]

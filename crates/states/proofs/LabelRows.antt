@@ -19,7 +19,7 @@ use Rattle.module_format.specs.Facts.{WordKeeps, EntryKeeps, behind_entry, end_o
 use Rattle.module_format.specs.Keeping.{Keeps, LabelFits, RowFits, EntryFits}
 use Rattle.states.specs.declared.known.WordFact.{WordFact}
 use Rattle.states.specs.declared.known.WordFact.TheVariants.{Alone}
-use Rattle.states.specs.State.{is_word, is_about, said_of, entry_fact}
+use Rattle.states.specs.State.{is_same_number, is_about, said_of, entry_fact}
 use Rattle.states.specs.Rows.{rise_from, LoopFits, IsRowOf}
 
 -- valid entries are apart
@@ -43,7 +43,7 @@ entries-fit : (code_len : ℕ) (low k : ℤ) (entries : List Entry) → InOrder 
     → LoopFits (entry_fact entries k)
 entries-fit code_len low k [] keeps = tt
 entries-fit code_len low k (entry ∷ entries) keeps =
-    choose _ _ (is_about entry k) (said-fits code_len entry.span entry.fact (is_word entry.word k) keeps.0.fact)
+    choose _ _ (is_about entry k) (said-fits code_len entry.span entry.fact (is_same_number entry.word k) keeps.0.fact)
     (entries-fit code_len (end_of entry) k entries keeps.1)
   where
     choose : (f g : WordFact) (b : Bool) → LoopFits f → LoopFits g → LoopFits (cond b f g)
@@ -65,7 +65,7 @@ outside-unknown context (entry ∷ entries) k all out = elim (cases_Bool (is_abo
       and_from _ _ (le-int_le context.lo k a) (lt-int_lt k context.hi b) in
       let clash : true ≡ false = sym inside ∙ out in
       absurd (cc)
-  | inr e ↦ ap (λ (b : Bool). cond b (said_of entry.fact (is_word entry.word k)) (entry_fact entries k)) e
+  | inr e ↦ ap (λ (b : Bool). cond b (said_of entry.fact (is_same_number entry.word k)) (entry_fact entries k)) e
       ∙ outside-unknown context entries k all.1 out
 ]
 

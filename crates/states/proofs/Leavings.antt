@@ -27,7 +27,8 @@ use Rattle.states.specs.State.{Facts, by_itself, is_alone, handed_out, entry_fac
 use Rattle.states.specs.Lookup.{fact_of_index, facts_over}
 use Rattle.states.specs.Frames.{with_alone, with_span}
 use Rattle.states.specs.Spans.{is_in_span, left_of, widened, of_none, with_plain, with_one, together}
-use Rattle.states.specs.Blocks.{block_words, no_block, block_at, first_of, left_by, left_after, leaving_at, facts_left}
+use Rattle.states.specs.Blocks.{block_words, no_block, block_numbered, first_of, fact_left_by, left_after, leaving_at}
+use Rattle.states.specs.Blocks.{facts_left}
 use Rattle.states.specs.Blocks.{AreSummed}
 use Rattle.states.specs.Blocks.{is_number, is_unbounded, sum_left}
 use Rattle.module_format.specs.Order.{least_word, greatest_word}
@@ -64,7 +65,8 @@ widened-after low high lo hi (Loop base count weight) = refl
 widened-after low high lo hi ReturnAddress = refl
 
 left-after : (before : Option Leaving) (leaving : Leaving) (said : WordFact)
-    → left_by (Some (left_after before leaving)) said ≡ Alone (left_of leaving (by_itself (left_by before said)))
+    → fact_left_by (Some (left_after before leaving)) said ≡ Alone
+    (left_of leaving (by_itself (fact_left_by before said)))
 left-after None leaving said = refl
 left-after (Some (Become fact)) (Become other) said = refl
 left-after (Some (Widen low high)) (Become other) said = refl
@@ -101,15 +103,16 @@ in-block lo number k = elim (lies-by (first_of lo number) block_words k) [
 ]
 
 pub leaving-inside : (blocks : List Block) (lo k : ℤ) (number j : ℕ) → j < block_words → k ≡ first_of lo number +ℤ pos j
-    → leaving_at blocks (k -ℤ lo) ≡ (block_at blocks number).left
+    → leaving_at blocks (k -ℤ lo) ≡ (block_numbered blocks number).left
 leaving-inside blocks lo k number j less at =
     let index : k -ℤ lo ≡ pos (number * block_words + j) = omega (arith, ints) in
     ap (leaving_at blocks) index
-    ∙ ap (λ (n : ℕ). (block_at blocks n).left)
+    ∙ ap (λ (n : ℕ). (block_numbered blocks n).left)
     (number-of (number * block_words + j) number block_words (omega arith) (omega arith))
 
 leaving-others : (blocks others : List Block) (number : ℕ) (z : ℤ)
-    → ((n : ℕ) → n ≢ number → block_at others n ≡ block_at blocks n) → ((n : ℕ) → z ≡ pos n → n / block_words ≢ number)
+    → ((n : ℕ) → n ≢ number → block_numbered others n ≡ block_numbered blocks n)
+    → ((n : ℕ) → z ≡ pos n → n / block_words ≢ number)
     → leaving_at others z ≡ leaving_at blocks z
 leaving-others blocks others number (pos n) same far =
     ap (λ (b : Block). b.left) (same (n / block_words) (far n refl))
@@ -117,20 +120,21 @@ leaving-others blocks others number (negsuc n) same far = refl
 
 -- the leavings of blocks are what they were where each block has its own
 pub left-same : (lo : ℤ) (blocks others : List Block) (facts : Facts)
-    → ((n : ℕ) → (block_at others n).left ≡ (block_at blocks n).left)
+    → ((n : ℕ) → (block_numbered others n).left ≡ (block_numbered blocks n).left)
     → facts_left lo others facts ≡ facts_left lo blocks facts
 unfolding facts_left
-left-same lo blocks others facts same = fun_ext (λ k. ap (λ (o : Option Leaving). left_by o (facts k)) (on (k -ℤ lo)))
+left-same lo blocks others facts same = fun_ext
+    (λ k. ap (λ (o : Option Leaving). fact_left_by o (facts k)) (on (k -ℤ lo)))
   where
     on : (z : ℤ) → leaving_at others z ≡ leaving_at blocks z
     on (pos n) = same (n / block_words)
     on (negsuc n) = refl
 
 -- no block was left
-pub left-none : (lo : ℤ) (blocks : List Block) (facts : Facts) → ((n : ℕ) → (block_at blocks n).left ≡ None)
+pub left-none : (lo : ℤ) (blocks : List Block) (facts : Facts) → ((n : ℕ) → (block_numbered blocks n).left ≡ None)
     → facts_left lo blocks facts ≡ facts
 unfolding facts_left
-left-none lo blocks facts none = fun_ext (λ k. ap (λ (o : Option Leaving). left_by o (facts k)) (on (k -ℤ lo)))
+left-none lo blocks facts none = fun_ext (λ k. ap (λ (o : Option Leaving). fact_left_by o (facts k)) (on (k -ℤ lo)))
   where
     on : (z : ℤ) → leaving_at blocks z ≡ None
     on (pos n) = none (n / block_words)
@@ -140,19 +144,20 @@ left-none lo blocks facts none = fun_ext (λ k. ap (λ (o : Option Leaving). lef
 
 -- what is kept for one block is this from now on, and for the others what it was
 abbrev pub IsSet : List Block → ℕ → Block → List Block → Type 0
-IsSet blocks number block others = (n : ℕ) → block_at others n ≡ cond (eqb n number) block (block_at blocks n)
+IsSet blocks number block others = (n : ℕ)
+    → block_numbered others n ≡ cond (eqb n number) block (block_numbered blocks n)
 
 pub set-here : (blocks others : List Block) (number : ℕ) (block : Block) → IsSet blocks number block others
-    → block_at others number ≡ block
+    → block_numbered others number ≡ block
 set-here blocks others number block kept =
     let yes : eqb number number ≡ true = grind (arith, nat_tests) in
-    kept number ∙ ap (λ (b : Bool). cond b block (block_at blocks number)) yes
+    kept number ∙ ap (λ (b : Bool). cond b block (block_numbered blocks number)) yes
 
 set-other : (blocks others : List Block) (number n : ℕ) (block : Block) → IsSet blocks number block others → n ≢ number
-    → block_at others n ≡ block_at blocks n
+    → block_numbered others n ≡ block_numbered blocks n
 set-other blocks others number n block kept differs =
     let no : eqb n number ≡ false = grind (arith, nat_tests) in
-    kept n ∙ ap (λ (b : Bool). cond b block (block_at blocks n)) no
+    kept n ∙ ap (λ (b : Bool). cond b block (block_numbered blocks n)) no
 
 -- the words of another block are left as they were
 outside-set : (lo k : ℤ) (blocks others : List Block) (number : ℕ) (block : Block) → IsSet blocks number block others
@@ -161,23 +166,23 @@ outside-set lo k blocks others number block kept far =
     leaving-others blocks others number (k -ℤ lo) (λ n differs. set-other blocks others number n block kept differs) far
 
 pub block-left : (lo : ℤ) (blocks others : List Block) (facts : Facts) (number : ℕ) (leaving : Leaving) (block : Block)
-    → block.left ≡ Some (left_after (block_at blocks number).left leaving) → IsSet blocks number block others
+    → block.left ≡ Some (left_after (block_numbered blocks number).left leaving) → IsSet blocks number block others
     → facts_left lo others facts ≡ with_span (first_of lo number) block_words leaving (facts_left lo blocks facts)
 unfolding facts_left
 block-left lo blocks others facts number leaving block left kept = fun_ext (λ k. elim (in-block lo number k) [
   | inside j less at e ↦
-      let new : leaving_at others (k -ℤ lo) ≡ Some (left_after (block_at blocks number).left leaving) =
+      let new : leaving_at others (k -ℤ lo) ≡ Some (left_after (block_numbered blocks number).left leaving) =
       leaving-inside others lo k number j less at
       ∙ (ap (λ (b : Block). b.left) (set-here blocks others number block kept) ∙ left) in
-      let old : leaving_at blocks (k -ℤ lo) ≡ (block_at blocks number).left =
+      let old : leaving_at blocks (k -ℤ lo) ≡ (block_numbered blocks number).left =
       leaving-inside blocks lo k number j less at in
-      ap (λ (o : Option Leaving). left_by o (facts k)) new
-      ∙ (left-after (block_at blocks number).left leaving (facts k)
-      ∙ (ap (λ (o : Option Leaving). Alone (left_of leaving (by_itself (left_by o (facts k))))) (sym old)
+      ap (λ (o : Option Leaving). fact_left_by o (facts k)) new
+      ∙ (left-after (block_numbered blocks number).left leaving (facts k)
+      ∙ (ap (λ (o : Option Leaving). Alone (left_of leaving (by_itself (fact_left_by o (facts k))))) (sym old)
       ∙ sym (ap (λ (b : Bool). cond b (Alone (left_of leaving (by_itself (facts_left lo blocks facts k))))
       (facts_left lo blocks facts k)) e)))
   | outside e far ↦
-      ap (λ (o : Option Leaving). left_by o (facts k)) (outside-set lo k blocks others number block kept far)
+      ap (λ (o : Option Leaving). fact_left_by o (facts k)) (outside-set lo k blocks others number block kept far)
       ∙ sym (ap (λ (b : Bool). cond b (Alone (left_of leaving (by_itself (facts_left lo blocks facts k))))
       (facts_left lo blocks facts k)) e)
 ])
@@ -205,11 +210,13 @@ unfolding AreSummed
 summed-left facts new lo number leaving block blocks others summed new_is kept right = λ n sum is.
     elim (cases_eq n number) [
       | inl e ↦
-          let here : block_at others n ≡ block = ap (block_at others) e ∙ set-here blocks others number block kept in
+          let here : block_numbered others n ≡ block = ap (block_numbered others) e
+          ∙ set-here blocks others number block kept in
           right sum (sym (ap (λ (b : Block). b.sum) here) ∙ is)
           ∙ ap (λ (k : ℕ). together new (first_of lo k) block_words) (sym e)
       | inr d ↦
-          let same : block_at others n ≡ block_at blocks n = set-other blocks others number n block kept d in
+          let same : block_numbered others n ≡ block_numbered blocks n = set-other blocks others number n block kept d
+          in
           summed n sum (sym (ap (λ (b : Block). b.sum) same) ∙ is)
           ∙ (together-same facts (with_span (first_of lo number) block_words leaving facts) (first_of lo n) block_words
           (λ j below. other-words facts lo number n j leaving d below)
@@ -220,28 +227,28 @@ summed-left facts new lo number leaving block blocks others summed new_is kept r
 
 -- a word of a block that was not left
 pub word-placed : (lo word : ℤ) (blocks others : List Block) (facts new : Facts) (index number : ℕ) (fact : Fact)
-    → word ≡ lo +ℤ pos index → number ≡ index / block_words → (block_at blocks number).left ≡ None
+    → word ≡ lo +ℤ pos index → number ≡ index / block_words → (block_numbered blocks number).left ≡ None
     → new ≡ with_alone word fact facts → IsSet blocks number no_block others
     → facts_left lo others new ≡ with_alone word fact (facts_left lo blocks facts)
 unfolding facts_left
 word-placed lo word blocks others facts new index number fact word_is number_is none new_is kept =
     left-same lo blocks others new (λ n. elim (cases_eq n number) [
-      | inl e ↦ ap (λ (b : Block). b.left) (ap (block_at others) e ∙ set-here blocks others number no_block kept)
-          ∙ (sym none ∙ ap (λ (k : ℕ). (block_at blocks k).left) (sym e))
+      | inl e ↦ ap (λ (b : Block). b.left) (ap (block_numbered others) e ∙ set-here blocks others number no_block kept)
+          ∙ (sym none ∙ ap (λ (k : ℕ). (block_numbered blocks k).left) (sym e))
       | inr d ↦ ap (λ (b : Block). b.left) (set-other blocks others number n no_block kept d)
     ])
     ∙ (ap (facts_left lo blocks) new_is ∙ fun_ext (λ k. elim (word-cases k word) [
       | inl h ↦
           let at : k -ℤ lo ≡ pos index = (let same = h.1 in omega (arith, ints)) in
           let free : leaving_at blocks (k -ℤ lo) ≡ None =
-          ap (leaving_at blocks) at ∙ (ap (λ (n : ℕ). (block_at blocks n).left) (sym number_is) ∙ none) in
+          ap (leaving_at blocks) at ∙ (ap (λ (n : ℕ). (block_numbered blocks n).left) (sym number_is) ∙ none) in
           rw (h.0, free) refl
       | inr h ↦ rw h refl
     ]))
 
 -- a word of a block that is left is written as what is known of it
 pub word-settled : (lo word : ℤ) (blocks : List Block) (facts new : Facts) (index : ℕ) (leaving : Leaving) (fact : Fact)
-    (said : WordFact) → word ≡ lo +ℤ pos index → (block_at blocks (index / block_words)).left ≡ Some leaving
+    (said : WordFact) → word ≡ lo +ℤ pos index → (block_numbered blocks (index / block_words)).left ≡ Some leaving
     → said ≡ facts_left lo blocks facts word → fact ≡ by_itself said → new ≡ with_alone word fact facts
     → facts_left lo blocks new ≡ facts_left lo blocks facts
 unfolding facts_left
@@ -252,7 +259,7 @@ word-settled lo word blocks facts new index leaving fact said word_is left said_
           let here : leaving_at blocks (k -ℤ lo) ≡ Some leaving = ap (leaving_at blocks) at ∙ left in
           let known : fact ≡ left_of leaving (by_itself (facts k)) =
           fact_is ∙ (ap by_itself (said_is ∙ ap (facts_left lo blocks facts) (sym h.1))
-          ∙ ap (λ (o : Option Leaving). by_itself (left_by o (facts k))) here) in
+          ∙ ap (λ (o : Option Leaving). by_itself (fact_left_by o (facts k))) here) in
           rw (h.0, here) (ap (λ (x : Fact). Alone (left_of leaving x)) known
           ∙ ap (λ (x : Fact). Alone x) (left-twice leaving (by_itself (facts k))))
       | inr h ↦ rw h refl
@@ -270,15 +277,15 @@ block-settled lo blocks others facts number block none kept settled = fun_ext (�
       let free : leaving_at others (k -ℤ lo) ≡ None =
       leaving-inside others lo k number j less at
       ∙ (ap (λ (b : Block). b.left) (set-here blocks others number block kept) ∙ none) in
-      ap (λ (o : Option Leaving). left_by o (facts k)) free
+      ap (λ (o : Option Leaving). fact_left_by o (facts k)) free
       ∙ (ap facts at ∙ (settled j less ∙ ap (facts_left lo blocks facts) (sym at)))
   | outside e far ↦
-      ap (λ (o : Option Leaving). left_by o (facts k)) (outside-set lo k blocks others number block kept far)
+      ap (λ (o : Option Leaving). fact_left_by o (facts k)) (outside-set lo k blocks others number block kept far)
 ])
 
 -- sums stay where each block has its own
 pub summed-same : (facts new : Facts) (lo : ℤ) (blocks others : List Block) → AreSummed facts lo blocks → new ≡ facts
-    → ((n : ℕ) → (block_at others n).sum ≡ (block_at blocks n).sum) → AreSummed new lo others
+    → ((n : ℕ) → (block_numbered others n).sum ≡ (block_numbered blocks n).sum) → AreSummed new lo others
 unfolding AreSummed
 summed-same facts new lo blocks others summed new_is same = λ n sum is.
     summed n sum (sym (same n) ∙ is) ∙ ap (λ (f : Facts). together f (first_of lo n) block_words) (sym new_is)
@@ -307,7 +314,7 @@ span-further first word n m k leaving facts before new word_is k_is before_is ne
 -- one word more of a block is written as what is known of it
 pub settled-more : (lo first word : ℤ) (blocks : List Block) (facts new old : Facts) (index i : ℕ) (leaving : Leaving)
     (fact : Fact) (said : WordFact) → word ≡ first +ℤ pos i → word ≡ lo +ℤ pos index
-    → (block_at blocks (index / block_words)).left ≡ Some leaving → said ≡ facts_left lo blocks facts word
+    → (block_numbered blocks (index / block_words)).left ≡ Some leaving → said ≡ facts_left lo blocks facts word
     → fact ≡ by_itself said → new ≡ with_alone word fact facts → facts_left lo blocks facts ≡ old
     → ((j : ℕ) → j < i → facts (first +ℤ pos j) ≡ old (first +ℤ pos j))
     → (j : ℕ) → j < i + 1 → new (first +ℤ pos j) ≡ old (first +ℤ pos j)
@@ -318,7 +325,7 @@ settled-more lo first word blocks facts new old index i leaving fact said word_i
           let here : leaving_at blocks (word -ℤ lo) ≡ Some leaving =
           ap (leaving_at blocks) (let e : word -ℤ lo ≡ pos index = omega (arith, ints) in e) ∙ left in
           let alone : said ≡ Alone (left_of leaving (by_itself (facts word))) =
-          said_is ∙ ap (λ (o : Option Leaving). left_by o (facts word)) here in
+          said_is ∙ ap (λ (o : Option Leaving). fact_left_by o (facts word)) here in
           ap (λ (f : Facts). f (first +ℤ pos j)) new_is
           ∙ (ap (λ (b : Bool). cond b (Alone fact) (facts (first +ℤ pos j))) h.0
           ∙ (ap (λ (x : Fact). Alone x) (fact_is ∙ ap by_itself alone)
@@ -341,22 +348,22 @@ some-leaving (Some leaving) h = (leaving, refl)
 -- nothing is kept for blocks
 pub left-cleared : (lo : ℤ) (blocks : List Block) (facts : Facts) → blocks ≡ [] → facts_left lo blocks facts ≡ facts
 left-cleared lo blocks facts none =
-    left-none lo blocks facts (λ n. ap (λ (bs : List Block). (block_at bs n).left) none)
+    left-none lo blocks facts (λ n. ap (λ (bs : List Block). (block_numbered bs n).left) none)
 
 -- one more block that was not left
 pub none-more : (blocks : List Block) (i : ℕ) (e : Block) → i < length blocks
-    → ((n : ℕ) → n < i → (block_at blocks n).left ≡ None) → (get_or blocks i e).left ≡ None
-    → (n : ℕ) → n < i + 1 → (block_at blocks n).left ≡ None
+    → ((n : ℕ) → n < i → (block_numbered blocks n).left ≡ None) → (get_or blocks i e).left ≡ None
+    → (n : ℕ) → n < i + 1 → (block_numbered blocks n).left ≡ None
 none-more blocks i e low earlier here = λ n below. elim (cases_lt n i) [
   | inl less ↦ earlier n less
   | inr more ↦
-      ap (λ (j : ℕ). (block_at blocks j).left) (let same : n ≡ i = omega arith in same)
+      ap (λ (j : ℕ). (block_numbered blocks j).left) (let same : n ≡ i = omega arith in same)
       ∙ (ap (λ (b : Block). b.left) (get_or_default blocks i no_block e low) ∙ here)
 ]
 
 -- no block was left
-pub none-left : (blocks : List Block) → ((n : ℕ) → n < length blocks → (block_at blocks n).left ≡ None)
-    → (n : ℕ) → (block_at blocks n).left ≡ None
+pub none-left : (blocks : List Block) → ((n : ℕ) → n < length blocks → (block_numbered blocks n).left ≡ None)
+    → (n : ℕ) → (block_numbered blocks n).left ≡ None
 none-left blocks each n = elim (cases_lt n (length blocks)) [
   | inl low ↦ each n low
   | inr high ↦ ap (λ (b : Block). b.left) (get_or_past blocks n no_block high)
@@ -376,19 +383,21 @@ facts-cleared lo blocks row written none nothing =
 
 -- the sums stay of blocks of which one is set with the sum that it had
 pub sums-set : (blocks others : List Block) (number : ℕ) (block : Block) → IsSet blocks number block others
-    → block.sum ≡ (block_at blocks number).sum → (n : ℕ) → (block_at others n).sum ≡ (block_at blocks n).sum
+    → block.sum ≡ (block_numbered blocks number).sum → (n : ℕ)
+    → (block_numbered others n).sum ≡ (block_numbered blocks n).sum
 sums-set blocks others number block kept same = λ n. elim (cases_eq n number) [
-  | inl e ↦ ap (λ (b : Block). b.sum) (ap (block_at others) e ∙ set-here blocks others number block kept)
-      ∙ (same ∙ ap (λ (k : ℕ). (block_at blocks k).sum) (sym e))
+  | inl e ↦ ap (λ (b : Block). b.sum) (ap (block_numbered others) e ∙ set-here blocks others number block kept)
+      ∙ (same ∙ ap (λ (k : ℕ). (block_numbered blocks k).sum) (sym e))
   | inr d ↦ ap (λ (b : Block). b.sum) (set-other blocks others number n block kept d)
 ]
 
 -- so do the leavings of blocks
 pub lefts-set : (blocks others : List Block) (number : ℕ) (block : Block) → IsSet blocks number block others
-    → block.left ≡ (block_at blocks number).left → (n : ℕ) → (block_at others n).left ≡ (block_at blocks n).left
+    → block.left ≡ (block_numbered blocks number).left → (n : ℕ)
+    → (block_numbered others n).left ≡ (block_numbered blocks n).left
 lefts-set blocks others number block kept same = λ n. elim (cases_eq n number) [
-  | inl e ↦ ap (λ (b : Block). b.left) (ap (block_at others) e ∙ set-here blocks others number block kept)
-      ∙ (same ∙ ap (λ (k : ℕ). (block_at blocks k).left) (sym e))
+  | inl e ↦ ap (λ (b : Block). b.left) (ap (block_numbered others) e ∙ set-here blocks others number block kept)
+      ∙ (same ∙ ap (λ (k : ℕ). (block_numbered blocks k).left) (sym e))
   | inr d ↦ ap (λ (b : Block). b.left) (set-other blocks others number n block kept d)
 ]
 
@@ -396,7 +405,7 @@ lefts-set blocks others number block kept same = λ n. elim (cases_eq n number) 
 
 -- a block that was left as one fact
 pub left-alike : (lo : ℤ) (blocks : List Block) (facts : Facts) (number : ℕ) (said : Fact) (leaving : Leaving)
-    → (block_at blocks number).left ≡ Some (Become said)
+    → (block_numbered blocks number).left ≡ Some (Become said)
     → with_span (first_of lo number) block_words (Become (left_of leaving said)) (facts_left lo blocks facts)
     ≡ with_span (first_of lo number) block_words leaving (facts_left lo blocks facts)
 unfolding facts_left

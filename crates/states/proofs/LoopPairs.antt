@@ -12,8 +12,8 @@ use Rattle.states.specs.declared.blocks.Block.{Block}
 use Rattle.states.specs.declared.span.Leaving.{Leaving}
 use Rattle.states.specs.declared.known.WordFact.{WordFact}
 use Rattle.states.specs.declared.known.WordFact.TheVariants.{Alone}
-use Rattle.states.specs.State.{Facts, is_word, is_alone, said_of, entry_fact}
-use Rattle.states.specs.Blocks.{left_by, leaving_at, facts_left}
+use Rattle.states.specs.State.{Facts, is_same_number, is_alone, said_of, entry_fact}
+use Rattle.states.specs.Blocks.{fact_left_by, leaving_at, facts_left}
 use Rattle.states.specs.Lookup.{fact_of_index, facts_over}
 use Rattle.states.specs.Comparing.{loop_of}
 use Rattle.states.specs.Rows.{rise_from, AreApart}
@@ -38,7 +38,7 @@ alone-more row rest entry later is none so_far = λ k. elim (so_far k) [
       elim (lies entry k) [
         | before b ↦ inl (here ∙ rw (about-before entry k b) refl)
         | within l b ↦ inr (ap is_alone (here ∙ entry_fact-within k entry later l b)
-            ∙ plain-alone entry.fact (is_word entry.word k) none)
+            ∙ plain-alone entry.fact (is_same_number entry.word k) none)
         | behind l b ↦ inl (here ∙ rw (about-behind entry k b) refl)
       ]
   | inr h ↦ inr h
@@ -105,8 +105,8 @@ apart-more row other rest left entry later next so_far is apart same =
               | before b ↦ inl (here ∙ rw (about-before entry k b) refl)
               | within l b ↦ inr (ap (λ (f : WordFact). is_alone f || is_alone (entry_fact other k))
                   (here ∙ entry_fact-within k entry later l b)
-                  ∙ (ap (λ (f : WordFact). is_alone (said_of entry.fact (is_word entry.word k)) || is_alone f)
-                  (sym (so_far.same k (omega (arith, ints, low)))) ∙ apart k l b (is_word entry.word k)))
+                  ∙ (ap (λ (f : WordFact). is_alone (said_of entry.fact (is_same_number entry.word k)) || is_alone f)
+                  (sym (so_far.same k (omega (arith, ints, low)))) ∙ apart k l b (is_same_number entry.word k)))
               | behind l b ↦ inl (here ∙ rw (about-behind entry k b) refl)
             ]
         | inr h ↦ inr h
@@ -126,7 +126,7 @@ apart-done row other rest left so_far is = λ k. elim (so_far.each k) [
 -- what was left or written is no loop's
 changed-apart : (left : Option Leaving) (o : Option Fact) (said wanted : WordFact)
     → is_alone said || is_alone wanted ≡ true
-    → is_alone (left_by left (unwrap_or (option_map Alone o) said)) || is_alone wanted ≡ true
+    → is_alone (fact_left_by left (unwrap_or (option_map Alone o) said)) || is_alone wanted ≡ true
 changed-apart (Some leaving) o said wanted h = refl
 changed-apart None (Some f) said wanted h = refl
 changed-apart None None said wanted h = h

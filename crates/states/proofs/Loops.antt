@@ -24,7 +24,7 @@ use Rattle.states.specs.Rows.{LoopFits}
 use Rattle.states.specs.declared.frame.Frame.{Frame}
 use Rattle.states.specs.declared.blocks.Block.{Block}
 use Rattle.states.specs.declared.span.Leaving.{Leaving}
-use Rattle.states.specs.Blocks.{block_words, HaveRoom, no_block, block_at, left_by, leaving_at, facts_left}
+use Rattle.states.specs.Blocks.{block_words, HaveRoom, no_block, block_numbered, fact_left_by, leaving_at, facts_left}
 use Rattle.states.specs.Frames.{frame_facts, over_facts, is_loop_word, HasRoom}
 
 pub loop_fits_prop : (fact : WordFact) → IsProp (LoopFits fact)
@@ -68,7 +68,7 @@ some-words = omega arith
 
 -- a block that was left is one of the frame's
 pub left-below : (frame : Frame) (number : ℕ) (leaving : Leaving)
-    → (block_at frame.by_block.kept.items number).left ≡ Some leaving → number < frame.by_block.room
+    → (block_numbered frame.by_block.kept.items number).left ≡ Some leaving → number < frame.by_block.room
 left-below frame number leaving left = elim (cases_lt number (length frame.by_block.kept.items)) [
   | inl low ↦ let few = frame.by_block.few in omega (arith, few)
   | inr high ↦
@@ -122,7 +122,7 @@ room-known frame k fact is known =
     in_block (negsuc n) leaving at e = absurd (cc)
 
     on_left : (o : Option Leaving) → leaving_at frame.by_block.kept.items (k -ℤ frame.lo) ≡ o
-        → is_silent (left_by o (over_facts frame k)) ≡ false → HasRoom frame k
+        → is_silent (fact_left_by o (over_facts frame k)) ≡ false → HasRoom frame k
     on_left None e h = on_word (k -ℤ frame.lo) refl h
     on_left (Some leaving) e h = in_block (k -ℤ frame.lo) leaving refl e
 

@@ -39,7 +39,8 @@ use Rattle.states.specs.Frames.{with_alone, with_span}
 use Rattle.states.specs.Remembered.{never, compared_at, time_of, index_time, word_time, HasTimes, loop_stays}
 use Rattle.states.specs.Remembered.{loops_stay}
 use Rattle.states.specs.Remembered.{wants_no_loop, IsPaid, IsRecalled, ChangedSay, allows, index_written}
-use Rattle.states.specs.Remembered.{word_written, no_changes, changes_of, since_at, since_in, range_of, range_at}
+use Rattle.states.specs.Remembered.{word_written, no_changes, changes_of, since_at, since_in, leaving_since}
+use Rattle.states.specs.Remembered.{leaving_of_index}
 use Rattle.states.specs.Remembered.{range_in, became_until}
 use Rattle.states.specs.Remembering.{IsRemembered, AreFixed, AreRemembered, IsChanged, IsPlaced, IsLeftSo, IsRenewed}
 use Rattle.states.proofs.BlockSums.{number-of}
@@ -560,7 +561,7 @@ fixed-says said facts lo r became number is remembered k n at here wanted is_fir
 
 -- a block was left as before
 range-same : (began began' : ℕ) (c c' : Changes) → began ≡ began' → c.since ≡ c'.since → c.left ≡ c'.left
-    → range_of began c ≡ range_of began' c'
+    → leaving_since began c ≡ leaving_since began' c'
 range-same began began' c c' b since left =
     ap (λ (n : ℕ). if nat_lt c.since n then None else c.left) b
     ∙ (ap (λ (n : ℕ). if nat_lt n began' then None else c.left) since
@@ -583,9 +584,9 @@ placed-held lo word index number fact facts others old new placed is at time lat
     ]
 
     on : (k z : ℤ) (wanted : WordFact) → k -ℤ lo ≡ z → index_written new.words.items z ≤ time
-        → since_at new.by_block.items z ≤ time → allows (range_at new.began new.by_block.items z) wanted ≡ true
+        → since_at new.by_block.items z ≤ time → allows (leaving_of_index new.began new.by_block.items z) wanted ≡ true
         → (index_written old.words.items z ≤ time) × (since_at old.by_block.items z ≤ time)
-        × (allows (range_at old.began old.by_block.items z) wanted ≡ true)
+        × (allows (leaving_of_index old.began old.by_block.items z) wanted ≡ true)
         × (says (facts k) wanted ≡ true → says (others k) wanted ≡ true)
     on k (pos n) wanted here l m allowing = elim (cases_eq n index) [
       | inl e ↦
@@ -595,8 +596,8 @@ placed-held lo word index number fact facts others old new placed is at time lat
       | inr d ↦
           let kept = placed.words n d in
           let since = placed.since (n / block_words) in
-          let range : range_of new.began (changes_of new.by_block.items (n / block_words))
-          ≡ range_of old.began (changes_of old.by_block.items (n / block_words)) =
+          let range : leaving_since new.began (changes_of new.by_block.items (n / block_words))
+          ≡ leaving_since old.began (changes_of old.by_block.items (n / block_words)) =
           range-same new.began old.began (changes_of new.by_block.items (n / block_words))
           (changes_of old.by_block.items (n / block_words)) placed.changed.began since
           (placed.left (n / block_words)) in (
@@ -625,9 +626,9 @@ left-held lo number leaving facts others old new left is time later =
 
     within : (w : Bool) → is_widening leaving ≡ w → (k : ℤ) (n : ℕ) (wanted : WordFact) → k -ℤ lo ≡ pos n
         → n / block_words ≡ number → (changes_of new.by_block.items number).since ≤ time
-        → allows (range_of new.began (changes_of new.by_block.items number)) wanted ≡ true
+        → allows (leaving_since new.began (changes_of new.by_block.items number)) wanted ≡ true
         → ((changes_of old.by_block.items number).since ≤ time)
-        × (allows (range_of old.began (changes_of old.by_block.items number)) wanted ≡ true)
+        × (allows (leaving_since old.began (changes_of old.by_block.items number)) wanted ≡ true)
         × (says (facts k) wanted ≡ true → says (others k) wanted ≡ true)
     within false w k n wanted here e m allowing =
         let anew = left.anew w in
@@ -635,14 +636,14 @@ left-held lo number leaving facts others old new left is time later =
     within true w k n wanted here e m allowing =
         let since = left.since w in
         let both = widened-in lo number leaving facts others k n
-        (range_of old.began (changes_of old.by_block.items number)) wanted is w here e
+        (leaving_since old.began (changes_of old.by_block.items number)) wanted is w here e
         (ap (λ (o : Option Leaving). allows o wanted) (sym (left.range w)) ∙ allowing) in
         (omega (arith, since, m), both.0, both.1)
 
     on : (k z : ℤ) (wanted : WordFact) → k -ℤ lo ≡ z → index_written new.words.items z ≤ time
-        → since_at new.by_block.items z ≤ time → allows (range_at new.began new.by_block.items z) wanted ≡ true
+        → since_at new.by_block.items z ≤ time → allows (leaving_of_index new.began new.by_block.items z) wanted ≡ true
         → (index_written old.words.items z ≤ time) × (since_at old.by_block.items z ≤ time)
-        × (allows (range_at old.began old.by_block.items z) wanted ≡ true)
+        × (allows (leaving_of_index old.began old.by_block.items z) wanted ≡ true)
         × (says (facts k) wanted ≡ true → says (others k) wanted ≡ true)
     on k (pos n) wanted here l m allowing = elim (cases_eq (n / block_words) number) [
       | inl e ↦
@@ -651,11 +652,11 @@ left-held lo number leaving facts others old new left is time later =
           let since = ap (λ (c : Changes). c.since) new_is in
           let before = ap (λ (c : Changes). c.since) old_is in
           let inner = within (is_widening leaving) refl k n wanted here e (omega (arith, since, m))
-          (ap (λ (c : Changes). allows (range_of new.began c) wanted) (sym new_is) ∙ allowing) in
+          (ap (λ (c : Changes). allows (leaving_since new.began c) wanted) (sym new_is) ∙ allowing) in
           let m_old = inner.0 in (
             subst (λ (ws : List ℕ). time_of ws n ≤ time) left.words l,
             omega (arith, before, m_old),
-            ap (λ (c : Changes). allows (range_of old.began c) wanted) old_is ∙ inner.1,
+            ap (λ (c : Changes). allows (leaving_since old.began c) wanted) old_is ∙ inner.1,
             inner.2,
           )
       | inr d ↦
@@ -663,8 +664,8 @@ left-held lo number leaving facts others old new left is time later =
           let since = ap (λ (c : Changes). c.since) same in (
             subst (λ (ws : List ℕ). time_of ws n ≤ time) left.words l,
             omega (arith, since, m),
-            sym (ap (λ (o : Option Leaving). allows o wanted) (ap (range_of new.began) same
-                ∙ ap (λ (b : ℕ). range_of b (changes_of old.by_block.items (n / block_words))) left.changed.began))
+            sym (ap (λ (o : Option Leaving). allows o wanted) (ap (leaving_since new.began) same
+                ∙ ap (λ (b : ℕ). leaving_since b (changes_of old.by_block.items (n / block_words))) left.changed.began))
                 ∙ allowing,
             λ h. ap (λ (f : WordFact). says f wanted) (far.same k (away lo k n number here d)) ∙ h,
           )
@@ -690,7 +691,7 @@ renewed-known lo number old new facts entries c renewed before = record {
 }
   where
     on : (k z : ℤ) → k -ℤ lo ≡ z → index_written new.words.items z ≤ c.time → since_at new.by_block.items z ≤ c.time
-        → allows (range_at new.began new.by_block.items z) (entry_fact entries k) ≡ true
+        → allows (leaving_of_index new.began new.by_block.items z) (entry_fact entries k) ≡ true
         → says (facts k) (entry_fact entries k) ≡ true
     on k (pos n) here l m allowing = elim (cases_eq (n / block_words) number) [
       | inl e ↦
@@ -707,9 +708,9 @@ renewed-known lo number old new facts entries c renewed before = record {
           let written = ap (index_written old.words.items) here in
           let was = ap (since_at old.by_block.items) here in
           before.held k (omega (arith, words, written, l)) (omega (arith, since, was, m))
-          (ap (λ (z : ℤ). allows (range_at old.began old.by_block.items z) (entry_fact entries k)) here
-          ∙ (sym (ap (λ (o : Option Leaving). allows o (entry_fact entries k)) (ap (range_of new.began) same
-          ∙ ap (λ (b : ℕ). range_of b (changes_of old.by_block.items (n / block_words))) renewed.began))
+          (ap (λ (z : ℤ). allows (leaving_of_index old.began old.by_block.items z) (entry_fact entries k)) here
+          ∙ (sym (ap (λ (o : Option Leaving). allows o (entry_fact entries k)) (ap (leaving_since new.began) same
+          ∙ ap (λ (b : ℕ). leaving_since b (changes_of old.by_block.items (n / block_words))) renewed.began))
           ∙ allowing))
     ]
     on k (negsuc n) here l m allowing =
@@ -950,7 +951,7 @@ remembered-first lo end r facts entries end_is within none = record {
 pub widened-says : (lo : ℤ) (r : Remembered) (facts : Facts) (entries : List Entry) (c : Compared) (number : ℕ)
     (low high : ℤ) → IsRemembered lo r facts entries c → (changes_of r.by_block.items number).since ≤ c.time
     → (changes_of r.by_block.items number).written ≤ c.time
-    → range_of r.began (changes_of r.by_block.items number) ≡ Some (Widen low high)
+    → leaving_since r.began (changes_of r.by_block.items number) ≡ Some (Widen low high)
     → BlockImplied (entry_fact entries) (first_of lo number) (Number low high)
     → BlockSaysAll (first_of lo number) facts (entry_fact entries) block_words
 widened-says lo r facts entries c number low high known since written range all = λ j l.
@@ -965,8 +966,8 @@ widened-says lo r facts entries c number low high known since written range all 
     let kept = ap (λ (i : ℕ). (changes_of r.by_block.items i).since) same in
     let here = all k (omega (arith, ints)) (omega (arith, ints, l)) in
     let left : range_in r.began lo r.by_block.items k ≡ Some (Widen low high) =
-    ap (range_at r.began r.by_block.items) index
-    ∙ (ap (λ (i : ℕ). range_of r.began (changes_of r.by_block.items i)) same ∙ range) in
+    ap (leaving_of_index r.began r.by_block.items) index
+    ∙ (ap (λ (i : ℕ). leaving_since r.began (changes_of r.by_block.items i)) same ∙ range) in
     known.held k (omega (arith, word, before, block, written)) (omega (arith, time, kept, since))
     (ap (λ (o : Option Leaving). allows o (entry_fact entries k)) left
     ∙ (ap (allows (Some (Widen low high))) here.is ∙ here.implied))

@@ -8,7 +8,7 @@ use Rattle.small_laws.proofs.Comparisons.{lt-int_lt, le-int_le, lt-int_le, le-in
 use Rattle.module_format.specs.declared.fact.Fact.TheVariants.{Unknown}
 use Rattle.module_format.specs.Rows.{Entry}
 use Rattle.states.specs.declared.known.WordFact.TheVariants.{Alone}
-use Rattle.states.specs.State.{is_word, is_about, said_of, entry_fact}
+use Rattle.states.specs.State.{is_same_number, is_about, said_of, entry_fact}
 use Rattle.module_format.specs.Order.{least_word}
 use Rattle.module_format.specs.Facts.{end_of}
 use Rattle.states.specs.Rows.{rise_from, AreApart}
@@ -114,7 +114,7 @@ entry_fact-take low k (entry ∷ entries) zero d r l h =
     (and_from _ _ (le-int_le entry.word entry.word (omega (arith, ints))) (rise-parts low entry entries r).1) h)
 entry_fact-take low k (entry ∷ entries) (suc n) d r l h =
     let p = rise-parts low entry entries r in
-    ap (λ f. cond (is_about entry k) (said_of entry.fact (is_word entry.word k)) f)
+    ap (λ f. cond (is_about entry k) (said_of entry.fact (is_same_number entry.word k)) f)
     (entry_fact-take (end_of entry) k entries n d p.1 (omega arith) h)
 
 -- ---- a row from a word on
@@ -130,7 +130,7 @@ entry_fact-before low k entry entries r h =
     (and_from _ _ (le-int_le entry.word entry.word (omega (arith, ints))) (rise-parts low entry entries r).1) h
 
 pub entry_fact-within : (k : ℤ) (entry : Entry) (entries : List Entry) → entry.word ≤ℤ k → k <ℤ end_of entry
-    → entry_fact (entry ∷ entries) k ≡ said_of entry.fact (is_word entry.word k)
+    → entry_fact (entry ∷ entries) k ≡ said_of entry.fact (is_same_number entry.word k)
 entry_fact-within k entry entries l h = rw (about-within entry k l h) refl
 
 -- ---- a binary search
@@ -172,7 +172,7 @@ segment-before row entry later start k apart is start_is h =
 
 pub segment-within : (row : List Entry) (entry : Entry) (later : List Entry) (start end k : ℤ) → row ≡ entry ∷ later
     → start ≡ entry.word → end ≤ℤ end_of entry → start ≤ℤ k → k <ℤ end
-    → entry_fact row k ≡ said_of entry.fact (is_word entry.word k)
+    → entry_fact row k ≡ said_of entry.fact (is_same_number entry.word k)
 segment-within row entry later start end k is start_is end_is l h =
     ap (λ es. entry_fact es k) is ∙ entry_fact-within k entry later (subst (λ (z : ℤ). z ≤ℤ k) start_is l)
     (omega (arith, ints))

@@ -8,7 +8,7 @@ use Rattle.module_format.specs.Facts.{end_of}
 use Rattle.module_format.specs.declared.fact.Fact.TheVariants.{Unknown}
 use Rattle.states.specs.declared.known.WordFact.{WordFact}
 use Rattle.states.specs.declared.known.WordFact.TheVariants.{Alone}
-use Rattle.states.specs.State.{Facts, is_word, said_of, entry_fact}
+use Rattle.states.specs.State.{Facts, is_same_number, said_of, entry_fact}
 use Rattle.states.specs.Below.{says}
 use Rattle.states.specs.Blocks.{block_words, first_of}
 use Rattle.states.specs.Comparing.{BlockSaysAll}
@@ -52,8 +52,8 @@ SaidSoFar facts row rest first end =
 abbrev pub EntrySays : Facts → List Entry → Entry → ℤ → ℤ → Type 0
 EntrySays facts row entry first end =
     (k : ℤ) → first ≤ℤ k → k <ℤ end → entry.word ≤ℤ k → k <ℤ end_of entry
-    → entry_fact row k ≡ said_of entry.fact (is_word entry.word k)
-    → says (facts k) (said_of entry.fact (is_word entry.word k)) ≡ true
+    → entry_fact row k ≡ said_of entry.fact (is_same_number entry.word k)
+    → says (facts k) (said_of entry.fact (is_same_number entry.word k)) ≡ true
 
 -- an entry more
 pub said-more : (facts : Facts) (row rest : List Entry) (entry : Entry) (later : List Entry) (first end : ℤ)

@@ -19,7 +19,7 @@ use Rattle.states.specs.declared.known.WordFact.{WordFact}
 use Rattle.states.specs.declared.known.WordFact.TheVariants.{Alone, Index, Count}
 use Rattle.states.specs.declared.span.Leaving.{Leaving}
 use Rattle.states.specs.declared.span.Together.{Together}
-use Rattle.states.specs.State.{State, Facts, by_itself, is_word, is_silent, is_parted, changed, forgets}
+use Rattle.states.specs.State.{State, Facts, by_itself, is_same_number, is_silent, is_parted, changed, forgets}
 use Rattle.states.specs.declared.frame.Frame.{Frame}
 use Rattle.states.specs.declared.state.State.{State as InMemory}
 use Rattle.states.specs.Views.{CanWriteSpan}
@@ -56,7 +56,7 @@ not-above first count k high = and_right _ _ (le-int_lt k (first +ℤ pos count)
 -- ---- one word after the other
 
 on-word : (first : ℤ) (n : ℕ) (leaving : Leaving) (facts : Facts) (j : ℤ)
-    → cond (is_word j (first +ℤ pos n))
+    → cond (is_same_number j (first +ℤ pos n))
     (Alone (left_of leaving (by_itself (with_span first n leaving facts (first +ℤ pos n)))))
     (with_span first n leaving facts j)
     ≡ with_span first (n + 1) leaving facts j
@@ -124,7 +124,7 @@ part-index false behind loop = refl
 
 -- a word before the span is next to it exactly if the word after it is in the span
 next-before : (first : ℤ) (count : ℕ) (j : ℤ) → 0 < count → is_in_span first count j ≡ false
-    → is_word j (first -ℤ pos 1) ≡ is_in_span first count (j +ℤ pos 1)
+    → is_same_number j (first -ℤ pos 1) ≡ is_in_span first count (j +ℤ pos 1)
 next-before first count j some out = elim (lies-by first count (j +ℤ pos 1)) [
   | below l e ↦ is_word-below j (first -ℤ pos 1) (omega (arith, ints)) ∙ sym e
   | within l h e ↦ by_lt_z j first
@@ -134,7 +134,7 @@ next-before first count j some out = elim (lies-by first count (j +ℤ pos 1)) [
 ]
 
 next-behind : (first : ℤ) (count : ℕ) (j : ℤ) → 0 < count → is_in_span first count j ≡ false
-    → is_word j (first +ℤ pos count) ≡ is_in_span first count (j -ℤ pos 1)
+    → is_same_number j (first +ℤ pos count) ≡ is_in_span first count (j -ℤ pos 1)
 next-behind first count j some out = elim (lies-by first count (j -ℤ pos 1)) [
   | below l e ↦ is_word-below j (first +ℤ pos count) (omega (arith, ints)) ∙ sym e
   | within l h e ↦ by_lt_z j (first +ℤ pos count)
@@ -144,11 +144,12 @@ next-behind first count j some out = elim (lies-by first count (j -ℤ pos 1)) [
 ]
 
 beside : (first : ℤ) (count : ℕ) (j : ℤ) (fact : WordFact) → 0 < count → is_in_span first count j ≡ false
-    → parted_if (is_word j (first +ℤ pos count)) words.Count (parted_if (is_word j (first -ℤ pos 1)) words.Index fact)
+    → parted_if (is_same_number j (first +ℤ pos count)) words.Count
+    (parted_if (is_same_number j (first -ℤ pos 1)) words.Index fact)
     ≡ cond (is_parted (is_in_span first count) j fact) (Alone (by_itself fact)) fact
 beside first count j (Alone fact) some out = refl
 beside first count j (Index loop) some out =
-    part-index (is_word j (first -ℤ pos 1)) (is_word j (first +ℤ pos count)) loop
+    part-index (is_same_number j (first -ℤ pos 1)) (is_same_number j (first +ℤ pos count)) loop
     ∙ ap (λ b. cond b (Alone (by_itself (Index loop))) (Index loop)) (next-before first count j some out)
 beside first count j (Count loop) some out =
     ap (λ b. cond b (Alone (by_itself (Count loop))) (Count loop)) (next-behind first count j some out)

@@ -19,7 +19,7 @@ use Rattle.states.specs.declared.known.WordFact.{WordFact}
 use Rattle.states.specs.declared.known.WordFact.TheVariants.{Alone, Index, Count}
 use Rattle.states.specs.declared.known.Mode.{Mode}
 use Rattle.states.specs.declared.known.Mode.TheVariants.{Plain, Enabling, Disabling, Starting}
-use Rattle.states.specs.State.{State, Facts, by_itself, is_alone, is_word, said_of}
+use Rattle.states.specs.State.{State, Facts, by_itself, is_alone, is_same_number, said_of}
 
 -- ---- facts
 
@@ -44,21 +44,22 @@ implies ReturnAddress ReturnAddress = true
 implies _ _ = false
 
 -- it is a number that is exactly this one
-abbrev pub is_constant : Fact → ℤ → Bool
-is_constant (Number lo hi) number = is_word lo number && is_word hi number
-is_constant _ number = false
+abbrev pub is_exactly : Fact → ℤ → Bool
+is_exactly (Number lo hi) number = is_same_number lo number && is_same_number hi number
+is_exactly _ number = false
 
 -- two loops are the same
 abbrev pub is_same_loop : CountedLoop → CountedLoop → Bool
-is_same_loop loop other = is_word loop.base other.base && (loop.count == other.count) && (loop.weight == other.weight)
+is_same_loop loop other = is_same_number loop.base other.base && (loop.count == other.count)
+    && (loop.weight == other.weight)
 
 -- What is known of a word says at least what is wanted. A number that is the base implies the index, and one that is
 -- the
 -- number of turns the count: so a loop is entered.
 abbrev pub says : WordFact → WordFact → Bool
 says fact (Alone wanted) = implies (by_itself fact) wanted
-says (Alone fact) (Index loop) = is_constant fact loop.base
-says (Alone fact) (Count loop) = is_constant fact (pos loop.count)
+says (Alone fact) (Index loop) = is_exactly fact loop.base
+says (Alone fact) (Count loop) = is_exactly fact (pos loop.count)
 says (Index loop) (Index other) = is_same_loop loop other
 says (Count loop) (Count other) = is_same_loop loop other
 says _ _ = false
@@ -90,7 +91,7 @@ is_whole facts entry = elim entry.fact [
 
 -- the word has this number, which is no loop's
 abbrev pub holds_constant : WordFact → ℤ → Bool
-holds_constant (Alone fact) number = is_constant fact number
+holds_constant (Alone fact) number = is_exactly fact number
 holds_constant _ number = false
 
 -- what it costs to enter a loop: its weight for each turn but the first
@@ -119,7 +120,7 @@ cost v t = t.number + sum_by (price v.frame) t.entries
 -- it is where the label is, and knows at least as much
 abbrev pub agrees : View → Label → Bool
 agrees v t =
-    (v.context == t.context) && is_word v.depth t.depth && v.is_settled
+    (v.context == t.context) && is_same_number v.depth t.depth && v.is_settled
     && implies v.stack.a t.stack.a && implies v.stack.b t.stack.b && implies v.stack.c t.stack.c
     && entries_hold v.frame t.entries && list_all (is_whole v.frame) t.entries
 

@@ -13,7 +13,7 @@ use Rattle.states.specs.declared.known.WordFact.TheVariants.{Alone}
 use Rattle.module_format.specs.Rows.{Fact}
 use Rattle.module_format.specs.declared.fact.Fact.TheVariants.{Number}
 use Rattle.module_format.specs.Order.{least_word, greatest_word}
-use Rattle.states.specs.State.{Facts, by_itself, is_word}
+use Rattle.states.specs.State.{Facts, by_itself, is_same_number}
 use Rattle.states.specs.Spans.{of_none, with_one, together, widened, left_of}
 
 -- how many words a block has
@@ -25,8 +25,8 @@ abbrev pub no_block : Block
 no_block = record { sum = None; left = None }
 
 -- what is kept for the block of this number
-abbrev pub block_at : List Block → ℕ → Block
-block_at blocks number = get_or blocks number no_block
+abbrev pub block_numbered : List Block → ℕ → Block
+block_numbered blocks number = get_or blocks number no_block
 
 -- the first word of a block, where the frame begins at word `lo`
 abbrev pub first_of : ℤ → ℕ → ℤ
@@ -43,7 +43,7 @@ HaveRoom-prop words blocks = hlevel props
 -- what is kept of a block as its sum is what is known of its words together
 unfoldable pub AreSummed : Facts → ℤ → List Block → Type 0
 AreSummed facts lo blocks =
-    (number : ℕ) (sum : Together) → (block_at blocks number).sum ≡ Some sum
+    (number : ℕ) (sum : Together) → (block_numbered blocks number).sum ≡ Some sum
     → sum ≡ together facts (first_of lo number) block_words
 
 pub AreSummed-prop : (facts : Facts) (lo : ℤ) (blocks : List Block) → IsProp (AreSummed facts lo blocks)
@@ -53,9 +53,9 @@ AreSummed-prop facts lo blocks = hlevel props
 -- ---- blocks whose words are left in some way
 
 -- what is known of a word once it was left so, if it was
-abbrev pub left_by : Option Leaving → WordFact → WordFact
-left_by None said = said
-left_by (Some leaving) said = Alone (left_of leaving (by_itself said))
+abbrev pub fact_left_by : Option Leaving → WordFact → WordFact
+fact_left_by None said = said
+fact_left_by (Some leaving) said = Alone (left_of leaving (by_itself said))
 
 -- two ways of leaving, the second after the first, if there was a first
 abbrev pub left_after : Option Leaving → Leaving → Leaving
@@ -70,7 +70,7 @@ is_number _ = false
 
 -- no number may be among words of which this is known together: its bounds are those of none
 abbrev pub is_unbounded : Together → Bool
-is_unbounded t = is_word t.lo greatest_word && is_word t.hi least_word
+is_unbounded t = is_same_number t.lo greatest_word && is_same_number t.hi least_word
 
 -- what is known together of a block's words once they are left so, where that follows from what was
 abbrev pub sum_left : Option Together → Leaving → Option Together
@@ -82,7 +82,7 @@ sum_left (Some t) (Widen lo hi) =
 
 -- how the word of an index was left, if it was
 abbrev pub leaving_at : List Block → ℤ → Option Leaving
-leaving_at blocks (pos index) = (block_at blocks (index / block_words)).left
+leaving_at blocks (pos index) = (block_numbered blocks (index / block_words)).left
 leaving_at blocks (negsuc n) = None
 
 -- it only widens what was known
@@ -92,4 +92,4 @@ is_widening (Widen lo hi) = true
 
 -- what is known once the words of blocks were left
 unfoldable pub facts_left : ℤ → List Block → Facts → Facts
-facts_left lo blocks facts = λ k. left_by (leaving_at blocks (k -ℤ lo)) (facts k)
+facts_left lo blocks facts = λ k. fact_left_by (leaving_at blocks (k -ℤ lo)) (facts k)

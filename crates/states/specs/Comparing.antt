@@ -13,8 +13,8 @@ use Rattle.states.specs.declared.known.Loop.{Loop as CountedLoop}
 use Rattle.states.specs.declared.known.WordFact.{WordFact}
 use Rattle.states.specs.declared.known.WordFact.TheVariants.{Index, Count}
 use Rattle.module_format.specs.Facts.{end_of}
-use Rattle.states.specs.State.{Facts, is_alone, is_word, said_of, entry_fact}
-use Rattle.states.specs.Below.{View, implies, says, is_constant, are_alike, is_whole, holds_constant, price}
+use Rattle.states.specs.State.{Facts, is_alone, is_same_number, said_of, entry_fact}
+use Rattle.states.specs.Below.{View, implies, says, is_exactly, are_alike, is_whole, holds_constant, price}
 use Rattle.states.specs.Blocks.{leaving_at}
 use Rattle.states.specs.Lookup.{fact_of_index}
 use Rattle.states.specs.Rows.{rise_from, AreApart}
@@ -93,7 +93,7 @@ pub record IsDue (wanted : CountedLoop) (first second : WordFact) (paid : ℕ) :
 abbrev pub EntryHolds : Facts → Facts → Entry → Type 0
 EntryHolds said facts entry =
     (k : ℤ) → entry.word ≤ℤ k → k <ℤ end_of entry
-    → OneSays (said k) (facts k) (said_of entry.fact (is_word entry.word k))
+    → OneSays (said k) (facts k) (said_of entry.fact (is_same_number entry.word k))
 
 -- an entry holds by one of the two, its loop, if it is of one, is not half known, and this is paid for it
 pub record IsEntered (said facts : Facts) (entry : Entry) (paid : ℕ) : Type 0 where
@@ -133,7 +133,7 @@ pub record IsPair (said facts : Facts) (entry wanted : Entry) : Type 0 where
 
 -- an entry is about this word alone, and says that it is this number
 abbrev pub IsConstantAt : Entry → ℤ → ℤ → Type 0
-IsConstantAt entry word number = (entry.word ≡ word) × (entry.span ≡ 1) × (is_constant entry.fact number ≡ true)
+IsConstantAt entry word number = (entry.word ≡ word) × (entry.span ≡ 1) × (is_exactly entry.fact number ≡ true)
 
 -- an entry wants a loop that is entered: two entries say its first constants of its words, which are what the row says
 pub record IsInto (said facts : Facts) (first second wanted : Entry) (paid next : ℕ) : Type 0 where
@@ -166,5 +166,5 @@ WalksOn said facts base rest next_base next_rest =
 -- it is where the label is, and knows at least as much of the registers
 abbrev pub stands : View → Label → Bool
 stands v t =
-    (v.context == t.context) && is_word v.depth t.depth && v.is_settled
+    (v.context == t.context) && is_same_number v.depth t.depth && v.is_settled
     && implies v.stack.a t.stack.a && implies v.stack.b t.stack.b && implies v.stack.c t.stack.c

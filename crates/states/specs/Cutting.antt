@@ -33,13 +33,13 @@ AreLoopsApart facts wanted = (k : ℤ) → is_alone (facts k) || is_alone (wante
 -- ---- what is kept
 
 -- words are kept that an interval has, or that none has
-abbrev pub keeps : Side → Bool → Bool
-keeps Inside is_among = is_among
-keeps Outside is_among = not is_among
+abbrev pub is_on_side : Side → Bool → Bool
+is_on_side Inside is_among = is_among
+is_on_side Outside is_among = not is_among
 
 -- what is said of the words that are kept, and nothing of the others
 abbrev pub kept_facts : Side → List Interval → Facts → Facts
-kept_facts side intervals facts = λ k. if keeps side (is_among intervals k) then facts k else Alone Unknown
+kept_facts side intervals facts = λ k. if is_on_side side (is_among intervals k) then facts k else Alone Unknown
 
 -- The pieces say what the entries say of the words that are kept, and no interval has a word of a loop. If the words
 -- that no interval has are kept, the pieces have all loops.
@@ -47,9 +47,9 @@ pub record AreCut (side : Side) (intervals : List Interval) (entries pieces : Li
   pub apart : AreApart pieces
   pub kept : (k : ℤ) → entry_fact pieces k ≡ kept_facts side intervals (entry_fact entries) k
   pub alone : (k : ℤ) → is_among intervals k ≡ true → is_alone (entry_fact entries k) ≡ true
-  pub whole : (facts : Facts) → keeps side false ≡ true
+  pub whole : (facts : Facts) → is_on_side side false ≡ true
       → list_all (is_whole facts) entries ≡ list_all (is_whole facts) pieces
-  pub due : (facts : Facts) → keeps side false ≡ true
+  pub due : (facts : Facts) → is_on_side side false ≡ true
       → sum_by (price facts) entries ≡ sum_by (price facts) pieces
 
 -- ---- one pass over entries and intervals
@@ -68,9 +68,9 @@ pub record IsCutTo (side : Side) (intervals : List Interval) (row rest pieces : 
   pub kept : (k : ℤ) → k <ℤ word → entry_fact pieces k ≡ kept_facts side intervals (entry_fact row) k
   pub same : (k : ℤ) → word ≤ℤ k → entry_fact row k ≡ entry_fact rest k
   pub alone : (k : ℤ) → k <ℤ word → is_among intervals k ≡ true → is_alone (entry_fact row k) ≡ true
-  pub whole : (facts : Facts) → keeps side false ≡ true
+  pub whole : (facts : Facts) → is_on_side side false ≡ true
       → list_all (is_whole facts) row ≡ (list_all (is_whole facts) pieces && list_all (is_whole facts) rest)
-  pub due : (facts : Facts) → keeps side false ≡ true
+  pub due : (facts : Facts) → is_on_side side false ≡ true
       → sum_by (price facts) row ≡ sum_by (price facts) pieces + sum_by (price facts) rest
 
 -- a row is cut up to its entries that are left

@@ -16,7 +16,7 @@ use Rattle.states.specs.declared.remembered.Compared.{Compared}
 use Rattle.states.specs.Below.{says}
 use Rattle.states.specs.Remembered.{word_written, range_says, became_until}
 use Rattle.states.specs.Remembering.{IsRemembered}
-use Rattle.states.specs.State.{Facts, is_word, by_itself, said_of, entry_fact}
+use Rattle.states.specs.State.{Facts, is_same_number, by_itself, said_of, entry_fact}
 use Rattle.states.specs.declared.span.Leaving.{Leaving}
 use Rattle.states.specs.Spans.{is_in_span, left_of}
 
@@ -56,7 +56,7 @@ IsAsking frame number c asking =
 -- what an entry wants of a word is known, or the word need not be asked
 abbrev pub WordIsSaid : Frame → Asking → Entry → ℤ → Type 0
 WordIsSaid frame asking entry k =
-    (says (frame_facts frame k) (said_of entry.fact (is_word entry.word k)) ≡ true)
+    (says (frame_facts frame k) (said_of entry.fact (is_same_number entry.word k)) ≡ true)
     ⊎ (IsUnasked frame asking k entry.fact ⊎ IsFixed frame asking k entry.fact)
 
 -- so it is of the words from the first up to the end, which is not included
@@ -65,7 +65,7 @@ EntryIsSaid frame asking entry first end = (k : ℤ) → first ≤ℤ k → k <�
 
 -- word k has this fact from now on, and the others what they had
 abbrev pub with_alone : ℤ → Fact → Facts → Facts
-with_alone k fact facts = λ j. if is_word j k then Alone fact else facts j
+with_alone k fact facts = λ j. if is_same_number j k then Alone fact else facts j
 
 -- the fact is that of this word of a loop
 abbrev pub is_loop_word : LoopWord → WordFact → Bool
@@ -76,7 +76,7 @@ is_loop_word _ _ = false
 -- if word k is this word of a loop, it is what it says by itself from now on
 abbrev pub parted : LoopWord → ℤ → Facts → Facts
 parted which k facts =
-    λ j. if is_loop_word which (facts j) && is_word j k then Alone (by_itself (facts j)) else facts j
+    λ j. if is_loop_word which (facts j) && is_same_number j k then Alone (by_itself (facts j)) else facts j
 
 -- each word of a span is left so, and the others what they are
 abbrev pub with_span : ℤ → ℕ → Leaving → Facts → Facts

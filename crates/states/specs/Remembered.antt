@@ -70,17 +70,17 @@ abbrev pub since_in : ℤ → List Changes → ℤ → ℕ
 since_in lo blocks k = since_at blocks (k -ℤ lo)
 
 -- how all words of a block were left since then: in no way, if nothing is kept since the state began as a label's
-abbrev pub range_of : ℕ → Changes → Option Leaving
-range_of began changes = if nat_lt changes.since began then None else changes.left
+abbrev pub leaving_since : ℕ → Changes → Option Leaving
+leaving_since began changes = if nat_lt changes.since began then None else changes.left
 
 -- so of the block of an index
-abbrev pub range_at : ℕ → List Changes → ℤ → Option Leaving
-range_at began blocks (pos index) = range_of began (changes_of blocks (index / block_words))
-range_at began blocks (negsuc n) = None
+abbrev pub leaving_of_index : ℕ → List Changes → ℤ → Option Leaving
+leaving_of_index began blocks (pos index) = leaving_since began (changes_of blocks (index / block_words))
+leaving_of_index began blocks (negsuc n) = None
 
 -- and of a word
 abbrev pub range_in : ℕ → ℤ → List Changes → ℤ → Option Leaving
-range_in began lo blocks k = range_at began blocks (k -ℤ lo)
+range_in began lo blocks k = leaving_of_index began blocks (k -ℤ lo)
 
 -- there is a time for each block of this number of words, also for one that is not whole
 unfoldable pub HasTimes : ℕ → ℕ → Type 0

@@ -13,7 +13,7 @@ use Rattle.states.specs.declared.known.WordFact.TheVariants.{Alone}
 use Rattle.states.specs.Blocks.{block_words, left_after, is_widening}
 use Rattle.states.specs.Spans.{left_of}
 use Rattle.states.specs.Remembered.{never, compared_at, time_of, word_time, word_written, changes_of, since_in}
-use Rattle.states.specs.Remembered.{range_of, range_in, loops_stay, wants_no_loop, allows}
+use Rattle.states.specs.Remembered.{leaving_since, range_in, loops_stay, wants_no_loop, allows}
 
 -- ---- what is remembered, where word `lo` has index 0
 
@@ -84,8 +84,8 @@ pub record IsLeftSo (number : ℕ) (leaving : Leaving) (old new : Remembered) : 
   pub others : (n : ℕ) → n ≢ number → changes_of new.by_block.items n ≡ changes_of old.by_block.items n
   pub since : is_widening leaving ≡ true
       → (changes_of old.by_block.items number).since ≤ (changes_of new.by_block.items number).since
-  pub range : is_widening leaving ≡ true → range_of new.began (changes_of new.by_block.items number)
-      ≡ Some (left_after (range_of old.began (changes_of old.by_block.items number)) leaving)
+  pub range : is_widening leaving ≡ true → leaving_since new.began (changes_of new.by_block.items number)
+      ≡ Some (left_after (leaving_since old.began (changes_of old.by_block.items number)) leaving)
   pub fact : (changes_of new.by_block.items number).became.fact
       ≡ left_of leaving (changes_of old.by_block.items number).became.fact
   pub time : is_widening leaving ≡ true

@@ -77,12 +77,12 @@ abbrev pub no_facts : Facts
 no_facts = λ _. Alone Unknown
 
 -- the same number
-abbrev pub is_word : ℤ → ℤ → Bool
-is_word j k = int_le j k && int_le k j
+abbrev pub is_same_number : ℤ → ℤ → Bool
+is_same_number j k = int_le j k && int_le k j
 
 -- this word
 abbrev pub is_at : ℤ → ℤ → Bool
-is_at k = λ j. is_word j k
+is_at k = λ j. is_same_number j k
 
 -- ---- changes of what is known of words
 
@@ -128,7 +128,7 @@ said_of fact is_first = Alone fact
 abbrev pub entry_fact : List Entry → Facts
 entry_fact [] k = Alone Unknown
 entry_fact (entry ∷ entries) k =
-    if is_about entry k then said_of entry.fact (is_word entry.word k) else entry_fact entries k
+    if is_about entry k then said_of entry.fact (is_same_number entry.word k) else entry_fact entries k
 
 -- ---- sources
 
@@ -148,8 +148,8 @@ written k fact s = record s { stack = mapped (forgets (is_at k)) s.stack; frame 
 -- ---- states
 
 -- the state in a context at a depth, with this known of the frame, nothing of the registers, and this number to pay
-abbrev pub begun : ℕ → ℤ → ℕ → Facts → State
-begun context depth number frame = record {
+abbrev pub fresh_state : ℕ → ℤ → ℕ → Facts → State
+fresh_state context depth number frame = record {
   context = context;
   depth = depth;
   stack = of_empty unknown;
@@ -161,11 +161,11 @@ begun context depth number frame = record {
 
 -- the state of the root when the module begins
 abbrev pub root_state : Contents → State
-root_state m = begun 0 (pos 0) m.budget no_facts
+root_state m = fresh_state 0 (pos 0) m.budget no_facts
 
 -- the state that a label row gives
 abbrev pub label_state : Label → State
-label_state t = record (begun t.context t.depth t.number (entry_fact t.entries)) { stack = mapped known t.stack }
+label_state t = record (fresh_state t.context t.depth t.number (entry_fact t.entries)) { stack = mapped known t.stack }
 
 -- ---- procedures
 
@@ -179,13 +179,13 @@ parameter_fact number kind = Pointer (regions.Parameter number) (pos 0) (pos 0) 
 abbrev pub parameter_facts : ℕ → List Parameter → Facts
 parameter_facts number [] k = Alone Unknown
 parameter_facts number (parameter ∷ parameters) k =
-    if is_word k (pos parameter.word) then Alone (parameter_fact number parameter.kind)
+    if is_same_number k (pos parameter.word) then Alone (parameter_fact number parameter.kind)
     else parameter_facts (number + 1) parameters k
 
 -- word 0 is the return address, and the others are those of parameters
 abbrev pub procedure_facts : Procedure → Facts
-procedure_facts p k = if is_word k (pos 0) then Alone ReturnAddress else parameter_facts 0 p.parameters k
+procedure_facts p k = if is_same_number k (pos 0) then Alone ReturnAddress else parameter_facts 0 p.parameters k
 
 -- the state in which a procedure begins, whose number as a context is this
 abbrev pub procedure_state : ℕ → Procedure → State
-procedure_state context p = begun context (pos 0) p.number (procedure_facts p)
+procedure_state context p = fresh_state context (pos 0) p.number (procedure_facts p)

@@ -2,7 +2,7 @@
 
 ghost use Rattle.std.specs.Prelude.{◌≡◌, ◌<◌, ◌≤◌, ◌==◌, ℕ, if◌then◌else◌, [], vec_len, vec_capacity, IfOk};
 ghost use Rattle.std.specs.Prelude.{is_some};
-ghost use Rattle.states.specs.Blocks.{block_words, no_block, block_at};
+ghost use Rattle.states.specs.Blocks.{block_words, no_block, block_numbered};
 
 use crate::span::{Leaving, Together};
 use std::alloc::{AllocError, Global};
@@ -68,7 +68,7 @@ impl Blocks {
 
     /// What is kept for a block.
     pub(crate) fn get(&self, number: usize) -> Block
-        ensures { result ≡ block_at self.now.kept.items number }
+        ensures { result ≡ block_numbered self.now.kept.items number }
     {
         if number >= self.kept.len() {
             return Block::NONE;
@@ -78,7 +78,7 @@ impl Blocks {
 
     /// Whether a block's words were left.
     pub(crate) fn is_left(&self, number: usize) -> bool
-        ensures { result ≡ is_some (block_at self.now.kept.items number).left }
+        ensures { result ≡ is_some (block_numbered self.now.kept.items number).left }
     {
         self.get(number).left.is_some()
     }
@@ -104,8 +104,8 @@ impl Blocks {
 
     /// Nothing is kept for a block from now on.
     pub(crate) fn forget(&mut self, number: usize)
-        ensures kept { (n : ℕ) → block_at self.new.kept.items n
-            ≡ (if n == number then no_block else block_at self.old.kept.items n) }
+        ensures kept { (n : ℕ) → block_numbered self.new.kept.items n
+            ≡ (if n == number then no_block else block_numbered self.old.kept.items n) }
         ensures room { self.new.room ≡ self.old.room }
     {
         if number < self.kept.len() {
@@ -116,7 +116,7 @@ impl Blocks {
     /// There is a place for a block, in which nothing is kept if there was none.
     fn reach(&mut self, number: usize)
         requires { number < self.old.room }
-        ensures kept { (n : ℕ) → block_at self.new.kept.items n ≡ block_at self.old.kept.items n }
+        ensures kept { (n : ℕ) → block_numbered self.new.kept.items n ≡ block_numbered self.old.kept.items n }
         ensures far { number < vec_len self.new.kept }
         ensures room { self.new.room ≡ self.old.room }
     {
@@ -128,8 +128,8 @@ impl Blocks {
     /// This is kept for a block from now on.
     pub(crate) fn set(&mut self, number: usize, block: Block)
         requires { number < self.old.room }
-        ensures kept { (n : ℕ) → block_at self.new.kept.items n
-            ≡ (if n == number then block else block_at self.old.kept.items n) }
+        ensures kept { (n : ℕ) → block_numbered self.new.kept.items n
+            ≡ (if n == number then block else block_numbered self.old.kept.items n) }
         ensures room { self.new.room ≡ self.old.room }
     {
         self.reach(number);

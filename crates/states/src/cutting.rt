@@ -5,7 +5,7 @@ ghost use Rattle.module_format.specs.Facts.{end_of};
 ghost use Rattle.module_format.specs.Order.{InOrder, least_word};
 ghost use Rattle.module_format.specs.Pars.{IntervalKeeps, behind_interval};
 ghost use Rattle.states.specs.Comparing.{loop_of};
-ghost use Rattle.states.specs.Cutting.{keeps, AreCut, CutsOn, CutsEntry};
+ghost use Rattle.states.specs.Cutting.{is_on_side, AreCut, CutsOn, CutsEntry};
 ghost use Rattle.states.specs.Rows.{AreApart};
 
 use crate::intervals::{Run, run_from};
@@ -24,8 +24,8 @@ pub(crate) enum Side {
 impl Side {
     /// Whether words are kept. Either an interval has them, or none has.
     #[inline(always)]
-    fn keeps(self, is_among: bool) -> bool
-        ensures { result ≡ keeps self is_among }
+    fn is_on_side(self, is_among: bool) -> bool
+        ensures { result ≡ is_on_side self is_among }
     {
         match self {
             Side::Inside => is_among,
@@ -83,7 +83,7 @@ fn cut_run<'a>(
     ensures within { IfSome result (λ run. run.end ≤ℤ end_of entry.now) }
 {
     let run = run_from(left, word, end_of(entry));
-    if !side.keeps(run.is_among) {
+    if !side.is_on_side(run.is_among) {
         return Some(run);
     }
     let piece = piece_of(entry.fact, word, run.end)?;
@@ -137,7 +137,7 @@ fn cut_loop<'a>(
     if run.is_among || run.end < end {
         return None;
     }
-    if !side.keeps(false) {
+    if !side.is_on_side(false) {
         return Some(run.rest);
     }
     push(pieces, *entry)?;

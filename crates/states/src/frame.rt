@@ -63,7 +63,7 @@ impl<'a> Frame<'a> {
     ghost use Rattle.states.specs.Below.{says, words_say, entries_hold, is_whole, price};
     ghost use Rattle.states.specs.Lookup.{fact_of_index};
     ghost use Rattle.states.specs.Frames.{frame_facts, over_facts, with_alone, parted, HasRoom};
-    ghost use Rattle.states.specs.Blocks.{block_at, first_of, leaving_at};
+    ghost use Rattle.states.specs.Blocks.{block_numbered, first_of, leaving_at};
     ghost use Rattle.states.specs.Frames.{HasRoomForAll, SameRoom};
 
     /// The frame of `room` words from `lo` on, of which nothing is known. It remembers comparisons with the labels of a
@@ -171,7 +171,7 @@ impl<'a> Frame<'a> {
 
     /// Each word of a block that was left is written as what is known of it. It is left so still.
     fn settle_words(&mut self, number: usize)
-        requires some { (block_at self.old.by_block.kept.items number).left ≢ None }
+        requires some { (block_numbered self.old.by_block.kept.items number).left ≢ None }
         requires room { number < self.old.by_block.room }
         ensures facts { frame_facts self.new ≡ frame_facts self.old }
         ensures settled { (j : ℕ) → j < block_words → over_facts self.new (first_of self.old.lo number +ℤ pos j)
@@ -190,7 +190,7 @@ impl<'a> Frame<'a> {
     /// What was left of a block's words is written in each of them from now on.
     fn settle(&mut self, number: usize)
         ensures facts { frame_facts self.new ≡ frame_facts self.old }
-        ensures none { (block_at self.new.by_block.kept.items number).left ≡ None }
+        ensures none { (block_numbered self.new.by_block.kept.items number).left ≡ None }
         ensures room { SameRoom self.old self.new }
     {
         let Block { sum, left } = self.by_block.get(number);

@@ -19,7 +19,7 @@ ghost use Rattle.states.specs.declared.known.WordFact.TheVariants.{Alone};
 
 use crate::blocks::block_words;
 use crate::frame::Frame;
-use crate::implication::{implies, is_constant, says};
+use crate::implication::{implies, is_exactly, says};
 use crate::known::{Loop, WordFact};
 use crate::row::{
     alone_holds, end_of, has_at_most, have_loops_apart, is_over, loop_of, past_saying, row_fact,
@@ -104,7 +104,7 @@ fn first_over_count(base: &[Entry], row: &[Entry]) -> usize
 fn is_constant_at(entry: &Entry, word: i64, number: i64) -> bool
     ensures { IsTrue result → IsConstantAt entry.now word number }
 {
-    start_of(entry) == word && entry.span == 1 && is_constant(entry.fact, number)
+    start_of(entry) == word && entry.span == 1 && is_exactly(entry.fact, number)
 }
 
 impl Frame<'_> {

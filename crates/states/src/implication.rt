@@ -1,7 +1,7 @@
 //! When one fact says at least what another says.
 
 ghost use Rattle.std.specs.Prelude.{◌≡◌};
-ghost use Rattle.states.specs.Below.{lies_within, step_implies, implies, is_constant, holds_constant, says};
+ghost use Rattle.states.specs.Below.{lies_within, step_implies, implies, is_exactly, holds_constant, says};
 ghost use Rattle.states.specs.Rows.{LoopFits};
 
 use crate::known::WordFact;
@@ -51,8 +51,8 @@ pub fn implies(fact: Fact, wanted: Fact) -> bool
 
 /// Whether it is a number that is exactly this one.
 #[inline(always)]
-pub(crate) fn is_constant(fact: Fact, number: i64) -> bool
-    ensures { result ≡ is_constant fact number }
+pub(crate) fn is_exactly(fact: Fact, number: i64) -> bool
+    ensures { result ≡ is_exactly fact number }
 {
     match fact {
         Fact::Number { lo, hi } => i64::from(lo) == number && i64::from(hi) == number,
@@ -65,7 +65,7 @@ pub(crate) fn holds_constant(fact: WordFact, number: i64) -> bool
     ensures { result ≡ holds_constant fact number }
 {
     match fact {
-        WordFact::Alone(fact) => is_constant(fact, number),
+        WordFact::Alone(fact) => is_exactly(fact, number),
         _ => false,
     }
 }
@@ -78,11 +78,11 @@ pub fn says(fact: WordFact, wanted: WordFact) -> bool
 {
     match (fact, wanted) {
         (_, WordFact::Alone(other)) => implies(fact.by_itself(), other),
-        (WordFact::Alone(known), WordFact::Index(wanted)) => is_constant(
+        (WordFact::Alone(known), WordFact::Index(wanted)) => is_exactly(
             known,
             i64::from(wanted.base),
         ),
-        (WordFact::Alone(known), WordFact::Count(wanted)) => is_constant(
+        (WordFact::Alone(known), WordFact::Count(wanted)) => is_exactly(
             known,
             i64::from(wanted.count),
         ),

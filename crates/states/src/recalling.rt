@@ -14,7 +14,7 @@ ghost use Rattle.states.specs.Remembered.{compared_at, time_of, changes_of, word
 ghost use Rattle.states.specs.Remembered.{loops_stay};
 ghost use Rattle.states.specs.Remembered.{wants_no_loop, range_says, became_until, IsPaid, IsRecalled, ChangedSay};
 ghost use Rattle.states.specs.Rows.{AreApart};
-ghost use Rattle.states.specs.State.{entry_fact, is_word, said_of};
+ghost use Rattle.states.specs.State.{entry_fact, is_same_number, said_of};
 
 use crate::blocks::block_words;
 use crate::frame::Frame;

@@ -3,7 +3,7 @@
 
 ghost use Rattle.std.specs.Prelude.{◌≡◌, ◌<◌, ◌≤◌, ◌/◌, ◌⊎◌, ◌^◌, ℕ, vec_len, IfOk};
 ghost use Rattle.states.specs.Blocks.{block_words};
-ghost use Rattle.states.specs.Remembered.{never, compared_at, time_of, changes_of, range_of, HasTimes, HasTimes-prop};
+ghost use Rattle.states.specs.Remembered.{never, compared_at, time_of, changes_of, leaving_since, HasTimes, HasTimes-prop};
 
 use crate::blocks::block_words;
 use crate::span::Leaving;
@@ -210,7 +210,7 @@ impl<'a> Remembered<'a> {
 
     /// How all words of a block were left since that is kept.
     pub(crate) fn range(&self, number: usize) -> Option<Leaving>
-        ensures { result ≡ range_of self.now.began (changes_of self.now.by_block.items number) }
+        ensures { result ≡ leaving_since self.now.began (changes_of self.now.by_block.items number) }
     {
         let changes = self.changes(number);
         if changes.since < self.began {

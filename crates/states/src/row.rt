@@ -7,10 +7,10 @@ ghost use Rattle.states.specs.Below.{says};
 ghost use Rattle.states.specs.Comparing.{IsOver, IsPast, loop_of};
 ghost use Rattle.states.specs.Cutting.{AreLoopsApart, IsApartFrom};
 ghost use Rattle.states.specs.Rows.{AreApart};
-ghost use Rattle.states.specs.State.{is_about, is_word, is_alone, said_of, entry_fact};
+ghost use Rattle.states.specs.State.{is_about, is_same_number, is_alone, said_of, entry_fact};
 ghost use Rattle.states.specs.declared.known.WordFact.TheVariants.{Alone};
 
-use crate::implication::{implies, is_constant};
+use crate::implication::{implies, is_exactly};
 use crate::known::{Loop, WordFact};
 use module_format::{Entry, Fact};
 
@@ -107,7 +107,7 @@ pub(crate) fn steps_to_find(row: &[Entry]) -> u64 {
 fn entry_of<'a>(row: &'a [Entry], word: i64) -> Option<&'a Entry>
     requires { AreApart row.now }
     ensures some { IfSome result
-        (λ entry. entry_fact row.now word ≡ said_of entry.now.fact (is_word entry.now.word word)) }
+        (λ entry. entry_fact row.now word ≡ said_of entry.now.fact (is_same_number entry.now.word word)) }
     ensures none { IfNone result (entry_fact row.now word ≡ Alone Unknown) }
 {
     let mut rest = row;
@@ -138,7 +138,7 @@ pub(crate) fn row_fact(row: &[Entry], word: i64) -> WordFact
 
 /// What an entry says of one of its words.
 pub(crate) fn entry_said(entry: &Entry, word: i64) -> WordFact
-    ensures { result ≡ said_of entry.now.fact (is_word entry.now.word word) }
+    ensures { result ≡ said_of entry.now.fact (is_same_number entry.now.word word) }
 {
     said_of(entry.fact, start_of(entry) == word)
 }
@@ -149,8 +149,8 @@ fn says_alone(fact: Fact, wanted: Fact, is_first: bool) -> bool
     ensures { result ≡ says (Alone fact) (said_of wanted is_first) }
 {
     match wanted {
-        Fact::Loop { base, .. } if is_first => is_constant(fact, i64::from(base)),
-        Fact::Loop { count, .. } => is_constant(fact, i64::from(count)),
+        Fact::Loop { base, .. } if is_first => is_exactly(fact, i64::from(base)),
+        Fact::Loop { count, .. } => is_exactly(fact, i64::from(count)),
         _ => implies(fact, wanted),
     }
 }

@@ -11,7 +11,7 @@ ghost use Rattle.module_format.specs.Keeping.{Keeps};
 ghost use Rattle.module_format.specs.Order.{InOrder, least_word};
 ghost use Rattle.module_format.specs.Pars.{IntervalKeeps, behind_interval};
 ghost use Rattle.module_format.specs.Stack.{pushed, popped, reversed};
-ghost use Rattle.states.specs.State.{unknown, known, is_at, without_source, forgets, written, begun, root_state};
+ghost use Rattle.states.specs.State.{unknown, known, is_at, without_source, forgets, written, fresh_state, root_state};
 ghost use Rattle.states.specs.State.{is_silent, entry_fact, procedure_state, label_state};
 ghost use Rattle.states.specs.Frames.{with_alone};
 ghost use Rattle.states.specs.Rows.{AreApart, LoopFits, IsRowOf};
@@ -396,7 +396,7 @@ impl<'a> State<'a> {
     /// The state goes on in a context of the module, at a depth and with a number. What is known of the
     /// frame stays, and nothing is known of the registers.
     fn begin_at(&mut self, module: &'a Module<'a>, context: u32, depth: i32, number: u64)
-        ensures state { state_of self.new ≡ begun context depth number (state_of self.old).frame }
+        ensures state { state_of self.new ≡ fresh_state context depth number (state_of self.old).frame }
         ensures belongs { BelongsTo «module».now self.old → BelongsTo «module».now self.new }
     {
         self.module = module;

@@ -54,7 +54,7 @@ use Rattle.rulings.specs.Meaning.{Activation, IsWellFormed, owed, SameMode, both
 use Rattle.rulings.specs.Meaning.{both_starting}
 use Rattle.rulings.specs.Regions.{Scope, scope_of, channel_address, HoldsNamed}
 use Rattle.rulings.specs.Guarding.{guard_value, first_left, HasSelected}
-use Rattle.rulings.specs.Fitting.{Here, Begins, Enables, AwaitsGuards, Disables}
+use Rattle.rulings.specs.Fitting.{Situation, Begins, Enables, AwaitsGuards, Disables}
 use Rattle.rulings.proofs.Within.{scope_still}
 use Rattle.certified_worlds.specs.Alternating.{IsTrueGuard, IsTrueSkip, EnablesAt, a_channel, a_link, AlternatesHere}
 use Rattle.certified_worlds.specs.Lives.{it_lives}
@@ -172,7 +172,7 @@ module _ (m : Contents) (wf : IsWellFormed m) (w : World) (lawful : IsLawful m w
   abbrev act : Activation
   act = r.lives.point.act
 
-  abbrev x : Here
+  abbrev x : Situation
   x = record {
     m = m;
     h = held (row_of r).role;

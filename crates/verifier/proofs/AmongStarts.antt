@@ -11,7 +11,7 @@ use Rattle.states.specs.declared.known.Mode as states
 use Rattle.states.specs.declared.known.Mode.TheVariants as states_modes
 use Rattle.states.specs.declared.rule.Rule.{Rule}
 use Rattle.states.specs.State.{State}
-use Rattle.rulings.specs.Fitting.{Here, GoesTo, After, Stays, Fits, it_falls, it_leads, it_calls, it_returns}
+use Rattle.rulings.specs.Fitting.{Situation, GoesTo, After, Stays, Fits, it_falls, it_leads, it_calls, it_returns}
 use Rattle.rulings.specs.Fitting.{it_selects, it_ends, it_asks, it_breaks, Asks, to_receive, to_send, to_begin}
 use Rattle.rulings.specs.Fitting.{to_enable}
 use Rattle.rulings.specs.Fitting.{to_enable_skip, to_wait, to_disable, to_disable_skip}
@@ -23,7 +23,7 @@ use Rattle.facts.proofs.AmongStarts.{it_pushes, it_breaks_one, starts_let_push}
 use Rattle.module_format.specs.Stack.{pushed}
 
 -- An instruction after which a process goes on in the middle of something.
-pub record FallsOn (x : Here) (r : Ruling) (o : Outcome) : Type 0 where
+pub record FallsOn (x : Situation) (r : Ruling) (o : Outcome) : Type 0 where
   pub state : State
   pub new : Local
   pub falls : falling r ≡ Some state
@@ -48,7 +48,7 @@ never_plain same starting plain =
     let no' : states_modes.Starting s.0 s.1 ≡ states_modes.Plain = sym s.2 ∙ plain in
     cc
 
-module _ (x : Here) (starting : x.mode ≡ machine_modes.Starting) (same : SameMode x.before.mode x.mode) where
+module _ (x : Situation) (starting : x.mode ≡ machine_modes.Starting) (same : SameMode x.before.mode x.mode) where
   not_in_plain_mode : {A : Type 0} → x.mode ≡ machine_modes.Plain → A
   not_in_plain_mode plain =
       let no' : machine_modes.Starting ≡ machine_modes.Plain = sym starting ∙ plain in absurd (cc)

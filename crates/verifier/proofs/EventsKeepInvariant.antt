@@ -15,7 +15,7 @@ use Rattle.machine_state.specs.LocalStep.{local_step}
 use Rattle.machine_state.specs.Turn.{Turn, at_here}
 use Rattle.machine_state.specs.Happens.{happens, site_of}
 use Rattle.machine_state.specs.Endings.{Happened, was_at_fault, it_rests, is_outside, is_prefix, is_step, is_taken}
-use Rattle.machine_state.specs.Endings.{is_kept, is_acknowledged, Ends, local_here}
+use Rattle.machine_state.specs.Endings.{is_kept, is_acknowledged, TurnsInto, local_here}
 use Rattle.machine_state.proofs.Turns.{turn_happens}
 use Rattle.rulings.specs.Meaning.{IsWellFormed}
 use Rattle.module_format.specs.Keeping.{Keeps as IsKept}
@@ -58,7 +58,7 @@ module _ (m : Contents) (d : Decodes m) (wf : IsWellFormed m) (kept : IsKept m) 
   completed_holds : (p : ℕ) (t : Task) → IsCalm t → t.condition ≡ Ready → Living m w h p t → (pick byte : ℕ)
       (f : Fun) {turn : Turn} → IsLawful m turn.world → slice_get m.code t.registers.at ≡ Some byte
       → fun_of (function_code byte) ≡ Some f
-      → Ends (at_here m p t pick) w (local_step (site_of (at_here m p t pick) w) f
+      → TurnsInto (at_here m p t pick) w (local_step (site_of (at_here m p t pick) w) f
       (with_nibble t.registers.operand (nibble byte)) (local_here t w)) turn → Holds m turn.world
   completed_holds p t (is_plain plain) ready r = step_holds m d wf kept c w lawful h p t ready r (not_in_plain t plain)
   completed_holds p t (is_alternating alternates) ready r =

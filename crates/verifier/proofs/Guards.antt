@@ -24,7 +24,7 @@ use Rattle.states.specs.State.{State}
 use Rattle.rulings.specs.Meaning.{Activation}
 use Rattle.rulings.specs.Regions.{scope_of, channel_address, HoldsNamed}
 use Rattle.rulings.specs.Guarding.{guard_value, first_left, GuardsFit}
-use Rattle.rulings.specs.Fitting.{Here, Enables, Disables}
+use Rattle.rulings.specs.Fitting.{Situation, Enables, Disables}
 use Rattle.certified_worlds.specs.Alternating.{IsTrueGuard, IsTrueSkip, EnablesAt, AlternatesHere}
 use Rattle.certified_worlds.proofs.Carrying.{MustBeReady}
 
@@ -63,7 +63,7 @@ fresh_guards m w p u s act none nothing enabling = record {
 
 -- ---- one guard more
 
-module _ (m : Contents) (x : Here) (kind : GuardKind) (holds : Bool) (next : State) (l : Local)
+module _ (m : Contents) (x : Situation) (kind : GuardKind) (holds : Bool) (next : State) (l : Local)
     (more : Enables x kind holds next l) where
   abbrev new : Guard
   new = record { kind = kind; name = more.name; exit = None }
@@ -206,7 +206,7 @@ module _ (m : Contents) (x : Here) (kind : GuardKind) (holds : Bool) (next : Sta
 
 -- ---- one guard less
 
-module _ (m : Contents) (x : Here) (kind : GuardKind) (holds : Bool) (distance : ℤ) (next : State) (l : Local)
+module _ (m : Contents) (x : Situation) (kind : GuardKind) (holds : Bool) (distance : ℤ) (next : State) (l : Local)
     (less : Disables x kind holds distance next l) where
   abbrev done : ℕ
   done = less.done

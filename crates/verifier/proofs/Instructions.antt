@@ -18,7 +18,7 @@ use Rattle.machine_state.specs.Frame.{ChangesOwn}
 use Rattle.machine_state.specs.Moves.{counted, picked, dispatch}
 use Rattle.machine_state.specs.Turn.{Turn, at_here, between, continued}
 use Rattle.machine_state.specs.Happens.{site_of}
-use Rattle.machine_state.specs.Endings.{Ends, at_fault, has_run, has_emitted, it_goes, it_jumps, it_is_sliced}
+use Rattle.machine_state.specs.Endings.{TurnsInto, at_fault, has_run, has_emitted, it_goes, it_jumps, it_is_sliced}
 use Rattle.machine_state.specs.Endings.{it_lands, it_stops, Refused, no_code_follows, local_here}
 use Rattle.rulings.specs.Meaning.{IsWellFormed}
 use Rattle.certified_worlds.specs.Certified.{IsCertified}
@@ -46,11 +46,11 @@ use Rattle.states.specs.declared.known.Mode as states
 use Rattle.certificate.specs.Rights as rights
 use Rattle.module_format.specs.declared.rows.Direction.TheVariants.{In}
 use Rattle.rulings.specs.Meaning.{Activation, words_in}
-use Rattle.rulings.specs.Regions.{Scope, scope_of, Keeps}
+use Rattle.rulings.specs.Regions.{Scope, scope_of, KeepsMemory}
 use Rattle.rulings.proofs.Within.{scope_still}
 use Rattle.machine_state.specs.Roles.{opened_in}
 use Rattle.rulings.specs.Guarding.{guard_value, first_left, IsTaken, GuardsFit}
-use Rattle.rulings.specs.Fitting.{Here, Stays}
+use Rattle.rulings.specs.Fitting.{Situation, Stays}
 use Rattle.std.specs.Prelude.{slice_set}
 use Rattle.verifier.proofs.LawfulWorlds.{IsLawful}
 use Rattle.verifier.proofs.Talking.{never_in, never_out}
@@ -90,11 +90,11 @@ module _ (m : Contents) (d : Decodes m) (wf : IsWellFormed m) (kept : IsKept m) 
 
   -- what its instruction changes within its activation is allowed
   allows : (new : Memory) → ChangesOwn (held (row_of r).role) w.memory new
-      → Keeps m (held (row_of r).role) (scope_of m point.state.context point.act.layout) w.memory new
+      → KeepsMemory m (held (row_of r).role) (scope_of m point.state.context point.act.layout) w.memory new
       → Allows r.lives w.memory new
   allows new own keeps = record {
     own = own;
-    keeps = subst (λ (scope : Scope). Keeps m (held (row_of r).role) scope w.memory new)
+    keeps = subst (λ (scope : Scope). KeepsMemory m (held (row_of r).role) scope w.memory new)
         (sym (scope_still m point.state.context point.state.mode point.act.layout (at_still r.lives calm_now))) keeps;
   }
 
@@ -103,7 +103,7 @@ module _ (m : Contents) (d : Decodes m) (wf : IsWellFormed m) (kept : IsKept m) 
       → LeavesEnabled w after p t
   same_enabled after channels inputs = enabled_same channels inputs (ready_is_silent w p t ready)
 
-  abbrev here_now : Here
+  abbrev here_now : Situation
   here_now = here_of m d wf c (held (row_of r).role) point.act w.memory t point.state point.instr
 
   -- a byte was executed, and the process goes on in plain mode as another task
@@ -211,7 +211,7 @@ module _ (m : Contents) (d : Decodes m) (wf : IsWellFormed m) (kept : IsKept m) 
 
   -- whatever its instruction comes to, its turn ends so
   ended_holds : (pick : ℕ) {o : Outcome} {turn : Turn} → Comes m here_now (row_of r).start t (row_of r).due o
-      → LeavesKept here_now o → Ends (at_here m p t pick) w o turn → Holds m turn.world
+      → LeavesKept here_now o → TurnsInto (at_here m p t pick) w o turn → Holds m turn.world
   unfolding dispatch
   ended_holds pick (comes_on later changes goes less) kept (has_run (it_goes l)) =
       goes_on (t.registers.at + 1) l later w.queue less (allows l.memory changes kept) goes
@@ -278,7 +278,7 @@ module _ (m : Contents) (d : Decodes m) (wf : IsWellFormed m) (kept : IsKept m) 
   -- the byte that completes an instruction
   pub step_holds : (pick byte : ℕ) (f : Fun) {turn : Turn} → IsLawful m turn.world
       → slice_get m.code t.registers.at ≡ Some byte → fun_of (function_code byte) ≡ Some f
-      → Ends (at_here m p t pick) w (local_step (site_of (at_here m p t pick) w) f
+      → TurnsInto (at_here m p t pick) w (local_step (site_of (at_here m p t pick) w) f
       (with_nibble t.registers.operand (nibble byte)) (local_here t w)) turn
       → Holds m turn.world
   step_holds pick byte f {turn} next here is ends =
@@ -294,7 +294,7 @@ module _ (m : Contents) (d : Decodes m) (wf : IsWellFormed m) (kept : IsKept m) 
       on : {o : Outcome} → point.taken + 1 ≡ point.instr.len
           → FitsStep here_now point.state (local_here t w) (instruction_of point.instr.fun point.instr.operand)
           (rule_at m t.registers.began point.instr point.state) o
-          → Ends (at_here m p t pick) w o turn → Holds m turn.world
+          → TurnsInto (at_here m p t pick) w o turn → Holds m turn.world
       on last (it_fits none fits) ends = ended_holds pick
           (comes_last m d wf c kept (held (row_of r).role) (row_of r).start w.memory t (row_of r).due point meets_now
           r.lives.paid calm_now selected last fits)

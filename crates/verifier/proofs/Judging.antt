@@ -22,7 +22,8 @@ use Rattle.rulings.specs.Rulings.{falling}
 use Rattle.facts.specs.Rules.{rule_at, is_instruction}
 use Rattle.facts.proofs.Unruled.{unruled as breaks_one}
 use Rattle.verifier.specs.declared.stop.Breach.{Breach}
-use Rattle.certified_worlds.specs.Certified.{given, state_at, entering, Reaches, begins, follows, HoldsAt, HoldsBelow}
+use Rattle.certified_worlds.specs.Certified.{table_state, state_at, entering, Reaches, begins, follows, HoldsAt}
+use Rattle.certified_worlds.specs.Certified.{HoldsBelow}
 use Rattle.certified_worlds.specs.Certified.{IsCertified, IsRefused, IsBroken, misspelled, unruled, hidden, unreached}
 use Rattle.certified_worlds.specs.Certified.{fallen_off, entered, broken}
 use Rattle.certified_worlds.proofs.GivenStates.{nothing_given, is_given}
@@ -153,7 +154,7 @@ broken_in : (m : Contents) (at : ℕ) (before : Option State) (i : Instr) (v : R
 broken_in m at before i v None e r low sp h = elim (cases_Bool (is_instruction m i)) [
   | inr lacking ↦ unruled (told_is _ _ (sym h ∙ ap (λ (b : Bool). Err
       (if b then rules.Flow else rules.Spelling)) lacking)) r low sp lacking
-  | inl ruled ↦ elim (option_cases (given m at)) [
+  | inl ruled ↦ elim (option_cases (table_state m at)) [
     | inl g ↦
         let three = told_is _ _ (sym h ∙ ap (λ (b : Bool). Err (if b then rules.Flow else rules.Spelling)) ruled) in
         unreached three (subst (λ b. Reaches m at b) (sym (nothing_given m at before g) ∙ e) r) low sp ruled g

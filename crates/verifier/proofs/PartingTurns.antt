@@ -5,14 +5,14 @@ use Rattle.module_format.specs.Contents.{Contents}
 use Rattle.module_format.specs.Keeping.{Keeps as IsKept}
 use Rattle.machine_state.specs.declared.process.Condition.TheVariants.{Ready}
 use Rattle.machine_state.specs.declared.process.Task.{Task}
-use Rattle.machine_state.specs.Endings.{Ends, at_fault, has_run, has_emitted}
+use Rattle.machine_state.specs.Endings.{TurnsInto, at_fault, has_run, has_emitted}
 use Rattle.machine_state.specs.Holding.{Holding, nothing, may_read}
 use Rattle.machine_state.specs.declared.process.Exchange.{Exchange}
 use Rattle.machine_state.specs.Site.{Local, Outcome, sends}
 use Rattle.machine_state.specs.Turn.{Turn, at_here}
 use Rattle.machine_state.specs.World.{World, Role, held}
 use Rattle.states.specs.declared.known.Mode.TheVariants as states_modes
-use Rattle.rulings.specs.Fitting.{Here}
+use Rattle.rulings.specs.Fitting.{Situation}
 use Rattle.rulings.specs.Guarding.{HasSelected}
 use Rattle.rulings.specs.Meaning.{IsWellFormed}
 use Rattle.states.specs.declared.rule.Rule.{Rule}
@@ -55,7 +55,7 @@ module _ (m : Contents) (d : Decodes m) (wf : IsWellFormed m) (kept : IsKept m) 
   abbrev point : Point m t
   point = r.lives.point
 
-  abbrev x : Here
+  abbrev x : Situation
   x = here_of m d wf c (held (row_of r).role) point.act w.memory t point.state point.instr
 
   abbrev local : Local
@@ -80,7 +80,7 @@ module _ (m : Contents) (d : Decodes m) (wf : IsWellFormed m) (kept : IsKept m) 
   no_end_sends unbroken (end_breaks {broken = v}) = unbroken v refl
 
   pub started_holds : {o : Outcome} {turn : Turn} → StartFits x point.state local ruling o
-      → Ends (at_here m p t pick) w o turn → Holds m turn.world
+      → TurnsInto (at_here m p t pick) w o turn → Holds m turn.world
   started_holds fits (at_fault refused) =
       absurd (start_passes m d wf kept c w h (orderly lawful) p t at_last pick whole
       (reaches_behind m d wf c kept (held (row_of r).role) (row_of r).start w.memory t point meets selected) fits
@@ -91,7 +91,7 @@ module _ (m : Contents) (d : Decodes m) (wf : IsWellFormed m) (kept : IsKept m) 
   started_holds fits (has_emitted e l k to same) = absurd (no_start_sends whole fits)
 
   pub ended_holds : {o : Outcome} {turn : Turn} → EndFits x point.state local ruling o → IsLawful m turn.world
-      → Ends (at_here m p t pick) w o turn → Holds m turn.world
+      → TurnsInto (at_here m p t pick) w o turn → Holds m turn.world
   ended_holds fits next (at_fault refused) =
       absurd (end_passes m d wf c w h (orderly lawful) p t at_last pick whole fits refused)
   ended_holds fits next (has_run moved) =

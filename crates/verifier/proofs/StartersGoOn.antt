@@ -11,7 +11,7 @@ use Rattle.machine_state.specs.declared.process.Condition.TheVariants.{Ready}
 use Rattle.machine_state.specs.declared.process.Mode as machine
 use Rattle.machine_state.specs.declared.process.Mode.TheVariants as machine_modes
 use Rattle.machine_state.specs.declared.process.Task.{Task}
-use Rattle.machine_state.specs.Endings.{Ends, at_fault, has_run, it_goes, it_jumps, it_is_sliced, it_lands}
+use Rattle.machine_state.specs.Endings.{TurnsInto, at_fault, has_run, it_goes, it_jumps, it_is_sliced, it_lands}
 use Rattle.machine_state.specs.Endings.{no_code_follows, local_here}
 use Rattle.machine_state.specs.Happens.{site_of}
 use Rattle.machine_state.specs.Holding.{Holding, nothing}
@@ -23,7 +23,7 @@ use Rattle.machine_state.specs.Turn.{Turn, at_here, between, continued}
 use Rattle.machine_state.specs.World.{World, Queue, Role, Join, held}
 use Rattle.states.specs.declared.known.Mode.TheVariants as states_modes
 use Rattle.states.specs.State.{State}
-use Rattle.rulings.specs.Fitting.{After, GoesTo, Here, goes_behind, is_jump, is_landing}
+use Rattle.rulings.specs.Fitting.{After, GoesTo, Situation, goes_behind, is_jump, is_landing}
 use Rattle.rulings.specs.Guarding.{HasSelected}
 use Rattle.rulings.specs.Meaning.{Activation, IsWellFormed}
 use Rattle.rulings.proofs.Within.{is_starting}
@@ -63,7 +63,7 @@ data OnTo (at : ℕ) (l : Local) : Outcome → Type 0 where
   on_jump : OnTo at l (jumps at l)
   on_landing : OnTo at l (lands at l)
 
-on_to : {x : Here} {o : Outcome} {to : ℕ} {l : Local} → GoesTo x o to l → OnTo to l o
+on_to : {x : Situation} {o : Outcome} {to : ℕ} {l : Local} → GoesTo x o to l → OnTo to l o
 on_to goes_behind = on_behind
 on_to is_jump = on_jump
 on_to is_landing = on_landing
@@ -93,7 +93,7 @@ module _ (m : Contents) (d : Decodes m) (wf : IsWellFormed m) (kept : IsKept m) 
     meets_now = r.lives.claim w.memory refl (λ place e none. refl) (λ place e.
         let no' : true ≡ false = sym e ∙ ap (λ c. awaits c place) ready in absurd (cc))
 
-    abbrev x : Here
+    abbrev x : Situation
     x = here_of m d wf c (held (row_of r).role) point.act w.memory t point.state point.instr
 
     mode_is : (row : ℕ) × (started : ℕ) × (point.state.mode ≡ states_modes.Starting row started)
@@ -218,7 +218,7 @@ module _ (m : Contents) (d : Decodes m) (wf : IsWellFormed m) (kept : IsKept m) 
           lives = goes_lives
 
       ended_on : (pick : ℕ) {q : Outcome} {turn : Turn} → OnTo (t.registers.at + 1) new q
-          → Ends (at_here m p t pick) w q turn → Holds m turn.world
+          → TurnsInto (at_here m p t pick) w q turn → Holds m turn.world
       unfolding dispatch
       ended_on pick on_behind (has_run (it_goes l)) = goes_on w.queue
       ended_on pick on_jump (has_run (it_jumps to l)) = goes_on w.queue
@@ -229,14 +229,14 @@ module _ (m : Contents) (d : Decodes m) (wf : IsWellFormed m) (kept : IsKept m) 
       ended_on pick on_jump (at_fault (no_code_follows needs none)) = elim needs [ ]
       ended_on pick on_landing (at_fault (no_code_follows needs none)) = elim needs [ ]
 
-      pub goes_among : (pick : ℕ) {turn : Turn} → Ends (at_here m p t pick) w o turn → Holds m turn.world
+      pub goes_among : (pick : ℕ) {turn : Turn} → TurnsInto (at_here m p t pick) w o turn → Holds m turn.world
       goes_among pick ends =
           ended_on pick (subst (λ (n : ℕ). OnTo n new o) behind (on_to falls_on.goes)) ends
 
     -- the byte that completes an instruction
     pub starter_step_holds : (pick byte : ℕ) (f : Fun) {turn : Turn} → IsLawful m turn.world
         → slice_get m.code t.registers.at ≡ Some byte → fun_of (function_code byte) ≡ Some f
-        → Ends (at_here m p t pick) w (local_step (site_of (at_here m p t pick) w) f
+        → TurnsInto (at_here m p t pick) w (local_step (site_of (at_here m p t pick) w) f
         (with_nibble t.registers.operand (nibble byte)) (local_here t w)) turn → Holds m turn.world
     starter_step_holds pick byte f {turn} next here is ends =
         let fits = last_fits m d wf c kept (held (row_of r).role) (row_of r).start w.memory t point meets_now selected
@@ -249,7 +249,7 @@ module _ (m : Contents) (d : Decodes m) (wf : IsWellFormed m) (kept : IsKept m) 
       where
         on : {o : Outcome} → point.taken + 1 ≡ point.instr.len
             → FitsStep x point.state (local_here t w) (instruction_of point.instr.fun point.instr.operand) ruling o
-            → Ends (at_here m p t pick) w o turn → Holds m turn.world
+            → TurnsInto (at_here m p t pick) w o turn → Holds m turn.world
         on last (it_fits none fits) ends = goes_among none fits last pick ends
         on last (it_starts fits) ends = parting.started_holds m d wf kept c w lawful h p t ready r pick last
             meets_now selected fits ends

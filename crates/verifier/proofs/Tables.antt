@@ -24,7 +24,7 @@ use Rattle.machine_state.specs.declared.process.Channel.{Channel}
 use Rattle.machine_state.specs.Moves.{picked, dispatch, cell_of}
 use Rattle.machine_state.proofs.Lines.{got_set, got_other, set_either}
 use Rattle.rulings.proofs.Combining.{readable_byte}
-use Rattle.rulings.specs.Regions.{Scope, scope_in, Keeps}
+use Rattle.rulings.specs.Regions.{Scope, scope_in, KeepsMemory}
 use Rattle.rulings.proofs.Within.{is_starting, scope_still}
 use Rattle.share_laws.specs.Climbing.{ChangesWithin}
 use Rattle.states.specs.State.{State}
@@ -116,7 +116,7 @@ lives_on {m} {h} {began} {memory} {t} {due} new c quiet size same fewer either c
       | inr over ↦ over
     ]
 
-    kept : Keeps m h (scope_in m l.point.state l.point.act.layout) memory new
+    kept : KeepsMemory m h (scope_in m l.point.state l.point.act.layout) memory new
     kept = l.fills memory new (record {
       size = size;
       others = same;
@@ -382,7 +382,7 @@ module _ (m : Contents) (w : World) (h : Holds m w) (out : IsSharedOut m w) (p :
           (row_of r).has_start (row_of r).due
           (sym (opened_is w.roles p (row_of r).role (row_of r).has_role) ∙ none) r.going r.lives still after.memory
           allowed_now.own
-          (subst (λ (scope : Scope). Keeps m (held (row_of r).role) scope w.memory after.memory)
+          (subst (λ (scope : Scope). KeepsMemory m (held (row_of r).role) scope w.memory after.memory)
           (scope_still m r.lives.point.state.context r.lives.point.state.mode r.lives.point.act.layout still)
           allowed_now.keeps)
 

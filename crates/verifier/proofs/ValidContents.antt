@@ -9,7 +9,7 @@ use Rattle.prefix_decoder.specs.declared.decoding.DecodeFault.{DecodeFault}
 use Rattle.prefix_decoder.specs.declared.decoding.DecodeFault.TheVariants.{SecondSpelling}
 use Rattle.std.specs.Str.{bytes_eq}
 use Rattle.prefix_decoder.specs.Spelling.{spelling}
-use Rattle.prefix_decoder.specs.Fetching.{read, checked, fetched, StandsAt}
+use Rattle.prefix_decoder.specs.Fetching.{read, if_spelled_once, fetched, StandsAt}
 use Rattle.prefix_decoder.proofs.Outcomes.{fetched-found, StandsAt-length}
 use Rattle.std.specs.List.{AllByRecursion}
 use Rattle.certificate.specs.Starts.{Entered, procedure_from, procedure_at}
@@ -33,7 +33,7 @@ use Rattle.verifier.proofs.Judging.{Spans}
 
 -- ---- the decoder
 
-checked_reads : (bytes : List ℕ) (r : Result Instr DecodeFault) (i : Instr) → checked bytes r ≡ Ok i → r ≡ Ok i
+checked_reads : (bytes : List ℕ) (r : Result Instr DecodeFault) (i : Instr) → if_spelled_once bytes r ≡ Ok i → r ≡ Ok i
 checked_reads bytes (Err e) i h = absurd (cc)
 checked_reads bytes (Ok j) i h = on_test (bytes_eq (take j.len bytes) (spelling j.fun j.operand)) h
   where

@@ -9,7 +9,8 @@ use Rattle.std.proofs.lemmas.Bool.{cond_both}
 use Rattle.std.proofs.Math.Nat.{mod-le}
 use Rattle.word_arithmetic.specs.Word.{is_word, checked, checked_quotient, checked_remainder, word_sum, word_difference}
 use Rattle.word_arithmetic.specs.Word.{word_product, word_and, word_or, word_xor, truth}
-use Rattle.word_arithmetic.specs.Range.{Ends, InRange, BoundsResults, IsRange, IsWordIn, Holds, truths, word_sum_range}
+use Rattle.word_arithmetic.specs.Range.{Ends, InRange, BoundsResults, IsRange, IsWordIn, ResultsStay, truths}
+use Rattle.word_arithmetic.specs.Range.{word_sum_range}
 use Rattle.word_arithmetic.specs.Range.{word_difference_range, word_product_range, and_range, or_range, xor_range}
 use Rattle.word_arithmetic.specs.Binary.{computed, result_range, BinaryGivesWords, BinaryHolds, BinaryFails}
 use Rattle.word_arithmetic.specs.declared.binary.Binary.{Binary}
@@ -70,7 +71,7 @@ binary_gives_words binary.Equal x y f g = truth_fits (int_eq x y)
 -- ---- the result lies in the range
 
 -- an operation that never sets the error flag
-always : (f : ℤ → ℤ → ℤ) (r s e : Ends) → Holds f r s e → BoundsResults (λ x y. Some (f x y)) r s (Some e)
+always : (f : ℤ → ℤ → ℤ) (r s e : Ends) → ResultsStay f r s e → BoundsResults (λ x y. Some (f x y)) r s (Some e)
 always f r s e h = record { members = h; none = tt }
 
 -- 0 and 1 are the truth values

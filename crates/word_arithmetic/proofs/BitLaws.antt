@@ -9,7 +9,8 @@ use Rattle.std.proofs.lemmas.Bool.{cond_both, le-ltb, cases_lt, and_parts}
 use Rattle.std.proofs.lemmas.Bool.Decides.{Decides-int_eq}
 use mir.Val.{sel}
 use Rattle.word_arithmetic.specs.Word.{is_word, word_and, word_or, word_xor, word_not, shifted_left, shifted_right}
-use Rattle.word_arithmetic.specs.Range.{Ends, InRange, IsRange, Holds, is_constant, is_not_negative, constant, full}
+use Rattle.word_arithmetic.specs.Range.{Ends, InRange, IsRange, ResultsStay, is_constant, is_not_negative, constant}
+use Rattle.word_arithmetic.specs.Range.{full}
 use Rattle.word_arithmetic.specs.Range.{zero_to, fitting, bits_range, all_ones, and_range, or_range, xor_range}
 use Rattle.word_arithmetic.specs.Range.{not_range, shift_left_range, shift_right_range}
 use Rattle.word_arithmetic.proofs.WordLaws.{is_word_out}
@@ -96,7 +97,7 @@ not_negative_out r (negsuc a) h m = absurd (omega (arith, ints))
 bits_hold : (f : ℤ → ℤ → ℤ) (hi : ℤ) (r s : Ends) → IsRange r → IsRange s
     → ((x y : ℤ) → FitsSigned w32 x → FitsSigned w32 y → FitsSigned w32 (f x y))
     → ((a b : ℕ) → InRange r (pos a) → InRange s (pos b) → InRange (zero_to hi) (f (pos a) (pos b)))
-    → Holds f r s (bits_range (f r.lo s.lo) hi r s)
+    → ResultsStay f r s (bits_range (f r.lo s.lo) hi r s)
 bits_hold f hi r s p q words naturals x y m n =
     cond_both (is_constant r && is_constant s) (constant (f r.lo s.lo))
     (cond (is_not_negative r && is_not_negative s) (zero_to hi) full) (λ t. InRange t (f x y))
@@ -120,7 +121,7 @@ below : (r : Ends) (a : ℕ) → IsRange r → InRange r (pos a) → a < 2147483
 below r a p m = (member_fits r (pos a) p m).sfits
 
 -- the bits that both have are no more than either
-pub and_holds : (r s : Ends) → IsRange r → IsRange s → Holds word_and r s (and_range r s)
+pub and_holds : (r s : Ends) → IsRange r → IsRange s → ResultsStay word_and r s (and_range r s)
 and_holds r s p q =
     bits_hold word_and (int_min r.hi s.hi) r s p q
     and_fits
@@ -191,14 +192,14 @@ either_in of bounded f is r s p q a b m n =
         (unsigned_abs (int_max r.hi s.hi), e.0, e.1, e.2, e.3)
 
 -- the bits that one has lie below the next power of two
-pub or_holds : (r s : Ends) → IsRange r → IsRange s → Holds word_or r s (or_range r s)
+pub or_holds : (r s : Ends) → IsRange r → IsRange s → ResultsStay word_or r s (or_range r s)
 or_holds r s p q =
     bits_hold word_or (all_ones (int_max r.hi s.hi)) r s p q
     or_fits
     (either_in bit_or or_lt word_or (λ a b. refl) r s p q)
 
 -- so do those that exactly one has
-pub xor_holds : (r s : Ends) → IsRange r → IsRange s → Holds word_xor r s (xor_range r s)
+pub xor_holds : (r s : Ends) → IsRange r → IsRange s → ResultsStay word_xor r s (xor_range r s)
 xor_holds r s p q =
     bits_hold word_xor (all_ones (int_max r.hi s.hi)) r s p q
     xor_fits
@@ -208,7 +209,7 @@ xor_holds r s p q =
 
 -- a count as the register gives it
 pub shift_left_holds : (r counts : Ends) → IsRange r → pos 0 ≤ℤ counts.lo
-    → Holds (λ x count. shifted_left x (unsigned_abs count)) r counts (shift_left_range r counts)
+    → ResultsStay (λ x count. shifted_left x (unsigned_abs count)) r counts (shift_left_range r counts)
 shift_left_holds r counts p z x k m n =
     let hi = r.hi *ℤ pos (2 ^ unsigned_abs counts.hi) in
     let some_word = in_full (shifted_left x (unsigned_abs k))
@@ -244,7 +245,7 @@ shift_left_holds r counts p z x k m n =
 
 -- a word from 0 on that is shifted right gets no greater
 pub shift_right_holds : (r counts : Ends) → IsRange r
-    → Holds (λ x count. shifted_right x (unsigned_abs count)) r counts (shift_right_range r)
+    → ResultsStay (λ x count. shifted_right x (unsigned_abs count)) r counts (shift_right_range r)
 shift_right_holds r counts p x k m n =
     cond_both (is_not_negative r) (zero_to r.hi) full (λ t. InRange t (shifted_right x (unsigned_abs k)))
     (λ e. let a = not_negative_out r x e m in

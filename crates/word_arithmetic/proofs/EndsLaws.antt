@@ -10,7 +10,7 @@ use Rattle.small_laws.proofs.Comparisons.{le-int_le}
 use Rattle.word_arithmetic.specs.declared.ranges.Range.{Range}
 use Rattle.word_arithmetic.specs.Word.{is_word}
 use Rattle.word_arithmetic.proofs.WordLaws.{is_word_out, is_word_in, then_some}
-use Rattle.word_arithmetic.specs.Range.{Ends, ends_of, InRange, IsRange, IsWithin, Holds, WordsInOrderAreRanges}
+use Rattle.word_arithmetic.specs.Range.{Ends, ends_of, InRange, IsRange, IsWithin, ResultsStay, WordsInOrderAreRanges}
 use Rattle.word_arithmetic.specs.Range.{MembersLieBetween, Computes, fitting, hull, in_range, range_between}
 
 -- ---- what is said of a range that may not be there
@@ -48,8 +48,8 @@ pub member_fits : (r : Ends) (z : ℤ) → IsRange r → InRange r z → FitsSig
 member_fits r z p m = fits_between r z p.lo_fits p.hi_fits m
 
 -- what holds in the range of a rule holds in the range that follows the rule
-pub by_rule : {f : ℤ → ℤ → ℤ} {r s new e : Ends} → new ≡ e → Holds f r s e → Holds f r s new
-by_rule {f = f} {r = r} {s = s} h p = subst (Holds f r s) (sym h) p
+pub by_rule : {f : ℤ → ℤ → ℤ} {r s new e : Ends} → new ≡ e → ResultsStay f r s e → ResultsStay f r s new
+by_rule {f = f} {r = r} {s = s} h p = subst (ResultsStay f r s) (sym h) p
 
 -- words in order are the ends of a range
 pub is_range : {r : Ends} → FitsSigned w32 r.lo → FitsSigned w32 r.hi → r.lo ≤ℤ r.hi → IsRange r

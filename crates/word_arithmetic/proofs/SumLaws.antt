@@ -5,7 +5,8 @@ use Rattle.std.specs.Int.{w32}
 use Rattle.std.proofs.lemmas.Int.{ints}
 use Rattle.std.proofs.lemmas.Bool.{cond_both, and_parts, and_cases}
 use Rattle.word_arithmetic.specs.Word.{is_word, checked, checked_sum, checked_difference}
-use Rattle.word_arithmetic.specs.Range.{Ends, InRange, Holds, HoldsChecked, Reaches, BoundsResults, BoundsExactly}
+use Rattle.word_arithmetic.specs.Range.{Ends, InRange, ResultsStay, HoldsChecked, HasResult, BoundsResults}
+use Rattle.word_arithmetic.specs.Range.{BoundsExactly}
 use Rattle.word_arithmetic.specs.Range.{fitting, sum_range, difference_range}
 use Rattle.word_arithmetic.proofs.WordLaws.{is_word_out, checked_fits, not_checked}
 use Rattle.word_arithmetic.proofs.EndsLaws.{fits_between, lo_in, hi_in}
@@ -40,7 +41,7 @@ at_members f r s x y h k = record { x = x; y = y; x_in = h; y_in = k; is = refl 
 -- results, then e is exact for g where its ends fit, and where one doesn't, some members set the error flag.
 pub fitting_exact : (g : ℤ → ℤ → Option ℤ) (f : ℤ → ℤ → ℤ) (r s e : Ends)
     → ((x y : ℤ) → InRange r x → InRange s y → g x y ≡ checked (f x y))
-    → Holds f r s e → AtMembers f r s e.lo → AtMembers f r s e.hi → BoundsExactly g r s (fitting e)
+    → ResultsStay f r s e → AtMembers f r s e.lo → AtMembers f r s e.hi → BoundsExactly g r s (fitting e)
 fitting_exact g f r s e is members lo hi =
     cond_both (is_word e.lo && is_word e.hi) (Some e) None (BoundsExactly g r s)
     (λ h. let w = and_parts (is_word e.lo) (is_word e.hi) h in
@@ -64,7 +65,7 @@ fitting_exact g f r s e is members lo hi =
       reached = tt;
     })
   where
-    reaches : (z : ℤ) (o : Option ℤ) → AtMembers f r s z → checked z ≡ o → Reaches g r s o
+    reaches : (z : ℤ) (o : Option ℤ) → AtMembers f r s z → checked z ≡ o → HasResult g r s o
     reaches z o a h =
         record { x = a.x; y = a.y; x_in = a.x_in; y_in = a.y_in; is = is a.x a.y a.x_in a.y_in ∙ ap checked a.is ∙ h }
 

@@ -6,7 +6,7 @@ use Rattle.std.specs.Ordering.{int_eq}
 use Rattle.word_arithmetic.specs.Word.{checked_sum, checked_difference, checked_product, checked_quotient}
 use Rattle.word_arithmetic.specs.Word.{checked_remainder, word_sum, word_difference, word_product, word_and, word_or}
 use Rattle.word_arithmetic.specs.Word.{word_xor, truth}
-use Rattle.word_arithmetic.specs.Range.{Ends, IsRange, HoldsWords, Reaches, truths, sum_range, difference_range}
+use Rattle.word_arithmetic.specs.Range.{Ends, IsRange, HoldsWords, HasResult, truths, sum_range, difference_range}
 use Rattle.word_arithmetic.specs.Range.{product_range, quotient_range, remainder_range, word_sum_range}
 use Rattle.word_arithmetic.specs.Range.{word_difference_range, word_product_range, and_range, or_range, xor_range}
 use Rattle.word_arithmetic.specs.declared.binary.Binary.{Binary}
@@ -57,7 +57,7 @@ BinaryHolds = (op : Binary) (r s t : Ends) → IsRange r → IsRange s
 -- an operation has no range of two ranges only if some of their members set the error flag
 abbrev pub BinaryFails : Type 0
 BinaryFails = (op : Binary) (r s : Ends) → IsRange r → IsRange s
-    → result_range op r s ≡ None → Reaches (computed op) r s None
+    → result_range op r s ≡ None → HasResult (computed op) r s None
 
 -- the range that an operation has of two ranges is one: its ends are words, in order
 abbrev pub BinaryGivesRanges : Type 0

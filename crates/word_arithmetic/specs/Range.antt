@@ -52,8 +52,8 @@ abbrev pub IsWithin : Ends → Ends → Type 0
 IsWithin r outer = (v : ℤ) → InRange r v → InRange outer v
 
 -- each result of members is a member
-abbrev pub Holds : (ℤ → ℤ → ℤ) → Ends → Ends → Ends → Type 0
-Holds f r s t = (x y : ℤ) → InRange r x → InRange s y → InRange t (f x y)
+abbrev pub ResultsStay : (ℤ → ℤ → ℤ) → Ends → Ends → Ends → Type 0
+ResultsStay f r s t = (x y : ℤ) → InRange r x → InRange s y → InRange t (f x y)
 
 -- no members set the error flag, and each result of members is a member
 abbrev pub HoldsChecked : (ℤ → ℤ → Option ℤ) → Ends → Ends → Ends → Type 0
@@ -69,7 +69,7 @@ abbrev pub HoldsWords : (ℤ → ℤ → Option ℤ) → Ends → Ends → Ends 
 HoldsWords f r s t = (x y : ℤ) → InRange r x → InRange s y → IsSomeAnd (f x y) (IsWordIn t)
 
 -- some members have this result
-pub record Reaches (f : ℤ → ℤ → Option ℤ) (r s : Ends) (outcome : Option ℤ) : Type 0 where
+pub record HasResult (f : ℤ → ℤ → Option ℤ) (r s : Ends) (outcome : Option ℤ) : Type 0 where
   pub x : ℤ
   pub y : ℤ
   pub x_in : InRange r x
@@ -78,14 +78,14 @@ pub record Reaches (f : ℤ → ℤ → Option ℤ) (r s : Ends) (outcome : Opti
 
 -- both ends are results of members
 pub record ReachesEnds (f : ℤ → ℤ → Option ℤ) (r s t : Ends) : Type 0 where
-  pub lo : Reaches f r s (Some t.lo)
-  pub hi : Reaches f r s (Some t.hi)
+  pub lo : HasResult f r s (Some t.lo)
+  pub hi : HasResult f r s (Some t.hi)
 
 -- the range, if there is one, holds each result of members, and no members set the error flag; if there is none, some
 -- do
 pub record BoundsResults (f : ℤ → ℤ → Option ℤ) (r s : Ends) (range : Option Ends) : Type 0 where
   pub members : IfSome range (HoldsChecked f r s)
-  pub none : IfNone range (Reaches f r s None)
+  pub none : IfNone range (HasResult f r s None)
 
 -- and both ends of the range are results of members, so that none is smaller
 pub record BoundsExactly (f : ℤ → ℤ → Option ℤ) (r s : Ends) (range : Option Ends) : Type 0 where
@@ -103,8 +103,8 @@ abbrev pub constant : ℤ → Ends
 constant v = record { lo = v; hi = v }
 
 -- the one number of a range that has only one
-abbrev pub constant_of : Ends → Option ℤ
-constant_of r = if is_constant r then Some r.lo else None
+abbrev pub only_number : Ends → Option ℤ
+only_number r = if is_constant r then Some r.lo else None
 
 -- the values of a BYTE
 abbrev pub bytes : Ends

@@ -18,7 +18,7 @@ pub struct Range {
 
 impl Range {
     ghost use Rattle.word_arithmetic.specs.Range.{Ends, ends_of, InRange, IsWithin, in_range, is_within, constant};
-    ghost use Rattle.word_arithmetic.specs.Range.{constant_of, bytes, full, hull, range_between, truths};
+    ghost use Rattle.word_arithmetic.specs.Range.{only_number, bytes, full, hull, range_between, truths};
 
     /// The words from `lo` to `hi`.
     pub fn new(lo: i32, hi: i32) -> Self
@@ -74,7 +74,7 @@ impl Range {
 
     /// The word, where the range has only one.
     pub fn is_constant(&self) -> Option<i32>
-        ensures rule { result ≡ constant_of (ends_of self.now) }
+        ensures rule { result ≡ only_number (ends_of self.now) }
         ensures word { MatchOption result
             (self.now.lo ≢ self.now.hi)
             (λ word. ends_of self.now ≡ constant word) }

@@ -10,12 +10,12 @@ use Rattle.machine_state.specs.declared.event.Event.TheVariants.{Step, Arrive, A
 use Rattle.machine_state.specs.declared.fault.Fault.{Fault}
 use Rattle.machine_state.specs.declared.holding.Span.{Span}
 use Rattle.machine_state.specs.BranchShares.{holding_of}
-use Rattle.machine_state.specs.Endings.{Moved, Ends, Happened, plan_of}
+use Rattle.machine_state.specs.Endings.{Moved, TurnsInto, Happened, plan_of}
 use Rattle.machine_state.specs.Endings as turns
 use Rattle.machine_state.specs.Happens.{turn, world_after}
 use Rattle.machine_state.specs.Holding.{Holding, nothing, may_write, covers}
 use Rattle.machine_state.specs.JoinLookups.{Found, opened_by}
-use Rattle.machine_state.specs.Joins.{on_role, joined, started, opened, ended, given_back, join_after}
+use Rattle.machine_state.specs.Joins.{on_role, member_joined, started, opened, ended, given_back, join_after}
 use Rattle.machine_state.specs.Memory.{Memory}
 use Rattle.machine_state.specs.Moves.{dispatch, link_index}
 use Rattle.machine_state.specs.Roles.{own_in}
@@ -140,7 +140,7 @@ module _ (h : Here) (w : World) (all : AllLie (length w.memory) w.roles) where
       })
 
   joins : (o : ℕ) (j : Join) (par : Par) (v : World) → LiesIn n j.rest → AllLie n v.roles
-      → AllLie n (joined h o j par v).roles
+      → AllLie n (member_joined h o j par v).roles
   unfolding dispatch
   joins o j par v rest before =
       joined_either (λ (v : World). AllLie n v.roles) h o j par v
@@ -194,7 +194,7 @@ module _ (h : Here) (w : World) (all : AllLie (length w.memory) w.roles) where
       chooses h w l (λ (v : World). AllLie n v.roles) (λ r mode m same further. all) _ distance
   moved o v (turns.it_ends_alternation to l none) = all
 
-  ends : (o : Outcome) (t : Turn) → Ends h w o t → AllLie n t.world.roles
+  ends : (o : Outcome) (t : Turn) → TurnsInto h w o t → AllLie n t.world.roles
   unfolding dispatch
   ends o t (turns.at_fault refused) = all
   ends o t (turns.has_run {after = v} x) = moved o v x

@@ -9,11 +9,11 @@ use Rattle.std.proofs.lemmas.Bool.{and_parts}
 use Rattle.small_laws.proofs.Options.{same_some}
 use Rattle.module_format.specs.Contents.{Contents, Par, Branch}
 use Rattle.machine_state.specs.declared.event.Event.{Event}
-use Rattle.machine_state.specs.Endings.{Moved, Ends, Happened, plan_of}
+use Rattle.machine_state.specs.Endings.{Moved, TurnsInto, Happened, plan_of}
 use Rattle.machine_state.specs.Endings as turns
 use Rattle.machine_state.specs.Happens.{world_after}
 use Rattle.machine_state.specs.JoinLookups.{Found, found_at, found_from, found_in_row}
-use Rattle.machine_state.specs.Joins.{on_role, joined, started, ended, given_back, closed_task, join_after}
+use Rattle.machine_state.specs.Joins.{on_role, member_joined, started, ended, given_back, closed_task, join_after}
 use Rattle.machine_state.specs.Moves.{on_task, dispatch, link_index}
 use Rattle.machine_state.specs.Ownership.{IsAmong}
 use Rattle.machine_state.specs.Roles.{opened_in}
@@ -161,7 +161,7 @@ module _ (m : Contents) where
 
   joins_have : (h : Here) (o : ℕ) (j : Join) (par : Par) (v : World) → opened_in v.roles o ≡ Some j
       → ((par : Par) → slice_get m.pars j.row ≡ Some par → (IsAmong o (without h.process j).members → ⊥)
-      → j.started ≡ length par.branches) → Have v → Have (joined h o j par v)
+      → j.started ≡ length par.branches) → Have v → Have (member_joined h o j par v)
   unfolding dispatch
   joins_have h o j par v is all before = joined_either Have h o j par v
       (λ none. role_has o (with_opened None) (on_task o (closed_task j par) gone) (λ r i here shut. absurd (cc))
@@ -298,7 +298,7 @@ module _ (h : Here) (w : World) (there : slice_get w.tasks h.process ≡ Some h.
   moved o v (turns.it_enables guard address l s holds (turns.on_link n link on here) once) = before
   moved o v _ = before
 
-  ends : (o : Outcome) (t : Turn) → Ends h w o t → StillHave t.world
+  ends : (o : Outcome) (t : Turn) → TurnsInto h w o t → StillHave t.world
   unfolding dispatch
   ends o t (turns.at_fault refused) = before
   ends o t (turns.has_run {after = v} moves) = moved o v moves

@@ -14,13 +14,14 @@ use Rattle.machine_state.specs.declared.process.Condition.TheVariants.{Sending}
 use Rattle.machine_state.specs.declared.process.Mode.TheVariants.{Starting}
 use Rattle.machine_state.specs.BranchShares.{frame_address, holding_of}
 use Rattle.machine_state.specs.ChannelLaws.{HaveTheirWaiters}
-use Rattle.machine_state.specs.Endings.{Moved, Ends, Happened, plan_of}
+use Rattle.machine_state.specs.Endings.{Moved, TurnsInto, Happened, plan_of}
 use Rattle.machine_state.specs.Endings as turns
 use Rattle.machine_state.specs.Exchanges.{waits_at}
 use Rattle.machine_state.specs.Happens.{turn, world_after}
 use Rattle.machine_state.specs.Holding.{Holding, nothing, may_write, may_read, may_write_word}
 use Rattle.machine_state.specs.JoinLookups.{Found}
-use Rattle.machine_state.specs.Joins.{on_role, joined, started, opened, ended, given_back, join_after, without_words}
+use Rattle.machine_state.specs.Joins.{on_role, member_joined, started, opened, ended, given_back, join_after}
+use Rattle.machine_state.specs.Joins.{without_words}
 use Rattle.machine_state.specs.Joins.{closed_task, with_channels}
 use Rattle.machine_state.specs.Memory.{Memory, place_of, byte_at, with_word}
 use Rattle.machine_state.specs.Moves.{cell_of, on_task, dispatch, link_index}
@@ -176,7 +177,7 @@ module _ (h : Here) (w : World) where
   -- ---- a member of a join ends
 
   joins : (o : ℕ) (j : Join) (par : Par) (v : World) → v.channels ≡ w.channels → Blocks w.roles v.roles
-      → opened_in v.roles o ≡ Some j → StillKept w (joined h o j par v)
+      → opened_in v.roles o ≡ Some j → StillKept w (member_joined h o j par v)
   unfolding dispatch
   joins o j par v cells before is =
       joined_either (StillKept w) h o j par v (λ none.
@@ -384,7 +385,7 @@ module _ (h : Here) (w : World) where
         (λ r mode m same further k. k) guard distance k)
     moved o v (turns.it_ends_alternation to l none) p x k = inl k
 
-    ends : (o : Outcome) (t : Turn) → Ends h w o t → StillKept w t.world
+    ends : (o : Outcome) (t : Turn) → TurnsInto h w o t → StillKept w t.world
     unfolding dispatch
     ends o t (turns.at_fault refused) p x k = inl k
     ends o t (turns.has_run {after = v} moves) p x k = moved o v moves p x k

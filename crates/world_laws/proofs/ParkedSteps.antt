@@ -20,13 +20,14 @@ use Rattle.machine_state.specs.Alternations.{chosen, selected, in_mode, ready_or
 use Rattle.machine_state.specs.Apart.{AllApart}
 use Rattle.machine_state.specs.BranchShares.{holding_of}
 use Rattle.machine_state.specs.EnabledLaws.{Enables, Disables}
-use Rattle.machine_state.specs.Endings.{Moved, Ends, local_here, plan_of}
+use Rattle.machine_state.specs.Endings.{Moved, TurnsInto, local_here, plan_of}
 use Rattle.machine_state.specs.Endings as turns
 use Rattle.machine_state.specs.Exchanges.{condition_of, waits_at, output_link}
 use Rattle.machine_state.specs.Happens.{site_of}
 use Rattle.machine_state.specs.Holding.{Holding, nothing, may_write, may_read}
 use Rattle.machine_state.specs.JoinLookups.{Found}
-use Rattle.machine_state.specs.Joins.{joined, started, opened, ended, given_back, join_after, new_task, closed_task}
+use Rattle.machine_state.specs.Joins.{member_joined, started, opened, ended, given_back, join_after, new_task}
+use Rattle.machine_state.specs.Joins.{closed_task}
 use Rattle.machine_state.specs.Joins.{without_words}
 use Rattle.machine_state.specs.Joins as join
 use Rattle.machine_state.specs.LocalStep.{with_a_alone}
@@ -501,7 +502,7 @@ module _ (h : Here) (w : World) (runs : w.queue.running ≡ Some h.process)
   -- ---- a member of a join ends
 
   joins : (o : ℕ) (j : Join) (par : Par) (u : Task) (v : World) → v.tasks ≡ slice_set w.tasks h.process u
-      → u.condition ≡ Ended → u.mode ≡ Plain → let after = joined h o j par v in
+      → u.condition ≡ Ended → u.mode ≡ Plain → let after = member_joined h o j par v in
       Steady after.memory → HoldOn after.roles → AllInOrder (Aside after) after
   unfolding dispatch
   joins o j par u v tasks over plain =
@@ -642,7 +643,7 @@ module _ (h : Here) (w : World) (runs : w.queue.running ≡ Some h.process)
   moved o v (turns.it_ends_alternation to l none) leaves fits steady held =
       goes_outside _ l.memory ready steady (plain_is_outside Plain refl)
 
-  pub ends : (o : Outcome) (t : Turn) → Ends h w o t → Leaves (site_of h w) (local_here h.from w) o
+  pub ends : (o : Outcome) (t : Turn) → TurnsInto h w o t → Leaves (site_of h w) (local_here h.from w) o
       → Fits h.from.mode o → Steady t.world.memory → HoldOn t.world.roles → AllInOrder (Aside t.world) t.world
   unfolding dispatch
   ends o t (turns.at_fault refused) leaves fits steady held = g.all

@@ -11,7 +11,7 @@ use Rattle.machine_state.specs.declared.process.Mode.TheVariants.{Enabling, Disa
 use Rattle.machine_state.specs.declared.process.Task.{Task}
 use Rattle.machine_state.specs.EnabledLaws.{Enables, Disables}
 use Rattle.machine_state.specs.Holding.{Holding, may_write, may_read}
-use Rattle.machine_state.specs.LocalStep.{meet}
+use Rattle.machine_state.specs.LocalStep.{places_meet}
 use Rattle.machine_state.specs.Memory.{Memory, place_of, local_address, scheduling_word, byte_at}
 use Rattle.machine_state.specs.Moves.{on_task, wake, rouse}
 use Rattle.machine_state.specs.Site.{Local}
@@ -268,7 +268,7 @@ module _ (h : Holding) (data_alone : IsData h) (test : ℕ → Bool) (l : Local)
       let d = there.2.1 in
       let low = inside.0 in
       let high = inside.1 in
-      let met : meet (place_of e.address) e.length lowest 12 ≡ true =
+      let met : places_meet (place_of e.address) e.length lowest 12 ≡ true =
       and_from _ _ (lt-ltb (place_of e.address) (lowest + 12) (omega (arith, b, d, low)))
       (lt-ltb lowest (place_of e.address + e.length) (omega (arith, a, c, high))) in
       let z : false ≡ true = sym (ap not met) ∙ x.apart in cc

@@ -11,7 +11,7 @@ use Rattle.machine_state.specs.declared.process.Condition.{Condition}
 use Rattle.machine_state.specs.declared.process.Condition.TheVariants.{Ready, Receiving}
 use Rattle.machine_state.specs.declared.process.Exchange.{Exchange}
 use Rattle.machine_state.specs.declared.process.Task.{Task}
-use Rattle.machine_state.specs.Endings.{Moved, Ends, Happened, local_here}
+use Rattle.machine_state.specs.Endings.{Moved, TurnsInto, Happened, local_here}
 use Rattle.machine_state.specs.Endings as turns
 use Rattle.machine_state.specs.Exchanges.{condition_of}
 use Rattle.machine_state.specs.Happens.{turn, world_after}
@@ -86,7 +86,7 @@ module _ (m : Contents) (w : World) (x : ℕ) (never : Reaches w x → ⊥) wher
         (of_waiting_is _ w e (delivered_to e) c (Some other) inside here waits ∙ ap (delivered_to e) is) there)
     moved_tells o v _ there = absurd (cc)
 
-    ended_stays : (o : Outcome) (t : Turn) → Ends h w o t → delivery m w ≡ delivery_by w o
+    ended_stays : (o : Outcome) (t : Turn) → TurnsInto h w o t → delivery m w ≡ delivery_by w o
         → StepWrites (is_own w) (delivery m w) w.memory t.world.memory t.answer
         → byte_at t.world.memory x ≡ byte_at w.memory x
     ended_stays o t (turns.at_fault refused) is writes = refl

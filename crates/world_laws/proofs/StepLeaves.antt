@@ -58,7 +58,8 @@ pub record Messages (h : Holding) (test : ℕ → Bool) (after : Local) (e : Exc
   pub gives : Gives h after
   pub some : 1 ≤ e.length
   pub bytes : all_places test (place_of e.address) e.length ≡ true
-  pub apart : not (step.meet (place_of e.address) e.length (place_of (scheduling_word after.registers.workspace 2)) 12)
+  pub apart : not (step.places_meet (place_of e.address) e.length
+      (place_of (scheduling_word after.registers.workspace 2)) 12)
       ≡ true
 
 abbrev pub Leaves : Site → Local → Outcome → Type 0

@@ -7,7 +7,7 @@ use Rattle.machine_state.specs.declared.event.Event.{Event}
 use Rattle.machine_state.specs.declared.process.Channel.{Channel}
 use Rattle.machine_state.specs.declared.process.Mode.TheVariants.{Starting}
 use Rattle.machine_state.specs.declared.process.Task.{Task}
-use Rattle.machine_state.specs.Endings.{Ends, Happened}
+use Rattle.machine_state.specs.Endings.{TurnsInto, Happened}
 use Rattle.machine_state.specs.Endings as turns
 use Rattle.machine_state.specs.EventLaws.{bytes_of}
 use Rattle.machine_state.specs.Happens.{turn, world_after}
@@ -84,7 +84,7 @@ grows m w ts rs cs ls (change.acknowledges p k link here waiting x) = one_size w
 abbrev Counts : World → Turn → Type 0
 Counts w t = length t.world.tasks ≤ length w.tasks + bytes_of t.answer
 
-ended : (h : Here) (w : World) (o : Outcome) (t : Turn) → length t.world.tasks ≤ length w.tasks + 1 → Ends h w o t
+ended : (h : Here) (w : World) (o : Outcome) (t : Turn) → length t.world.tasks ≤ length w.tasks + 1 → TurnsInto h w o t
     → Counts w t
 ended h w o t most (turns.at_fault refused) = omega arith
 ended h w o t most (turns.has_run moved) = most

@@ -2,7 +2,7 @@
 
 ghost use Rattle.std.specs.Prelude.{◌≡◌, ◌||◌, not, false, IfOk, OnOk};
 ghost use Rattle.machine_state.specs.declared.holding.End.{End as HeldEnd};
-ghost use Rattle.machine_state.specs.Spans.{is_listed, is_same_end};
+ghost use Rattle.machine_state.specs.Spans.{is_among_ends, is_same_end};
 ghost use Rattle.joins.specs.EndSets.{has};
 
 use machine_state::End;
@@ -32,7 +32,7 @@ impl EndSet {
 
     /// These ends. It takes time n log n.
     pub(crate) fn of(alloc: Global, ends: &[End]) -> Result<EndSet, AllocError>
-        ensures { IfOk result (λ set. (end : HeldEnd) → has set end ≡ is_listed ends.now end) }
+        ensures { IfOk result (λ set. (end : HeldEnd) → has set end ≡ is_among_ends ends.now end) }
     {
         let mut set = EndSet::new(alloc);
         for end in ends {

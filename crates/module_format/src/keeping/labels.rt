@@ -2,7 +2,7 @@
 
 ghost use Rattle.std.specs.Prelude.{◌≡◌, ◌↔◌, IsTrue, map};
 ghost use Rattle.module_format.specs.Contents.{label_of, procedure_of};
-ghost use Rattle.module_format.specs.Offsets.{EntriesRise};
+ghost use Rattle.module_format.specs.Offsets.{ProceduresRise};
 ghost use Rattle.module_format.specs.Facts.{IsPointer, ValueKeeps, RegisterKeeps, WordKeeps, IsLabelOffset, FactsKeep};
 
 use crate::fact::{Fact, Region, Step};
@@ -70,7 +70,7 @@ pub(crate) fn offset_keeps(
     low: u32,
     offset: u32,
 ) -> bool
-    requires { EntriesRise procedures.now }
+    requires { ProceduresRise procedures.now }
     ensures { IsTrue result ↔ IsLabelOffset code_len (map procedure_of procedures.now) low offset }
 {
     lies_after(low, offset, code_len) && !is_entry(procedures, offset)

@@ -8,10 +8,10 @@ ghost use Rattle.module_format.specs.declared.rows.Interval.{Interval};
 ghost use Rattle.module_format.specs.Meaning.{walk, listed_as};
 ghost use Rattle.module_format.specs.Order.{InOrder, least_word};
 ghost use Rattle.module_format.specs.Pars.{Before, IntervalKeeps, behind_interval, behind_number, behind_end};
-ghost use Rattle.module_format.specs.Pars.{behind_branch, entries_of, first_key, meet};
+ghost use Rattle.module_format.specs.Pars.{behind_branch, entries_of, first_key, intervals_meet};
 ghost use Rattle.module_format.specs.Reading.{list_at};
-ghost use Rattle.module_format.specs.ReadingPars.{interval_end_at, words_at, read_words_at, parameter_number_at};
-ghost use Rattle.module_format.specs.ReadingPars.{end_at, branch_entry_at, branch_counts_at, branch_row_at};
+ghost use Rattle.module_format.specs.ReadingPars.{interval_end_at, frame_words_at, read_words_at, parameter_number_at};
+ghost use Rattle.module_format.specs.ReadingPars.{end_row_at, branch_entry_at, branch_counts_at, branch_row_at};
 ghost use Rattle.module_format.specs.Taking.{Takes, MayRunOut};
 
 use crate::fault::FormatFaultKind;
@@ -35,7 +35,7 @@ fn read_interval_end(lo: i32, from: &mut Cursor<'_>) -> i32
 
 /// Frame words from `low` on.
 pub(crate) fn read_words(low: i64, from: &mut Cursor<'_>) -> Interval
-    ensures { Takes (λ size. words_at size low) from.old result from.new }
+    ensures { Takes (λ size. frame_words_at size low) from.old result from.new }
 {
     let lo = read_first_word(low, from);
     let hi = read_interval_end(lo, from);
@@ -45,7 +45,7 @@ pub(crate) fn read_words(low: i64, from: &mut Cursor<'_>) -> Interval
 /// Whether an interval has a word of one of the others, which rise.
 pub fn meets_any(interval: &Interval, others: &[Interval]) -> bool
     requires { InOrder IntervalKeeps behind_interval least_word others.now }
-    ensures { result ≡ list_any (meet interval.now) others.now }
+    ensures { result ≡ list_any (intervals_meet interval.now) others.now }
 {
     let first = others.partition_point(|other| other.hi <= interval.lo);
     match others.get(first) {
@@ -56,7 +56,7 @@ pub fn meets_any(interval: &Interval, others: &[Interval]) -> bool
 
 /// `count` intervals that are written.
 fn read_writes(count: u16, from: &mut Cursor<'_>) -> SmallVec<Interval, 2>
-    ensures takes { Takes (λ size. list_at (words_at size) behind_interval count least_word)
+    ensures takes { Takes (λ size. list_at (frame_words_at size) behind_interval count least_word)
         from.old result.items from.new }
     ensures rise { from.new.failure ≡ None → InOrder IntervalKeeps behind_interval least_word result.items }
 {
@@ -85,7 +85,7 @@ fn read_parameter_numbers(count: u16, from: &mut Cursor<'_>) -> SmallVec<u16, 4>
 
 /// `count` ends.
 fn read_ends(count: u16, from: &mut Cursor<'_>) -> Vec<EndRow>
-    ensures { Takes (λ size. list_at (end_at size) behind_end count first_key) from.old result.items from.new }
+    ensures { Takes (λ size. list_at (end_row_at size) behind_end count first_key) from.old result.items from.new }
 {
     read_list(&(), EndKey::first(), u32::from(count), from)
 }

@@ -29,7 +29,7 @@ impl<'a> Cursor<'a> {
     ghost use Rattle.std.specs.List.{starts_with};
     ghost use Rattle.module_format.specs.declared.fault.FormatFaultKind.TheVariants.{Truncated};
     ghost use Rattle.module_format.specs.Taking.{Takes, Stays, failure_after, failure_of, memory_after};
-    ghost use Rattle.module_format.specs.Reading.{place, number_at, int_at, byte_at, bytes_at};
+    ghost use Rattle.module_format.specs.Reading.{place, number_at, int_at, byte_taken, bytes_taken};
 
     /// At the front of a file.
     pub(crate) fn new(alloc: Global, bytes: &'a [u8]) -> Cursor<'a>
@@ -161,7 +161,7 @@ impl<'a> Cursor<'a> {
     }
 
     pub(crate) fn u8(&mut self) -> u8
-        ensures { Takes byte_at self.old result self.new }
+        ensures { Takes byte_taken self.old result self.new }
     {
         match self.advance(1) {
             Some([byte, ..]) => *byte,
@@ -207,7 +207,7 @@ impl<'a> Cursor<'a> {
 
     /// As many bytes as a length says.
     pub(crate) fn bytes(&mut self, len: u32) -> &'a [u8]
-        ensures { Takes (λ size. bytes_at size len) self.old result.now self.new }
+        ensures { Takes (λ size. bytes_taken size len) self.old result.now self.new }
     {
         let len = len as usize;
         match self.advance(len) {

@@ -3,8 +3,8 @@
 
 ghost use Rattle.std.specs.Prelude.{◌≡◌};
 ghost use Rattle.module_format.specs.Facts.{end_of};
-ghost use Rattle.module_format.specs.ReadingRows.{range_at, step_at, pointed_at, pointer_at, code_address_at, count_at};
-ghost use Rattle.module_format.specs.ReadingRows.{loop_at, fact_at, register_at, word_at, first_word_at, span_at};
+ghost use Rattle.module_format.specs.ReadingRows.{number_fact_at, step_at, pointed_at, pointer_at, code_address_at, count_at};
+ghost use Rattle.module_format.specs.ReadingRows.{loop_at, fact_at, register_at, word_fact_at, first_word_at, span_at};
 ghost use Rattle.module_format.specs.ReadingRows.{entries_at, registers_at};
 ghost use Rattle.module_format.specs.Taking.{Takes};
 
@@ -24,7 +24,7 @@ pub(crate) const LEAST_WORD: i64 = -2_147_483_648;
 
 /// The bounds of a number.
 fn read_range(from: &mut Cursor<'_>) -> Fact
-    ensures { Takes range_at from.old result from.new }
+    ensures { Takes number_fact_at from.old result from.new }
 {
     let (lo, hi) = from.interval();
     Fact::Number { lo, hi }
@@ -133,7 +133,7 @@ fn read_register(code_len: usize, from: &mut Cursor<'_>) -> Fact
 
 /// A fact of `span` frame words.
 pub(crate) fn read_word_fact(code_len: usize, span: u32, from: &mut Cursor<'_>) -> Fact
-    ensures { Takes (λ size. word_at size code_len span) from.old result from.new }
+    ensures { Takes (λ size. word_fact_at size code_len span) from.old result from.new }
 {
     let at = from.place();
     let tag = from.u8();

@@ -3,7 +3,7 @@
 
 ghost use Rattle.std.specs.Prelude.{◌≡◌, None, map};
 ghost use Rattle.module_format.specs.Contents.{label_of, procedure_of};
-ghost use Rattle.module_format.specs.Offsets.{EntriesRise};
+ghost use Rattle.module_format.specs.Offsets.{ProceduresRise};
 ghost use Rattle.module_format.specs.ReadingRows.{label_offset_at, label_rows_at};
 ghost use Rattle.module_format.specs.Taking.{Takes};
 
@@ -21,7 +21,7 @@ pub(crate) fn read_label_offset(
     low: u32,
     from: &mut Cursor<'_>,
 ) -> u32
-    requires { EntriesRise procedures.now }
+    requires { ProceduresRise procedures.now }
     ensures { Takes (λ size. label_offset_at size code_len (map procedure_of procedures.now) low)
         from.old result from.new }
 {
@@ -39,7 +39,7 @@ pub fn read_label_rows(
     count: u32,
     from: &mut Cursor<'_>,
 ) -> Vec<LabelRow>
-    requires { from.old.failure ≡ None → EntriesRise procedures.now }
+    requires { from.old.failure ≡ None → ProceduresRise procedures.now }
     ensures { Takes (λ size. label_rows_at size code_len (map procedure_of procedures.now) count)
         from.old (map label_of result.items) from.new }
 {

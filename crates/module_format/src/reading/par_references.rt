@@ -3,7 +3,7 @@
 ghost use Rattle.std.specs.Prelude.{◌≡◌, ◌+◌, ⊤, ℕ, length, map};
 ghost use Rattle.std.specs.List.{flat_map};
 ghost use Rattle.module_format.specs.Contents.{branch_of, par_of};
-ghost use Rattle.module_format.specs.Keeping.{is_region, has_element, names, names_end};
+ghost use Rattle.module_format.specs.Keeping.{is_region, has_element, names, end_is_there};
 ghost use Rattle.module_format.specs.Spelling.{u16_bytes, end_bytes, branch_bytes, par_bytes};
 ghost use Rattle.module_format.specs.Meaning.{naming};
 ghost use Rattle.module_format.specs.References.{parameter_references, end_references, branch_references};
@@ -38,7 +38,7 @@ impl ContextParameters<'_> {
 
     /// Whether the channel that an end belongs to is there.
     fn has_end(&self, kind: EndKind) -> bool
-        ensures { result ≡ names_end self.now.0.now kind }
+        ensures { result ≡ end_is_there self.now.0.now kind }
     {
         let EndKind::Parameter { number, element } = kind else {
             return true;

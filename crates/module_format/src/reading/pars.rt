@@ -7,7 +7,7 @@ ghost use Rattle.module_format.specs.Meaning.{walk, listed_as};
 ghost use Rattle.module_format.specs.Order.{least_word};
 ghost use Rattle.module_format.specs.Pars.{behind_channel, behind_par, first_entry};
 ghost use Rattle.module_format.specs.Reading.{list_at};
-ghost use Rattle.module_format.specs.ReadingPars.{channel_at, context_number_at, branch_count_at, par_row_at};
+ghost use Rattle.module_format.specs.ReadingPars.{channel_row_at, context_number_at, branch_count_at, par_row_at};
 ghost use Rattle.module_format.specs.ReadingPars.{par_rows_at};
 ghost use Rattle.module_format.specs.Taking.{Takes};
 
@@ -22,7 +22,7 @@ use crate::rows::{BranchRow, ChannelRow, ParRow};
 
 /// `count` channels of a PAR.
 fn read_channels(count: u16, from: &mut Cursor<'_>) -> Vec<ChannelRow>
-    ensures { Takes (λ size. list_at (channel_at size) behind_channel count least_word) from.old result.items from.new }
+    ensures { Takes (λ size. list_at (channel_row_at size) behind_channel count least_word) from.old result.items from.new }
 {
     read_list(&(), LEAST_WORD, u32::from(count), from)
 }

@@ -3,10 +3,10 @@
 
 ghost use Rattle.std.specs.Prelude.{◌≡◌, None, map};
 ghost use Rattle.module_format.specs.Contents.{procedure_of};
-ghost use Rattle.module_format.specs.Offsets.{EntriesRise};
+ghost use Rattle.module_format.specs.Offsets.{ProceduresRise};
 ghost use Rattle.module_format.specs.ReadingRows.{words_range_at, region_size_at, region_kind, region_at, ends_at};
 ghost use Rattle.module_format.specs.ReadingRows.{channels_at, value_at, kind_at, parameter_word_at};
-ghost use Rattle.module_format.specs.ReadingRows.{parameters_at, frame_start_at, frame_end_at, rising_at};
+ghost use Rattle.module_format.specs.ReadingRows.{parameter_rows_at, frame_start_at, frame_end_at, rising_at};
 ghost use Rattle.module_format.specs.ReadingRows.{procedure_rows_at};
 ghost use Rattle.module_format.specs.Taking.{Takes};
 
@@ -138,7 +138,7 @@ pub(crate) fn read_parameter_word(hi: i32, low: u16, from: &mut Cursor<'_>) -> u
 
 /// The parameters of a procedure, after their number.
 pub(crate) fn read_parameters(version: Version, hi: i32, from: &mut Cursor<'_>) -> Vec<Parameter>
-    ensures { Takes (λ size. parameters_at size version hi) from.old result.items from.new }
+    ensures { Takes (λ size. parameter_rows_at size version hi) from.old result.items from.new }
 {
     let count = from.limited_u16(MAX_PARAMETERS);
     read_list(&Frame { version, hi }, 0, u32::from(count), from)
@@ -178,7 +178,7 @@ pub(crate) fn read_procedure_entry(code_len: usize, low: u32, from: &mut Cursor<
 pub fn read_procedure_rows(code: &Code, count: u32, from: &mut Cursor<'_>) -> Vec<ProcedureRow>
     ensures takes { Takes (λ size. procedure_rows_at size code.now.version code.now.len count)
         from.old (map procedure_of result.items) from.new }
-    ensures rise { from.new.failure ≡ None → EntriesRise result.items }
+    ensures rise { from.new.failure ≡ None → ProceduresRise result.items }
 {
     read_list(code, 0, count, from)
 }

@@ -2,8 +2,8 @@
 
 ghost use Rattle.std.specs.Prelude.{◌≡◌, ◌≤◌, ◌<◌, None};
 ghost use Rattle.std.specs.List.{list_all};
-ghost use Rattle.module_format.specs.Procedures.{words_of};
-ghost use Rattle.module_format.specs.ReadingRows.{table_start_at, table_end_at, is_within, table_rows_at};
+ghost use Rattle.module_format.specs.Procedures.{words_in_bytes};
+ghost use Rattle.module_format.specs.ReadingRows.{table_start_at, table_end_at, lies_between, table_rows_at};
 ghost use Rattle.module_format.specs.Taking.{Takes};
 
 use crate::fault::FormatFaultKind;
@@ -42,7 +42,7 @@ pub(crate) fn read_table_end(const_len: usize, start: u32, from: &mut Cursor<'_>
 /// Whether all words that the bytes are lie from `lo` to `hi`.
 #[tactic(auto, using(crate::proofs::KeepingLaws::words_step, crate::proofs::KeepingLaws::words_end))]
 pub fn words_lie_within(bytes: &[u8], lo: i32, hi: i32) -> bool
-    ensures { result ≡ list_all (is_within lo hi) (words_of bytes.now) }
+    ensures { result ≡ list_all (lies_between lo hi) (words_in_bytes bytes.now) }
 {
     let mut rest = bytes;
     while rest.len() >= 4 {

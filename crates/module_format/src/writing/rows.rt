@@ -3,7 +3,7 @@
 
 ghost use Rattle.std.specs.Prelude.{◌^◌, ◌<◌, ⊤, length};
 ghost use Rattle.module_format.specs.Contents.{procedure_of, label_of, branch_of, par_of};
-ghost use Rattle.module_format.specs.Meaning.{plain, viewed};
+ghost use Rattle.module_format.specs.Meaning.{without_lists, viewed};
 ghost use Rattle.module_format.specs.Spelling.{u16_bytes, u32_bytes, entry_bytes, label_bytes, parameter_bytes};
 ghost use Rattle.module_format.specs.Spelling.{procedure_bytes, channel_bytes, interval_bytes, end_bytes};
 ghost use Rattle.module_format.specs.Spelling.{branch_bytes, par_bytes, table_row_bytes};
@@ -21,7 +21,7 @@ use crate::writing::list::{Put, put_all};
 use crate::writing::writer::Writer;
 
 impl Put for u16 {
-    ghost meaning = { plain u16_bytes };
+    ghost meaning = { without_lists u16_bytes };
 
     fn put(&self, _version: Version, out: &mut Writer) {
         out.u16(*self);
@@ -29,7 +29,7 @@ impl Put for u16 {
 }
 
 impl Put for u32 {
-    ghost meaning = { plain u32_bytes };
+    ghost meaning = { without_lists u32_bytes };
 
     fn put(&self, _version: Version, out: &mut Writer) {
         out.u32(*self);
@@ -37,7 +37,7 @@ impl Put for u32 {
 }
 
 impl Put for Entry {
-    ghost meaning = { plain entry_bytes };
+    ghost meaning = { without_lists entry_bytes };
 
     fn put(&self, _version: Version, out: &mut Writer) {
         out.i32(self.word);
@@ -85,7 +85,7 @@ impl Put for ProcedureRow {
 }
 
 impl Put for TableRow {
-    ghost meaning = { plain table_row_bytes };
+    ghost meaning = { without_lists table_row_bytes };
 
     fn put(&self, _version: Version, out: &mut Writer) {
         out.u32(self.start);
@@ -96,7 +96,7 @@ impl Put for TableRow {
 }
 
 impl Put for ChannelRow {
-    ghost meaning = { plain channel_bytes };
+    ghost meaning = { without_lists channel_bytes };
 
     fn put(&self, _version: Version, out: &mut Writer) {
         out.i32(self.word);
@@ -105,7 +105,7 @@ impl Put for ChannelRow {
 }
 
 impl Put for Interval {
-    ghost meaning = { plain interval_bytes };
+    ghost meaning = { without_lists interval_bytes };
 
     fn put(&self, _version: Version, out: &mut Writer) {
         out.i32(self.lo);
@@ -114,7 +114,7 @@ impl Put for Interval {
 }
 
 impl Put for EndRow {
-    ghost meaning = { plain end_bytes };
+    ghost meaning = { without_lists end_bytes };
 
     fn put(&self, _version: Version, out: &mut Writer) {
         let key = self.key();

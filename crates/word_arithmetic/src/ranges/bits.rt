@@ -2,7 +2,7 @@
 ghost use Rattle.std.specs.Prelude.{◌≡◌, ℤ, pos, ◌≤ℤ◌, ◌^◌, ◌*ℤ◌, ◌&&◌, unsigned_abs};
 ghost use Rattle.std.specs.Int.{int_max};
 ghost use Rattle.word_arithmetic.specs.Word.{word_and, word_or, word_xor, word_not, shifted_left, shifted_right};
-ghost use Rattle.word_arithmetic.specs.Range.{ends_of, InRange, Holds, is_constant, is_not_negative, zero_to};
+ghost use Rattle.word_arithmetic.specs.Range.{ends_of, InRange, ResultsStay, is_constant, is_not_negative, zero_to};
 ghost use Rattle.word_arithmetic.specs.Range.{bits_range, all_ones, not_range, and_range, or_range, xor_range};
 ghost use Rattle.word_arithmetic.specs.Range.{shift_left_range, shift_right_range};
 
@@ -24,7 +24,7 @@ impl Range {
     /// The range of the bits that both words have.
     pub fn and(self, other: Range) -> Range
         ensures rule { ends_of result ≡ and_range (ends_of self) (ends_of other) }
-        ensures members { Holds word_and (ends_of self) (ends_of other) (ends_of result) }
+        ensures members { ResultsStay word_and (ends_of self) (ends_of other) (ends_of result) }
     {
         self.bits(other, self.lo & other.lo, self.hi.min(other.hi))
     }
@@ -32,7 +32,7 @@ impl Range {
     /// The range of the bits that one of the words has, or both.
     pub fn or(self, other: Range) -> Range
         ensures rule { ends_of result ≡ or_range (ends_of self) (ends_of other) }
-        ensures members { Holds word_or (ends_of self) (ends_of other) (ends_of result) }
+        ensures members { ResultsStay word_or (ends_of self) (ends_of other) (ends_of result) }
     {
         self.either(other, self.lo | other.lo)
     }
@@ -40,7 +40,7 @@ impl Range {
     /// The range of the bits that exactly one of the words has.
     pub fn xor(self, other: Range) -> Range
         ensures rule { ends_of result ≡ xor_range (ends_of self) (ends_of other) }
-        ensures members { Holds word_xor (ends_of self) (ends_of other) (ends_of result) }
+        ensures members { ResultsStay word_xor (ends_of self) (ends_of other) (ends_of result) }
     {
         self.either(other, self.lo ^ other.lo)
     }
@@ -73,7 +73,7 @@ impl Range {
         requires from_zero { pos 0 ≤ℤ counts.lo }
         requires below_32 { counts.hi ≤ℤ pos 31 }
         ensures rule { ends_of result ≡ shift_left_range (ends_of self) (ends_of counts) }
-        ensures members { Holds (λ x count. shifted_left x (unsigned_abs count))
+        ensures members { ResultsStay (λ x count. shifted_left x (unsigned_abs count))
             (ends_of self) (ends_of counts) (ends_of result) }
     {
         if !self.is_not_negative() {
@@ -87,7 +87,7 @@ impl Range {
         requires from_zero { pos 0 ≤ℤ counts.lo }
         requires below_32 { counts.hi ≤ℤ pos 31 }
         ensures rule { ends_of result ≡ shift_right_range (ends_of self) }
-        ensures members { Holds (λ x count. shifted_right x (unsigned_abs count))
+        ensures members { ResultsStay (λ x count. shifted_right x (unsigned_abs count))
             (ends_of self) (ends_of counts) (ends_of result) }
     {
         if !self.is_not_negative() {

@@ -3,7 +3,7 @@ use Rattle.std.proofs.lemmas.Bool.{eq-eqb}
 use Rattle.std.specs.Prelude.{◌==◌, slice_get}
 use Rattle.module_format.specs.Contents.{contents_of, par_of}
 use Rattle.machine_state.specs.World.{World}
-use Rattle.machine_state.specs.Joins.{on_role, joined}
+use Rattle.machine_state.specs.Joins.{on_role, member_joined}
 use Rattle.machine_state.specs.JoinLookups.{opened_by}
 use Rattle.machine_state.specs.Roles.{without_own}
 use Rattle.traffic.specs.Settling.{here_in}
@@ -34,5 +34,5 @@ returns-clause-settles c = λ join opened same.
     branch_done h w join ending.block (untouched ending.registers w.memory) c.args.opener par
     c.leave.new.traffic.world row test
     (c.leave.ensures.world m join par there same refl
-    ∙ (ap (λ (v : World). joined h c.args.opener join par v) given
-    ∙ ap (λ (v : World). joined h c.args.opener join par (on_role p without_own v)) (c.end.ensures.world m)))
+    ∙ (ap (λ (v : World). member_joined h c.args.opener join par v) given
+    ∙ ap (λ (v : World). member_joined h c.args.opener join par (on_role p without_own v)) (c.end.ensures.world m)))

@@ -2,7 +2,7 @@ use Rattle.std.proofs.Common.{◌≡◌, ◌∙◌, ◌&&◌, true, Some, length
 use Rattle.std.specs.Prelude.{◌==◌, slice_get}
 use Rattle.module_format.specs.Contents.{contents_of, par_of}
 use Rattle.machine_state.specs.World.{World}
-use Rattle.machine_state.specs.Joins.{joined}
+use Rattle.machine_state.specs.Joins.{member_joined}
 use Rattle.machine_state.specs.JoinLookups.{opened_by}
 use Rattle.traffic.specs.Settling.{here_in}
 use Rattle.joins.specs.declared.open.Open.{Open}
@@ -27,4 +27,4 @@ returns-clause-settles c = λ join opened same.
     ap (λ (v : World). opened_by v p) (c.end.ensures.world m) ∙ opened in
     own_done h w join ending.block (untouched ending.registers w.memory) par c.leave.new.traffic.world row test
     (c.leave.ensures.world m join par there same refl
-    ∙ ap (λ (v : World). joined h p join par v) (c.end.ensures.world m))
+    ∙ ap (λ (v : World). member_joined h p join par v) (c.end.ensures.world m))

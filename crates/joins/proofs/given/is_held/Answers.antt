@@ -4,7 +4,7 @@ use Rattle.machine_state.specs.declared.holding.Span.{Span}
 use Rattle.machine_state.specs.declared.spans.Stretch.{Stretch}
 use Rattle.machine_state.specs.Covering.{covered}
 use Rattle.machine_state.specs.Holding.{may_read, may_write}
-use Rattle.machine_state.specs.Spans.{is_within}
+use Rattle.machine_state.specs.Spans.{all_pass_within}
 use Rattle.machine_state.specs.Stretches.{stretch_view}
 use Rattle.machine_state.specs.Views.{holding_view}
 use Rattle.joins.proofs.Taking.{covered_both}
@@ -22,19 +22,19 @@ returns c =
     let h = holding_view c.args.holding.now in
     let writes = map stretch_view c.args.share.now.writes.items in
     let reads = map stretch_view c.args.share.now.reads.items in
-    let first : c.in_ok-writes.writes ≡ list_all (is_within end (may_write h)) writes =
+    let first : c.in_ok-writes.writes ≡ list_all (all_pass_within end (may_write h)) writes =
     c.in_ok-writes.ensures
-    ∙ (ap (λ (l : List Stretch). list_all (is_within end (covered c.deref-2.result.now)) (map stretch_view l))
+    ∙ (ap (λ (l : List Stretch). list_all (all_pass_within end (covered c.deref-2.result.now)) (map stretch_view l))
     c.deref.ensures.value
-    ∙ ap (λ (l : List Span). list_all (is_within end (covered l)) writes) c.deref-2.ensures.value) in
+    ∙ ap (λ (l : List Span). list_all (all_pass_within end (covered l)) writes) c.deref-2.ensures.value) in
     let held : c.deref-6.result.now ≡ h.writes ++ h.reads =
     c.deref-6.ensures.value ∙ (c.in_ok-readable.ensures
     ∙ (ap (λ (l : List Span). l ++ c.deref-4.result.now) c.deref-3.ensures.value
     ∙ ap (λ (l : List Span). h.writes ++ l) c.deref-4.ensures.value)) in
-    let last : c.in_ok-reads.reads ≡ list_all (is_within end (may_read h)) reads =
+    let last : c.in_ok-reads.reads ≡ list_all (all_pass_within end (may_read h)) reads =
     c.in_ok-reads.ensures
-    ∙ (ap (λ (l : List Stretch). list_all (is_within end (covered c.deref-6.result.now)) (map stretch_view l))
+    ∙ (ap (λ (l : List Stretch). list_all (all_pass_within end (covered c.deref-6.result.now)) (map stretch_view l))
     c.deref-5.ensures.value
-    ∙ (ap (λ (l : List Span). list_all (is_within end (covered l)) reads) held
+    ∙ (ap (λ (l : List Span). list_all (all_pass_within end (covered l)) reads) held
     ∙ same_within end _ _ (λ p. covered_both h.writes h.reads p) reads)) in
     last ∙ second _ c.in_ok-writes.writes _ c.if-not-writes.false first

@@ -5,7 +5,7 @@ use Rattle.module_format.specs.declared.rows.ChannelRow.{ChannelRow}
 use Rattle.machine_state.specs.declared.holding.End.{End}
 use Rattle.machine_state.specs.BranchShares.{frame_address}
 use Rattle.machine_state.specs.StartPlans.{with_ends}
-use Rattle.machine_state.specs.Spans.{is_listed, is_same_end}
+use Rattle.machine_state.specs.Spans.{is_among_ends, is_same_end}
 use Rattle.joins.proofs.EndSets.{input, output, with_channel, with_listed, channel_is_new, channel_is_there}
 use Rattle.joins.proofs.opening.add_ends.Goals as goal
 use Rattle.joins.proofs.opening.add_ends.Goals.{then-branch+in_ok-push+in_ok-push-2, else-branch}
@@ -28,7 +28,7 @@ loop-channel-preserved c =
           record {
             there = λ b. c.in_ok-insert.ensures.all (input b)
                 ∙ (ap (λ (t : Bool). t || is_same_end (input b) (input a)) (there b)
-                ∙ (sym (with_channel held b a) ∙ ap (λ (l : List End). is_listed l (input b)) (sym items)));
+                ∙ (sym (with_channel held b a) ∙ ap (λ (l : List End). is_among_ends l (input b)) (sym items)));
             all = ap (with_ends (map address (drop (c.loop-channel.channel-index + 1) c.args.channels.now))) items
                 ∙ (channel_is_new c.args.channels.now address c.loop-channel.channel-index first (omega arith) held a
                 here new ∙ c.loop-channel.invariant.all);
@@ -40,7 +40,7 @@ loop-channel-preserved c =
             there = λ b. c.in_ok-insert.ensures.all (input b)
                 ∙ (ap (λ (t : Bool). t || is_same_end (input b) (input a)) (there b)
                 ∙ (with_listed held (input b) (input a) old
-                ∙ ap (λ (l : List End). is_listed l (input b)) (sym items)));
+                ∙ ap (λ (l : List End). is_among_ends l (input b)) (sym items)));
             all = ap (with_ends (map address (drop (c.loop-channel.channel-index + 1) c.args.channels.now))) items
                 ∙ (channel_is_there c.args.channels.now address c.loop-channel.channel-index first (omega arith) held a
                 here old ∙ c.loop-channel.invariant.all);

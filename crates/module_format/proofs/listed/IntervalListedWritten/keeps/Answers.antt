@@ -5,7 +5,7 @@ use Rattle.std.proofs.Math.Logic.{∥∥₁_elim}
 use Rattle.std.proofs.lemmas.Int.{ints}
 use Rattle.module_format.specs.declared.rows.Interval.{Interval}
 use Rattle.module_format.specs.Order.{least_word}
-use Rattle.module_format.specs.Pars.{IntervalKeeps, meet, ReadKeeps}
+use Rattle.module_format.specs.Pars.{IntervalKeeps, intervals_meet, ReadKeeps}
 use Rattle.module_format.proofs.OrderLaws.{is_kept}
 use Rattle.module_format.proofs.IntervalLaws.{intervals_prop}
 use Rattle.module_format.proofs.BranchLaws.{none_pass, pass_none}
@@ -13,10 +13,14 @@ use Rattle.module_format.proofs.listed.IntervalListedWritten.keeps.Goals as goal
 
 -- an interval that is apart from all that are written
 read_is : (writes : List Interval) (low : ℤ) (i : Interval) (b : Bool) → IntervalKeeps low i
-    → b ≡ list_any (meet i) writes → IsTrue (not b) ↔ ReadKeeps writes low i
-read_is writes low i true kept e = (λ t. absurd cc, λ h. absurd (let n = pass_none (meet i) writes h.apart in cc))
+    → b ≡ list_any (intervals_meet i) writes → IsTrue (not b) ↔ ReadKeeps writes low i
+read_is writes low i true kept e = (
+  λ t. absurd cc,
+  λ h. absurd
+      (let n = pass_none (intervals_meet i) writes h.apart in cc),
+)
 read_is writes low i false kept e =
-    (λ _. record { interval = kept; apart = none_pass (meet i) writes (sym e) }, λ _. refl)
+    (λ _. record { interval = kept; apart = none_pass (intervals_meet i) writes (sym e) }, λ _. refl)
 
 pub meets_any-requires : goal.meets_any-requires
 meets_any-requires c =

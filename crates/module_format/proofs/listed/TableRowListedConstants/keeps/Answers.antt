@@ -1,6 +1,6 @@
 use Rattle.std.proofs.Common.{◌-◌, sym, ◌∙◌, rules, take, drop, w32, FitsSigned}
 use Rattle.std.proofs.lemmas.Int.{to_z-of_z}
-use Rattle.module_format.specs.Procedures.{words_of}
+use Rattle.module_format.specs.Procedures.{words_in_bytes}
 use Rattle.module_format.proofs.ProcedureLaws.{all_within, within_all}
 use Rattle.module_format.proofs.listed.TableRowListedConstants.keeps.Goals as goal
 
@@ -13,7 +13,7 @@ returns-then-self c =
     let lo = to_z-of_z w32 row.lo lo_fits in
     let hi = to_z-of_z w32 row.hi hi_fits in
     let told = rw (lo, hi) at c.words_lie_within.ensures in
-    let words = words_of (take (row.end - row.start) (drop row.start constants)) in (
+    let words = words_in_bytes (take (row.end - row.start) (drop row.start constants)) in (
       λ t. record {
         start_aligned = search rules;
         apart = search rules;

@@ -2,7 +2,7 @@ use Rattle.std.proofs.lemmas.List.{map-id}
 use Rattle.module_format.specs.Order.{least_word}
 use Rattle.module_format.specs.Pars.{behind_interval}
 use Rattle.module_format.specs.Reading.{list_at}
-use Rattle.module_format.specs.ReadingPars.{words_at}
+use Rattle.module_format.specs.ReadingPars.{frame_words_at}
 use Rattle.module_format.proofs.BranchLaws.{words_take}
 use Rattle.module_format.proofs.ReadsInSteps.{list_takes}
 use Rattle.module_format.proofs.TakingLaws.{took_has}
@@ -14,6 +14,6 @@ returns-clause-rise c = λ still.
     let new = c.read_list.new.from in
     let took = rw (c.from.ensures, map-id _) at c.read_list.ensures.took in
     (took_has
-    (list_at (words_at from.size) behind_interval c.args.count least_word) from.failure from.rest.now
+    (list_at (frame_words_at from.size) behind_interval c.args.count least_word) from.failure from.rest.now
     c.read_list.result.items new.failure new.rest.now still took
     (list_takes (words_take from.size) c.args.count least_word from.rest.now from.fits)).keeps.1

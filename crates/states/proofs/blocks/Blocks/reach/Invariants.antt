@@ -1,10 +1,10 @@
 use Rattle.std.proofs.Common.{◌≡◌, ◌+◌, ◌-◌, ℕ, vec_len}
-use Rattle.states.specs.Blocks.{block_at}
+use Rattle.states.specs.Blocks.{block_numbered}
 use Rattle.states.proofs.blocks.Blocks.reach.Given as goal
 
 abbrev pub invariant-loop-self : goal.invariant-loop-self
 invariant-loop-self l = record {
-  kept : (n : ℕ) → block_at l.self.kept.items n ≡ block_at l.fn.self.kept.items n;
+  kept : (n : ℕ) → block_numbered l.self.kept.items n ≡ block_numbered l.fn.self.kept.items n;
   room : l.self.room ≡ l.fn.self.room;
 }
 

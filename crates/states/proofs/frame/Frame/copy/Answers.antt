@@ -3,7 +3,7 @@ use Rattle.std.proofs.lemmas.Int.{to_z-of_z}
 use Rattle.std.specs.Int.{w32}
 use Rattle.states.specs.declared.blocks.Block.{Block}
 use Rattle.states.specs.declared.overlay.Written.{Written}
-use Rattle.states.specs.Blocks.{block_at, facts_left}
+use Rattle.states.specs.Blocks.{block_numbered, facts_left}
 use Rattle.states.specs.Lookup.{facts_over}
 use Rattle.states.specs.Frames.{frame_facts}
 use Rattle.states.proofs.Leavings.{summed-same}
@@ -28,7 +28,7 @@ invariant_of-result-clause-summed c =
     (facts_over frame.lo frame.row.now c.in_ok-copy.field-0.written.items)) c.in_ok-copy-2.ensures.kept
     ∙ ap (λ (written : List Written). facts_left frame.lo frame.by_block.kept.items
     (facts_over frame.lo frame.row.now written)) c.in_ok-copy.ensures.written)
-    (λ n. ap (λ (blocks : List Block). (block_at blocks n).sum) c.in_ok-copy-2.ensures.kept))
+    (λ n. ap (λ (blocks : List Block). (block_numbered blocks n).sum) c.in_ok-copy-2.ensures.kept))
 
 pub invariant_of-result-clause-compared : goal.invariant_of-result-clause-compared
 invariant_of-result-clause-compared c =

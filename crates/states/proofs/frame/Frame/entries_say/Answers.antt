@@ -3,7 +3,7 @@ use Rattle.std.proofs.lemmas.Int.{ints, clamps, to_z-of_z}
 use Rattle.std.specs.Int.{w64}
 use Rattle.states.specs.Blocks.{block_words, first_of}
 use Rattle.states.specs.Frames.{frame_facts}
-use Rattle.states.specs.State.{entry_fact, is_word}
+use Rattle.states.specs.State.{entry_fact, is_same_number}
 use Rattle.states.proofs.RowFacts.{segment-apart}
 use Rattle.states.proofs.Remembering.{fixed-says}
 use Rattle.states.proofs.SaidWords.{EntrySays, said-more, said-before, block-said, index-in}
@@ -40,11 +40,11 @@ loop-entry-preserved c =
           elim known [
             | inl unasked ↦
                 c.asking-asking.ensures.asking row c.requires.known k index.0 index.1 index.2 entry.fact
-                (is_word entry.word k) wanted unasked
+                (is_same_number entry.word k) wanted unasked
             | inr fixed ↦
                 fixed-says (entry_fact frame.row.now) (frame_facts frame) frame.lo frame.remembered
                 c.asking-asking.result.became c.args.number c.asking-asking.ensures.became frame.compared k index.0
-                index.1 index.2 entry.fact (is_word entry.word k) fixed
+                index.1 index.2 entry.fact (is_same_number entry.word k) fixed
           ]
     ] in
     record {

@@ -1,6 +1,6 @@
 use Rattle.std.proofs.Common.{◌≡◌, ap, ◌∙◌, sym, Some, vec_len}
 use Rattle.states.specs.declared.blocks.Block.{Block}
-use Rattle.states.specs.Blocks.{block_words, block_at, first_of, left_after, facts_left}
+use Rattle.states.specs.Blocks.{block_words, block_numbered, first_of, left_after, facts_left}
 use Rattle.states.specs.State.{Facts, entry_fact}
 use Rattle.states.specs.Spans.{together}
 use Rattle.states.specs.Frames.{frame_facts, over_facts, with_span}
@@ -15,7 +15,7 @@ abbrev kept : After-set → Block
 kept c = record { sum = c.sum_left.result; left = Some c.after.result }
 
 kept-left : (c : After-set) → (kept c).left
-    ≡ Some (left_after (block_at c.args.self.now.by_block.kept.items c.args.number).left c.args.leaving)
+    ≡ Some (left_after (block_numbered c.args.self.now.by_block.kept.items c.args.number).left c.args.leaving)
 kept-left c =
     ap (λ o. Some o) (c.after.ensures ∙ ap (λ (b : Block). left_after b.left c.args.leaving) c.get-sum.ensures)
 

@@ -1,7 +1,7 @@
 use Rattle.std.proofs.Common.{◌≡◌, ℤ, subst, pos, ◌+ℤ◌, ◌∙◌, None, refl, sym, ap}
 use Rattle.states.specs.declared.blocks.Block.{Block}
 use Rattle.states.specs.declared.blocks.Blocks.{Blocks}
-use Rattle.states.specs.Blocks.{block_at, first_of, facts_left}
+use Rattle.states.specs.Blocks.{block_numbered, first_of, facts_left}
 use Rattle.states.specs.State.{Facts, entry_fact}
 use Rattle.states.specs.Frames.{frame_facts, over_facts}
 use Rattle.states.proofs.Leavings.{block-settled, summed-same, sums-set}
@@ -31,7 +31,7 @@ invariant_of-self-clause-summed c =
     (sums-set frame.by_block.kept.items c.set.new.self.kept.items c.args.number
     (record { sum = c.get-sum.result.sum; left = None }) c.set.ensures.kept
     (ap (λ (b : Block). b.sum) c.get-sum.ensures
-    ∙ ap (λ (bs : Blocks). (block_at bs.kept.items c.args.number).sum) (sym c.settle_words.ensures.blocks)))
+    ∙ ap (λ (bs : Blocks). (block_numbered bs.kept.items c.args.number).sum) (sym c.settle_words.ensures.blocks)))
 
 pub returns-then-is_some-clause-facts : goal.returns-then-is_some-clause-facts
 returns-then-is_some-clause-facts c =

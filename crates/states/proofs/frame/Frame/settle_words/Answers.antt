@@ -4,7 +4,7 @@ use Rattle.std.proofs.lemmas.Int.{ints, to_z-of_z}
 use Rattle.std.specs.Int.{w64}
 use Rattle.states.specs.declared.blocks.Blocks.{Blocks}
 use Rattle.states.specs.declared.span.Leaving.{Leaving}
-use Rattle.states.specs.Blocks.{block_words, block_at, first_of, facts_left}
+use Rattle.states.specs.Blocks.{block_words, block_numbered, first_of, facts_left}
 use Rattle.states.specs.Lookup.{facts_over}
 use Rattle.states.specs.State.{Facts, entry_fact}
 use Rattle.states.specs.Frames.{frame_facts, over_facts, with_alone}
@@ -27,14 +27,14 @@ word-is c = c.word_at.ensures ∙ ap (λ (n : ℕ). c.loop-i.self.lo +ℤ pos n)
 
 -- how its block was left
 left-here : (c : After-set) → (leaving : Leaving)
-    × ((block_at c.loop-i.self.by_block.kept.items (index-of c / block_words)).left ≡ Some leaving)
+    × ((block_numbered c.loop-i.self.by_block.kept.items (index-of c / block_words)).left ≡ Some leaving)
 left-here c =
     let some = some-leaving _ c.requires.some in
     let size = c.block_words-i-end.ensures.value in
     let below = c.loop-i-test.true in (
       some.0,
-      ap (λ (b : Blocks). (block_at b.kept.items (index-of c / block_words)).left) c.loop-i.invariant.blocks
-          ∙ (ap (λ (n : ℕ). (block_at c.args.self.now.by_block.kept.items n).left)
+      ap (λ (b : Blocks). (block_numbered b.kept.items (index-of c / block_words)).left) c.loop-i.invariant.blocks
+          ∙ (ap (λ (n : ℕ). (block_numbered c.args.self.now.by_block.kept.items n).left)
           (number-of (index-of c) c.args.number block_words (omega arith) (omega (arith, size, below)))
           ∙ some.1),
     )

@@ -3,7 +3,7 @@ use Rattle.std.proofs.lemmas.Int.{to_z-of_z}
 use Rattle.std.specs.Int.{w32}
 use Rattle.states.specs.declared.blocks.Block.{Block}
 use Rattle.states.specs.State.{Facts, entry_fact}
-use Rattle.states.specs.Blocks.{block_at, AreSummed, facts_left}
+use Rattle.states.specs.Blocks.{block_numbered, AreSummed, facts_left}
 use Rattle.states.specs.Frames.{frame_facts, over_facts}
 use Rattle.states.specs.Spans.{together}
 use Rattle.states.proofs.BlockSums.{summed-more}
@@ -13,7 +13,7 @@ use Rattle.states.proofs.frame.Frame.sum_block.Goals as goal
 use Rattle.states.proofs.frame.Frame.sum_block.Goals.{After-set}
 
 same-left : (c : After-set) → (n : ℕ)
-    → (block_at c.set.new.self.kept.items n).left ≡ (block_at c.args.self.now.by_block.kept.items n).left
+    → (block_numbered c.set.new.self.kept.items n).left ≡ (block_numbered c.args.self.now.by_block.kept.items n).left
 same-left c =
     lefts-set c.args.self.now.by_block.kept.items c.set.new.self.kept.items c.args.number
     (record { sum = Some c.together-all.result; left = c.get-left.result.left }) c.set.ensures.kept

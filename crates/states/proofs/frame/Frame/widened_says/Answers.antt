@@ -4,7 +4,7 @@ use Rattle.std.specs.Int.{w32}
 use Rattle.states.specs.declared.remembered.Changes.{Changes}
 use Rattle.states.specs.declared.span.Leaving.TheVariants.{Widen}
 use Rattle.states.specs.Frames.{frame_facts}
-use Rattle.states.specs.Remembered.{changes_of, range_of}
+use Rattle.states.specs.Remembered.{changes_of, leaving_since}
 use Rattle.states.proofs.Remembering.{widened-says}
 use Rattle.states.proofs.frame.Frame.widened_says.Goals as goal
 
@@ -20,7 +20,7 @@ returns c = λ yes.
     let written = ap (λ (x : Changes). x.written) c.changes-changes.ensures in
     let first = c.if-compared-changes.false in
     let second = c.if-compared-changes-2.false in
-    let range : range_of kept.began (changes_of kept.by_block.items c.args.number) ≡ Some (Widen lo hi) =
+    let range : leaving_since kept.began (changes_of kept.by_block.items c.args.number) ≡ Some (Widen lo hi) =
     sym c.range.ensures ∙ search rules in
     widened-says frame.lo kept (frame_facts frame) c.args.row.now c.args.compared c.args.number lo hi c.requires.known
     (omega (arith, first, since)) (omega (arith, second, written)) range

@@ -1,5 +1,5 @@
 use Rattle.std.proofs.Common.{◌≡◌, ℤ, ◌≤ℤ◌, ◌<ℤ◌}
-use Rattle.states.specs.State.{is_word, said_of, entry_fact}
+use Rattle.states.specs.State.{is_same_number, said_of, entry_fact}
 use Rattle.states.specs.Rows.{AreApart}
 use Rattle.states.specs.Comparing.{OneSays, IsBase}
 use Rattle.states.specs.Frames.{frame_facts}
@@ -12,7 +12,8 @@ invariant-loop-word l = record {
   apart : AreApart l.rest;
   same : (k : ℤ) → l.word ≤ℤ k → entry_fact l.rest k ≡ entry_fact l.base k;
   so_far : IsBase (entry_fact l.self.row.now) l.base l.entry.word → (k : ℤ) → l.entry.word ≤ℤ k → k <ℤ l.word
-      → OneSays (entry_fact l.self.row.now k) (frame_facts l.self k) (said_of l.entry.fact (is_word l.entry.word k));
+      → OneSays (entry_fact l.self.row.now k) (frame_facts l.self k)
+      (said_of l.entry.fact (is_same_number l.entry.word k));
 }
 
 abbrev pub decreases-loop-word : goal.decreases-loop-word

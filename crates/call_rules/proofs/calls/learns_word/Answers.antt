@@ -3,7 +3,7 @@ use Rattle.std.proofs.lemmas.Int.{ints, to_z-of_z}
 use Rattle.std.specs.Int.{w32}
 use Rattle.states.specs.Views.{state_of, CanWrite}
 use Rattle.call_rules.proofs.Touching.{passes_may, passes_not}
-use Rattle.call_rules.proofs.calls.passes.Goals as goal
+use Rattle.call_rules.proofs.calls.learns_word.Goals as goal
 
 pub write-requires : goal.write-requires
 write-requires c =

@@ -1,7 +1,7 @@
 use Rattle.std.proofs.Common.{arith}
 use Rattle.std.proofs.lemmas.Int.{ints}
 use Rattle.local_rules.proofs.RulesTold.{near_told}
-use Rattle.local_rules.proofs.shifting.further.Goals as goal
+use Rattle.local_rules.proofs.shifting.pointer_further.Goals as goal
 
 pub returns : goal.returns
 returns c =
