@@ -37,7 +37,7 @@ pub struct Cpu<S> {
 }
 
 /// Whether `size` bytes at one address meet `other_size` bytes at another.
-fn meet(one: u32, size: u32, other: u32, other_size: u32) -> bool
+fn places_meet(one: u32, size: u32, other: u32, other_size: u32) -> bool
     ensures { result ≡ places_meet (place_of one) size (place_of other) other_size }
 {
     let one = u64::from(place_of(one));
@@ -177,7 +177,7 @@ impl<S> Cpu<S> {
         ensures { let lowest = place_of (local_address self.now.registers.workspace (negsuc 2)) in
             result ≡ not (places_meet (place_of address) count lowest 12) }
     {
-        !meet(
+        !places_meet(
             address,
             count,
             local_address(self.registers.workspace, -3),
@@ -190,9 +190,9 @@ impl<S> Cpu<S> {
         ensures { result ≡ is_beside_scheduling self.now.registers.workspace (place_of address) count }
     {
         let workspace = self.registers.workspace;
-        !meet(address, count, local_address(workspace, -1), 4)
-            && !meet(address, count, local_address(workspace, -2), 4)
-            && !meet(address, count, local_address(workspace, -3), 4)
+        !places_meet(address, count, local_address(workspace, -1), 4)
+            && !places_meet(address, count, local_address(workspace, -2), 4)
+            && !places_meet(address, count, local_address(workspace, -3), 4)
     }
 
     /// The code offset at a distance from the next instruction, modulo 2^32.
@@ -272,7 +272,7 @@ impl<S: Store> Cpu<S> {
     {
         self.store.can_load_bytes(from, count)
             && self.store.can_store_bytes(to, count)
-            && !meet(from, count, to, count)
+            && !places_meet(from, count, to, count)
     }
 
     /// Whether `count` bytes at an address are defined once the three words that scheduling takes are not.

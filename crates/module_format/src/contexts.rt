@@ -42,7 +42,7 @@ fn procedure_context(row: &ProcedureRow) -> Context
 }
 
 /// The procedure that is the context of a number.
-fn procedure_at<'t>(tables: &'t Tables, number: u32) -> Option<&'t ProcedureRow>
+fn procedure_numbered<'t>(tables: &'t Tables, number: u32) -> Option<&'t ProcedureRow>
     ensures { option_map (λ row. procedure_of row.now) result ≡ procedure_numbered (contents_of tables.now) number }
 {
     if number == 0 {
