@@ -16,8 +16,8 @@ ghost use Rattle.line_pieces.specs.HomeViews.{home_seen};
 use crate::home::Home;
 use occam_layout::Text;
 use occam_parser::{ConstantValue, Expr, OneOrMore, ValueType};
-use program_uses::{add_name, size_in, type_of_values, value_as};
-use scalar_ranges::{Meaning, Scope};
+use program_uses::{add_name, size_in, value_as};
+use scalar_ranges::{Meaning, Scope, type_of_values};
 use std::alloc::{AllocError, Global};
 use std::rc::Rc;
 

@@ -18,28 +18,8 @@ ghost use Rattle.program_uses.specs.Declaring.{passed_meaning, with_value, range
 use crate::constants::{size_in, value_as};
 use occam_layout::Text;
 use occam_parser::{ConstantValue, Expr, Formal, FormalKind, OneOrMore, ValueType};
-use scalar_ranges::{ArrayKind, ExprType, Meaning, ScalarKind, Scope};
+use scalar_ranges::{ArrayKind, Meaning, ScalarKind, Scope, type_of_values, type_range};
 use word_arithmetic::Range;
-
-/// The type of the values of a declaration.
-pub fn type_of_values(value_type: ValueType) -> ExprType
-    ensures { result ≡ type_of_values value_type }
-{
-    match value_type {
-        ValueType::Int => ExprType::Int,
-        ValueType::Byte => ExprType::Byte,
-    }
-}
-
-/// The numbers of a type.
-pub(crate) fn type_range(value_type: ValueType) -> Range
-    ensures { ends_of result ≡ type_range value_type }
-{
-    match value_type {
-        ValueType::Int => Range::full(),
-        ValueType::Byte => Range::new(0, 255),
-    }
-}
 
 /// The least range with one value more, if all are known.
 fn with_value(range: Option<Range>, value: Option<i32>) -> Option<Range>

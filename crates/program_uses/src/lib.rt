@@ -28,8 +28,7 @@ mod uses;
 pub use actions::{Around, is_before};
 pub use constants::{has_type, size_in, value_as};
 pub use declaring::{
-    channel_meaning, constant_meaning, constant_outline, formal_meaning, type_of_values,
-    variable_meaning,
+    channel_meaning, constant_meaning, constant_outline, formal_meaning, variable_meaning,
 };
 pub use ends::{ChannelEnd, signed};
 pub use extending::{add_name, add_outlines};

@@ -63,7 +63,7 @@ pub(crate) fn within(range: Option<Range>) -> Result<Bound, u8>
 }
 
 /// The numbers of a type.
-pub(crate) fn type_range(value_type: ValueType) -> Range
+pub fn type_range(value_type: ValueType) -> Range
     ensures { ends_of result ≡ type_range value_type }
 {
     match value_type {
@@ -96,7 +96,7 @@ pub(crate) fn named_bound(meaning: Option<Meaning>) -> Result<Bound, u8>
 }
 
 /// Whether each number of a range is a subscript of an array.
-fn is_subscript(size: u32, subscripts: Range) -> bool
+pub fn is_subscript(size: u32, subscripts: Range) -> bool
     ensures { result ≡ is_subscript size (ends_of subscripts) }
 {
     0 <= subscripts.lo && i64::from(subscripts.hi) < i64::from(size)

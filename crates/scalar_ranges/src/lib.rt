@@ -22,7 +22,7 @@ mod spare;
 mod steps;
 mod types;
 
-pub use bounds::{OUT_OF_RANGE, OUTSIDE};
+pub use bounds::{OUT_OF_RANGE, OUTSIDE, is_subscript, type_range};
 pub use fronts::{Front, front_of};
 pub use laws::{
     bounds_hold, branches_hold, changes_hold, constants_hold, lists_hold, loops_hold, names_hold,
@@ -32,4 +32,4 @@ pub use narrowing::{Test, narrow_by, test_of};
 pub use ranges::{range_of, value_of};
 pub use reading::{Reading, read, read_operand};
 pub use scope::{ArrayKind, Declared, Entry, Meaning, ScalarKind, Scope};
-pub use types::{ExprType, UNKNOWN_NAME, WRONG_TYPE, type_of};
+pub use types::{ExprType, UNKNOWN_NAME, WRONG_TYPE, type_of, type_of_values};

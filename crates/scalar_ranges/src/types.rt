@@ -38,7 +38,7 @@ pub fn type_of(scope: &Scope, expr: &Expr) -> Result<ExprType, u8>
 }
 
 /// The type of the values of a declaration.
-fn type_of_values(value_type: ValueType) -> ExprType
+pub fn type_of_values(value_type: ValueType) -> ExprType
     ensures { result ≡ type_of_values value_type }
 {
     match value_type {

@@ -12,8 +12,8 @@ ghost use Rattle.usage_checks.specs.DeclarationRules.{BreaksItem, BreaksValue, B
 
 use crate::wanting::{Wanted, fault_of};
 use occam_parser::{ConstantValue, Declaration, Expr, OneOrMore, ValueType};
-use program_uses::{lower, size_in, told_unless, type_of_values, value_as};
-use scalar_ranges::{ExprType, OUT_OF_RANGE, Scope, WRONG_TYPE};
+use program_uses::{lower, size_in, told_unless, value_as};
+use scalar_ranges::{ExprType, OUT_OF_RANGE, Scope, WRONG_TYPE, type_of_values};
 
 /// The number of a size that is known and is below 1.
 fn no_size(size: Option<i32>) -> Option<u8>

@@ -1,10 +1,9 @@
 //! The rules of places: what something is assigned to or received into, and channels.
 
 ghost use Rattle.std.specs.Prelude.{◌≡◌, Err, option_map};
-ghost use Rattle.word_arithmetic.specs.Range.{ends_of};
 ghost use Rattle.occam_parser.specs.Views.{expression_of};
 ghost use Rattle.scalar_ranges.specs.Scopes.{entries_of, meaning_of};
-ghost use Rattle.scalar_ranges.specs.Bounds.{bound_of, range_found, is_subscript};
+ghost use Rattle.scalar_ranges.specs.Bounds.{bound_of, range_found};
 ghost use Rattle.scalar_ranges.specs.BoundViews.{all_ends};
 ghost use Rattle.scalar_ranges.specs.Types.{type_of};
 ghost use Rattle.program_uses.specs.PlaceViews.{place_at};
@@ -15,8 +14,10 @@ ghost use Rattle.usage_checks.specs.PlaceRules.{IsOutside, BreaksSubscript, Brea
 
 use crate::wanting::{Wanted, fault_of};
 use occam_parser::Expr;
-use program_uses::{PlaceRef, is_variable, lower, told_unless, type_of_values};
-use scalar_ranges::{ExprType, Meaning, OUTSIDE, Scope, UNKNOWN_NAME, WRONG_TYPE, read};
+use program_uses::{PlaceRef, is_variable, lower, told_unless};
+use scalar_ranges::{
+    ExprType, Meaning, OUTSIDE, Scope, UNKNOWN_NAME, WRONG_TYPE, is_subscript, read, type_of_values,
+};
 use word_arithmetic::Range;
 
 /// The type of a variable, or of an element of one, by what its name denotes and by whether a subscript follows.
@@ -69,12 +70,6 @@ pub(crate) fn channel_at(scope: &Scope, place: PlaceRef) -> Result<ExprType, u8>
     ensures { result ≡ channel_at (entries_of scope.now) (place_at place.entry) }
 {
     channel_type(scope.meaning(place.name), place.is_subscripted())
-}
-
-fn is_subscript(size: u32, subscripts: Range) -> bool
-    ensures { result ≡ is_subscript size (ends_of subscripts) }
-{
-    0 <= subscripts.lo && i64::from(subscripts.hi) < i64::from(size)
 }
 
 /// The number of a subscript of this type and range that may be outside an array.

@@ -9,8 +9,8 @@ ghost use Rattle.usage_checks.specs.InstanceRules.{takes_channels, takes, takes_
 
 use crate::place_rules::{channel_type, target_type};
 use occam_parser::ValueType;
-use program_uses::{has_type, type_of_values};
-use scalar_ranges::{ArrayKind, ExprType, Meaning, ScalarKind, WRONG_TYPE};
+use program_uses::has_type;
+use scalar_ranges::{ArrayKind, ExprType, Meaning, ScalarKind, WRONG_TYPE, type_of_values};
 
 /// The type of a single value, or of an element of an array.
 fn held_type(meaning: Meaning, subscripted: bool) -> Result<ExprType, u8>
