@@ -2,9 +2,6 @@
 
 ghost use Rattle.std.specs.Prelude.{◌≡◌, Some};
 ghost use Rattle.module_format.specs.Contents.{label_of, label_at, par_of};
-ghost use Rattle.module_format.specs.Order.{InOrder, least_word};
-ghost use Rattle.module_format.specs.Pars.{IntervalKeeps, behind_interval};
-ghost use Rattle.certificate.specs.Rights.{is_among};
 ghost use Rattle.states.specs.declared.known.WordFact.TheVariants.{Alone};
 ghost use Rattle.states.specs.State.{is_silent};
 ghost use Rattle.par_rules.specs.Comparisons.{is_after};
@@ -12,19 +9,7 @@ ghost use Rattle.par_rules.specs.Finding.{IsInRow};
 
 use crate::found::Found;
 use certificate::Module;
-use module_format::{Fact, Interval, LabelRow};
-
-/// Whether a word is one of the intervals', which rise. It takes time logarithmic in them.
-pub(crate) fn is_among(intervals: &[Interval], word: i64) -> bool
-    requires { InOrder IntervalKeeps behind_interval least_word intervals.now }
-    ensures { result ≡ is_among intervals.now word }
-{
-    let first = intervals.partition_point(|interval| i64::from(interval.hi) <= word);
-    match intervals.get(first) {
-        Some(interval) => i64::from(interval.lo) <= word,
-        None => false,
-    }
-}
+use module_format::{Fact, LabelRow};
 
 /// Whether this says nothing.
 fn is_unknown(fact: Fact) -> bool

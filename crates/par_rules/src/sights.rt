@@ -5,17 +5,15 @@ ghost use Rattle.std.specs.List.{list_all};
 ghost use Rattle.module_format.specs.Contents.{label_of};
 ghost use Rattle.states.specs.Below.{is_whole, price};
 ghost use Rattle.states.specs.Rows.{LoopFits};
-ghost use Rattle.states.specs.State.{said_of};
 ghost use Rattle.states.specs.Views.{state_of};
 ghost use Rattle.certificate.specs.Starting.{is_scheduling_word};
 ghost use Rattle.par_rules.specs.Comparisons.{words_pass, label_passes, keeps};
 ghost use Rattle.par_rules.specs.Sights.{facts_in, passes, IsOrdered};
 
-use crate::labels::is_among;
 use crate::openings::holds_constant;
-use certificate::Module;
+use certificate::{Module, is_among};
 use module_format::{Entry, Fact, Interval, LabelRow};
-use states::{Loop, State, WordFact, says};
+use states::{State, WordFact, said_of, says};
 
 /// Where something is known of words.
 #[derive(Clone, Copy)]
@@ -85,31 +83,6 @@ impl Sight<'_, '_, '_> {
             }
             Sight::InState { state } => state.fact_of(word),
         }
-    }
-}
-
-/// What an entry's fact says of one of its words, which is the first or another one.
-fn said_of(fact: Fact, is_first: bool) -> WordFact
-    ensures { result ≡ said_of fact is_first }
-{
-    match fact {
-        Fact::Loop {
-            base,
-            count,
-            weight,
-        } => {
-            let counted = Loop {
-                base,
-                count,
-                weight,
-            };
-            if is_first {
-                WordFact::Index(counted)
-            } else {
-                WordFact::Count(counted)
-            }
-        }
-        _ => WordFact::Alone(fact),
     }
 }
 

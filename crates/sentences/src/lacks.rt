@@ -4,7 +4,6 @@ ghost use Rattle.std.specs.Prelude.{◌≡◌, Some};
 ghost use Rattle.module_format.specs.Contents.{contents_of, label_of};
 ghost use Rattle.states.specs.Below.{is_whole};
 ghost use Rattle.states.specs.Rows.{LoopFits};
-ghost use Rattle.states.specs.State.{said_of};
 ghost use Rattle.states.specs.Views.{state_of};
 ghost use Rattle.sentences.specs.Ways.{seen_in};
 ghost use Rattle.sentences.specs.Lacks.{subject_text, value_text, either, context_lack, depth_lack, mode_lack};
@@ -15,7 +14,7 @@ use crate::ways::{Way, is_settled, seen_fact, seen_of, seen_of_a};
 use fact_texts::ContextText;
 use module_format::{Entry, Fact, LabelRow, Stack, Tables};
 use state_texts::{ModeText, WordText};
-use states::{Known, Loop, Mode, State, WordFact, implies, says};
+use states::{Known, Mode, State, WordFact, implies, said_of, says};
 use std::fmt;
 
 /// What a label speaks of.
@@ -192,31 +191,6 @@ fn stack_lack(way: Way, stack: Stack<Known>, wanted: Stack<Fact>) -> Option<Lack
     let b = register_lack(Subject::B, seen_of(way, stack.b), wanted.b);
     let c = register_lack(Subject::C, seen_of(way, stack.c), wanted.c);
     either(a, either(b, c))
-}
-
-/// What an entry's fact says of one of its words, which is the first or another one.
-fn said_of(fact: Fact, is_first: bool) -> WordFact
-    ensures { result ≡ said_of fact is_first }
-{
-    match fact {
-        Fact::Loop {
-            base,
-            count,
-            weight,
-        } => {
-            let counted = Loop {
-                base,
-                count,
-                weight,
-            };
-            if is_first {
-                WordFact::Index(counted)
-            } else {
-                WordFact::Count(counted)
-            }
-        }
-        _ => WordFact::Alone(fact),
-    }
 }
 
 /// What is known of a word, if more is wanted.

@@ -25,6 +25,7 @@ pub use comparison::{below, compare, cost_at, cost_below};
 pub use implication::{implies, says};
 pub use known::{Guard, GuardKind, GuardName, Known, Loop, Mode, Source, WordFact};
 pub use laws::label_rows_are_sound;
+pub use row::said_of;
 pub use rule::{
     ALTERNATION, BUDGET, CALL, CHANNEL, FLOW, FORWARD, INSTRUCTION_START, LABEL, MEMORY,
     MESSAGE_LENGTH, NUMBER, OWN_WORD, PAR, POINTER, REGIONS_MEET, Rule, RuleFault, SPELLING,

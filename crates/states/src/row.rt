@@ -59,7 +59,7 @@ pub(crate) fn loop_of(fact: Fact) -> Option<Loop>
 }
 
 /// What an entry's fact says of one of its words, which is the first or another one.
-pub(crate) fn said_of(fact: Fact, is_first: bool) -> WordFact
+pub fn said_of(fact: Fact, is_first: bool) -> WordFact
     ensures { result ≡ said_of fact is_first }
 {
     match fact {
