@@ -5,7 +5,7 @@ use prefix_decoder::Fun;
 use std::rc::Rc;
 
 /// What is known of a word of the frame.
-#[derive(Clone, Copy, PartialEq, Eq)]
+#[derive(Clone, Copy)]
 pub enum WordFact {
     /// Its number lies from `lo` to `hi`, both included.
     Between { lo: i32, hi: i32 },

@@ -7,7 +7,7 @@ use machine_state::{Instruction, Op};
 use prefix_decoder::Instr;
 
 /// How a process goes on after an instruction, as far as a caller has to know before the instruction is judged.
-#[derive(Clone, Copy, PartialEq, Eq)]
+#[derive(Clone, Copy)]
 pub enum Way {
     /// At one or two places, or nowhere (`advance`).
     GoesOn,

@@ -10,7 +10,7 @@ ghost use Rattle.link_runs.specs.Driving.{IsReached, IsShown, Proceeds, HasReact
 use machine_state::{Event, Link};
 
 /// How far a machine went on by itself.
-#[derive(Clone, Copy, Debug, PartialEq, Eq)]
+#[derive(Clone, Copy)]
 pub enum Progress {
     /// A message went out on this link.
     Emitted { link: Link },
@@ -19,7 +19,7 @@ pub enum Progress {
 }
 
 /// What an event did. The bytes of a message are asked for apart.
-#[derive(Clone, Copy, Debug, PartialEq, Eq)]
+#[derive(Clone, Copy)]
 pub enum Reaction {
     Ran,
     Idle,

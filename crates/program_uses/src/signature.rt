@@ -25,7 +25,7 @@ pub struct Signature {
 }
 
 /// How an actual is passed to a parameter.
-#[derive(Clone, Copy, PartialEq, Eq)]
+#[derive(Clone, Copy)]
 pub enum Passing {
     /// As a value.
     Value,

@@ -5,7 +5,7 @@ use std::alloc::Global;
 use std::cell::{Cell, RefCell};
 
 /// How a call fails.
-#[derive(Clone, Copy, PartialEq)]
+#[derive(Clone, Copy)]
 pub(crate) enum Failure {
     /// With an error.
     Error,

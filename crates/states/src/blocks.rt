@@ -18,7 +18,7 @@ pub(crate) fn block_words() -> usize
 }
 
 /// What is kept for a block.
-#[derive(Clone, Copy, Debug)]
+#[derive(Clone, Copy)]
 pub(crate) struct Block {
     /// What is known of its words together, if that was summed.
     pub sum: Option<Together>,
@@ -36,7 +36,7 @@ impl Block {
 
 /// What is kept for blocks, by their numbers. The numbers are below a capacity that is set at construction. Nothing is
 /// allocated later.
-#[derive(Debug, Drop)]
+#[derive(Drop)]
 pub(crate) struct Blocks {
     /// Nothing is kept for the blocks after the last of these.
     pub(crate) kept: Vec<Block>,

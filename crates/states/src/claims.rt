@@ -17,7 +17,7 @@ use module_format::{Entry, Fact, LabelRow};
 use std::alloc::{AllocError, Global};
 
 /// A fact that says what the label at a code offset wants of the words from `first` up to `end` (not included).
-#[derive(Clone, Copy, Debug)]
+#[derive(Clone, Copy)]
 pub(crate) struct Claim {
     pub offset: u32,
     pub first: i64,

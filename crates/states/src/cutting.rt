@@ -13,7 +13,7 @@ use crate::row::{end_of, loop_of, start_of};
 use module_format::{Entry, Fact, Interval};
 
 /// Which words of entries are kept.
-#[derive(Clone, Copy, PartialEq, Eq)]
+#[derive(Clone, Copy)]
 pub(crate) enum Side {
     /// Those that an interval has.
     Inside,

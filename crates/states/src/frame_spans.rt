@@ -14,7 +14,7 @@ use crate::span::{Leaving, Together, is_number};
 use module_format::Fact;
 
 /// Some words, and what is known of them together.
-#[derive(Clone, Copy, Debug)]
+#[derive(Clone, Copy)]
 struct Piece {
     count: u32,
     all: Together,

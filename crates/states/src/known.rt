@@ -19,7 +19,7 @@ pub struct Loop {
 }
 
 /// A word of a loop.
-#[derive(Clone, Copy, Debug, PartialEq, Eq)]
+#[derive(Clone, Copy)]
 pub(crate) enum LoopWord {
     /// The first, the index.
     Index,
@@ -28,7 +28,7 @@ pub(crate) enum LoopWord {
 }
 
 /// What is known of a word of the frame.
-#[derive(Clone, Copy, Debug, PartialEq, Eq)]
+#[derive(Clone, Copy, Debug)]
 pub enum WordFact {
     /// This, by itself.
     Alone(Fact),
@@ -95,7 +95,7 @@ fn handed_out(fact: Fact) -> Fact
 }
 
 /// Where the value of a register comes from.
-#[derive(Clone, Copy, Debug, PartialEq, Eq)]
+#[derive(Clone, Copy, Debug)]
 pub enum Source {
     /// Nothing is known of it.
     Nowhere,
@@ -113,7 +113,7 @@ pub enum Source {
 }
 
 /// What is known of a register.
-#[derive(Clone, Copy, Debug, PartialEq, Eq)]
+#[derive(Clone, Copy)]
 pub struct Known {
     pub fact: Fact,
     pub source: Source,

@@ -8,14 +8,14 @@ use module_format::Fact;
 use std::alloc::{AllocError, Global};
 
 /// A fact that was written, and its index.
-#[derive(Clone, Copy, Debug)]
+#[derive(Clone, Copy)]
 pub(crate) struct Written {
     pub index: usize,
     pub fact: Fact,
 }
 
 /// The facts that were written, for indices below a capacity that is set at construction. Nothing is allocated later.
-#[derive(Debug, Drop)]
+#[derive(Drop)]
 pub(crate) struct Overlay {
     /// For each index where in `written` it may be. The index that is found there decides.
     pub(crate) places: Vec<usize>,

@@ -42,7 +42,7 @@ const FEW: u64 = 64;
 const FEW_OF_BLOCK: u64 = 8;
 
 /// Which words of a block are asked.
-#[derive(Clone, Copy, Debug)]
+#[derive(Clone, Copy)]
 pub(crate) struct Asking {
     /// Those that were written by themselves after this time are.
     pub time: u64,

@@ -12,7 +12,7 @@ use module_format::Fact;
 use std::alloc::{AllocError, Global};
 
 /// A comparison of the state with the label at a code offset.
-#[derive(Clone, Copy, Debug)]
+#[derive(Clone, Copy)]
 pub(crate) struct Compared {
     /// When it was made, or 0 if it was not.
     pub time: u64,
@@ -32,7 +32,7 @@ impl Compared {
 }
 
 /// What all words of a block became.
-#[derive(Clone, Copy, Debug)]
+#[derive(Clone, Copy)]
 pub(crate) struct Became {
     /// When they did. It means nothing if the state became that of a label then or later.
     pub time: u64,
@@ -49,7 +49,7 @@ impl Became {
 }
 
 /// How the words of a block were changed.
-#[derive(Clone, Copy, Debug)]
+#[derive(Clone, Copy)]
 pub(crate) struct Changes {
     /// When one of them was last written by itself.
     pub written: u64,

@@ -11,7 +11,7 @@ use crate::known::WordFact;
 use module_format::Fact;
 
 /// What is known of some words together.
-#[derive(Clone, Copy, Debug, PartialEq, Eq)]
+#[derive(Clone, Copy)]
 pub struct Together {
     /// The least number that a word may be whose plain fact is a number: the greatest word, if there is none.
     pub lo: i32,
@@ -125,7 +125,7 @@ pub(crate) fn is_number(fact: Fact) -> bool
 }
 
 /// What is left of what was known of a word.
-#[derive(Clone, Copy, Debug)]
+#[derive(Clone, Copy)]
 pub enum Leaving {
     /// This is known instead.
     Become(Fact),

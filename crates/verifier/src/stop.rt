@@ -6,14 +6,14 @@ use crate::Refusal;
 use states::{MEMORY, Rule};
 
 /// A rule that is broken, and the code offset where.
-#[derive(Clone, Copy, Debug, PartialEq, Eq)]
+#[derive(Clone, Copy, Debug)]
 pub struct Breach {
     pub rule: Rule,
     pub offset: u32,
 }
 
 /// Why the pass stops before the end of the code.
-#[derive(Clone, Copy, Debug, PartialEq, Eq)]
+#[derive(Clone, Copy, Debug)]
 pub enum Stop {
     Broken(Breach),
     /// Memory ran out.
