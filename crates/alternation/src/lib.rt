@@ -7,8 +7,6 @@ mod enabling;
 mod laws;
 mod moves;
 mod source;
-#[cfg(test)]
-mod tests;
 
 pub use disabling::{disable_channel, disable_skip, end, wait};
 pub use enabling::{begin, enable_channel, enable_skip};
