@@ -11,8 +11,6 @@ mod running;
 mod sending;
 mod supplying;
 mod tally;
-#[cfg(test)]
-mod tests;
 mod writing;
 
 pub use device::Failed;
