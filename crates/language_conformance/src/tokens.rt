@@ -18,6 +18,18 @@ pub(crate) fn write_character(out: &mut Answer, byte: u8) {
     }
 }
 
+/// The bytes of a string, each taken off what is left of it.
+fn write_split(out: &mut Answer, text: Text) {
+    let mut rest = text;
+    for _ in 0..text.len() {
+        let Some((byte, others)) = rest.split_first() else {
+            break;
+        };
+        write_character(out, byte);
+        rest = others;
+    }
+}
+
 /// The bytes of a string.
 pub(crate) fn write_text(out: &mut Answer, text: Text) {
     for byte in text.bytes() {
@@ -40,7 +52,7 @@ fn write_kind(out: &mut Answer, kind: TokenKind) {
         }
         TokenKind::Text(text) => {
             out.put("Text(");
-            write_text(out, text);
+            write_split(out, text);
             out.put(")");
         }
         TokenKind::Integer(value) => {

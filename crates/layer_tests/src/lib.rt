@@ -1,9 +1,7 @@
-//! Tests of the layers by their public calls: those that allocate, and the texts of sources.
+//! Tests of the layers by their public calls that allocate.
 #![tactic(auto)]
 
 #[cfg(test)]
 mod allocations;
 #[cfg(test)]
 mod calls;
-#[cfg(test)]
-mod sources;
