@@ -77,15 +77,6 @@ fn try_files<S: Subject, R: Files + Input + AllocGlobal>(
     Ok(())
 }
 
-/// Tries the cases that the arguments name.
-fn try_named<S: Subject, R: Env + Files + Input + AllocGlobal>(
-    rt: &R,
-    report: &mut Report,
-) -> io::Result<()> {
-    let words: Vec<String> = env::args(rt)?.collect(rt.alloc())?;
-    try_files::<S, R>(rt, words.get(1..).unwrap_or(&[]), report)
-}
-
 /// Prints what came of the cases, unless memory ran out.
 fn print(rt: &impl Print, report: &mut Report) -> io::Result<()> {
     report.put_counts();
@@ -95,6 +86,19 @@ fn print(rt: &impl Print, report: &mut Report) -> io::Result<()> {
     println!(rt; "{}", report.as_str())
 }
 
+/// Tries the cases that the words of a command line name, and prints what came of them.
+pub(crate) fn try_named<S: Subject, R: Files + Input + Print + AllocGlobal>(
+    rt: &R,
+    words: &[String],
+) -> io::Result<ExitCode>
+    ensures { IfOk result (λ code. exit_status code ≤ 1) }
+{
+    let mut report = Report::new(rt.alloc());
+    try_files::<S, R>(rt, words.get(1..).unwrap_or(&[]), &mut report)?;
+    print(rt, &mut report)?;
+    Ok(ExitCode::from(u8::from(!report.is_clean())))
+}
+
 /// The program: tries the cases of the files that its arguments name, or else those of standard input, and prints each
 /// that differs and then how many came out how. The status is 1 if a case differs or cannot be read, and else 0.
 pub fn try_cases<S: Subject, R: Env + Files + Input + Print + AllocGlobal>(
@@ -102,8 +106,6 @@ pub fn try_cases<S: Subject, R: Env + Files + Input + Print + AllocGlobal>(
 ) -> io::Result<ExitCode>
     ensures { IfOk result (λ code. exit_status code ≤ 1) }
 {
-    let mut report = Report::new(rt.alloc());
-    try_named::<S, R>(rt, &mut report)?;
-    print(rt, &mut report)?;
-    Ok(ExitCode::from(u8::from(!report.is_clean())))
+    let words: Vec<String> = env::args(rt)?.collect(rt.alloc())?;
+    try_named::<S, R>(rt, &words)
 }

@@ -1,4 +1,5 @@
-//! Cases in text: how they are written and judged, and the whole of a program that tries them but what they ask.
+//! Cases in text: how they are written and judged, and the whole of a program that tries them but what they ask. Such a
+//! program may also repeat a call on the bytes of a file, so that its time can be taken.
 //!
 //! A case is a statement in a text: a word at the start of a line, what follows on the line, and the indented lines
 //! below it. The statements of a text are taken one after the other by a `Subject`, which is what they are about. One
@@ -10,6 +11,7 @@
 mod answer;
 mod cases;
 mod outcome;
+mod repeating;
 mod report;
 mod statements;
 mod subject;
@@ -17,5 +19,6 @@ mod subject;
 pub use answer::Answer;
 pub use cases::try_cases;
 pub use outcome::{Outcome, judged};
+pub use repeating::{Calls, Failure, mixed, refusal, try_cases_or_repeat};
 pub use statements::{Statement, unindented};
 pub use subject::Subject;
