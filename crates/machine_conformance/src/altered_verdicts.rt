@@ -1,14 +1,11 @@
 //! A file altered in many ways, and the verdicts on the altered files that are read.
 
-use crate::alterations::{Tally, Ways, judge_altered};
-use crate::altered_runs::repeated;
-use crate::pairing::one_event;
+use crate::accepted::{Events, pair_verified};
 use crate::setting::Setting;
-use accepted_runs::Run;
 use certificate::Module;
 use conformance::{Answer, Outcome};
-use machine::Checked;
 use machine_state::Event;
+use module_cases::{Tally, Ways, judge_altered, repeated};
 use module_format::MEMORY;
 use std::alloc::Global;
 use verifier::{Verified, verify};
@@ -97,18 +94,8 @@ impl Tally for Verdicts<'_> {
 /// What comes of the events on both machines of an accepted module: neither has a fault, both do the same, and they
 /// keep to the budget.
 fn run(alloc: Global, module: &Module, verified: &Verified, events: &[Event]) -> Outcome {
-    match (Checked::load(alloc, module), Run::load(alloc, verified)) {
-        (Ok(mut checked), Ok(mut run)) => {
-            for event in events {
-                let outcome = one_event(&mut checked, &mut run, *event);
-                if outcome != Outcome::Held {
-                    return outcome;
-                }
-            }
-            Outcome::of(checked.executed() <= module.tables().budget)
-        }
-        _ => Outcome::OutOfMemory,
-    }
+    let budget = module.tables().budget;
+    pair_verified(alloc, module, verified, Events::Listed { events, budget })
 }
 
 /// How many of the altered files are accepted, how many are refused by each rule, and how many accepted ones have an
@@ -125,5 +112,12 @@ pub(crate) fn altered_verdicts(
         Err(outcome) => return outcome,
     };
     let mut verdicts = Verdicts::of(&events);
-    judge_altered(alloc, &mut setting.file, ways, &mut verdicts, expected, out)
+    judge_altered(
+        alloc,
+        setting.file.bytes_mut(),
+        ways,
+        &mut verdicts,
+        expected,
+        out,
+    )
 }

@@ -1,20 +1,13 @@
-//! Asks the layers what statements ask of a file, a draft or a module.
+//! Asks the layers what statements ask of a file or a module.
 
-use crate::alterations::{Ways, altered_sums, cuts};
-use crate::altered_runs::altered_runs;
 use crate::altered_verdicts::altered_verdicts;
-use crate::assembling::ask_draft;
-use crate::explaining::sentence;
-use crate::following::follow;
-use crate::lookups::look_up;
-use crate::modules::{put_fault, read, verdict};
 use crate::running::{replayed, run};
 use crate::setting::Setting;
-use crate::stepping::step;
 use crate::upgrading::{NotUpgraded, put_upgraded, upgraded};
-use crate::words::{Words, question};
+use crate::verdicts::verdict;
 use certificate::Module;
 use conformance::{Answer, Outcome, Statement, Subject, judged};
+use module_cases::{Ways, Words, put_fault, put_read, question};
 use std::alloc::Global;
 use verifier::UpgradeFault;
 
@@ -29,12 +22,9 @@ fn ask_module<'a>(
     let rest = statement.rest;
     match statement.word {
         "verify" => verdict(alloc, module, rest, out),
-        "explain" => sentence(alloc, module, rest, out),
         "then" => run(alloc, module, setting, rest, out),
         "replay" => replayed(alloc, module, setting.events.as_str(), rest, out),
-        "step" => step(alloc, module, setting.process.as_str(), rest, out),
-        "follow" => follow(alloc, module, setting.state.as_str(), rest, out),
-        name => look_up(module, name, rest, out),
+        _ => Outcome::Unreadable,
     }
 }
 
@@ -57,11 +47,11 @@ fn ask_bytes_of_module(
 
 /// What is asked of the module that a file is. A module of version 1 has to answer the same once it is upgraded.
 fn ask_file(alloc: Global, setting: &Setting, statement: Statement, out: &mut Answer) -> Outcome {
-    let outcome = ask_bytes_of_module(alloc, &setting.file, setting, statement, out);
+    let outcome = ask_bytes_of_module(alloc, setting.file.bytes(), setting, statement, out);
     if outcome != Outcome::Held {
         return outcome;
     }
-    match upgraded(alloc, &setting.file) {
+    match upgraded(alloc, setting.file.bytes()) {
         Ok(bytes) => {
             out.clear();
             ask_bytes_of_module(alloc, &bytes, setting, statement, out)
@@ -71,23 +61,7 @@ fn ask_file(alloc: Global, setting: &Setting, statement: Statement, out: &mut An
     }
 }
 
-/// What is asked of the files that a file becomes in these ways: runs, verdicts, or how many are read.
-fn ask_altered(
-    alloc: Global,
-    setting: &mut Setting,
-    word: &str,
-    ways: Ways,
-    expected: &str,
-    out: &mut Answer,
-) -> Outcome {
-    match word {
-        "run_bits" | "run_bytes" => altered_runs(alloc, setting, ways, expected, out),
-        "judge_bits" | "judge_bytes" => altered_verdicts(alloc, setting, ways, expected, out),
-        _ => altered_sums(alloc, &mut setting.file, ways, expected, out),
-    }
-}
-
-/// What is asked of the files with a byte altered: `FROM TO = ANSWER`.
+/// What is asked of the verdicts on the files with a byte altered: `FROM TO = ANSWER`.
 fn ask_bytes(
     alloc: Global,
     setting: &mut Setting,
@@ -97,25 +71,19 @@ fn ask_bytes(
     let (range, expected) = question(statement.rest);
     let mut words = Words::of(range);
     let (from, to) = (words.number(), words.number());
-    if !words.is_read() || to as usize > setting.file.len() {
+    if !words.is_read() || to as usize > setting.file.bytes().len() {
         return Outcome::Unreadable;
     }
-    let ways = Ways::Bytes { from, to };
-    ask_altered(alloc, setting, statement.word, ways, expected, out)
+    altered_verdicts(alloc, setting, Ways::Bytes { from, to }, expected, out)
 }
 
-/// What is asked of a file or a draft, and else of a module.
+/// What is asked of a file, and else of a module.
 fn ask(alloc: Global, setting: &mut Setting, statement: Statement, out: &mut Answer) -> Outcome {
     match statement.word {
-        "read" => read(alloc, &setting.file, out),
-        "cuts" => cuts(alloc, &setting.file, out),
-        "bits" | "run_bits" | "judge_bits" => {
-            let Statement { word, rest, .. } = statement;
-            return ask_altered(alloc, setting, word, Ways::Bits, rest, out);
-        }
-        "bytes" | "run_bytes" | "judge_bytes" => return ask_bytes(alloc, setting, statement, out),
-        "assemble" | "spell" => return ask_draft(alloc, &setting.file, statement, out),
-        "upgrade" => put_upgraded(alloc, &setting.file, out),
+        "read" => put_read(alloc, setting.file.bytes(), out),
+        "judge_bits" => return altered_verdicts(alloc, setting, Ways::Bits, statement.rest, out),
+        "judge_bytes" => return ask_bytes(alloc, setting, statement, out),
+        "upgrade" => put_upgraded(alloc, setting.file.bytes(), out),
         _ => return ask_file(alloc, setting, statement, out),
     }
     judged(out, statement.rest)

@@ -1,38 +1,28 @@
-//! Asks the layers of module files and machines what cases in text say that they return, and prints each case that
-//! differs.
+//! Asks the verifier and the machines what cases in text say that they return, and prints each case that differs.
 //!
 //! The arguments name files of cases; without any, the cases are read from standard input. The last line has the
-//! counts. The status is 1 if a case differs or cannot be read.
+//! counts. The status is 1 if a case differs or cannot be read. With the arguments `time CALL FILE
+//! TIMES` it repeats a call on the bytes of a file instead, and prints a checksum of the results: the calls are `verify`
+//! and `replay`.
 #![tactic(auto)]
 
-mod alterations;
-mod altered_runs;
+mod accepted;
 mod altered_verdicts;
 mod asking;
-mod assembling;
-mod draft_code;
-mod draft_rows;
-mod drafts;
-mod edits;
-mod events;
-mod explaining;
-mod following;
-mod lookups;
-mod modules;
 mod pairing;
+mod repeating;
 mod running;
 mod scheduling;
 mod setting;
-mod stepping;
 mod upgrading;
-mod watching;
-mod words;
+mod verdicts;
 
-use conformance::try_cases;
+use conformance::try_cases_or_repeat;
+use repeating::Repeated;
 use setting::Setting;
 use std::io;
 use std::process::ExitCode;
 
 fn main(rt: HostRuntime) -> io::Result<ExitCode> {
-    try_cases::<Setting, HostRuntime>(&rt)
+    try_cases_or_repeat::<Setting, Repeated, HostRuntime>(&rt)
 }

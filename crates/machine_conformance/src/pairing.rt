@@ -1,14 +1,10 @@
 //! Whether the plain machine does what the reference machine does.
 
-use crate::events::{LINKS, event, letter};
-use crate::words::Words;
 use accepted_runs::Run;
-use certificate::Module;
 use conformance::Outcome;
 use machine::{Checked, Stop};
 use machine_state::{Effect, Event};
-use std::alloc::Global;
-use verifier::{Verified, verify};
+use module_cases::{LINKS, Words, event, letter};
 
 fn is_same(first: Effect, second: Effect) -> bool {
     match (first, second) {
@@ -49,8 +45,8 @@ pub(crate) fn one_event(checked: &mut Checked, run: &mut Run, event: Event) -> O
     }
 }
 
-/// Lets the events happen to both, up to the first that does not do the same.
-fn all_events(checked: &mut Checked, run: &mut Run, text: &str) -> Outcome {
+/// Lets the events of a text happen to both, up to the first that does not do the same.
+pub(crate) fn written_events(checked: &mut Checked, run: &mut Run, text: &str) -> Outcome {
     let mut words = Words::of(text);
     for _ in 0..words.count() {
         let Some(event) = event(words.word()) else {
@@ -64,17 +60,13 @@ fn all_events(checked: &mut Checked, run: &mut Run, text: &str) -> Outcome {
     Outcome::Held
 }
 
-fn pair_verified(alloc: Global, module: &Module, verified: &Verified, text: &str) -> Outcome {
-    match (Checked::load(alloc, module), Run::load(alloc, verified)) {
-        (Ok(mut checked), Ok(mut run)) => all_events(&mut checked, &mut run, text),
-        _ => Outcome::OutOfMemory,
+/// Lets these events happen to both, up to the first that does not do the same.
+pub(crate) fn listed_events(checked: &mut Checked, run: &mut Run, events: &[Event]) -> Outcome {
+    for event in events {
+        let outcome = one_event(checked, run, *event);
+        if outcome != Outcome::Held {
+            return outcome;
+        }
     }
-}
-
-/// Whether the events of a run do the same on both machines, if the module is accepted.
-pub(crate) fn pair(alloc: Global, module: &Module, text: &str) -> Outcome {
-    match verify(alloc, module) {
-        Ok(verified) => pair_verified(alloc, module, &verified, text),
-        Err(_) => Outcome::Held,
-    }
+    Outcome::Held
 }

@@ -1,14 +1,13 @@
 //! The answers of machines.
 
-use crate::events::{LINKS, event, letter, names_effect};
-use crate::pairing::pair;
+use crate::accepted::pair;
 use crate::setting::Setting;
-use crate::words::Words;
 use accepted_runs::{Replay, replay};
 use certificate::Module;
 use conformance::{Answer, Outcome, judged};
 use machine::{Checked, Stop};
 use machine_state::{Event, Fault};
+use module_cases::{LINKS, Words, event, letter, names_effect};
 use std::alloc::Global;
 use verifier::{Verified, verify};
 
@@ -62,7 +61,7 @@ fn all_events(machine: &mut Checked, setting: &Setting) -> Course {
 }
 
 /// The fault as a case says it.
-pub(crate) fn put_fault(fault: Option<Fault>, out: &mut Answer) {
+fn put_fault(fault: Option<Fault>, out: &mut Answer) {
     if let Some(fault) = fault {
         out.fault("F", fault.number, fault.process);
         out.put(" ");

@@ -1,14 +1,11 @@
 //! Whether the plain machine does what the reference machine does, whoever runs next.
 
-use crate::events::LINKS;
 use crate::pairing::one_event;
 use accepted_runs::Run;
-use certificate::Module;
 use conformance::Outcome;
 use machine::Checked;
 use machine_state::Event;
-use std::alloc::Global;
-use verifier::Verified;
+use module_cases::LINKS;
 
 /// How many bytes are executed at most by a schedule.
 const STEPS: u64 = 200;
@@ -18,7 +15,7 @@ const LAST: u64 = 5_342_931_457_063_199;
 
 /// Who runs next, where that can be chosen, and whether a process gives way at `j` and `lend`.
 #[derive(Clone, Copy)]
-enum Schedule {
+pub(crate) enum Schedule {
     /// First in, first out, and no process gives way.
     InOrder,
     /// First in, first out, and each process gives way.
@@ -29,7 +26,7 @@ enum Schedule {
     Changing,
 }
 
-const SCHEDULES: [Schedule; 4] = [
+pub(crate) const SCHEDULES: [Schedule; 4] = [
     Schedule::InOrder,
     Schedule::Slices,
     Schedule::Last,
@@ -69,25 +66,14 @@ fn one_turn(checked: &mut Checked, run: &mut Run, schedule: Schedule, number: u6
     Outcome::Held
 }
 
-/// Runs both machines by a schedule, up to the first event that does not do the same.
-fn by_schedule(alloc: Global, module: &Module, verified: &Verified, schedule: Schedule) -> Outcome {
-    let (Ok(mut checked), Ok(mut run)) = (Checked::load(alloc, module), Run::load(alloc, verified))
-    else {
-        return Outcome::OutOfMemory;
-    };
+/// Lets both machines run by a schedule, up to the first event that does not do the same.
+pub(crate) fn scheduled_events(
+    checked: &mut Checked,
+    run: &mut Run,
+    schedule: Schedule,
+) -> Outcome {
     for number in 0..STEPS {
-        let outcome = one_turn(&mut checked, &mut run, schedule, number);
-        if outcome != Outcome::Held {
-            return outcome;
-        }
-    }
-    Outcome::Held
-}
-
-/// Whether both machines do the same with an accepted module by each schedule.
-pub(crate) fn pair_schedules(alloc: Global, module: &Module, verified: &Verified) -> Outcome {
-    for schedule in SCHEDULES {
-        let outcome = by_schedule(alloc, module, verified, schedule);
+        let outcome = one_turn(checked, run, schedule, number);
         if outcome != Outcome::Held {
             return outcome;
         }

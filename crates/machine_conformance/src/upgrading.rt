@@ -1,8 +1,8 @@
 //! The answers of upgrading a module.
 
-use crate::modules::put_fault;
 use certificate::ModuleFile;
 use conformance::Answer;
+use module_cases::put_fault;
 use module_format::FormatFault;
 use std::alloc::Global;
 use verifier::{UpgradeFault, upgrade};

@@ -1,0 +1,22 @@
+//! Asks what drafts are assembled to, and how instructions are spelled, and prints each case in text that differs.
+//!
+//! The arguments name files of cases; without any, the cases are read from standard input. The last line has the
+//! counts. The status is 1 if a case differs or cannot be read.
+#![tactic(auto)]
+
+mod asking;
+mod assembling;
+mod draft_code;
+mod draft_rows;
+mod drafts;
+mod setting;
+mod spelling;
+
+use conformance::try_cases;
+use setting::Setting;
+use std::io;
+use std::process::ExitCode;
+
+fn main(rt: HostRuntime) -> io::Result<ExitCode> {
+    try_cases::<Setting, HostRuntime>(&rt)
+}

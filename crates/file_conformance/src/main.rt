@@ -1,0 +1,25 @@
+//! Asks what becomes of module files, and of files that are altered in many ways, and prints each case in text that
+//! differs.
+//!
+//! The arguments name files of cases; without any, the cases are read from standard input. The last line has the
+//! counts. The status is 1 if a case differs or cannot be read. With the arguments `time CALL FILE
+//! TIMES` it repeats a call on the bytes of a file instead, and prints a checksum of the results: the calls are `read`,
+//! `write`, and `apply`, `slice` and `pick`, which are events on one machine.
+#![tactic(auto)]
+
+mod altered_runs;
+mod asking;
+mod repeating;
+mod setting;
+mod sums;
+mod watching;
+
+use conformance::try_cases_or_repeat;
+use repeating::Repeated;
+use setting::Setting;
+use std::io;
+use std::process::ExitCode;
+
+fn main(rt: HostRuntime) -> io::Result<ExitCode> {
+    try_cases_or_repeat::<Setting, Repeated, HostRuntime>(&rt)
+}
