@@ -93,8 +93,8 @@ class Module:
             ]
         return [
             Side("baseline", lambda times: [baseline, self.file, str(times)]),
-            Side("proceed", lambda times: [programs.BENCH, "run", self.file, str(times)]),
-            Side("apply", lambda times: [programs.BENCH, "replay", self.file, str(times)]),
+            Side("proceed", lambda times: programs.repeated("run", self.file, times)),
+            Side("apply", lambda times: programs.repeated("replay", self.file, times)),
         ]
 
     def with_files(self, words, name):

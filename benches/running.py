@@ -20,7 +20,7 @@ Running = namedtuple("Running", "file before turn", defaults=("", "r"))
 
 
 def checksum(running, times):
-    """What the program `bench` prints after so many events."""
+    """What is printed after so many events."""
     total, executed = 0, 0
     for event in islice(chain(running.before, cycle(running.turn)), times):
         total = 31 * total + (event == "r") & 2**64 - 1

@@ -1,20 +1,24 @@
 //! Checks what the layers of sources return against cases in text, and prints each case that differs.
 //!
 //! The arguments name files of cases; without any, the cases are read from standard input. The last line has the
-//! counts. The status is 1 if a case differs or cannot be read.
+//! counts. The status is 1 if a case differs or cannot be read. With the arguments `time CALL FILE
+//! TIMES` it repeats a call on the bytes of a file instead, and prints a checksum of the results: the calls are `lines`,
+//! `parse` and `check`.
 #![tactic(auto)]
 
 mod asking;
 mod quoted;
+mod repeating;
 mod setting;
 mod tokens;
 mod trees;
 
-use conformance::try_cases;
+use conformance::try_cases_or_repeat;
+use repeating::Repeated;
 use setting::Setting;
 use std::io;
 use std::process::ExitCode;
 
 fn main(rt: HostRuntime) -> io::Result<ExitCode> {
-    try_cases::<Setting, HostRuntime>(&rt)
+    try_cases_or_repeat::<Setting, Repeated, HostRuntime>(&rt)
 }
