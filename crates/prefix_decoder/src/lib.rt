@@ -15,6 +15,3 @@ pub use laws::{
     device_reads_each_spelling, each_operand_has_a_spelling, no_second_spelling,
     no_spelling_begins_another,
 };
-
-#[cfg(test)]
-mod tests;
