@@ -1,7 +1,6 @@
 //! Tables by hand, for what no file can test: tables that have no file, and tables that are as long as the format
-//! allows. Whether other tables are valid is tested by their files, in the cases of `machine_conformance`.
+//! allows. Whether other tables are valid is tested by their files, in the cases of `file_conformance`.
 
-use super::JUMP;
 use bitflags::Flags;
 use module_format::{
     BranchRow, ChannelRow, Direction, EndKind, EndRow, Ends, Entry, Fact, Interval, LabelRow,
@@ -10,6 +9,14 @@ use module_format::{
 use smallvec::SmallVec;
 use std::alloc::{AllocError, Global};
 use std::test::*;
+
+/// Code `45 d1 00 71 21 f5`, a label row at 3.
+const JUMP: [u8; 105] = [
+    0x54, 0x50, 0x4d, 0x31, 6, 0, 0, 0, 0, 0, 0, 0, 5, 0, 0, 0, 3, 0, 0, 0, 6, 0, 0, 0, 0, 0, 0, 0,
+    6, 0, 0, 0, 0, 0, 0, 0, 0, 0, 0, 0, 0, 0, 0, 0, 0, 0, 0, 0, 0, 0, 0, 0, 0, 0, 0, 0, 0, 0, 0, 0,
+    0, 0, 0, 0, 0, 0, 0, 0, 1, 0, 0, 0, 0, 0, 0, 0, 0x45, 0xd1, 0, 0x71, 0x21, 0xf5, 3, 0, 0, 0, 0,
+    0, 0, 0, 0, 0, 3, 0, 0, 0, 0, 0, 0, 0, 0, 0, 0, 0, 0,
+];
 
 const CODE: [u8; 6] = [0x45, 0xd1, 0, 0x71, 0x21, 0xf5];
 
