@@ -24,8 +24,8 @@ returns-clause-ruling c =
     ∙ (c.in_ok-word.ensures.test _
     ∙ ap (goes_on (site_of c.args.place.now))
     (load_local-after (state_of c.args.state.now)
-    (state_of c.push.new.self) _ _ c.fact_at-fact.result c.loaded.result
-    (fits ∙ c.in_ok-word.ensures.word) c.fact_at-fact.ensures.value c.loaded.ensures c.push.ensures.state)))
+    (state_of c.push.new.self) _ _ c.fact_at-fact.result c.word_as_known.result
+    (fits ∙ c.in_ok-word.ensures.word) c.fact_at-fact.ensures.value c.word_as_known.ensures c.push.ensures.state)))
     c.goes_on.ensures.ruling
 
 pub returns-clause-belongs : goal.returns-clause-belongs

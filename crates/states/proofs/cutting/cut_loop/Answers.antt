@@ -5,8 +5,8 @@ use Rattle.states.specs.Cutting.{CutsEntry}
 use Rattle.states.proofs.CutEntries.{loop-skipped, loop-kept}
 use Rattle.states.proofs.cutting.cut_loop.Goals as goal
 
-pub returns-then-not-keeps-clause-cut : goal.returns-then-not-keeps-clause-cut
-returns-then-not-keeps-clause-cut c =
+pub returns-then-not-is_on_side-clause-cut : goal.returns-then-not-is_on_side-clause-cut
+returns-then-not-is_on_side-clause-cut c =
     let first = c.start_of-start.ensures.value in
     let last = c.end_of-end.ensures.value in
     let all = c.if-run-end.false in
@@ -15,7 +15,7 @@ returns-then-not-keeps-clause-cut c =
     (λ k l. c.run_from-run.ensures.later k (omega (arith, ints, first)))
     (λ k l h. c.run_from-run.ensures.alike k (omega (arith, ints, first)) (omega (arith, ints, last, all))
     ∙ c.if-run.false)
-    (sym c.keeps.ensures ∙ c.if-not-keeps.true)
+    (sym c.is_on_side.ensures ∙ c.if-not-is_on_side.true)
 
 pub returns-clause-cut : goal.returns-clause-cut
 returns-clause-cut c =
@@ -29,4 +29,4 @@ returns-clause-cut c =
     (λ k l. c.run_from-run.ensures.later k (omega (arith, ints, first)))
     (λ k l h. c.run_from-run.ensures.alike k (omega (arith, ints, first)) (omega (arith, ints, last, all))
     ∙ c.if-run.false)
-    (sym c.keeps.ensures ∙ c.if-not-keeps.false))
+    (sym c.is_on_side.ensures ∙ c.if-not-is_on_side.false))

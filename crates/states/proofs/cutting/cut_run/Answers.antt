@@ -6,15 +6,15 @@ use Rattle.states.specs.Cutting.{CutsOn}
 use Rattle.states.proofs.CutEntries.{run-skipped, run-kept}
 use Rattle.states.proofs.cutting.cut_run.Goals as goal
 
-pub returns-then-not-keeps-clause-cut : goal.returns-then-not-keeps-clause-cut
-returns-then-not-keeps-clause-cut c =
+pub returns-then-not-is_on_side-clause-cut : goal.returns-then-not-is_on_side-clause-cut
+returns-then-not-is_on_side-clause-cut c =
     let end = c.end_of.ensures.value in
     let run = rw (to_z-of_z w64 c.args.word c.ranges.word) at c.run_from-run.ensures in
     let within = run.within in
     run-skipped c.args.side c.args.entry.now c.args.pieces.now.items c.args.left.now c.run_from-run.result.rest.now
     c.args.word c.run_from-run.result.end c.run_from-run.result.is_among c.requires.alone c.requires.begun
     run.some (omega (arith, ints, end, within)) run.later
-    run.alike (sym c.keeps.ensures ∙ c.if-not-keeps.true)
+    run.alike (sym c.is_on_side.ensures ∙ c.if-not-is_on_side.true)
 
 pub returns-clause-cut : goal.returns-clause-cut
 returns-clause-cut c =
@@ -31,4 +31,4 @@ returns-clause-cut c =
     c.args.word c.run_from-run.result.end c.run_from-run.result.is_among c.requires.alone c.requires.begun
     run.some (omega (arith, ints, end, within)) run.later
     run.alike c.in_ok-piece.piece piece.word piece.end
-    piece.fact (sym c.keeps.ensures ∙ c.if-not-keeps.false))
+    piece.fact (sym c.is_on_side.ensures ∙ c.if-not-is_on_side.false))
