@@ -62,7 +62,7 @@ class Networks(Statements):
         self.places = {}
 
     def more_ways(self, depth):
-        ways = [(2, self.skips)] if self.has_alt else []
+        ways = [(2, self.unwritten), *([(2, self.skips)] if self.has_alt else [])]
         if depth > 2 and not self.is_wrapped:
             ways.append((0.3, self.deep_process))
         if self.turns <= 24:
@@ -92,6 +92,44 @@ class Networks(Statements):
             return plain(tree.Block("PAR", None, self.together([inner])))
         guard = tree.Truth(True) if way == 3 else tree.Guard(tree.Truth(True), None, None)
         return plain(tree.Block("IF" if way == 3 else "ALT", None, [(guard, inner())]))
+
+    # ---- what is changed by no code
+
+    def unwritten(self, depth):
+        """A scalar is changed by what writes nothing, and then only one condition on it lets the process go on."""
+        found = self.writable("scalar")
+        if not found:
+            return self.choice(depth)
+        e = self.dice.choice(found)
+        first = self.changed_by_nothing(e)
+        return seq([first, self.only_where(e, depth)])
+
+    def changed_by_nothing(self, e):
+        """An instance that is passed a scalar and leaves it, or an assignment under a replicator without turns."""
+        name, kind = tree.Name(e.type, e.name), self.dice.choice(["SEQ", "PAR", "instance"])
+        if kind != "instance":
+            replicator, _ = self.in_scope(lambda: self.replicator("index" if kind == "SEQ" else "turn", 0))
+            if replicator.index != e.name:
+                # a loop forgets what was known, and a PAR of no components leaves it
+                self.assigned(e, *((e.full(), True) if kind == "SEQ" else (e.range, e.is_exact)))
+                body = plain(tree.Assign(name, number(self.dice.randrange(9), e.type)))
+                return plain(tree.Block(kind, replicator, [body]))
+        made = self.procedure(1, [tree.Formal("variable", e.type, "")], lambda: plain(tree.Skip()))
+        self.assigned(e, e.full(), True)
+        return plain(tree.Instance(made.name, [name]))
+
+    def only_where(self, e, depth):
+        """An IF or an ALT of one choice, with a condition that says something of a scalar."""
+        comparison, constant = self.dice.choice([(">=", 0), ("<", 9), ("<>", 5), ("<=", 99), ("=", 0), (">", 7)])
+        condition = tree.Chain("BOOL", comparison, [tree.Name(e.type, e.name), number(constant, e.type)])
+        before, behind = self.known(), []
+        if self.has_alt and self.dice.random() < 0.4:
+            branches = [self.branch((condition, None, None), depth, before, behind)]
+            made = tree.Block("ALT", None, branches)
+        else:
+            made = tree.Block("IF", None, [self.one_choice(condition, depth, behind)])
+        self.join(before, behind)
+        return plain(made)
 
     # ---- what components share
 

@@ -15,13 +15,14 @@ use crate::limits::Limits;
 use crate::processes::ProcessWriter;
 use code_pieces::{Par, Piece};
 use line_pieces::{
-    Branch, ChannelPlace, Fork, Home, Listing, Notes, facts_in, label_after, row_word,
+    Access, Branch, ChannelPlace, Fork, Home, Listing, Notes, facts_in, label_after, row_word,
 };
 use module_builder::GenFault;
 use module_format::ChannelRow;
 use occam_parser::{Process, Replicator};
 use program_uses::{Repeats, add_name, is_before, repeats_of, variables_changed};
-use std::alloc::Global;
+use scalar_ranges::{Meaning, Scope};
+use std::alloc::{AllocError, Global};
 use std::collections::BTreeMap;
 use std::mem;
 
@@ -36,6 +37,31 @@ pub(crate) struct Outside {
 /// How much a branch uses of what is outside.
 fn count_of(notes: &Notes) -> usize {
     notes.words.len() + notes.ends.len()
+}
+
+/// The word of the variable with this number, if it is a scalar.
+fn scalar_word(scope: &Scope, homes: &[Home], number: usize) -> Option<u32> {
+    match (scope.entry(number)?.meaning, homes.get(number)?) {
+        (Meaning::Scalar { .. }, Home::Word(word) | Home::Passed(word)) => Some(*word),
+        _ => None,
+    }
+}
+
+/// A branch writes each scalar outside that it changes, of which these are the numbers. What is known of one after the
+/// `PAR` is what is known where the branch ends, even if no code stores into it: it may be passed as a variable, or be
+/// assigned to in a loop without turns.
+fn note_changed(
+    code: &mut Listing,
+    scope: &Scope,
+    homes: &[Home],
+    changed: &[usize],
+) -> Result<(), AllocError> {
+    for number in changed {
+        if let Some(word) = scalar_word(scope, homes, *number) {
+            code.notes.words.insert(word, Access::Writes)?;
+        }
+    }
+    Ok(())
 }
 
 /// The channels from this word on, of which a branch has ends, by their words.
@@ -112,12 +138,13 @@ impl<'a> ProcessWriter<'a> {
         Ok(outside)
     }
 
-    /// The code of a branch ends, which has its entry at this label.
+    /// The code of a branch ends, which has its entry at this label and changes the variables with these numbers.
     fn end_branch(
         &mut self,
         fork: &mut Fork,
         entry: usize,
         outside: Outside,
+        changed: &[usize],
     ) -> Result<(), GenFault>
         ensures { IfOk result (λ _. LeavesBranch self.old self.new outside) }
     {
@@ -128,7 +155,8 @@ impl<'a> ProcessWriter<'a> {
         } = outside;
         self.listing.write_end(context.depth)?;
         let branch = mem::replace(&mut self.context, context);
-        let code = mem::replace(&mut self.listing, listing);
+        let mut code = mem::replace(&mut self.listing, listing);
+        note_changed(&mut code, &self.scope, &self.frame.homes, changed)?;
         self.listing.go_on_after(&code)?;
         self.frame.top = top;
         self.spent.count_notes(count_of(&code.notes))?;
@@ -232,7 +260,7 @@ impl<'a> ProcessWriter<'a> {
         let entry = self.label;
         let outside = self.begin_branch(around.limits, fork, entry, process)?;
         self.write(around, process)?;
-        self.end_branch(fork, entry, outside)?;
+        self.end_branch(fork, entry, outside, &changed)?;
         self.scope.next_component(&changed);
         Ok(())
     }
