@@ -131,6 +131,12 @@ def choices_of_brackets(count, terms, depth):
     return program(main(["INT x, a:", "SEQ", "  in0 ? x", f"  IF i = 0 FOR {count}", *deeper(choice, 2)]))
 
 
+def steep_choices(count, terms, depth):
+    """So many choices of one IF, each with a constant sum of so many terms that is all in so many brackets."""
+    choice = ["x = i", f"  a := {'(' * depth}{'+'.join(['1'] * terms)}{')' * depth}"]
+    return program(main(["INT x, a:", "SEQ", "  in0 ? x", f"  IF i = 0 FOR {count}", *deeper(choice, 2)]))
+
+
 def choices_behind_channels(channels, lines, count):
     """So many choices of one IF, where so many lines have declared so many channels each, which are not used."""
     declared = [name for name in names(channels * lines + 1) if name != "in0"]
@@ -296,6 +302,10 @@ SOURCES = {
     ),
     "choices-brackets": (
         lambda: choices_of_brackets(8_190, 450, 3), COMPILED, "the same, each with a sum of 450 constants in 4 brackets",
+    ),
+    "choices-steep": (
+        lambda: steep_choices(8_190, 506, 7), COMPILED,
+        "the same, each with a sum of 506 constants that is all in 7 brackets, as much work as a turn may be",
     ),
     "choices-channels": (
         lambda: choices_behind_channels(2_500, 80, 1_345), COMPILED,

@@ -124,7 +124,7 @@ work_for_size = 4
 
 -- the work that a turn may have beside that
 abbrev pub free_work : ℕ
-free_work = 1024
+free_work = 4096
 
 -- The work of a turn is out of proportion to its size. A work that no u32 holds is too much in any case.
 abbrev pub is_out_of_proportion : {part : Part} → Component part → Bool

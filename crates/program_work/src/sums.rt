@@ -23,7 +23,7 @@ pub const GREATEST_WORK: u32 = 25_000_000;
 const WORK_FOR_SIZE: u32 = 4;
 
 /// The work that such a turn may have beside that.
-const FREE_WORK: u32 = 1024;
+const FREE_WORK: u32 = 4_096;
 
 /// What is counted of a part of a program, as far as a `u32` goes.
 #[derive(Clone, Copy)]
