@@ -292,8 +292,8 @@ SOURCES = {
         "8,000 instances of a procedure that knows 80 constants with long names",
     ),
     "calls-deep": (
-        lambda: calls_within(1_390, 2_900), COMPILED,
-        "1,390 instances in one another, where 2,900 variables have words",
+        lambda: calls_within(600, 2_900), COMPILED,
+        "600 instances in one another, where 2,900 variables have words",
     ),
     "choices": (lambda: with_choices(32_000), TOO_LARGE, "IF i = 0 FOR 32000"),
     "choices-within": (lambda: with_choices(8_190), COMPILED, "IF i = 0 FOR 8190"),

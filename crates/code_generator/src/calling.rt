@@ -1,6 +1,6 @@
 //! Which procedures may be called at a place.
 
-ghost use Rattle.std.specs.Prelude.{◌≡◌, ◌+◌, IfOk, IfSome, Some, Err, false, option_map, slice_get};
+ghost use Rattle.std.specs.Prelude.{◌≡◌, ◌+◌, ◌≤◌, IfOk, IfSome, Some, Err, false, option_map, slice_get};
 ghost use Rattle.scalar_ranges.specs.Entries.{Procedure};
 ghost use Rattle.scalar_ranges.specs.Scopes.{meaning_of};
 ghost use Rattle.program_uses.specs.ActionViews.{around_of};
@@ -8,7 +8,7 @@ ghost use Rattle.code_generator.specs.Calls.{around_before};
 ghost use Rattle.code_generator.specs.CallViews.{callee_of, callees_of, surroundings_of};
 ghost use Rattle.code_generator.specs.Written.{IsCall};
 
-use crate::limits::Limits;
+use crate::limits::{INSTANCE_DEPTH, Limits};
 use module_builder::GenFault;
 use occam_parser::Proc;
 use program_uses::Around;
@@ -93,8 +93,24 @@ impl<'s, 'a> Surroundings<'s, 'a> {
         })
     }
 
+    /// The procedure with this meaning. The error is [`GenFault::Invalid`] if it may not be called, or
+    /// [`GenFault::Limit`] if too many processes are in one another.
+    pub(crate) fn call(self, procedure: Option<Meaning>) -> Result<Call<'s, 'a>, GenFault>
+        ensures call { IfOk result (λ c. IsCall (surroundings_of self.entry) (option_map meaning_of procedure) c) }
+        ensures deeper { IfOk result (λ c. c.inside.deeper ≤ self.entry.deeper) }
+        ensures limits { IfOk result (λ c. c.inside.limits ≡ self.entry.limits) }
+    {
+        let Some(deeper) = self.deeper.checked_sub(INSTANCE_DEPTH) else {
+            return Err(GenFault::Limit);
+        };
+        match (Surroundings { deeper, ..self }).found(procedure) {
+            Some(call) => Ok(call),
+            None => Err(GenFault::Invalid),
+        }
+    }
+
     /// The procedure with this meaning, if it may be called.
-    pub(crate) fn call(self, procedure: Option<Meaning>) -> Option<Call<'s, 'a>>
+    fn found(self, procedure: Option<Meaning>) -> Option<Call<'s, 'a>>
         ensures call { IfSome result (λ c. IsCall (surroundings_of self.entry) (option_map meaning_of procedure) c) }
         ensures deeper { IfSome result (λ c. c.inside.deeper ≡ self.entry.deeper) }
         ensures limits { IfSome result (λ c. c.inside.limits ≡ self.entry.limits) }

@@ -9,8 +9,11 @@ use line_pieces::{GREATEST_ROWS, GREATEST_SAID, plus, size_of_count};
 use module_builder::GenFault;
 use usage_checks::GREATEST_SIZE;
 
-/// How many processes may be in one another, bodies of procedures among them.
-pub(crate) const GREATEST_DEPTH: u32 = 4_096;
+/// How many processes may be in one another, bodies of procedures among them. Each takes less than two KB of stack.
+pub(crate) const GREATEST_DEPTH: u32 = 2_048;
+
+/// As how many processes an instance counts beside its own, for the stack that it takes.
+pub(crate) const INSTANCE_DEPTH: u32 = 2;
 
 /// How many PARs a module may have.
 const GREATEST_PARS: u32 = 1_024;

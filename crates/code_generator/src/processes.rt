@@ -473,9 +473,7 @@ impl<'a> ProcessWriter<'a> {
             return Err(GenFault::Invalid);
         }
         let procedure = self.scope.meaning(name);
-        let Some(call) = around.call(procedure) else {
-            return Err(GenFault::Invalid);
-        };
+        let call = around.call(procedure)?;
         let passed = Passed {
             signatures: around.around.signatures,
             procedure,

@@ -33,7 +33,7 @@ returns-clause-ok c =
       around = record { signatures = c.in-Some-split_last.signatures; uncounted = None };
       callees = c.deref.result;
       count = c.len-count.result;
-      deeper = 4096;
+      deeper = 2048;
       limits = c.limits_of-limits.result;
     } in
     let count : c.len-count.result ≡ length start.callees.items = omega arith in
@@ -63,7 +63,7 @@ returns-in_err-write_main-clause-limit c = λ e sequential few.
       around = record { signatures = c.in-Some-split_last.signatures; uncounted = None };
       callees = c.deref.result;
       count = c.len-count.result;
-      deeper = 4096;
+      deeper = 2048;
       limits = c.limits_of-limits.result;
     } in
     let count : c.len-count.result ≡ length start.callees.items = omega arith in

@@ -117,9 +117,9 @@ write_line-returns-in-Instance-clause-ok t c =
 
 pub write_instance-returns-clause-ok : goal.write_instance-returns-clause-ok
 write_instance-returns-clause-ok t c =
-    writes_instance c.args.around c.args.name.now (map expression_of c.args.actuals.now) c.in-Some.call
+    writes_instance c.args.around c.args.name.now (map expression_of c.args.actuals.now) c.in_ok-call.call
     (option_map meaning_of c.meaning-procedure.result) c.args.self.now c.begin_instance.new.self
-    c.in_ok-body.body c.write.new.self c.end_instance.new.self c.meaning-procedure.ensures c.in-Some.ensures.call
+    c.in_ok-body.body c.write.new.self c.end_instance.new.self c.meaning-procedure.ensures c.in_ok-call.ensures.call
     c.in_ok-body.ensures c.in_ok-write.ensures.ok c.in_ok-end_instance.ensures
 
 pub write_seq-loop-process-init : goal.write_seq-loop-process-init

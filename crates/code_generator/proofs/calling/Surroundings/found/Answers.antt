@@ -7,7 +7,7 @@ use Rattle.code_generator.specs.Calls.{callee_code, where_called}
 use Rattle.code_generator.specs.CallViews.{callee_of, callees_of, surroundings_of}
 use Rattle.code_generator.specs.Processes.{called}
 use Rattle.code_generator.proofs.CallsFound.{calls_found}
-use Rattle.code_generator.proofs.calling.Surroundings.call.Goals as goal
+use Rattle.code_generator.proofs.calling.Surroundings.found.Goals as goal
 
 pub returns-clause-call : goal.returns-clause-call
 returns-clause-call c = λ actuals s.
