@@ -17,10 +17,11 @@ use code_pieces::{Piece, operations};
 use line_pieces::{Home, Setting, label_after};
 use module_builder::GenFault;
 use occam_parser::{Branch, Expr, Guard, Place, Replicator};
+use program_sizes::size_of_guard;
 use program_uses::{Repeats, add_name, is_before, repeats_of};
 use program_work::reading_of_guard;
 use scalar_ranges::{Meaning, narrow_by, test_of, value_of};
-use usage_checks::{after_input, size_of_guard};
+use usage_checks::after_input;
 
 /// The turns of a replicator.
 #[derive(Clone, Copy)]

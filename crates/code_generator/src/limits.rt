@@ -7,7 +7,7 @@ ghost use Rattle.code_generator.specs.Written.{Spends};
 use crate::processes::ProcessWriter;
 use line_pieces::{GREATEST_ROWS, GREATEST_SAID, plus, size_of_count};
 use module_builder::GenFault;
-use usage_checks::GREATEST_SIZE;
+use program_sizes::GREATEST_SIZE;
 
 /// How many processes may be in one another, bodies of procedures among them. Each takes less than two KB of stack.
 pub(crate) const GREATEST_DEPTH: u32 = 2_048;

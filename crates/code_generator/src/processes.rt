@@ -40,6 +40,7 @@ use occam_parser::{
     Action, Body, Choice, Constant, Construct, Declaration, Expr, Names, Operand, Operation,
     Process, Replicator,
 };
+use program_sizes::{size_of_action, size_of_condition, size_of_declaration};
 use program_uses::{
     Repeats, add_name, channel_meaning, constant_meaning, is_before, repeats_of, variable_meaning,
     variables_changed_in,
@@ -47,7 +48,7 @@ use program_uses::{
 use program_work::{reading_of_action, reading_of_condition};
 use scalar_ranges::{Scope, narrow_by};
 use std::alloc::{AllocError, Global};
-use usage_checks::{after_action, size_of_action, size_of_condition, size_of_declaration};
+use usage_checks::after_action;
 
 /// Writes code, and knows what holds where it goes on.
 #[derive(Drop)]

@@ -7,10 +7,10 @@ use crate::listing::Listing;
 use code_pieces::Piece;
 use module_builder::GenFault;
 use occam_parser::{Body, Branch, Choice, Construct, Declaration, Process};
-use scalar_ranges::Scope;
-use usage_checks::{
+use program_sizes::{
     size_of_action, size_of_condition, size_of_declaration, size_of_guard, size_of_replicator,
 };
+use scalar_ranges::Scope;
 
 /// How many steps may be made. A step takes some five nanoseconds.
 const GREATEST_WORK: u32 = 400_000_000;

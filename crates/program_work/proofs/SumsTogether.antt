@@ -8,7 +8,7 @@ use Rattle.occam_parser.specs.Views.{with_others}
 use Rattle.occam_parser.specs.Lines.{Declaration}
 use Rattle.occam_parser.specs.Blocks.{Does, Construct, Part, Components}
 use Rattle.occam_parser.specs.BlockReading.{with_declarations}
-use Rattle.usage_checks.specs.Sizes.{size_of_declaration, size_of_terms, size_of_term}
+use Rattle.program_sizes.specs.LineSizes.{size_of_declaration, size_of_terms, size_of_term}
 use Rattle.program_work.specs.Readings.{capped, again_in_terms, again_in_term, reading_of_declaration}
 use Rattle.program_work.specs.Processes.{size_of_process, work_of, names_of, is_steep, is_sequential}
 use Rattle.program_work.specs.Processes.{names_of_declaration}

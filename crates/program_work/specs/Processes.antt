@@ -8,8 +8,8 @@ use Rattle.occam_parser.specs.OneOrMore.{as_list}
 use Rattle.occam_parser.specs.Lines.{Declaration, Constants, Variables, Channels, Action, Instance, block_word}
 use Rattle.occam_parser.specs.Blocks.{Process, Declared, Does, Construct, Act, Block, Replicated, Body, One, Part}
 use Rattle.occam_parser.specs.Blocks.{Components, NoComponent, Further, Component, Plain, Chosen, Guarded}
-use Rattle.usage_checks.specs.Sizes.{size_of_expression, size_of_declaration, size_of_action, size_of_guard}
-use Rattle.usage_checks.specs.Sizes.{size_of_replicator}
+use Rattle.program_sizes.specs.LineSizes.{size_of_expression, size_of_declaration, size_of_action, size_of_guard}
+use Rattle.program_sizes.specs.LineSizes.{size_of_replicator}
 use Rattle.program_work.specs.Readings.{capped, reading_of_declaration, reading_of_action, reading_of_condition}
 use Rattle.program_work.specs.Readings.{reading_of_guard, reading_of_replicator}
 

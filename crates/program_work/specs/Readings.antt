@@ -7,8 +7,8 @@ use Rattle.occam_parser.specs.OneOrMore.{as_list}
 use Rattle.occam_parser.specs.Lines.{Place, Replicator, Value, Scalar, Table, Bytes, Declaration, Constants, Variables}
 use Rattle.occam_parser.specs.Lines.{Channels, Action, Skip, Stop, Assign, Input, Output, Instance, Guard, Receives}
 use Rattle.occam_parser.specs.Lines.{Skips}
-use Rattle.usage_checks.specs.Sizes.{size_of_expression, size_of_declaration, size_of_action, size_of_guard}
-use Rattle.usage_checks.specs.Sizes.{size_of_replicator}
+use Rattle.program_sizes.specs.LineSizes.{size_of_expression, size_of_declaration, size_of_action, size_of_guard}
+use Rattle.program_sizes.specs.LineSizes.{size_of_replicator}
 
 -- the greatest number of a u32
 abbrev pub greatest_sum : ℕ

@@ -4,7 +4,7 @@ use Rattle.std.specs.Prelude.{ℕ, ◌+◌, ◌*◌, nat_lt, Bool, true, false, 
 use Rattle.std.specs.Prelude.{Option, Some, None}
 use Rattle.occam_parser.specs.Lines.{Declaration, Action, Replicator}
 use Rattle.occam_parser.specs.Blocks.{Process, Construct, Body, Part, Components, Component, Procedure}
-use Rattle.usage_checks.specs.Sizes.{size_of_declaration, size_of_action, size_of_replicator}
+use Rattle.program_sizes.specs.LineSizes.{size_of_declaration, size_of_action, size_of_replicator}
 use Rattle.program_work.specs.declared.reading.Reading as code_reading
 use Rattle.program_work.specs.declared.sums.Sums as code_sums
 use Rattle.program_work.specs.Readings.{capped, reading_of_declaration, reading_of_action, reading_of_replicator}

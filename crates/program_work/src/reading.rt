@@ -2,7 +2,7 @@
 
 ghost use Rattle.std.specs.Prelude.{◌≡◌, ◌+◌, length, map, sum_by};
 ghost use Rattle.occam_parser.specs.Views.{expression_of, term_of};
-ghost use Rattle.usage_checks.specs.Sizes.{size_of_expression, size_of_term};
+ghost use Rattle.program_sizes.specs.LineSizes.{size_of_expression, size_of_term};
 ghost use Rattle.program_work.specs.Readings.{capped, again_in, again_in_term, reading_of_expression};
 
 use occam_parser::{Expr, Operand, Operation};

@@ -25,7 +25,8 @@ use Rattle.usage_checks.specs.ItemRules.{signature_of, Outside, outermost, after
 use Rattle.usage_checks.specs.ItemRules.{after_walk, BreaksWalk, after_item, BreaksItem, after_items, BreaksProgram}
 use Rattle.usage_checks.specs.MainRules.{BreaksMain}
 use Rattle.usage_checks.specs.NameRules.{BreaksName, with_entries}
-use Rattle.usage_checks.specs.Sizes.{Measured, total, measures_of_item, capped, end_in}
+use Rattle.program_sizes.specs.LineSizes.{capped}
+use Rattle.usage_checks.specs.Sizes.{Measured, total, measures_of_item, end_in}
 use Rattle.usage_checks.specs.Telling.{Walks}
 use Rattle.usage_checks.specs.Weighing.{WeighsIn}
 use Rattle.usage_checks.proofs.FaultsInOrder.{walks_moved, walks_both, walks_on}

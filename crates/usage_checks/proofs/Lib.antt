@@ -11,7 +11,7 @@ pub mod TurnsWalked
 pub mod HandedOver
 pub mod ProceduresWalked
 pub mod ParametersFound
-pub mod SizesAdded
+pub mod EndsAdded
 pub mod PartsWeighed
 pub mod TurnsWeighed
 pub mod ItemsWalked

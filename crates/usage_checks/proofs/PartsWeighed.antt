@@ -18,8 +18,9 @@ use Rattle.program_uses.specs.Entering.{add_outlines}
 use Rattle.program_uses.specs.Signatures.{Parameter}
 use Rattle.program_uses.proofs.Adding.{taken_one}
 use Rattle.usage_checks.specs.declared.weighing.Weight.{Weight}
-use Rattle.usage_checks.specs.Sizes.{size_of_declaration, Measured, plain, total, measures_of, measures_of_construct}
-use Rattle.usage_checks.specs.Sizes.{measures_of_components, measures_of_component, greatest_size, capped, end_in}
+use Rattle.program_sizes.specs.LineSizes.{size_of_declaration, greatest_size, capped}
+use Rattle.usage_checks.specs.Sizes.{Measured, plain, total, measures_of, measures_of_construct}
+use Rattle.usage_checks.specs.Sizes.{measures_of_components, measures_of_component, end_in}
 use Rattle.usage_checks.specs.Weighing.{Counts, Sums, Weighs, WeighsIn, end_at, declared_lines}
 
 -- ---- sums

@@ -10,8 +10,8 @@ use Rattle.program_uses.specs.Indices.{is_sequence, turns_of, index_meaning, in_
 use Rattle.program_uses.specs.Processes.{in_turn}
 use Rattle.program_uses.specs.Signatures.{Parameter}
 use Rattle.usage_checks.specs.declared.weighing.Weight.{Weight}
-use Rattle.usage_checks.specs.Sizes.{size_of_replicator, Measured, plain, total, with_turns, measures_of_body}
-use Rattle.usage_checks.specs.Sizes.{measures_of_component, greatest_size}
+use Rattle.program_sizes.specs.LineSizes.{size_of_replicator, greatest_size}
+use Rattle.usage_checks.specs.Sizes.{Measured, plain, total, with_turns, measures_of_body, measures_of_component}
 use Rattle.usage_checks.specs.Weighing.{Sums, Weighs, measures_of_one, measures_in_turns}
 use Rattle.usage_checks.proofs.PartsWeighed.{total_both, sums_both, sums_as}
 

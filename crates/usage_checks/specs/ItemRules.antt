@@ -22,7 +22,8 @@ use Rattle.usage_checks.specs.BrokenInTurn.{BreaksInTurn}
 use Rattle.usage_checks.specs.MainRules.{is_main_name, BreaksMain}
 use Rattle.usage_checks.specs.NameRules.{BreaksName, BreaksDeclared, with_entries}
 use Rattle.usage_checks.specs.ProcessRules.{BreaksIn}
-use Rattle.usage_checks.specs.Sizes.{Measured, total, measures_of_item, capped, end_in}
+use Rattle.program_sizes.specs.LineSizes.{capped}
+use Rattle.usage_checks.specs.Sizes.{Measured, total, measures_of_item, end_in}
 use Rattle.program_uses.specs.Telling.{At}
 
 -- where the body of a procedure begins

@@ -3,7 +3,7 @@ use Rattle.scalar_ranges.specs.Scopes.{known_of}
 use Rattle.program_uses.specs.Signatures.{signatures_of}
 use Rattle.usage_checks.specs.declared.items.Outside as code_outside
 use Rattle.usage_checks.specs.ItemRules.{Outside}
-use Rattle.usage_checks.specs.Sizes.{capped}
+use Rattle.program_sizes.specs.LineSizes.{capped}
 
 abbrev pub seen_outside : code_outside.Outside → Outside
 seen_outside o = record {

@@ -9,8 +9,8 @@ use Rattle.program_uses.specs.Indices.{is_sequence, turns_of, in_turns}
 use Rattle.program_uses.specs.Processes.{in_turn}
 use Rattle.program_uses.specs.Signatures.{Parameter}
 use Rattle.usage_checks.specs.declared.weighing.Weight.{Weight}
-use Rattle.usage_checks.specs.Sizes.{size_of_declaration, Measured, plain, total, measures_of_component, greatest_size}
-use Rattle.usage_checks.specs.Sizes.{capped, end_in}
+use Rattle.program_sizes.specs.LineSizes.{size_of_declaration, greatest_size, capped}
+use Rattle.usage_checks.specs.Sizes.{Measured, plain, total, measures_of_component, end_in}
 
 -- Something of this size is counted, and nothing else is changed.
 pub record Counts (old new : Weight) (n : ℕ) : Type 0 where

@@ -6,11 +6,12 @@ ghost use Rattle.occam_parser.specs.Views.{expression_of};
 ghost use Rattle.scalar_ranges.specs.Scopes.{entries_of, meaning_of};
 ghost use Rattle.program_uses.specs.Instances.{place_in, array_at};
 ghost use Rattle.program_uses.specs.Signatures.{parameter_of, signatures_of, passing_of, parameters_in};
-ghost use Rattle.usage_checks.specs.Sizes.{capped, ends_of_array, ends_passed, ends_of_actual, ends_of_actuals};
+ghost use Rattle.program_sizes.specs.LineSizes.{capped};
+ghost use Rattle.usage_checks.specs.Sizes.{ends_of_array, ends_passed, ends_of_actual, ends_of_actuals};
 ghost use Rattle.usage_checks.specs.Sizes.{ends_of_instance, is_instance};
 
-use crate::sizes::{plus, size_of_count};
 use occam_parser::{Action, Expr};
+use program_sizes::{plus, size_of_count};
 use program_uses::{
     End, Parameter, Passing, Signature, array_at, parameter_at, passing_of, place_in,
 };

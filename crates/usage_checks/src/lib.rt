@@ -19,7 +19,6 @@ mod main_rules;
 mod name_rules;
 mod place_rules;
 mod procedures;
-mod sizes;
 mod taking;
 mod telling;
 mod walking;
@@ -37,9 +36,5 @@ pub use laws::{
 pub use program_uses::{
     Around, CHANNEL_USE, CONSTANT_WANTED, DECLARED_TWICE, Direction, End, MEMORY, NO_MAIN,
     OTHER_ACTUAL, PASSED_TWICE, Parameter, SHARED_VARIABLE, Signature, UsageFault, Use, Uses,
-};
-pub use sizes::{
-    GREATEST_SIZE, size_of_action, size_of_condition, size_of_constant, size_of_declaration,
-    size_of_guard, size_of_head, size_of_replicator,
 };
 pub use wanting::{Wanted, fault_of};

@@ -19,12 +19,12 @@ ghost use Rattle.usage_checks.specs.Weighing.{measures_of_one, measures_in_turns
 
 use crate::array_ends::{ends_of_instance, is_instance};
 use crate::extending::add_formals;
-use crate::sizes::{
-    GREATEST_SIZE, plus, size_of_action, size_of_condition, size_of_constant, size_of_declarations,
-    size_of_guard, size_of_head, size_of_replicator,
-};
 use occam_parser::{
     Action, Body, Branch, Choice, Construct, Declaration, Formal, Item, Proc, Process, Replicator,
+};
+use program_sizes::{
+    GREATEST_SIZE, plus, size_of_action, size_of_condition, size_of_constant, size_of_declarations,
+    size_of_guard, size_of_head, size_of_replicator,
 };
 use program_uses::{Signature, add_name, add_outlines, index_meaning, is_sequence, turns_of};
 use scalar_ranges::{Meaning, Scope};

@@ -1,6 +1,6 @@
 use Rattle.std.proofs.Common.{◌≡◌, map, take, sum_by}
 use Rattle.occam_parser.specs.Views.{expression_of}
-use Rattle.usage_checks.specs.Sizes.{size_of_expression}
+use Rattle.program_sizes.specs.LineSizes.{size_of_expression}
 use Rattle.program_work.specs.Readings.{capped, again_in}
 use Rattle.program_work.proofs.lines.read_all.Given as goal
 

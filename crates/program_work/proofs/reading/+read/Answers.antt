@@ -4,7 +4,7 @@ use Rattle.occam_parser.specs.declared.tree.Operation.{Chain}
 use Rattle.occam_parser.specs.Expressions.{Two}
 use Rattle.occam_parser.specs.Views.{expression_of, operation_of, term_of, with_others}
 use Rattle.occam_parser.proofs.Seen.{view-Chain}
-use Rattle.usage_checks.specs.Sizes.{size_of_expression, size_of_terms}
+use Rattle.program_sizes.specs.LineSizes.{size_of_expression, size_of_terms}
 use Rattle.program_work.specs.Readings.{again_in, again_in_terms, again_in_term}
 use Rattle.program_work.proofs.SumsTogether.{further_size, chain_size, chain_again}
 use Rattle.program_work.proofs.reading.+read.Goals as goal

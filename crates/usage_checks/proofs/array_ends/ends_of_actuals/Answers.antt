@@ -4,8 +4,9 @@ use Rattle.occam_parser.specs.Views.{expression_of}
 use Rattle.scalar_ranges.specs.Environments.{item_at}
 use Rattle.scalar_ranges.specs.Scopes.{entries_of, meaning_of}
 use Rattle.program_uses.specs.Signatures.{signatures_of, parameters_in}
-use Rattle.usage_checks.specs.Sizes.{capped, ends_of_actual, ends_of_actuals}
-use Rattle.usage_checks.proofs.SizesAdded.{next_ends}
+use Rattle.program_sizes.specs.LineSizes.{capped}
+use Rattle.usage_checks.specs.Sizes.{ends_of_actual, ends_of_actuals}
+use Rattle.usage_checks.proofs.EndsAdded.{next_ends}
 use Rattle.usage_checks.proofs.array_ends.ends_of_actuals.Goals as goal
 
 pub loop-place-preserved : goal.loop-place-preserved

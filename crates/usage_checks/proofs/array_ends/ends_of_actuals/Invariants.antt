@@ -2,7 +2,8 @@ use Rattle.std.proofs.Common.{◌≡◌, map, take, option_map}
 use Rattle.occam_parser.specs.Views.{expression_of}
 use Rattle.scalar_ranges.specs.Scopes.{entries_of, meaning_of}
 use Rattle.program_uses.specs.Signatures.{signatures_of, parameters_in}
-use Rattle.usage_checks.specs.Sizes.{capped, ends_of_actuals}
+use Rattle.program_sizes.specs.LineSizes.{capped}
+use Rattle.usage_checks.specs.Sizes.{ends_of_actuals}
 use Rattle.usage_checks.proofs.array_ends.ends_of_actuals.Given as goal
 
 abbrev pub invariant-loop-place : goal.invariant-loop-place

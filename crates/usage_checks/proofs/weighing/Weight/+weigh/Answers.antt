@@ -13,8 +13,9 @@ use Rattle.program_uses.specs.Declaring.{add}
 use Rattle.program_uses.specs.Indices.{index_meaning, in_turns}
 use Rattle.program_uses.specs.Signatures.{signatures_of}
 use Rattle.program_uses.proofs.ScopesExtended.{left_again}
-use Rattle.usage_checks.specs.Sizes.{size_of_expression, size_of_guard, size_of_replicator, total, measures_of}
-use Rattle.usage_checks.specs.Sizes.{plain, measures_of_construct, measures_of_components, measures_of_component}
+use Rattle.program_sizes.specs.LineSizes.{size_of_expression, size_of_guard, size_of_replicator}
+use Rattle.usage_checks.specs.Sizes.{total, measures_of, plain, measures_of_construct, measures_of_components}
+use Rattle.usage_checks.specs.Sizes.{measures_of_component}
 use Rattle.usage_checks.specs.Weighing.{end_at, measures_of_one, measures_in_turns}
 use Rattle.usage_checks.proofs.PartsWeighed.{weighs_both, weighs_as, weighs_if, counts_line, counts_sums, sums_both}
 use Rattle.usage_checks.proofs.PartsWeighed.{sums_as, sums_end, measures_behind, weighs_then, weighs_in_as}

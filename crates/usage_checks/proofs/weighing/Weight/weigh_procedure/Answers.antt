@@ -5,7 +5,8 @@ use Rattle.scalar_ranges.specs.Scopes.{entries_of, known_of}
 use Rattle.program_uses.specs.Declaring.{add_formals}
 use Rattle.program_uses.specs.Signatures.{signatures_of}
 use Rattle.program_uses.proofs.ScopesExtended.{left_again}
-use Rattle.usage_checks.specs.Sizes.{size_of_head, measures_of}
+use Rattle.program_sizes.specs.LineSizes.{size_of_head}
+use Rattle.usage_checks.specs.Sizes.{measures_of}
 use Rattle.usage_checks.proofs.PartsWeighed.{weighs_both, weighs_if, counts_line}
 use Rattle.usage_checks.proofs.weighing.Weight.weigh_procedure.Goals as goal
 

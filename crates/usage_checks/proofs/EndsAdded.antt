@@ -1,28 +1,15 @@
--- Sizes are added one by one.
-use Rattle.std.proofs.Common.{◌≡◌, ℕ, suc, ◌+◌, ◌<◌, List, [], ◌∷◌, ◌++◌, length, map, take, get_or, sum_by, sym, ap}
+-- The ends that actuals use are added one by one.
+use Rattle.std.proofs.Common.{◌≡◌, ℕ, suc, ◌+◌, ◌<◌, List, [], ◌∷◌, ◌++◌, length, map, take, get_or, sym, ap}
 use Rattle.std.proofs.Common.{◌∙◌, arith, add-zero}
 use Rattle.std.proofs.lemmas.List.{length-take, length-map}
-use Rattle.std.proofs.lemmas.List.Sums.{sum_by-cons}
 use Rattle.occam_parser.specs.declared.tree.Expr.{Expr}
-use Rattle.occam_parser.specs.Expressions.{Expression, Terms, Then, Term}
-use Rattle.occam_parser.specs.Views.{expression_of, with_others}
+use Rattle.occam_parser.specs.Expressions.{Expression}
+use Rattle.occam_parser.specs.Views.{expression_of}
 use Rattle.scalar_ranges.specs.Entries.{Entry}
 use Rattle.scalar_ranges.specs.Environments.{item_at}
 use Rattle.program_uses.specs.Signatures.{Parameter}
 use Rattle.program_uses.proofs.NextInTurn.{seen_more}
-use Rattle.usage_checks.specs.Sizes.{size_of_terms, size_of_term, ends_of_actual, ends_of_actuals}
-
--- ---- chains
-
-abbrev pub further_size : Term → ℕ
-further_size t = 1 + size_of_term t
-
-pub chain_size : (ts : Terms) (xs : List Term)
-    → size_of_terms (with_others ts xs) ≡ size_of_terms ts + sum_by further_size xs
-chain_size ts [] = sym (add-zero (size_of_terms ts))
-chain_size ts (x ∷ xs) = omega (arith, chain_size (Then ts x) xs, sum_by-cons further_size x xs)
-
--- ---- actuals
+use Rattle.usage_checks.specs.Sizes.{ends_of_actual, ends_of_actuals}
 
 abbrev ends_at : List Entry → List Parameter → ℕ → Expression → ℕ
 ends_at es ps i e = ends_of_actual es (item_at i ps) e

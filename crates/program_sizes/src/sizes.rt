@@ -8,10 +8,10 @@ ghost use Rattle.occam_parser.specs.OneOrMore.{as_list, one_or_more_of};
 ghost use Rattle.occam_parser.specs.Views.{expression_of, term_of};
 ghost use Rattle.occam_parser.specs.LineViews.{spelling_of, any_of, place_of, value_of, constant_of, names_of};
 ghost use Rattle.occam_parser.specs.LineViews.{declaration_of, action_of, guard_of, replicator_of, formal_of};
-ghost use Rattle.usage_checks.specs.Sizes.{capped, size_of_expression, size_of_term, size_if_any, size_in_brackets};
-ghost use Rattle.usage_checks.specs.Sizes.{size_of_place, size_of_value, size_of_names, size_of_declaration};
-ghost use Rattle.usage_checks.specs.Sizes.{size_of_action, size_of_guard, size_of_replicator, size_of_formal};
-ghost use Rattle.usage_checks.specs.Sizes.{size_of_head};
+ghost use Rattle.program_sizes.specs.LineSizes.{capped, size_of_expression, size_of_term, size_if_any};
+ghost use Rattle.program_sizes.specs.LineSizes.{size_in_brackets, size_of_place, size_of_value, size_of_names};
+ghost use Rattle.program_sizes.specs.LineSizes.{size_of_declaration, size_of_action, size_of_guard};
+ghost use Rattle.program_sizes.specs.LineSizes.{size_of_replicator, size_of_formal, size_of_head};
 
 use occam_parser::{
     Action, Constant, ConstantValue, Declaration, Expr, Formal, Guard, Names, OneOrMore, Operand,
@@ -22,7 +22,7 @@ use occam_parser::{
 pub const GREATEST_SIZE: u32 = 8_388_608;
 
 /// The sum of two sizes.
-pub(crate) fn plus(a: u32, b: u32) -> u32
+pub fn plus(a: u32, b: u32) -> u32
     ensures { result ≡ capped (a + b) }
 {
     a.saturating_add(b).min(GREATEST_SIZE + 1)
@@ -36,7 +36,7 @@ fn plus_between(a: u32, b: u32) -> u32
 }
 
 /// A count, as a size.
-pub(crate) fn size_of_count(count: usize) -> u32
+pub fn size_of_count(count: usize) -> u32
     ensures { result ≡ capped count }
 {
     count.min(GREATEST_SIZE as usize + 1) as u32
@@ -46,7 +46,7 @@ pub(crate) fn size_of_count(count: usize) -> u32
 
 /// The size of an expression.
 #[cycle(size)]
-pub(crate) fn size_of_expression(expr: &Expr) -> u32
+fn size_of_expression(expr: &Expr) -> u32
     ensures { result ≡ capped (size_of_expression (expression_of expr.now)) }
 {
     match &*expr.operation {
@@ -204,7 +204,7 @@ pub fn size_of_declaration(declaration: &Declaration) -> u32
 }
 
 /// The size of the lines of some declarations.
-pub(crate) fn size_of_declarations(declarations: &[Declaration]) -> u32
+pub fn size_of_declarations(declarations: &[Declaration]) -> u32
     ensures { result ≡ capped (sum_by size_of_declaration (map declaration_of declarations.now)) }
 {
     let mut size = 0;

@@ -4,9 +4,9 @@ use Rattle.occam_parser.specs.declared.tree.Operation.{Chain}
 use Rattle.occam_parser.specs.Expressions.{Two}
 use Rattle.occam_parser.specs.Views.{expression_of, operation_of, term_of, with_others}
 use Rattle.occam_parser.proofs.Seen.{view-Chain}
-use Rattle.usage_checks.specs.Sizes.{size_of_expression, size_of_terms}
-use Rattle.usage_checks.proofs.SizesAdded.{further_size, chain_size}
-use Rattle.usage_checks.proofs.sizes.+size.Goals as goal
+use Rattle.program_sizes.specs.LineSizes.{size_of_expression, size_of_terms}
+use Rattle.program_sizes.proofs.ChainSize.{further_size, chain_size}
+use Rattle.program_sizes.proofs.sizes.+size.Goals as goal
 
 pub size_of_expression-returns-in-Chain : goal.size_of_expression-returns-in-Chain
 size_of_expression-returns-in-Chain t c =

@@ -1,7 +1,7 @@
 use Rattle.std.proofs.Common.{◌≡◌, map, take, sum_by}
 use Rattle.occam_parser.specs.LineViews.{declaration_of}
-use Rattle.usage_checks.specs.Sizes.{capped, size_of_declaration}
-use Rattle.usage_checks.proofs.sizes.size_of_declarations.Given as goal
+use Rattle.program_sizes.specs.LineSizes.{capped, size_of_declaration}
+use Rattle.program_sizes.proofs.sizes.size_of_declarations.Given as goal
 
 abbrev pub invariant-loop-declaration : goal.invariant-loop-declaration
 invariant-loop-declaration l =

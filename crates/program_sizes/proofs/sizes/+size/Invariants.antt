@@ -1,8 +1,8 @@
 use Rattle.std.proofs.Common.{◌≡◌, map, take, sum_by}
 use Rattle.occam_parser.specs.Views.{term_of}
-use Rattle.usage_checks.specs.Sizes.{capped}
-use Rattle.usage_checks.proofs.SizesAdded.{further_size}
-use Rattle.usage_checks.proofs.sizes.+size.Given as goal
+use Rattle.program_sizes.specs.LineSizes.{capped}
+use Rattle.program_sizes.proofs.ChainSize.{further_size}
+use Rattle.program_sizes.proofs.sizes.+size.Given as goal
 
 abbrev pub invariant-size_of_others-loop-other : goal.invariant-size_of_others-loop-other
 invariant-size_of_others-loop-other l =
