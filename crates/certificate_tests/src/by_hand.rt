@@ -1,5 +1,5 @@
 //! Tables by hand, for what no file can test: tables that have no file, and tables that are as long as the format
-//! allows. Whether other tables are valid is tested by their files, in the cases of `file_conformance`.
+//! allows. Whether other tables are valid is tested by their files, in cases.
 
 use bitflags::Flags;
 use module_format::{

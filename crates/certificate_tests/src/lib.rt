@@ -1,5 +1,4 @@
-//! The tests of tables that no file gives. What files say, and which are refused, is asked by the cases of
-//! `file_conformance`, and what look-ups return by those of `rule_conformance`.
+//! The tests of tables that no file gives. What files say, which are refused, and what look-ups return is asked by cases.
 #![tactic(auto)]
 
 #[cfg(test)]
