@@ -1,28 +1,11 @@
 //! `tpm`: compiles occam programs, and verifies, explains, runs, lists and upgrades transputer modules.
 #![tactic(auto)]
 
-mod acting;
-mod command_line;
-mod compiling;
-mod explaining;
-mod files;
-mod line;
-mod links;
-mod opened;
-mod report;
-mod run_report;
-mod running;
-mod telling;
-mod upgrading;
-mod words;
-
-use acting::act;
-use files::SystemFiles;
-use report::{MISUSED, STARVED};
+use command_line::{WordFault, texts};
 use std::io;
 use std::process::ExitCode;
 use std::rt::{Env, Files};
-use words::{WordFault, texts};
+use tpm_actions::{MISUSED, STARVED, SystemFiles, act};
 
 /// Hands the words and the files of the system to `act`, and the two streams.
 fn run<R: Env + Files + AllocGlobal>(

@@ -1,0 +1,2 @@
+pub mod SubcommandsHavePaths
+pub mod Matched

@@ -1,0 +1,35 @@
+use Rattle.std.proofs.Common.{◌∙◌, option_map, ap, subst}
+use Rattle.std.proofs.lemmas.Result.{err_from_is_err_and}
+use Rattle.clap.specs.Simple.{App}
+use Rattle.clap.specs.Kinds.{HasKind}
+use Rattle.clap.specs.Faults.{fault_of, is_simple_and_free}
+use Rattle.command_line.specs.Asked.{asked_of}
+use Rattle.command_line.specs.Words.{words_of}
+use Rattle.command_line.specs.CommandLine.{tpm}
+use Rattle.command_line.proofs.Matched.{line_is, some_asked, misused, tpm_is_free}
+use Rattle.command_line.proofs.reading.line.Goals as goal
+
+pub unwrap-requires : goal.unwrap-requires
+unwrap-requires c =
+    let words = words_of c.args.words.now in
+    let parse = c.in_ok-matches.ensures in
+    let taken = line_is _ words c.in_ok-matches.matches _ c.in_ok-command.ensures parse.kinds parse.matches
+    c.asked.ensures in
+    some_asked words c.asked.result taken.0 taken.1
+
+pub returns-clause-asked : goal.returns-clause-asked
+returns-clause-asked c =
+    let parse = c.in_ok-matches.ensures in
+    (line_is _ (words_of c.args.words.now) c.in_ok-matches.matches _ c.in_ok-command.ensures parse.kinds parse.matches
+    c.asked.ensures).1 ∙ ap (option_map asked_of) c.unwrap.ensures
+
+pub returns-in_err-matches-clause-fault : goal.returns-in_err-matches-clause-fault
+returns-in_err-matches-clause-fault c =
+    let words = words_of c.args.words.now in
+    let parse = c.in_err-matches.ensures in
+    let is = c.in_ok-command.ensures in
+    let made = err_from_is_err_and c.from_residual-in_err-matches.result c.from_residual-in_err-matches.ensures.1 in
+    let has : HasKind (fault_of tpm words) c.in_err-matches.field-0.0 =
+    subst (λ (a : App). HasKind (fault_of a words) c.in_err-matches.field-0.0) is
+    (parse.kinds (ap is_simple_and_free is ∙ tpm_is_free)) in
+    rw made.1 (misused words c.in_err-matches.field-0.0 made.0 has made.2)

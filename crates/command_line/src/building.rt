@@ -1,0 +1,193 @@
+//! The command of the argument parser.
+
+ghost use Rattle.std.specs.Prelude.{◌≡◌, IfOk, false, codes};
+ghost use Rattle.clap.specs.Simple.{app_of, shape_of, with_subcommand};
+ghost use Rattle.clap.specs.declared.builder.command.Command.TheViews.{out-Command as fields_of};
+ghost use Rattle.command_line.specs.Links.{names_of};
+ghost use Rattle.command_line.specs.CommandLine.{compile_shape, run_shape, subcommand_shape, tpm, upgrade_shape};
+ghost use Rattle.command_line.specs.CommandLine.{with_links, with_option, with_path};
+
+use crate::links::{LinkNames, input_names, output_names};
+use clap::{Arg, Command};
+use std::alloc::{AllocError, Global};
+
+/// A command with one more argument, which is the path of a file.
+fn with_path<'a>(
+    alloc: Global,
+    command: Command<'a>,
+    name: &'a str,
+    help: &'a str,
+) -> Result<Command<'a>, AllocError>
+    ensures shape { IfOk result (λ c. shape_of c ≡ with_path name.entry.now (shape_of command.entry)) }
+    ensures local { (fields_of command.entry).has_globals ≡ false
+        → IfOk result (λ c. (fields_of c).has_globals ≡ false) }
+{
+    let path = Arg::new(alloc, name).required(true).help(help);
+    command.arg(path)
+}
+
+/// A subcommand with the path of a module file.
+fn subcommand<'a>(alloc: Global, name: &'a str, about: &'a str) -> Result<Command<'a>, AllocError>
+    ensures shape { IfOk result (λ c. shape_of c ≡ subcommand_shape name.entry.now) }
+    ensures local { IfOk result (λ c. (fields_of c).has_globals ≡ false) }
+{
+    let subcommand = Command::new(alloc, name).about(about);
+    with_path(alloc, subcommand, "MOD", "The path of a module file")
+}
+
+/// The subcommand that compiles a source.
+fn compile_subcommand<'a>(alloc: Global) -> Result<Command<'a>, AllocError>
+    ensures shape { IfOk result (λ c. shape_of c ≡ compile_shape) }
+    ensures local { IfOk result (λ c. (fields_of c).has_globals ≡ false) }
+{
+    let compile = Command::new(alloc, "compile").about("Compiles an occam program to a module");
+    let compile = with_path(alloc, compile, "SRC", "The path of a source")?;
+    with_path(
+        alloc,
+        compile,
+        "OUT",
+        "The path of the module file that is written",
+    )
+}
+
+/// The subcommand that upgrades a module.
+fn upgrade_subcommand<'a>(alloc: Global) -> Result<Command<'a>, AllocError>
+    ensures shape { IfOk result (λ c. shape_of c ≡ upgrade_shape) }
+    ensures local { IfOk result (λ c. (fields_of c).has_globals ≡ false) }
+{
+    let upgrade = Command::new(alloc, "upgrade").about(
+        "Writes a module of version 1 as one of version 2",
+    );
+    let upgrade = with_path(
+        alloc,
+        upgrade,
+        "OLD",
+        "The path of a module file of version 1",
+    )?;
+    with_path(
+        alloc,
+        upgrade,
+        "NEW",
+        "The path of the module file that is written",
+    )
+}
+
+/// A command with one more option, which takes the path of a file.
+fn with_option<'a>(
+    alloc: Global,
+    command: Command<'a>,
+    name: &'a str,
+    help: &'a str,
+) -> Result<Command<'a>, AllocError>
+    ensures shape { IfOk result (λ c. shape_of c ≡ with_option name.entry.now (shape_of command.entry)) }
+    ensures local { (fields_of command.entry).has_globals ≡ false
+        → IfOk result (λ c. (fields_of c).has_globals ≡ false) }
+{
+    let option = Arg::new(alloc, name).long(name).value_name("F").help(help);
+    command.arg(option)
+}
+
+/// A command with an option more for each of these links.
+fn with_links<'a>(
+    alloc: Global,
+    command: Command<'a>,
+    names: LinkNames,
+    help: &'a str,
+) -> Result<Command<'a>, AllocError>
+    ensures shape { IfOk result (λ c. shape_of c ≡ with_links (names_of names.entry) (shape_of command.entry)) }
+    ensures local { (fields_of command.entry).has_globals ≡ false
+        → IfOk result (λ c. (fields_of c).has_globals ≡ false) }
+{
+    let command = with_option(alloc, command, names.first, help)?;
+    let command = with_option(alloc, command, names.second, help)?;
+    let command = with_option(alloc, command, names.third, help)?;
+    with_option(alloc, command, names.fourth, help)
+}
+
+/// The subcommand that runs a module.
+fn run_subcommand<'a>(alloc: Global) -> Result<Command<'a>, AllocError>
+    ensures shape { IfOk result (λ c. shape_of c ≡ run_shape) }
+    ensures local { IfOk result (λ c. (fields_of c).has_globals ≡ false) }
+{
+    let run = subcommand(alloc, "run", "Runs a module that is certified")?;
+    let run = with_links(
+        alloc,
+        run,
+        input_names(),
+        "The path of a file that this link reads",
+    )?;
+    with_links(
+        alloc,
+        run,
+        output_names(),
+        "The path of a file that this link writes",
+    )
+}
+
+/// A command with one more subcommand, which has only the path of a module file.
+fn with_subcommand<'a>(
+    alloc: Global,
+    command: Command<'a>,
+    name: &'a str,
+    about: &'a str,
+) -> Result<Command<'a>, AllocError>
+    ensures { IfOk result (λ c. app_of c ≡ with_subcommand (app_of command.entry) (subcommand_shape name.entry.now)) }
+{
+    let subcommand = subcommand(alloc, name, about)?;
+    command.subcommand(subcommand)
+}
+
+/// A command with two more subcommands, which list the code of a module and explain the verdict on it.
+fn with_descriptions<'a>(alloc: Global, command: Command<'a>) -> Result<Command<'a>, AllocError>
+    ensures { let listed = with_subcommand (app_of command.entry) (subcommand_shape (codes "list")) in
+        IfOk result (λ c. app_of c ≡ with_subcommand listed (subcommand_shape (codes "explain"))) }
+{
+    let command = with_subcommand(alloc, command, "list", "Lists the instructions of a module")?;
+    with_subcommand(
+        alloc,
+        command,
+        "explain",
+        "Explains the verdict on a module",
+    )
+}
+
+/// A command with one more subcommand, which runs a module.
+fn with_run<'a>(alloc: Global, command: Command<'a>) -> Result<Command<'a>, AllocError>
+    ensures { IfOk result (λ c. app_of c ≡ with_subcommand (app_of command.entry) run_shape) }
+{
+    let run = run_subcommand(alloc)?;
+    command.subcommand(run)
+}
+
+/// A command with one more subcommand, which compiles a source.
+fn with_compile<'a>(alloc: Global, command: Command<'a>) -> Result<Command<'a>, AllocError>
+    ensures { IfOk result (λ c. app_of c ≡ with_subcommand (app_of command.entry) compile_shape) }
+{
+    let compile = compile_subcommand(alloc)?;
+    command.subcommand(compile)
+}
+
+/// A command with one more subcommand, which upgrades a module.
+fn with_upgrade<'a>(alloc: Global, command: Command<'a>) -> Result<Command<'a>, AllocError>
+    ensures { IfOk result (λ c. app_of c ≡ with_subcommand (app_of command.entry) upgrade_shape) }
+{
+    let upgrade = upgrade_subcommand(alloc)?;
+    command.subcommand(upgrade)
+}
+
+/// The program's command.
+pub fn command<'a>(alloc: Global) -> Result<Command<'a>, AllocError>
+    ensures { IfOk result (λ c. app_of c ≡ tpm) }
+{
+    let tpm = Command::new(alloc, "tpm")
+        .about(
+            "Compiles occam programs, and verifies, explains, runs, lists and upgrades transputer modules",
+        )
+        .subcommand_required(true)
+        .disable_help_subcommand(true);
+    let tpm = with_compile(alloc, tpm)?;
+    let tpm = with_subcommand(alloc, tpm, "verify", "Tells whether a module is certified")?;
+    let tpm = with_run(alloc, tpm)?;
+    let tpm = with_descriptions(alloc, tpm)?;
+    with_upgrade(alloc, tpm)
+}

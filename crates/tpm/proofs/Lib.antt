@@ -1,9 +1,0 @@
-pub mod Matched
-pub mod Acts
-pub mod Answered
-pub mod Judged
-pub mod FilesClosed
-pub mod FilesRun
-pub mod SubcommandsHavePaths
-pub mod Beginnings
-pub mod UnreadFiles

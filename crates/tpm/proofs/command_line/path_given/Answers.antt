@@ -1,7 +1,0 @@
-use Rattle.std.proofs.Common.{◌∙◌}
-use Rattle.clap.specs.Matches.{found_of}
-use Rattle.clap.proofs.WalkLemmas.{first_value-rows}
-use Rattle.tpm.proofs.command_line.path_given.Goals as goal
-
-pub returns : goal.returns
-returns c = c.get_str.ensures ∙ first_value-rows (found_of c.args.given.now) c.args.name.now

@@ -1,0 +1,130 @@
+-- What was performed, as what the program did.
+use Rattle.std.proofs.Common.{◌≡◌, ℕ, Bool, List, Option, Some, Result, Ok, Err, ◌⊎◌, inl, inr, refl}
+use Rattle.std.specs.Prelude.{string_bytes}
+use Rattle.std.specs.Borrow.{Bor}
+use Rattle.command_line.specs.Words.{Text}
+use Rattle.verifier.specs.declared.Refusal.{Refusal}
+use Rattle.tpm_actions.specs.declared.files.FileFault.{FileFault}
+use Rattle.tpm_actions.specs.declared.files.FileFault.TheVariants as file_faults
+use Rattle.tpm_actions.specs.declared.report.Failure.{Failure}
+use Rattle.tpm_actions.specs.declared.report.Failure.TheVariants as failures
+use Rattle.command_line.specs.Asked.{Asked, path_of}
+use Rattle.command_line.specs.CommandLine.{line_of}
+use Rattle.tpm_actions.specs.Texts.{status_of}
+use Rattle.tpm_actions.specs.Acting.{Acts, Performs, Reads, Answers, Hinders, IsRefusedWith, RefusesWith, Tells}
+use Rattle.tpm_actions.specs.Acting.{IsStopped, IsUntold, malformed, uncertified, uncompiled, not_upgraded, told}
+use Rattle.tpm_actions.specs.Acting.{refused, explained, unread, stopped}
+use Rattle.tpm_actions.specs.Acting.{unwritten, unexplained, starved_by_file}
+use Rattle.tpm_actions.specs.Acting.{starved_by_text}
+
+module _ {F R W : Type 0} (opens : F → Text → Result R FileFault → F → Type 0)
+    (creates : F → Text → Result W FileFault → F → Type 0) (closes : F → W → Bool → F → Type 0)
+    (left : R → Option (List ℕ)) (read_failed : R → Bool) (written : W → Option (List ℕ))
+    (write_failed : W → Bool) (reads : F → List ℕ → Result (List ℕ) FileFault → F → Type 0) (words : List Text)
+    (asked : Asked) (before after : F) (out_before out_after : Option (List ℕ)) where
+  pub acts_told : line_of words ≡ Some asked → (u : Unit {0})
+      → Performs opens creates closes left read_failed written write_failed reads asked before after out_before
+      out_after
+      (Ok u)
+      → Acts opens creates closes left read_failed written write_failed reads words before after out_before out_after 0
+  acts_told line u performed = told asked performed.0 line performed.1 performed.2 refl
+
+  -- a file of which this holds is one of which that holds
+  read_so : {P Q : List ℕ → F → Type 0} → ((bytes : List ℕ) (next : F) → P bytes next → Q bytes next)
+      → Reads opens creates closes left read_failed written write_failed reads asked before P
+      → Reads opens creates closes left read_failed written write_failed reads asked before Q
+  read_so implies file = record {
+    bytes = file.bytes;
+    next = file.next;
+    read = file.read;
+    holds = implies file.bytes file.next file.holds;
+  }
+
+  -- memory ran out once the file was read
+  starved : (status : ℕ) → status ≡ 4 → line_of words ≡ Some asked → out_after ≡ out_before
+      → Hinders opens creates closes left read_failed written write_failed reads asked before after failures.Memory
+      → Acts opens creates closes left read_failed written write_failed reads words before after out_before out_after
+      status
+  starved status is line same file = go file.holds
+    where
+      go : IsStopped opens creates closes left read_failed written write_failed file.bytes asked file.next after
+          failures.Memory
+          ⊎ IsUntold opens creates closes left read_failed written write_failed file.bytes asked file.next after
+          → Acts opens creates closes left read_failed written write_failed reads words before after out_before
+          out_after status
+      go (inl stops) = stopped asked failures.Memory line
+          (record { bytes = file.bytes; next = file.next; read = file.read; holds = stops }) same is
+      go (inr done) = starved_by_text asked line
+          (record { bytes = file.bytes; next = file.next; read = file.read; holds = done }) same is
+
+  starved_at : (status : ℕ) → status ≡ 4 → line_of words ≡ Some asked → out_after ≡ out_before
+      → reads before (path_of asked) (Err file_faults.Memory) after
+      ⊎ Hinders opens creates closes left read_failed written write_failed reads asked before after failures.Memory
+      → Acts opens creates closes left read_failed written write_failed reads words before after out_before out_after
+      status
+  starved_at status is line same (inl file) = starved_by_file asked line file same is
+  starved_at status is line same (inr file) = starved status is line same file
+
+  -- the module file, or that of a link, was not read
+  unread_at : (path : Bor Text) (status : ℕ) → status ≡ 3 → line_of words ≡ Some asked → out_after ≡ out_before
+      → ((path.now ≡ path_of asked) × reads before (path_of asked) (Err file_faults.Failed) after)
+      ⊎ Hinders opens creates closes left read_failed written write_failed reads asked before after
+      (failures.Unread path)
+      → Acts opens creates closes left read_failed written write_failed reads words before after out_before out_after
+      status
+  unread_at path status is line same (inl file) = unread asked line file.1 same is
+  unread_at path status is line same (inr file) = stopped asked (failures.Unread path) line file same is
+
+  pub acts_failed : (failure : Failure) (status : ℕ) → status ≡ status_of failure → line_of words ≡ Some asked
+      → Performs opens creates closes left read_failed written write_failed reads asked before after out_before
+      out_after
+      (Err failure)
+      → Acts opens creates closes left read_failed written write_failed reads words before after out_before out_after
+      status
+  acts_failed (failures.Malformed fault) status is line performed =
+      refused asked line (read_so (λ bytes next why. (malformed fault why.0, why.1)) performed.0) performed.1 is
+  acts_failed (failures.Uncertified refusal) status is line performed =
+      refused asked line (read_so (λ bytes next why. (uncertified refusal why.0, why.1)) performed.0) performed.1 is
+  acts_failed (failures.Explained refusal text) status is line performed =
+      explained asked (string_bytes text) line (refusal, performed.0) performed.1 is
+  acts_failed (failures.Uncompiled fault) status is line performed =
+      refused asked line (read_so (λ bytes next why. (uncompiled fault why.0, why.1)) performed.0) performed.1 is
+  acts_failed (failures.NotUpgraded fault) status is line performed =
+      refused asked line (read_so (λ bytes next why. (not_upgraded fault why.0, why.1)) performed.0) performed.1 is
+  acts_failed (failures.Unread path) status is line performed =
+      unread_at path status is line performed.1 performed.0
+  acts_failed (failures.Uncreated path) status is line performed =
+      stopped asked (failures.Uncreated path) line performed.0 performed.1 is
+  acts_failed (failures.ReadFailed link) status is line performed =
+      stopped asked (failures.ReadFailed link) line performed.0 performed.1 is
+  acts_failed (failures.WriteFailed link) status is line performed =
+      stopped asked (failures.WriteFailed link) line performed.0 performed.1 is
+  acts_failed failures.Unwritten status is line performed = go performed.1
+    where
+      go : Answers opens creates closes left read_failed written write_failed reads asked before after
+          (Ok performed.0)
+          ⊎ RefusesWith opens creates closes left read_failed written write_failed reads asked before after performed.0
+          → Acts opens creates closes left read_failed written write_failed reads words before after out_before
+          out_after status
+      go (inl answers) = unwritten asked performed.0 line answers performed.2 is
+      go (inr refuses) = unexplained asked performed.0 line refuses performed.2 is
+  acts_failed failures.Memory status is line performed = starved_at status is line performed.1 performed.0
+
+  -- the text that explains a refusal was not written to its end
+  pub explained_in_part : (refusal : Refusal) (text : Text) (failure : Failure)
+      → Reads opens creates closes left read_failed written write_failed reads asked before
+      (λ bytes next. IsRefusedWith bytes asked refusal text × (after ≡ next))
+      → Tells out_before out_after text (Err failure)
+      → Performs opens creates closes left read_failed written write_failed reads asked before after out_before
+      out_after (Err failure)
+  explained_in_part refusal text (failures.Malformed fault) file tells = absurd tells
+  explained_in_part refusal text (failures.Uncertified refused_for) file tells = absurd tells
+  explained_in_part refusal text (failures.Explained refused_for told_by) file tells = absurd tells
+  explained_in_part refusal text (failures.Uncompiled fault) file tells = absurd tells
+  explained_in_part refusal text (failures.NotUpgraded fault) file tells = absurd tells
+  explained_in_part refusal text (failures.Unread path) file tells = absurd tells
+  explained_in_part refusal text (failures.Uncreated path) file tells = absurd tells
+  explained_in_part refusal text (failures.ReadFailed link) file tells = absurd tells
+  explained_in_part refusal text (failures.WriteFailed link) file tells = absurd tells
+  explained_in_part refusal text failures.Unwritten file tells = (text, inr (refusal, file), tells)
+  explained_in_part refusal text failures.Memory file tells = absurd tells

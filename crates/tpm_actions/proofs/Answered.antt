@@ -1,0 +1,46 @@
+-- What is reported about a file that was read, as the answer of the program.
+use Rattle.std.proofs.Common.{ℕ, Bool, List, Option, Result, Ok, Err, MatchResult, inr}
+use Rattle.command_line.specs.Words.{Text}
+use Rattle.tpm_actions.specs.declared.files.FileFault.{FileFault}
+use Rattle.tpm_actions.specs.declared.report.Failure.{Failure}
+use Rattle.tpm_actions.specs.declared.report.Failure.TheVariants as failures
+use Rattle.command_line.specs.Asked.{Asked, path_of}
+use Rattle.tpm_actions.specs.Acting.{Answers, Hinders, IsTold, IsHindered}
+
+module _ {F R W : Type 0} (opens : F → Text → Result R FileFault → F → Type 0)
+    (creates : F → Text → Result W FileFault → F → Type 0) (closes : F → W → Bool → F → Type 0)
+    (left : R → Option (List ℕ)) (read_failed : R → Bool) (written : W → Option (List ℕ))
+    (write_failed : W → Bool) (reads : F → List ℕ → Result (List ℕ) FileFault → F → Type 0) (asked : Asked)
+    (bytes : List ℕ) (before next after : F) (read : reads before (path_of asked) (Ok bytes) next) where
+  hinders : (failure : Failure)
+      → IsHindered opens creates closes left read_failed written write_failed bytes asked next after failure
+      → Hinders opens creates closes left read_failed written write_failed reads asked before after failure
+  hinders failure why = record { bytes = bytes; next = next; read = read; holds = why }
+
+  hindered : (failure : Failure)
+      → IsHindered opens creates closes left read_failed written write_failed bytes asked next after failure
+      → Answers opens creates closes left read_failed written write_failed reads asked before after (Err failure)
+  hindered (failures.Malformed fault) why = hinders (failures.Malformed fault) why
+  hindered (failures.Uncertified refusal) why = hinders (failures.Uncertified refusal) why
+  hindered (failures.Explained refusal text) why = hinders (failures.Explained refusal text) why
+  hindered (failures.Uncompiled fault) why = hinders (failures.Uncompiled fault) why
+  hindered (failures.NotUpgraded fault) why = hinders (failures.NotUpgraded fault) why
+  hindered (failures.Unread path) why = inr (hinders (failures.Unread path) why)
+  hindered (failures.Uncreated path) why = hinders (failures.Uncreated path) why
+  hindered (failures.ReadFailed link) why = hinders (failures.ReadFailed link) why
+  hindered (failures.WriteFailed link) why = hinders (failures.WriteFailed link) why
+  hindered failures.Unwritten why = why
+  hindered failures.Memory why = inr (hinders failures.Memory why)
+
+  -- the answer where the file was read
+  pub answered : {S : Type 0} (text_of : S → Text) (result : Result S Failure)
+      → MatchResult result
+      (λ text. IsTold opens creates closes left read_failed written write_failed bytes asked next after (text_of text))
+      (IsHindered opens creates closes left read_failed written write_failed bytes asked next after)
+      → MatchResult result
+      (λ text. Answers opens creates closes left read_failed written write_failed reads asked before after
+      (Ok (text_of text)))
+      (λ failure. Answers opens creates closes left read_failed written write_failed reads asked before after
+      (Err failure))
+  answered text_of (Ok text) told = record { bytes = bytes; next = next; read = read; holds = told }
+  answered text_of (Err failure) why = hindered failure why

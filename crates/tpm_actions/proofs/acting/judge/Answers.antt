@@ -1,0 +1,25 @@
+use Rattle.std.proofs.Common.{string_bytes}
+use Rattle.tpm_actions.specs.FilesInOrder.{inside}
+use Rattle.tpm_actions.proofs.Judged.{module_judged, upgrade_judged, replied}
+use Rattle.tpm_actions.proofs.acting.judge.Goals as goal
+
+pub returns-in-Compile : goal.returns-in-Compile
+returns-in-Compile g c =
+    rw c.in-Compile.is (module_judged g.F.Files.opens g.F.Files.creates g.F.Files.closes
+    (inside g.F.Reader.LinkReader.left) (inside g.F.Reader.LinkReader.failed) (inside g.F.Writer.LinkWriter.written)
+    (inside g.F.Writer.LinkWriter.failed) string_bytes c.args.bytes.now c.in-Compile.source.now c.in-Compile.out.now _ _
+    c.compile_to_file.result c.compile_to_file.ensures)
+
+pub returns-in-Upgrade : goal.returns-in-Upgrade
+returns-in-Upgrade g c =
+    rw c.in-Upgrade.is (upgrade_judged g.F.Files.opens g.F.Files.creates g.F.Files.closes
+    (inside g.F.Reader.LinkReader.left) (inside g.F.Reader.LinkReader.failed) (inside g.F.Writer.LinkWriter.written)
+    (inside g.F.Writer.LinkWriter.failed) string_bytes c.args.bytes.now c.in-Upgrade.path.now c.in-Upgrade.out.now _ _
+    c.upgrade_to_file.result c.upgrade_to_file.ensures)
+
+pub returns-in_ok-module : goal.returns-in_ok-module
+returns-in_ok-module g c =
+    rw c.in-Ask.is (replied g.F.Files.opens g.F.Files.creates g.F.Files.closes (inside g.F.Reader.LinkReader.left)
+    (inside g.F.Reader.LinkReader.failed) (inside g.F.Writer.LinkWriter.written)
+    (inside g.F.Writer.LinkWriter.failed) c.args.bytes.now c.in_ok-module.module c.in_ok-module.ensures.found
+    c.in-Ask.path.now _ _ string_bytes c.in-Ask.question c.reply.result (c.reply.ensures c.in-Ask.path.now))

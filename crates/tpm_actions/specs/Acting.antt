@@ -1,0 +1,308 @@
+-- What the program reports, and when: our own choice.
+use Rattle.std.specs.Prelude.{◌≡◌, ◌⊎◌, ⊤, ℕ, Bool, true, List, take, Option, Some, None, Result, Ok, Err}
+use Rattle.std.specs.Prelude.{string_bytes}
+use Rattle.std.specs.Io.KnownBytes.{Appends}
+use Rattle.command_line.specs.declared.links.OnLinks.{OnLinks}
+use Rattle.command_line.specs.Words.{Text}
+use Rattle.module_format.specs.declared.fault.FormatFault.{FormatFault}
+use Rattle.module_format.specs.Contents.{Contents}
+use Rattle.module_format.specs.Keeping.{Format}
+use Rattle.link_runner.specs.declared.report.Report.{Report as RunReport}
+use Rattle.verifier.specs.declared.Refusal.{Refusal}
+use Rattle.certified_worlds.specs.Certified.{IsCertified}
+use Rattle.compiler.specs.declared.source.CompileFault.{CompileFault}
+use Rattle.compiler.specs.Compiled.{IsRefusedFor}
+use Rattle.verifier.specs.Reports.{Reports, out_of_memory}
+use Rattle.verifier.specs.declared.upgrading.UpgradeFault.{UpgradeFault}
+use Rattle.tpm_actions.specs.declared.files.FileFault.{FileFault}
+use Rattle.tpm_actions.specs.declared.files.FileFault.TheVariants as file_faults
+use Rattle.tpm_actions.specs.declared.report.Report.TheVariants.{Accepted}
+use Rattle.tpm_actions.specs.declared.report.Failure.{Failure}
+use Rattle.tpm_actions.specs.declared.report.Failure.TheVariants as failures
+use Rattle.tpm_actions.specs.declared.report.TheConstants.{DONE, REFUSED, MISUSED, FAILED, STARVED}
+use Rattle.command_line.specs.Asked.{Asked, compiles, upgrades, verifies, runs, lists, explains, path_of, wants_verdict}
+use Rattle.command_line.specs.CommandLine.{line_of}
+use Rattle.tpm_actions.specs.Compiling.{CompilesAndWrites, HasCompiled}
+use Rattle.tpm_actions.specs.Explaining.{ExplainsRefusal, IsExplained, IsRefusalExplained}
+use Rattle.tpm_actions.specs.Malformed.{IsMalformed}
+use Rattle.tpm_actions.specs.Upgrading.{HasUpgraded, IsRefusedUpgrade, UpgradesAndWrites}
+use Rattle.tpm_actions.specs.FilesOnLinks.{RunsTo}
+use Rattle.tpm_actions.specs.Texts.{report_line, run_text, status_of}
+use Rattle.listings.specs.Listing.{listing}
+
+-- ---- the bytes of a module file
+
+-- The module is certified, and this text says so.
+pub record IsAccepted (m : Contents) (text : Text) : Type 0 where
+  pub certified : IsCertified m
+  pub told : text ≡ report_line (Accepted m.budget)
+
+-- why no verdict on a module is reported
+abbrev pub WithholdsVerdict : Contents → Failure → Type 0
+WithholdsVerdict m (failures.Malformed fault) = ⊥
+WithholdsVerdict m (failures.Uncertified refusal) = Reports m refusal
+WithholdsVerdict m (failures.Explained refusal text) = ⊥
+WithholdsVerdict m (failures.Uncompiled fault) = ⊥
+WithholdsVerdict m (failures.NotUpgraded fault) = ⊥
+WithholdsVerdict m (failures.Unread path) = ⊥
+WithholdsVerdict m (failures.Uncreated path) = ⊥
+WithholdsVerdict m (failures.ReadFailed link) = ⊥
+WithholdsVerdict m (failures.WriteFailed link) = ⊥
+WithholdsVerdict m failures.Unwritten = ⊥
+WithholdsVerdict m failures.Memory = IsCertified m
+
+-- The module is certified, if its verdict is wanted.
+abbrev pub IsAllowed : Contents → Asked → Type 0
+IsAllowed m asked = wants_verdict asked ≡ true → IsCertified m
+
+-- The bytes are the file of a module of which this holds. It is certified if its verdict is wanted.
+pub record IsJudged (bytes : List ℕ) (asked : Asked) (holds_of : Contents → Type 0) : Type 0 where
+  pub contents : Contents
+  pub format : Format bytes contents
+  pub certified : IsAllowed contents asked
+  pub holds : holds_of contents
+
+-- Why nothing is reported of a module: its verdict is wanted, and unless memory ran out it breaks this rule there and
+-- none before. Of a verdict that is to be explained, only that memory ran out is no part of what is reported.
+abbrev pub Withholds : Contents → Asked → Refusal → Type 0
+Withholds m (explains path) refusal = refusal ≡ out_of_memory
+Withholds m asked refusal = (wants_verdict asked ≡ true) × Reports m refusal
+
+-- The bytes are the file of a module of which nothing is reported for this reason.
+pub record IsUncertified (bytes : List ℕ) (asked : Asked) (refusal : Refusal) : Type 0 where
+  pub contents : Contents
+  pub format : Format bytes contents
+  pub withheld : Withholds contents asked refusal
+
+-- An explanation is asked for. The module is refused for this, and this text explains it.
+abbrev pub ExplainsTo : Contents → Asked → Refusal → Text → Type 0
+ExplainsTo m (explains path) refusal text = ExplainsRefusal m refusal text
+ExplainsTo m asked refusal text = ⊥
+
+-- The bytes are the file of such a module.
+abbrev pub IsRefusedWith : List ℕ → Asked → Refusal → Text → Type 0
+IsRefusedWith bytes (explains path) refusal text = IsRefusalExplained bytes refusal text
+IsRefusedWith bytes asked refusal text = ⊥
+
+-- A source is asked for that becomes no module, for this reason.
+abbrev pub IsUncompiled : List ℕ → Asked → CompileFault → Type 0
+IsUncompiled bytes (compiles source out) fault = IsRefusedFor bytes fault
+IsUncompiled bytes asked fault = ⊥
+
+-- A module in version 2 is asked for, and there is none for this reason.
+abbrev pub IsNotUpgraded : List ℕ → Asked → UpgradeFault → Type 0
+IsNotUpgraded bytes (upgrades old new) fault = IsRefusedUpgrade bytes fault
+IsNotUpgraded bytes asked fault = ⊥
+
+-- The reader, the verifier, the compiler or the upgrade refuses the bytes.
+pub data IsRefusedBy (bytes : List ℕ) (asked : Asked) : Type 0 where
+  malformed : (fault : FormatFault) → IsMalformed bytes fault → IsRefusedBy bytes asked
+  uncertified : (refusal : Refusal) → IsUncertified bytes asked refusal → IsRefusedBy bytes asked
+  uncompiled : (fault : CompileFault) → IsUncompiled bytes asked fault → IsRefusedBy bytes asked
+  not_upgraded : (fault : UpgradeFault) → IsNotUpgraded bytes asked fault → IsRefusedBy bytes asked
+
+-- ---- standard output
+
+-- some of the text's first bytes were written, or none
+abbrev pub HoldsBeginning : Option (List ℕ) → Option (List ℕ) → Text → Type 0
+HoldsBeginning before after text = (n : ℕ) × Appends before after (take n text)
+
+-- the text was written; or a beginning of it, and standard output failed
+abbrev pub Tells : Option (List ℕ) → Option (List ℕ) → Text → Result ⊤ Failure → Type 0
+Tells before after text (Ok _) = Appends before after text
+Tells before after text (Err failures.Unwritten) = HoldsBeginning before after text
+Tells before after text (Err failure) = ⊥
+
+-- ---- files
+
+module _ {F R W : Type 0} (opens : F → Text → Result R FileFault → F → Type 0)
+    (creates : F → Text → Result W FileFault → F → Type 0) (closes : F → W → Bool → F → Type 0)
+    (left : R → Option (List ℕ)) (read_failed : R → Bool) (written : W → Option (List ℕ))
+    (write_failed : W → Bool) where
+  -- what becomes of a run of the module with files on its links
+  abbrev pub RunOf : Contents → OnLinks (Option Text) → OnLinks (Option Text) → F → F → Result RunReport Failure
+      → Type 0
+  RunOf m inputs outputs before after result =
+      RunsTo opens creates closes left read_failed written write_failed m inputs outputs before after result
+
+  -- The module is certified, its run came to an end, and this text reports it.
+  pub record HasRun (m : Contents) (inputs outputs : OnLinks (Option Text)) (before after : F) (text : Text) :
+      Type 0 where
+    pub certified : IsCertified m
+    pub report : RunReport
+    pub runs : RunOf m inputs outputs before after (Ok report)
+    pub told : text ≡ run_text inputs outputs report
+
+  -- what is reported about a module, and what was done with the files
+  abbrev pub TellsOf : Contents → Asked → F → F → Text → Type 0
+  TellsOf m (compiles source out) before after text = ⊥
+  TellsOf m (upgrades old new) before after text = ⊥
+  TellsOf m (verifies path) before after text = IsAccepted m text × (after ≡ before)
+  TellsOf m (runs path inputs outputs) before after text = HasRun m inputs outputs before after text
+  TellsOf m (lists path) before after text = (text ≡ listing m) × (after ≡ before)
+  TellsOf m (explains path) before after text = IsExplained m text × (after ≡ before)
+
+  -- a file of a link or a link failed, or memory ran out for them
+  abbrev pub StopsIn : Contents → Asked → F → F → Failure → Type 0
+  StopsIn m (compiles source out) before after failure = ⊥
+  StopsIn m (upgrades old new) before after failure = ⊥
+  StopsIn m (verifies path) before after failure = ⊥
+  StopsIn m (runs path inputs outputs) before after failure = RunOf m inputs outputs before after (Err failure)
+  StopsIn m (lists path) before after failure = ⊥
+  StopsIn m (explains path) before after failure = ⊥
+
+  -- what is asked for was done, but is not reported
+  abbrev pub IsDone : Contents → Asked → F → F → Type 0
+  IsDone m (compiles source out) before after = ⊥
+  IsDone m (upgrades old new) before after = ⊥
+  IsDone m (verifies path) before after = after ≡ before
+  IsDone m (runs path inputs outputs) before after =
+      (report : RunReport) × RunOf m inputs outputs before after (Ok report)
+  IsDone m (lists path) before after = after ≡ before
+  IsDone m (explains path) before after = after ≡ before
+
+  -- why nothing is reported about a module, or why it is refused that is explained
+  abbrev pub WithholdsOf : Contents → Asked → F → F → Failure → Type 0
+  WithholdsOf m asked before after (failures.Malformed fault) = ⊥
+  WithholdsOf m asked before after (failures.Uncertified refusal) = Withholds m asked refusal × (after ≡ before)
+  WithholdsOf m asked before after (failures.Explained refusal text) =
+      ExplainsTo m asked refusal (string_bytes text) × (after ≡ before)
+  WithholdsOf m asked before after (failures.Uncompiled fault) = ⊥
+  WithholdsOf m asked before after (failures.NotUpgraded fault) = ⊥
+  WithholdsOf m asked before after failures.Unwritten = ⊥
+  WithholdsOf m asked before after failures.Memory =
+      IsAllowed m asked × (StopsIn m asked before after failures.Memory ⊎ IsDone m asked before after)
+  WithholdsOf m asked before after failure = IsAllowed m asked × StopsIn m asked before after failure
+
+  -- The bytes are the file of a module about which this is reported.
+  pub record IsToldOfModule (bytes : List ℕ) (asked : Asked) (before after : F) (text : Text) : Type 0 where
+    pub contents : Contents
+    pub format : Format bytes contents
+    pub told : TellsOf contents asked before after text
+
+  -- what is reported about a source or a module
+  abbrev pub IsTold : List ℕ → Asked → F → F → Text → Type 0
+  IsTold bytes (compiles source out) before after text = HasCompiled creates closes written bytes out before after text
+  IsTold bytes (upgrades old new) before after text = HasUpgraded creates closes written bytes new before after text
+  IsTold bytes asked before after text = IsToldOfModule bytes asked before after text
+
+  -- The bytes are a source or a module whose new file was not written, or the file of a module, and what is asked for
+  -- stopped by this failure.
+  abbrev pub IsStopped : List ℕ → Asked → F → F → Failure → Type 0
+  IsStopped bytes (compiles source out) before after failure =
+      CompilesAndWrites creates closes written bytes out before after (Err failure)
+  IsStopped bytes (upgrades old new) before after failure =
+      UpgradesAndWrites creates closes written bytes new before after (Err failure)
+  IsStopped bytes asked before after failure = IsJudged bytes asked (λ m. StopsIn m asked before after failure)
+
+  -- what is asked for was done with the bytes, but is not reported
+  abbrev pub IsUntold : List ℕ → Asked → F → F → Type 0
+  IsUntold bytes (compiles source out) before after =
+      (u : ⊤) × CompilesAndWrites creates closes written bytes out before after (Ok u)
+  IsUntold bytes (upgrades old new) before after =
+      (u : ⊤) × UpgradesAndWrites creates closes written bytes new before after (Ok u)
+  IsUntold bytes asked before after = IsJudged bytes asked (λ m. IsDone m asked before after)
+
+  -- why nothing is reported about the source or the module in the bytes, or why the module is refused that is explained
+  abbrev pub IsHindered : List ℕ → Asked → F → F → Failure → Type 0
+  IsHindered bytes asked before after (failures.Malformed fault) = IsMalformed bytes fault × (after ≡ before)
+  IsHindered bytes asked before after (failures.Uncertified refusal) =
+      IsUncertified bytes asked refusal × (after ≡ before)
+  IsHindered bytes asked before after (failures.Explained refusal text) =
+      IsRefusedWith bytes asked refusal (string_bytes text) × (after ≡ before)
+  IsHindered bytes asked before after (failures.Uncompiled fault) =
+      IsUncompiled bytes asked fault × (after ≡ before)
+  IsHindered bytes asked before after (failures.NotUpgraded fault) =
+      IsNotUpgraded bytes asked fault × (after ≡ before)
+  IsHindered bytes asked before after failures.Unwritten = ⊥
+  IsHindered bytes asked before after failures.Memory =
+      IsStopped bytes asked before after failures.Memory ⊎ IsUntold bytes asked before after
+  IsHindered bytes asked before after failure = IsStopped bytes asked before after failure
+
+  module _ (reads : F → List ℕ → Result (List ℕ) FileFault → F → Type 0) where
+    -- The file that is asked for was read. It gave bytes, and left files, of which this holds.
+    pub record Reads (asked : Asked) (before : F) (holds_of : List ℕ → F → Type 0) : Type 0 where
+      pub bytes : List ℕ
+      pub next : F
+      pub read : reads before (path_of asked) (Ok bytes) next
+      pub holds : holds_of bytes next
+
+    -- why nothing is reported, where the file that is asked for was read
+    abbrev pub Hinders : Asked → F → F → Failure → Type 0
+    Hinders asked before after failure = Reads asked before (λ bytes next. IsHindered bytes asked next after failure)
+
+    -- The module in the file is refused, and this text explains it.
+    abbrev pub RefusesWith : Asked → F → F → Text → Type 0
+    RefusesWith asked before after text =
+        (refusal : Refusal) × Reads asked before (λ bytes next. IsRefusedWith bytes asked refusal text × (after ≡ next))
+
+    -- what is reported about the file that is asked for, or why nothing is
+    abbrev pub Answers : Asked → F → F → Result Text Failure → Type 0
+    Answers asked before after (Ok text) = Reads asked before (λ bytes next. IsTold bytes asked next after text)
+    Answers asked before after (Err (failures.Unread path)) =
+        ((path.now ≡ path_of asked) × reads before (path_of asked) (Err file_faults.Failed) after)
+        ⊎ Hinders asked before after (failures.Unread path)
+    Answers asked before after (Err failures.Unwritten) = ⊥
+    Answers asked before after (Err failures.Memory) =
+        reads before (path_of asked) (Err file_faults.Memory) after ⊎ Hinders asked before after failures.Memory
+    Answers asked before after (Err failure) = Hinders asked before after failure
+
+    -- What the program did as asked: it wrote the report; it wrote the explanation of a refusal, and returned that; it
+    -- wrote nothing and returned why; or standard output failed.
+    abbrev pub Performs : Asked → F → F → Option (List ℕ) → Option (List ℕ) → Result ⊤ Failure → Type 0
+    Performs asked before after out_before out_after (Ok _) =
+        (text : Text) × Answers asked before after (Ok text) × Appends out_before out_after text
+    Performs asked before after out_before out_after (Err (failures.Explained refusal text)) =
+        Answers asked before after (Err (failures.Explained refusal text))
+        × Appends out_before out_after (string_bytes text)
+    Performs asked before after out_before out_after (Err failures.Unwritten) =
+        (text : Text) × (Answers asked before after (Ok text) ⊎ RefusesWith asked before after text)
+        × HoldsBeginning out_before out_after text
+    Performs asked before after out_before out_after (Err failure) =
+        Answers asked before after (Err failure) × (out_after ≡ out_before)
+
+    -- What the program did by the words: with the files, with what is known of standard output, and its exit status.
+    pub data Acts (words : List Text) (before after : F) (out_before out_after : Option (List ℕ))
+        (status : ℕ) : Type 0 where
+      -- what is asked for is reported, and nothing else
+      told : (asked : Asked) (text : Text) → line_of words ≡ Some asked
+          → Reads asked before (λ bytes next. IsTold bytes asked next after text)
+          → Appends out_before out_after text → status ≡ DONE → Acts words before after out_before out_after status
+      -- the reader, the verifier, the compiler or the upgrade refuses the bytes, and no file is created
+      refused : (asked : Asked) → line_of words ≡ Some asked
+          → Reads asked before (λ bytes next. IsRefusedBy bytes asked × (after ≡ next))
+          → out_after ≡ out_before → status ≡ REFUSED → Acts words before after out_before out_after status
+      -- the verifier refuses the module, which is explained, and nothing else
+      explained : (asked : Asked) (text : Text) → line_of words ≡ Some asked → RefusesWith asked before after text
+          → Appends out_before out_after text → status ≡ REFUSED → Acts words before after out_before out_after status
+      -- the words ask for nothing, and no file is touched
+      misused : line_of words ≡ None → after ≡ before → out_after ≡ out_before → status ≡ MISUSED
+          → Acts words before after out_before out_after status
+      -- the file is not read
+      unread : (asked : Asked) → line_of words ≡ Some asked
+          → reads before (path_of asked) (Err file_faults.Failed) after
+          → out_after ≡ out_before → status ≡ FAILED → Acts words before after out_before out_after status
+      -- a file was not opened, created, written or closed, or a link failed, or memory ran out for them
+      stopped : (asked : Asked) (failure : Failure) → line_of words ≡ Some asked
+          → Reads asked before (λ bytes next. IsStopped bytes asked next after failure)
+          → out_after ≡ out_before → status ≡ status_of failure → Acts words before after out_before out_after status
+      -- standard output failed, and holds a beginning of what is reported
+      unwritten : (asked : Asked) (text : Text) → line_of words ≡ Some asked
+          → Reads asked before (λ bytes next. IsTold bytes asked next after text)
+          → HoldsBeginning out_before out_after text → status ≡ FAILED
+          → Acts words before after out_before out_after status
+      -- standard output failed, and holds a beginning of the explanation of a refusal
+      unexplained : (asked : Asked) (text : Text) → line_of words ≡ Some asked → RefusesWith asked before after text
+          → HoldsBeginning out_before out_after text → status ≡ FAILED
+          → Acts words before after out_before out_after status
+      -- memory ran out at the words, and no file is touched
+      starved_by_words : after ≡ before → out_after ≡ out_before → status ≡ STARVED
+          → Acts words before after out_before out_after status
+      -- memory ran out at the file
+      starved_by_file : (asked : Asked) → line_of words ≡ Some asked
+          → reads before (path_of asked) (Err file_faults.Memory) after
+          → out_after ≡ out_before → status ≡ STARVED → Acts words before after out_before out_after status
+      -- what was asked for was done, and then memory ran out for the text of the report
+      starved_by_text : (asked : Asked) → line_of words ≡ Some asked
+          → Reads asked before (λ bytes next. IsUntold bytes asked next after)
+          → out_after ≡ out_before → status ≡ STARVED → Acts words before after out_before out_after status

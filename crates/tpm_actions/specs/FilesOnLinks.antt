@@ -1,0 +1,126 @@
+-- What becomes of a run with files on the links.
+use Rattle.std.specs.Prelude.{◌≡◌, ◌⊎◌, ℕ, Bool, not, List, Option, Some, None, Result, Ok, Err}
+use Rattle.command_line.specs.Words.{Text}
+use Rattle.command_line.specs.declared.links.OnLinks.{OnLinks}
+use Rattle.module_format.specs.Contents.{Contents}
+use Rattle.machine_state.specs.declared.link.Link.{Link}
+use Rattle.link_runs.specs.ByLink.{ByLink, of_link, first_link}
+use Rattle.link_runner.specs.declared.report.Report.{Report}
+use Rattle.link_runner.specs.declared.report.RunError.{RunError}
+use Rattle.link_runner.specs.declared.report.RunError.TheVariants as run_errors
+use Rattle.link_runner.specs.Runs.{Runs, RunsWith}
+use Rattle.tpm_actions.specs.declared.files.FileFault.{FileFault}
+use Rattle.tpm_actions.specs.declared.files.FileFault.TheVariants as file_faults
+use Rattle.tpm_actions.specs.declared.report.Failure.{Failure}
+use Rattle.tpm_actions.specs.declared.report.Failure.TheVariants as failures
+use Rattle.tpm_actions.specs.FilesInOrder.{in_order, GivesAll, FailsAtPath, ClosesAll}
+
+-- the first link whose writer could not be closed
+abbrev pub first_unclosed : ByLink Bool → Option Link
+first_unclosed closed = first_link (λ link. not (of_link closed link))
+
+module _ {F R W : Type 0} (creates : F → Text → Result W FileFault → F → Type 0) (left : R → Option (List ℕ))
+    (read_failed : R → Bool) (written : W → Option (List ℕ)) (write_failed : W → Bool) (m : Contents)
+    (outputs : OnLinks (Option Text)) (before after : F) (readers readers_after : List (Option R))
+    (writers_after : List (Option W)) where
+  -- The output files were created, and the module ran with them and these readers, until nothing was left to do or a
+  -- link failed.
+  pub record RunsWithCreated (result : Result Report RunError) : Type 0 where
+    pub writers : List (Option W)
+    pub creates_all : GivesAll creates before (in_order outputs) writers after
+    pub runs : Runs left read_failed written write_failed m readers readers_after writers writers_after result
+    pub known : RunsWith left read_failed written write_failed m readers readers_after writers writers_after result
+
+  -- An output file was not created.
+  abbrev pub FailsToCreate : Text → FileFault → Type 0
+  FailsToCreate path fault = FailsAtPath creates before (in_order outputs) writers_after path fault after
+
+  -- memory ran out for an output file, or in the run
+  abbrev pub StopsForMemory : Type 0
+  StopsForMemory = RunsWithCreated (Err run_errors.Memory) ⊎ ((path : Text) × FailsToCreate path file_faults.Memory)
+
+  abbrev pub CreatesAndRuns : Result Report Failure → Type 0
+  CreatesAndRuns (Ok report) = RunsWithCreated (Ok report)
+  CreatesAndRuns (Err (failures.Malformed fault)) = ⊥
+  CreatesAndRuns (Err (failures.Uncertified refusal)) = ⊥
+  CreatesAndRuns (Err (failures.Explained refusal text)) = ⊥
+  CreatesAndRuns (Err (failures.Uncompiled fault)) = ⊥
+  CreatesAndRuns (Err (failures.NotUpgraded fault)) = ⊥
+  CreatesAndRuns (Err (failures.Unread path)) = ⊥
+  CreatesAndRuns (Err (failures.Uncreated path)) = FailsToCreate path.now file_faults.Failed
+  CreatesAndRuns (Err (failures.ReadFailed link)) = RunsWithCreated (Err (run_errors.ReadFailed link))
+  CreatesAndRuns (Err (failures.WriteFailed link)) = RunsWithCreated (Err (run_errors.WriteFailed link))
+  CreatesAndRuns (Err failures.Unwritten) = ⊥
+  CreatesAndRuns (Err failures.Memory) = StopsForMemory
+
+module _ {F R W : Type 0} (creates : F → Text → Result W FileFault → F → Type 0) (closes : F → W → Bool → F → Type 0)
+    (left : R → Option (List ℕ)) (read_failed : R → Bool) (written : W → Option (List ℕ)) (write_failed : W → Bool)
+    (m : Contents) (outputs : OnLinks (Option Text)) (before after : F) (readers : List (Option R)) where
+  -- The output files were created, and the module ran, which came to this. Then they were closed, of which it is said
+  -- whether that succeeded.
+  pub record RunsAndCloses (result : Result Report Failure) (closed : ByLink Bool) : Type 0 where
+    pub readers_after : List (Option R)
+    pub writers_after : List (Option W)
+    pub ran : F
+    pub runs : CreatesAndRuns creates left read_failed written write_failed m outputs before ran readers readers_after
+        writers_after result
+    pub closes_all : ClosesAll closes ran writers_after closed after
+
+  -- The run came to an end, and all files were closed.
+  abbrev pub Finishes : Report → Type 0
+  Finishes report = (closed : ByLink Bool) × (RunsAndCloses (Ok report) closed × (first_unclosed closed ≡ None))
+
+  -- An output file was not created, or the run failed. Whether closing succeeded is not reported then.
+  abbrev pub Stops : Failure → Type 0
+  Stops failure = (closed : ByLink Bool) × RunsAndCloses (Err failure) closed
+
+  -- The run came to an end, and this is the first link whose file could not be closed.
+  abbrev pub FailsToClose : Link → Type 0
+  FailsToClose link = (report : Report) × ((closed : ByLink Bool)
+      × (RunsAndCloses (Ok report) closed × (first_unclosed closed ≡ Some link)))
+
+  -- with input files that are open
+  abbrev pub RunsOpened : Result Report Failure → Type 0
+  RunsOpened (Ok report) = Finishes report
+  RunsOpened (Err (failures.Malformed fault)) = ⊥
+  RunsOpened (Err (failures.Uncertified refusal)) = ⊥
+  RunsOpened (Err (failures.Explained refusal text)) = ⊥
+  RunsOpened (Err (failures.Uncompiled fault)) = ⊥
+  RunsOpened (Err (failures.NotUpgraded fault)) = ⊥
+  RunsOpened (Err (failures.Unread path)) = ⊥
+  RunsOpened (Err (failures.Uncreated path)) = Stops (failures.Uncreated path)
+  RunsOpened (Err (failures.ReadFailed link)) = Stops (failures.ReadFailed link)
+  RunsOpened (Err (failures.WriteFailed link)) = Stops (failures.WriteFailed link) ⊎ FailsToClose link
+  RunsOpened (Err failures.Unwritten) = ⊥
+  RunsOpened (Err failures.Memory) = Stops failures.Memory
+
+module _ {F R W : Type 0} (opens : F → Text → Result R FileFault → F → Type 0)
+    (creates : F → Text → Result W FileFault → F → Type 0) (closes : F → W → Bool → F → Type 0)
+    (left : R → Option (List ℕ)) (read_failed : R → Bool) (written : W → Option (List ℕ)) (write_failed : W → Bool)
+    (m : Contents) (inputs outputs : OnLinks (Option Text)) (before after : F) where
+  -- The input files were opened, and what was done with them came to this.
+  pub record OpensAndRuns (result : Result Report Failure) : Type 0 where
+    pub readers : List (Option R)
+    pub opened : F
+    pub opens_all : GivesAll opens before (in_order inputs) readers opened
+    pub runs : RunsOpened creates closes left read_failed written write_failed m outputs opened after readers result
+
+  -- An input file was not opened.
+  abbrev pub FailsToOpen : Text → FileFault → Type 0
+  FailsToOpen path fault =
+      (readers : List (Option R)) × FailsAtPath opens before (in_order inputs) readers path fault after
+
+  abbrev pub RunsTo : Result Report Failure → Type 0
+  RunsTo (Ok report) = OpensAndRuns (Ok report)
+  RunsTo (Err (failures.Malformed fault)) = ⊥
+  RunsTo (Err (failures.Uncertified refusal)) = ⊥
+  RunsTo (Err (failures.Explained refusal text)) = ⊥
+  RunsTo (Err (failures.Uncompiled fault)) = ⊥
+  RunsTo (Err (failures.NotUpgraded fault)) = ⊥
+  RunsTo (Err (failures.Unread path)) = FailsToOpen path.now file_faults.Failed
+  RunsTo (Err (failures.Uncreated path)) = OpensAndRuns (Err (failures.Uncreated path))
+  RunsTo (Err (failures.ReadFailed link)) = OpensAndRuns (Err (failures.ReadFailed link))
+  RunsTo (Err (failures.WriteFailed link)) = OpensAndRuns (Err (failures.WriteFailed link))
+  RunsTo (Err failures.Unwritten) = ⊥
+  RunsTo (Err failures.Memory) =
+      OpensAndRuns (Err failures.Memory) ⊎ ((path : Text) × FailsToOpen path file_faults.Memory)

@@ -1,0 +1,193 @@
+//! The whole program over files and streams that it is handed.
+
+ghost use Rattle.std.specs.Prelude.{◌≡◌, ℕ, List, MatchResult, string_bytes};
+ghost use Rattle.command_line.specs.Words.{words_of};
+ghost use Rattle.command_line.specs.Links.{paths_of};
+ghost use Rattle.tpm_actions.specs.FilesInOrder.{inside};
+ghost use Rattle.command_line.specs.Asked.{asked_about, asked_of, path_of, runs};
+ghost use Rattle.tpm_actions.specs.Texts.{misuse_status, status_of};
+ghost use Rattle.tpm_actions.specs.Acting.{Acts, Answers, HasRun, IsAccepted, IsTold, IsHindered, Performs, TellsOf};
+ghost use Rattle.tpm_actions.specs.Acting.{WithholdsOf, WithholdsVerdict};
+
+use crate::compiling::compile_to_file;
+use crate::explaining::explain;
+use crate::files::{FileFault, Files};
+use crate::report::{DONE, Failure, MISUSED, Report, STARVED};
+use crate::run_report::run_report;
+use crate::running::run_with_files;
+use crate::telling::tell;
+use crate::upgrading::upgrade_to_file;
+use certificate::Module;
+use command_line::{Line, LineFault, LinkPaths, Question, line};
+use listings::listing;
+use std::alloc::Global;
+use std::io::Write;
+use verifier::verify;
+
+/// The report of the verdict on a module.
+fn verdict<'a>(alloc: Global, module: &Module<'_>) -> Result<String, Failure<'a>>
+    ensures { MatchResult result (λ text. IsAccepted «module».now (string_bytes text)) (WithholdsVerdict «module».now) }
+{
+    verify(alloc, module)?;
+    let report = Report::Accepted {
+        budget: module.tables().budget,
+    };
+    Ok(format!(in alloc; "{report}\n")?)
+}
+
+/// The report of the run of a module with files on its links.
+fn outcome<'a, F: Files>(
+    alloc: Global,
+    module: &Module<'_>,
+    inputs: LinkPaths<'a>,
+    outputs: LinkPaths<'a>,
+    files: &mut F,
+) -> Result<String, Failure<'a>>
+    ensures { let ins = paths_of inputs.entry in let outs = paths_of outputs.entry in
+        MatchResult result
+        (λ text. HasRun F.opens F.creates F.closes (inside F.Reader.left) (inside F.Reader.failed)
+        (inside F.Writer.written) (inside F.Writer.failed)
+        «module».now ins outs files.old files.new (string_bytes text))
+        (λ failure. (path : List ℕ) → WithholdsOf F.opens F.creates F.closes (inside F.Reader.left)
+        (inside F.Reader.failed) (inside F.Writer.written) (inside F.Writer.failed) «module».now
+        (runs path ins outs) files.old files.new failure) }
+{
+    let verified = verify(alloc, module)?;
+    let report = run_with_files(alloc, &verified, inputs, outputs, files)?;
+    Ok(run_report(alloc, &report, inputs, outputs)?)
+}
+
+/// The report on a module, wherever its file is.
+fn reply<'a, F: Files>(
+    alloc: Global,
+    module: &Module<'_>,
+    question: Question<'a>,
+    files: &mut F,
+) -> Result<String, Failure<'a>>
+    ensures { (path : List ℕ) → MatchResult result
+        (λ text. TellsOf F.opens F.creates F.closes (inside F.Reader.left) (inside F.Reader.failed)
+        (inside F.Writer.written) (inside F.Writer.failed)
+        «module».now (asked_about path question.entry) files.old files.new (string_bytes text))
+        (WithholdsOf F.opens F.creates F.closes (inside F.Reader.left) (inside F.Reader.failed)
+        (inside F.Writer.written) (inside F.Writer.failed)
+        «module».now (asked_about path question.entry) files.old files.new) }
+{
+    match question {
+        Question::Verdict => verdict(alloc, module),
+        Question::Run { inputs, outputs } => outcome(alloc, module, inputs, outputs, files),
+        Question::Listing => Ok(listing(alloc, module)?),
+        Question::Explanation => explain(alloc, module),
+    }
+}
+
+/// The report on the source or the module in these bytes, as text.
+fn judge<'a, F: Files>(
+    alloc: Global,
+    bytes: &[u8],
+    line: Line<'a>,
+    files: &mut F,
+) -> Result<String, Failure<'a>>
+    ensures { let asked = asked_of line.entry in
+        MatchResult result
+        (λ text. IsTold F.opens F.creates F.closes (inside F.Reader.left) (inside F.Reader.failed)
+        (inside F.Writer.written) (inside F.Writer.failed)
+        bytes.now asked files.old files.new (string_bytes text))
+        (IsHindered F.opens F.creates F.closes (inside F.Reader.left) (inside F.Reader.failed)
+        (inside F.Writer.written) (inside F.Writer.failed)
+        bytes.now asked files.old files.new) }
+{
+    match line {
+        Line::Compile { out, .. } => compile_to_file(alloc, bytes, out, files),
+        Line::Upgrade { out, .. } => upgrade_to_file(alloc, bytes, out, files),
+        Line::Ask { question, .. } => {
+            let module = Module::read(alloc, bytes)?;
+            reply(alloc, &module, question, files)
+        }
+    }
+}
+
+/// The path of the file that is read first.
+fn read_path<'a>(line: Line<'a>) -> &'a str
+    ensures { result.now ≡ path_of (asked_of line.entry) }
+{
+    match line {
+        Line::Compile { source, .. } => source,
+        Line::Upgrade { path, .. } | Line::Ask { path, .. } => path,
+    }
+}
+
+/// The report on the source or the module in the file.
+fn answer<'a, F: Files>(alloc: Global, line: Line<'a>, files: &mut F) -> Result<String, Failure<'a>>
+    ensures { let answers = Answers F.opens F.creates F.closes (inside F.Reader.left) (inside F.Reader.failed)
+        (inside F.Writer.written) (inside F.Writer.failed) F.reads (asked_of line.entry) files.old files.new in
+        MatchResult result (λ text. answers (Ok (string_bytes text))) (λ failure. answers (Err failure)) }
+{
+    let path = read_path(line);
+    match files.read(path) {
+        Ok(bytes) => judge(alloc, bytes.as_slice(), line, files),
+        Err(FileFault::Failed) => Err(Failure::Unread(path)),
+        Err(FileFault::Memory) => Err(Failure::Memory),
+    }
+}
+
+/// Does what is asked for, and reports it on `out`, where a refusal that is explained is, too.
+fn perform<'a, F: Files, O: Write>(
+    alloc: Global,
+    line: Line<'a>,
+    files: &mut F,
+    out: &mut O,
+) -> Result<(), Failure<'a>>
+    ensures { Performs F.opens F.creates F.closes (inside F.Reader.left) (inside F.Reader.failed)
+        (inside F.Writer.written) (inside F.Writer.failed)
+        F.reads (asked_of line.entry) files.old files.new (O.contents out.old) (O.contents out.new) result }
+{
+    match answer(alloc, line, files) {
+        Ok(text) => tell(text.as_bytes(), out),
+        Err(Failure::Explained { refusal, text }) => match tell(text.as_bytes(), out) {
+            Ok(()) => Err(Failure::Explained { refusal, text }),
+            Err(failure) => Err(failure),
+        },
+        Err(failure) => Err(failure),
+    }
+}
+
+/// Reports on `err` why nothing was done, and returns the exit status. A failure of `err` is not reported.
+fn fail<E: Write>(failure: Failure, err: &mut E) -> u8
+    ensures { result ≡ status_of failure.entry }
+{
+    let _ = writeln!(err, "{failure}");
+    failure.status()
+}
+
+/// The same for a command line that asks for nothing.
+fn misuse<E: Write>(fault: LineFault, err: &mut E) -> u8
+    ensures { result ≡ misuse_status fault }
+{
+    let _ = write!(err, "{fault}");
+    match fault {
+        LineFault::Usage(_) => MISUSED,
+        LineFault::Memory => STARVED,
+    }
+}
+
+/// The program: does what these words ask for, of which the first is its name, and returns the exit
+/// status. A report goes to `out`, faults and asked-for help go to `err`.
+pub fn act<'a, F: Files, O: Write, E: Write>(
+    alloc: Global,
+    words: &'a [&'a str],
+    files: &mut F,
+    out: &mut O,
+    err: &mut E,
+) -> u8
+    ensures { Acts F.opens F.creates F.closes (inside F.Reader.left) (inside F.Reader.failed)
+        (inside F.Writer.written) (inside F.Writer.failed)
+        F.reads (words_of words.entry.now) files.old files.new (O.contents out.old) (O.contents out.new) result }
+{
+    match line(alloc, words) {
+        Ok(line) => match perform(alloc, line, files, out) {
+            Ok(()) => DONE,
+            Err(failure) => fail(failure, err),
+        },
+        Err(fault) => misuse(fault, err),
+    }
+}

@@ -1,0 +1,53 @@
+//! The module of a source, written to a file.
+
+ghost use Rattle.std.specs.Prelude.{MatchResult, string_bytes};
+ghost use Rattle.tpm_actions.specs.Compiling.{HasCompiled, WithholdsModule, Writes};
+ghost use Rattle.tpm_actions.specs.FilesInOrder.{inside};
+
+use crate::files::{FileFault, Files};
+use crate::report::{Failure, Report};
+use compiler::compile;
+use link_runner::write_whole;
+use std::alloc::Global;
+
+/// Creates the file of this path and writes bytes to it. It is closed in any case.
+pub fn write_file<'a, F: Files>(
+    path: &'a str,
+    bytes: &[u8],
+    files: &mut F,
+) -> Result<(), Failure<'a>>
+    ensures { Writes F.creates F.closes (inside F.Writer.written) path.entry.now bytes.now files.old files.new result }
+{
+    let mut writer = match files.create(path) {
+        Ok(writer) => writer,
+        Err(FileFault::Failed) => return Err(Failure::Uncreated(path)),
+        Err(FileFault::Memory) => return Err(Failure::Memory),
+    };
+    let written = write_whole(&mut writer, bytes);
+    let closed = files.close(writer);
+    match (written, closed) {
+        (Ok(()), Ok(())) => Ok(()),
+        _ => Err(Failure::Uncreated(path)),
+    }
+}
+
+/// Compiles a source, writes its module to the file of this path, and reports how long it is. The file is not created
+/// unless there is a module.
+pub fn compile_to_file<'a, F: Files>(
+    alloc: Global,
+    source: &[u8],
+    out: &'a str,
+    files: &mut F,
+) -> Result<String, Failure<'a>>
+    ensures { MatchResult result
+        (λ text. HasCompiled F.creates F.closes (inside F.Writer.written) source.now out.entry.now files.old files.new
+        (string_bytes text))
+        (WithholdsModule F.creates F.closes (inside F.Writer.written) source.now out.entry.now files.old files.new) }
+{
+    let module = compile(alloc, source)?;
+    write_file(out, &module, files)?;
+    let report = Report::Compiled {
+        bytes: module.len(),
+    };
+    Ok(format!(in alloc; "{report}\n")?)
+}

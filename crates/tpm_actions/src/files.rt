@@ -1,0 +1,112 @@
+//! Files by path.
+
+ghost use Rattle.std.specs.Prelude.{◌≡◌, ℕ, Bool, false, List, Result, Ok, Err, MatchResult, IfOk, is_ok, ⊤};
+ghost use Rattle.std.specs.Global.{Box};
+ghost use Rattle.tpm_actions.specs.declared.files.FileFault.{FileFault};
+
+use crate::opened::{FileReader, FileWriter};
+use link_runner::{Failed, LinkReader, LinkWriter, Reading, Writing};
+use std::io::{self, Write};
+use std::{fs, rt};
+
+/// Why a file was not read, opened or created.
+#[derive(Clone, Copy)]
+pub enum FileFault {
+    /// The file is not there, or it failed.
+    Failed,
+    /// Memory ran out.
+    Memory,
+}
+
+impl From<io::Error> for FileFault {
+    fn from(error: io::Error) -> Self {
+        match error.kind() {
+            io::ErrorKind::OutOfMemory => FileFault::Memory,
+            _ => FileFault::Failed,
+        }
+    }
+}
+
+/// Files that are named by paths. Their implementation keeps the allocator for what they read.
+pub trait Files {
+    /// A file that is read byte by byte.
+    type Reader: LinkReader + Drop;
+
+    /// A file that is written.
+    type Writer: LinkWriter + Drop;
+
+    /// What a read of the file at a path can give, and what the files are afterwards.
+    ghost reads: { Self → List ℕ → Result (List ℕ) FileFault → Self → Type 0 };
+
+    /// The same of opening it.
+    ghost opens: { Self → List ℕ → Result (Box Self.Reader) FileFault → Self → Type 0 };
+
+    /// The same of creating it.
+    ghost creates: { Self → List ℕ → Result (Box Self.Writer) FileFault → Self → Type 0 };
+
+    /// Whether a writer can be closed, and what the files are afterwards.
+    ghost closes: { Self → Box Self.Writer → Bool → Self → Type 0 };
+
+    /// All bytes of the file at this path.
+    fn read(&mut self, path: &str) -> Result<Vec<u8>, FileFault>
+        ensures { MatchResult result (λ bytes. reads self.old path.now (Ok bytes.items) self.new)
+            (λ fault. reads self.old path.now (Err fault) self.new) };
+
+    /// The file at this path, to be read from its beginning. Nothing has failed yet.
+    fn open(&mut self, path: &str) -> Result<Box<Self::Reader>, FileFault>
+        ensures gives { opens self.old path.now result self.new }
+        ensures fresh { IfOk result (λ reader. Self.Reader.failed reader.value ≡ false) };
+
+    /// The file at this path, emptied, or made if there is none. Nothing has failed yet.
+    fn create(&mut self, path: &str) -> Result<Box<Self::Writer>, FileFault>
+        ensures gives { creates self.old path.now result self.new }
+        ensures fresh { IfOk result (λ writer. Self.Writer.failed writer.value ≡ false) };
+
+    /// Takes the writer back, and writes what it has kept.
+    fn close(&mut self, writer: Box<Self::Writer>) -> Result<(), Failed>
+        ensures { closes self.old writer (is_ok result) self.new };
+}
+
+/// The files that a runtime opens, of which nothing is known.
+#[derive(Drop)]
+pub struct SystemFiles<'a, R>(pub &'a R);
+
+impl<R: rt::Files + AllocGlobal> Files for SystemFiles<'_, R> {
+    type Reader = Reading<FileReader<R::File>>;
+
+    type Writer = Writing<FileWriter<R::File>>;
+
+    ghost reads = { λ before path bytes after. ⊤ };
+
+    ghost opens = { λ before path reader after. ⊤ };
+
+    ghost creates = { λ before path writer after. ⊤ };
+
+    ghost closes = { λ before writer closed after. ⊤ };
+
+    fn read(&mut self, path: &str) -> Result<Vec<u8>, FileFault> {
+        Ok(fs::read(self.0, path)?)
+    }
+
+    fn open(&mut self, path: &str) -> Result<Box<Self::Reader>, FileFault> {
+        let file = fs::File::open(self.0, path)?;
+        let reader = Reading::new(FileReader::new(self.0.alloc(), file)?);
+        Box::new(self.0.alloc(), reader).map_err(|_| FileFault::Memory)
+    }
+
+    fn create(&mut self, path: &str) -> Result<Box<Self::Writer>, FileFault> {
+        let file = fs::File::create(self.0, path)?;
+        let writer = Writing::new(FileWriter::new(self.0.alloc(), file)?);
+        Box::new(self.0.alloc(), writer).map_err(|_| FileFault::Memory)
+    }
+
+    // Nothing is known of these files, so there is nothing to ensure.
+    fn close(&mut self, writer: Box<Self::Writer>) -> Result<(), Failed>
+        ensures { ⊤ }
+    {
+        Box::into_inner(writer)
+            .into_inner()
+            .flush()
+            .map_err(|_| Failed)
+    }
+}

@@ -1,0 +1,161 @@
+//! What is reported about a module or a source, and why nothing is, or why the module is refused.
+
+ghost use Rattle.std.specs.Prelude.{◌≡◌, Some};
+ghost use Rattle.tpm_actions.specs.Texts.{report_text, status_of};
+
+use compiler::CompileFault;
+use machine_state::Link;
+use module_format::FormatFault;
+use std::alloc::AllocError;
+use std::fmt;
+use thiserror::Error;
+use verifier::{Refusal, UpgradeFault};
+
+/// All that was asked for was done.
+pub const DONE: u8 = 0;
+/// The module or the source is refused.
+pub const REFUSED: u8 = 1;
+/// The words are no command, or they ask for help.
+pub const MISUSED: u8 = 2;
+/// A file, a link or standard output failed.
+pub const FAILED: u8 = 3;
+/// Memory ran out, other than in the reading or the verdict of a module, or in compiling a source.
+pub const STARVED: u8 = 4;
+
+/// What is reported about a module that was made, or that is certified.
+#[derive(Clone, Copy)]
+pub enum Report {
+    /// How many bytes the file of the module has.
+    Compiled { bytes: usize },
+    /// How many bytes the file of the module in version 2 has.
+    Upgraded { bytes: usize },
+    /// The most bytes that a run executes.
+    Accepted { budget: u64 },
+    /// The module's end was reached, after this number of bytes.
+    Ended { executed: u64 },
+    /// No process is running, after this number of bytes.
+    Idle { executed: u64 },
+}
+
+impl fmt::Display for Report {
+    ghost output = { λ report. Some (report_text report) };
+
+    fn fmt<W: fmt::Write>(&self, f: &mut fmt::Formatter<W>) -> fmt::Result {
+        match self {
+            Report::Compiled { bytes } => write!(f, "compiled {bytes} bytes"),
+            Report::Upgraded { bytes } => write!(f, "upgraded {bytes} bytes"),
+            Report::Accepted { budget } => write!(f, "accepted, budget {budget}"),
+            Report::Ended { executed } => write!(f, "ended, {executed} bytes executed"),
+            Report::Idle { executed } => write!(f, "idle, {executed} bytes executed"),
+        }
+    }
+}
+
+/// Why nothing is reported about a module or a source.
+#[derive(Debug, Drop, Error)]
+pub enum Failure<'a> {
+    /// The file is no module file.
+    #[error("refused C{} at {}", .0.number, .0.offset)]
+    Malformed(FormatFault),
+    /// The module is not certified.
+    #[error("refused V{} at {}", .0.number, .0.offset)]
+    Uncertified(Refusal),
+    /// The module is not certified, and this text explains why.
+    #[error("refused V{} at {}", .refusal.number, .refusal.offset)]
+    Explained { refusal: Refusal, text: String },
+    /// The source becomes no module.
+    #[error("refused {0}")]
+    Uncompiled(CompileFault),
+    /// The module is not upgraded.
+    #[error("refused U{}", .0.number())]
+    NotUpgraded(UpgradeFault),
+    /// The file of this path was not read or opened.
+    #[error("cannot read {0}")]
+    Unread(&'a str),
+    /// The file of this path was not created, or not written.
+    #[error("cannot write {0}")]
+    Uncreated(&'a str),
+    /// A read of this input link failed.
+    #[error("link in{} read failed", .0.index())]
+    ReadFailed(Link),
+    /// A write on this output link failed.
+    #[error("link out{} write failed", .0.index())]
+    WriteFailed(Link),
+    /// The report was not written.
+    #[error("cannot write standard output")]
+    Unwritten,
+    /// Memory ran out.
+    #[error("out of memory")]
+    Memory,
+}
+
+impl From<FormatFault> for Failure<'_> {
+    ghost use Rattle.tpm_actions.specs.declared.report.Failure.TheVariants as failures;
+
+    ghost from_gives = { λ fault failure. failure ≡ failures.Malformed fault };
+
+    fn from(fault: FormatFault) -> Self {
+        Failure::Malformed(fault)
+    }
+}
+
+impl From<Refusal> for Failure<'_> {
+    ghost use Rattle.tpm_actions.specs.declared.report.Failure.TheVariants as failures;
+
+    ghost from_gives = { λ refusal failure. failure ≡ failures.Uncertified refusal };
+
+    fn from(refusal: Refusal) -> Self {
+        Failure::Uncertified(refusal)
+    }
+}
+
+impl From<CompileFault> for Failure<'_> {
+    ghost use Rattle.tpm_actions.specs.declared.report.Failure.TheVariants as failures;
+
+    ghost from_gives = { λ fault failure. failure ≡ failures.Uncompiled fault };
+
+    fn from(fault: CompileFault) -> Self {
+        Failure::Uncompiled(fault)
+    }
+}
+
+impl From<UpgradeFault> for Failure<'_> {
+    ghost use Rattle.tpm_actions.specs.declared.report.Failure.TheVariants as failures;
+
+    ghost from_gives = { λ fault failure. failure ≡ failures.NotUpgraded fault };
+
+    fn from(fault: UpgradeFault) -> Self {
+        Failure::NotUpgraded(fault)
+    }
+}
+
+impl From<AllocError> for Failure<'_> {
+    ghost use Rattle.tpm_actions.specs.declared.report.Failure.TheVariants as failures;
+
+    ghost from_gives = { λ _ failure. failure ≡ failures.Memory };
+
+    fn from(_error: AllocError) -> Self {
+        Failure::Memory
+    }
+}
+
+impl Failure<'_> {
+    /// The exit status.
+    pub fn status(&self) -> u8
+        ensures { result ≡ status_of self.now }
+    {
+        match self {
+            Failure::Malformed(_)
+            | Failure::Uncertified(_)
+            | Failure::Explained { .. }
+            | Failure::Uncompiled(_)
+            | Failure::NotUpgraded(_) => REFUSED,
+            Failure::Unread(_)
+            | Failure::Uncreated(_)
+            | Failure::ReadFailed(_)
+            | Failure::WriteFailed(_)
+            | Failure::Unwritten => FAILED,
+            Failure::Memory => STARVED,
+        }
+    }
+}
