@@ -1,6 +1,6 @@
 -- What is written where a walk is.
 use Rattle.std.proofs.Common.{◌≡◌, ◌∙◌, ℕ, ◌+◌, ◌<◌, ◌≤◌, ◌++◌, length, Option, Ok, sym, ap}
-use Rattle.std.proofs.Common.{subst}
+use Rattle.std.proofs.Common.{subst, Result, Err, OnOk}
 use Rattle.prefix_decoder.specs.Fetching.{fetched}
 use Rattle.module_format.specs.Contents.{Contents}
 use Rattle.states.specs.declared.rule.Rule.{Rule}
@@ -18,6 +18,11 @@ use Rattle.state_texts.specs.declared.settings.Setting.{Setting}
 use Rattle.sentences.specs.Sights.{sight_text, setting_after, hidden_text, unspelled_text, ended_text}
 use Rattle.explanations.specs.Explaining.{explanation, last_text, Explains, IsElsewhere}
 use Rattle.explanations.proofs.Explains.{ends_unspelled, ends_there, ends_broken, ends_hidden, goes_on}
+
+-- what follows where there is no error
+pub on_ok : {T E P Q : Type 0} (result : Result T E) → OnOk result P → (P → Q) → OnOk result Q
+on_ok (Ok value) holds follows = follows holds
+on_ok (Err error) holds follows = tt
 
 -- no instruction is spelled there
 pub unspelled_here : (m : Contents) (w : Walk) (written text : Text) (at : ℕ) (setting : Setting) → walked w ≡ m

@@ -1,9 +1,9 @@
 //! The explanation of the verdict on a module.
 
-ghost use Rattle.std.specs.Prelude.{◌≡◌, ◌++◌, IfOk, OnOk, MatchOption, Err, string_bytes, if◌then◌else◌};
+ghost use Rattle.std.specs.Prelude.{◌≡◌, ◌++◌, [], IfOk, OnOk, MatchOption, Err, string_bytes, if◌then◌else◌};
 ghost use Rattle.certified_worlds.specs.Certified.{entering, state_at};
 ghost use Rattle.verifier.specs.Judge.{verdict};
-ghost use Rattle.verifier.specs.Walking.{before_of, walked, HasArrived};
+ghost use Rattle.verifier.specs.Walking.{before_of, walked, HasArrived, IsBegun};
 ghost use Rattle.explanations.specs.Explaining.{explanation, last_text, root_setting, IsElsewhere};
 
 use certificate::Module;
@@ -83,6 +83,40 @@ fn push_last<'a>(
     Ok(())
 }
 
+/// Appends what is known at each instruction, up to the first rule that is broken.
+fn push_explanation<'a>(
+    alloc: Global,
+    text: &mut String,
+    module: &'a Module<'a>,
+    walk: &mut Walk<'a>,
+    judged: Result<(), Breach>,
+) -> Result<(), AllocError>
+    requires empty { string_bytes text.old ≡ [] }
+    requires begun { IsBegun «module».now walk.old }
+    requires judged { judged ≡ verdict «module».now }
+    ensures { OnOk result (string_bytes text.new ≡ explanation «module».now) }
+{
+    let mut setting = root_setting();
+    loop {
+        let at = walk.offset();
+        let arrival = match walk.arrive() {
+            Place::Instruction(arrival) => arrival,
+            Place::Unspelled => return push_unspelled(alloc, text, module, at),
+            Place::End => return push_end(text, module, at, walk.state()),
+        };
+        if let Some(rule) = rule_at(judged, at) {
+            return push_last(alloc, text, module, walk, &arrival, setting, rule);
+        }
+        walk.enter(&arrival);
+        let reached = walk.state();
+        push_sight(alloc, text, module, at, setting, reached)?;
+        setting = setting_after(setting, reached);
+        if let Err(breach) = walk.go_on(&arrival)? {
+            return push_hidden(text, at, breach.offset as usize);
+        }
+    }
+}
+
 /// The explanation of the verdict on a module.
 pub fn explanation<'a>(
     alloc: Global,
@@ -93,31 +127,7 @@ pub fn explanation<'a>(
     ensures { IfOk result (λ text. string_bytes text ≡ explanation «module».now) }
 {
     let mut text = String::new(alloc);
-    let mut setting = root_setting();
     let mut walk = Walk::begin(alloc, module)?;
-    loop {
-        let at = walk.offset();
-        let arrival = match walk.arrive() {
-            Place::Instruction(arrival) => arrival,
-            Place::Unspelled => {
-                push_unspelled(alloc, &mut text, module, at)?;
-                return Ok(text);
-            }
-            Place::End => {
-                push_end(&mut text, module, at, walk.state())?;
-                return Ok(text);
-            }
-        };
-        if let Some(rule) = rule_at(judged, at) {
-            push_last(alloc, &mut text, module, &mut walk, &arrival, setting, rule)?;
-            return Ok(text);
-        }
-        walk.enter(&arrival);
-        push_sight(alloc, &mut text, module, at, setting, walk.state())?;
-        setting = setting_after(setting, walk.state());
-        if let Err(breach) = walk.go_on(&arrival)? {
-            push_hidden(&mut text, at, breach.offset as usize)?;
-            return Ok(text);
-        }
-    }
+    push_explanation(alloc, &mut text, module, &mut walk, judged)?;
+    Ok(text)
 }

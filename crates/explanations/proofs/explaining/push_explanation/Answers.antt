@@ -5,44 +5,45 @@ use Rattle.verifier.specs.Walking.{before_of, HasGoneOn}
 use Rattle.verifier.proofs.Walks.{HasEntered, has_entered, way_begins, way_goes_on, goes_as, breaks_as}
 use Rattle.sentences.specs.Seen.{seen}
 use Rattle.explanations.proofs.Explains.{begins}
-use Rattle.explanations.proofs.Walked.{unspelled_here, ended_here, last_here, hidden_here, goes_on_here}
-use Rattle.explanations.proofs.explaining.explanation.Goals as goal
-use Rattle.explanations.proofs.explaining.explanation.Goals.{After-enter}
+use Rattle.explanations.proofs.Walked.{on_ok, unspelled_here, ended_here, last_here, hidden_here, goes_on_here}
+use Rattle.explanations.proofs.explaining.push_explanation.Goals as goal
+use Rattle.explanations.proofs.explaining.push_explanation.Goals.{After-enter}
 
 pub loop-arrival-init : goal.loop-arrival-init
 loop-arrival-init c =
-    let begun = c.in_ok-walk.ensures.begun in
+    let begun = c.requires.begun in
     record {
       is = begun.is;
       same = begun.same;
       inside = omega (arith, begun.at);
-      on_the_way = way_begins c.args.module.now c.in_ok-walk.walk begun;
-      explains = begins c.args.module.now (string_bytes c.new-text.result) c.in_ok-walk.walk.at
-          (before_of c.in_ok-walk.walk) c.root_setting-setting.result c.new-text.ensures.bytes begun.at begun.state
+      on_the_way = way_begins c.args.module.now c.args.walk.now begun;
+      explains = begins c.args.module.now (string_bytes c.args.text.now) c.args.walk.now.at
+          (before_of c.args.walk.now) c.root_setting-setting.result c.requires.empty begun.at begun.state
           c.root_setting-setting.ensures;
     }
 
 pub returns-in-Unspelled : goal.returns-in-Unspelled
 returns-in-Unspelled c =
-    unspelled_here c.args.module.now c.loop-arrival.walk (string_bytes c.loop-arrival.text)
+    on_ok c.push_unspelled.result c.push_unspelled.ensures
+    (unspelled_here c.args.module.now c.loop-arrival.walk (string_bytes c.loop-arrival.text)
     (string_bytes c.push_unspelled.new.text) c.offset-at.result c.loop-arrival.setting c.loop-arrival.invariant.same
-    c.loop-arrival.invariant.explains c.in-Unspelled.ensures.0 c.offset-at.ensures
-    c.in_ok-push_unspelled-in-Unspelled.ensures
+    c.loop-arrival.invariant.explains c.in-Unspelled.ensures.0 c.offset-at.ensures)
 
 pub returns-in-End : goal.returns-in-End
 returns-in-End c =
-    ended_here c.args.module.now c.loop-arrival.walk c.arrive.new.self (string_bytes c.loop-arrival.text)
+    on_ok c.push_end.result c.push_end.ensures
+    (ended_here c.args.module.now c.loop-arrival.walk c.arrive.new.self (string_bytes c.loop-arrival.text)
     (string_bytes c.push_end.new.text) c.offset-at.result (seen c.state.result) c.loop-arrival.setting
     c.loop-arrival.invariant.same c.loop-arrival.invariant.explains c.in-End.ensures c.offset-at.ensures
-    c.state.ensures c.in_ok-push_end-in-End.ensures
+    c.state.ensures)
 
 pub returns-in-Some : goal.returns-in-Some
 returns-in-Some c =
-    last_here c.args.module.now c.loop-arrival.walk c.arrive.new.self c.in-Instruction.arrival
+    on_ok c.push_last.result c.push_last.ensures
+    (last_here c.args.module.now c.loop-arrival.walk c.arrive.new.self c.in-Instruction.arrival
     (string_bytes c.loop-arrival.text) (string_bytes c.push_last.new.text) c.loop-arrival.setting c.args.judged
     c.in-Some.rule c.offset-at.result c.loop-arrival.invariant.same c.loop-arrival.invariant.on_the_way
-    c.loop-arrival.invariant.explains c.in-Instruction.ensures c.requires c.in-Some.ensures c.offset-at.ensures
-    c.in_ok-push_last.ensures
+    c.loop-arrival.invariant.explains c.in-Instruction.ensures c.requires.judged c.in-Some.ensures c.offset-at.ensures)
 
 -- the instruction that the walk is at
 entered : (c : After-enter) → HasEntered c.args.module.now c.loop-arrival.walk.at (before_of c.loop-arrival.walk)
@@ -54,14 +55,14 @@ entered c =
 
 pub returns-in-Err : goal.returns-in-Err
 returns-in-Err c =
-    hidden_here c.args.module.now c.loop-arrival.walk c.enter.new.self c.in-Instruction.arrival c.in-Err.breach
+    on_ok c.push_hidden.result c.push_hidden.ensures
+    (hidden_here c.args.module.now c.loop-arrival.walk c.enter.new.self c.in-Instruction.arrival c.in-Err.breach
     (string_bytes c.loop-arrival.text) (string_bytes c.push_sight.new.text) (string_bytes c.push_hidden.new.text)
-    c.loop-arrival.setting c.args.judged c.offset-at.result (seen c.state-in-loop-arrival.result)
+    c.loop-arrival.setting c.args.judged c.offset-at.result (seen c.state-reached.result)
     c.loop-arrival.invariant.on_the_way c.loop-arrival.invariant.explains
-    (entered (goal.at.returns-in-Err c).After-enter) c.requires c.in_default.ensures c.offset-at.ensures
-    c.state-in-loop-arrival.ensures c.in_ok-push_sight.ensures
-    (breaks_as _ _ _ c.in_ok-breach.field-0 c.in-Err.breach c.in-Err.is c.in_ok-breach.ensures)
-    c.in_ok-push_hidden.ensures
+    (entered (goal.at.returns-in-Err c).After-enter) c.requires.judged c.in_default.ensures c.offset-at.ensures
+    c.state-reached.ensures c.in_ok-push_sight.ensures
+    (breaks_as _ _ _ c.in_ok-breach.field-0 c.in-Err.breach c.in-Err.is c.in_ok-breach.ensures))
 
 pub loop-arrival-preserved : goal.loop-arrival-preserved
 loop-arrival-preserved c =
@@ -76,8 +77,8 @@ loop-arrival-preserved c =
           c.enter.new.self c.in-Instruction.arrival c.go_on.new.self c.loop-arrival.invariant.on_the_way e gone;
       explains = goes_on_here c.args.module.now c.loop-arrival.walk c.enter.new.self c.go_on.new.self
           c.in-Instruction.arrival (string_bytes c.loop-arrival.text) (string_bytes c.push_sight.new.text)
-          c.loop-arrival.setting c.setting_after-setting.result c.offset-at.result
-          (seen c.state-in-loop-arrival.result) (seen c.state-in-loop-arrival-2.result)
-          c.loop-arrival.invariant.explains e gone c.offset-at.ensures c.state-in-loop-arrival.ensures
-          c.state-in-loop-arrival-2.ensures c.in_ok-push_sight.ensures c.setting_after-setting.ensures;
+          c.loop-arrival.setting c.setting_after-setting.result c.offset-at.result (seen c.state-reached.result)
+          (seen c.state-reached.result) c.loop-arrival.invariant.explains e gone c.offset-at.ensures
+          c.state-reached.ensures c.state-reached.ensures c.in_ok-push_sight.ensures
+          c.setting_after-setting.ensures;
     }
