@@ -7,14 +7,14 @@ mod edits;
 mod ends;
 mod events;
 mod file;
+mod format;
 mod functions;
-mod reading;
 mod words;
 
 pub use alterations::{Tally, Ways, judge_altered};
 pub use ends::end;
 pub use events::{LINKS, event, letter, names_effect, repeated};
 pub use file::CaseFile;
+pub use format::{READ, put_fault, put_read, reading};
 pub use functions::function;
-pub use reading::{READ, put_fault, put_read, reading};
 pub use words::{Words, question};
