@@ -97,13 +97,13 @@ pub same_entries : (all ps : List Par) (rows : List (ParRow Label ContextName)) 
 unfolding placed laid
 same_entries all ps rows offsets are =
     let first = λ (p : contents.Par). first_of_branches p.branches in
-    map_same (first_entry offsets) (λ row. first (placed offsets row))
-    (λ row. first_placed offsets row.branches.items) rows
+    map_same {f = first_entry offsets} {g = λ row. first (placed offsets row)} rows
+    (λ row. first_placed offsets row.branches.items)
     ∙ sym (map-map first (placed offsets) rows)
     ∙ ap (λ cs. map first cs) (are (λ name. 0) offsets)
     ∙ map-map first (laid offsets) ps
-    ∙ sym (map_same (λ (p : Par). first_branch offsets p.branches) (λ p. first (laid offsets p))
-    (λ p. first_laid offsets p.branches) ps)
+    ∙ sym (map_same {f = λ (p : Par). first_branch offsets p.branches} {g = λ p. first (laid offsets p)} ps
+    (λ p. first_laid offsets p.branches))
 
 -- ---- numbers
 
