@@ -31,7 +31,7 @@ pub data FitsStep (x : Situation) (s : State) (l : Local) (i : Option Instructio
 abbrev pub RulesFitSteps : Type 0
 RulesFitSteps =
     (x : Situation) (s : State) (l : Local) (f : Fun) (e : ℤ) → IsWellFormed x.m → Keeps x.m
-        → After x.m x.h x.mode x.act s l
+    → After x.m x.h x.mode x.act s l
     → s.context ≡ x.context → Changes x l.memory → owed s x.act ≤ x.owed → StandsAt x s l
     → (s.mode ≡ Disabling (length s.guards) → HasSelected x.mode s.guards)
     → FitsSigned w32 e → HasNext x (table.rule (rule_site x) f e s)

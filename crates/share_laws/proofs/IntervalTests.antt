@@ -64,6 +64,6 @@ common_word is (other ∷ others) k mine theirs = elim (or_cases (int_le other.l
 -- where no intervals meet, no word is in both lists
 pub no_common_word : (is others : List Interval) (k : ℤ)
     → list_any (λ other. list_any (intervals_meet other) is) others ≡ false → is_among is k ≡ true
-        → is_among others k ≡ false
+    → is_among others k ≡ false
 no_common_word is others k apart mine = false_from_ne_true (is_among others k) (λ theirs.
     let no' : false ≡ true = sym apart ∙ common_word is others k mine theirs in cc)

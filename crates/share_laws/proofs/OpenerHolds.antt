@@ -187,7 +187,7 @@ lengths_listed layout (c ∷ cs) word len h once = elim (word_test c.word word) 
       (λ e. t.1 (once c (inl refl) (eqb-true (channel_address layout (FrameWord c.word))
       (channel_address layout (FrameWord word)) e))))
       ∙ lengths_listed layout cs word len (sym (not_here (is_same_number c.word word) t.0) ∙ h)
-          (λ d among. once d (inr among))
+      (λ d among. once d (inr among))
 ]
   where
     by_test : (b : Bool) → b ≡ true

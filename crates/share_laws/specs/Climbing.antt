@@ -75,7 +75,7 @@ pub data LeadsUp (m : Contents) (memory : Memory) (own : ℕ → Holding) (began
         → LeadsUp m memory own began waits_in q p
     is_under : (p o : ℕ) → IsRung m memory (own o) (own p) (waits_in o) (began p)
         → ((new : Memory) → regions.KeepsMemory m (own o) (waits_in o) memory new
-            → regions.KeepsMemory m (own o) (began o) memory
+        → regions.KeepsMemory m (own o) (began o) memory
         new)
         → LeadsUp m memory own began waits_in q o → LeadsUp m memory own began waits_in q p
 

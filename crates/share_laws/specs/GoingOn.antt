@@ -53,7 +53,7 @@ OpenersGoOn = (m : Contents) (found : Found) (act : Activation) (base : ℕ) (ad
     → CanStart m found (layout_with act.layout found.par) base addresses
     (held_by_opener found.par base (length memory) h) (after_opening found.par base memory) depth workspace
     → GoesOnAs m found act memory depth s
-        → l.memory ≡ memory_after_start found base (after_opening found.par base memory)
+    → l.memory ≡ memory_after_start found base (after_opening found.par base memory)
     → l.registers.workspace ≡ workspace
     → After m (held_by_starter m found base addresses (held_by_opener found.par base (length memory) h) (length memory))
     machine.Starting (act_with act found) s l
@@ -77,7 +77,7 @@ BranchesBegin = (m : Contents) (found : Found) (act : Activation) (base : ℕ) (
     (h : Holding) (memory : Memory) (depth : ℤ) (workspace : ℕ) (s : State) (l : Local)
     → CanStart m found act.layout base addresses h memory depth workspace → BeginsAs m found act memory s
     → l.memory ≡ memory_after_start found base memory
-        → l.registers.workspace ≡ frame_address base found.branch.workspace
+    → l.registers.workspace ≡ frame_address base found.branch.workspace
     → After m (held_by_branch m found base addresses (length memory)) machine.Plain act s l
 
 -- ---- the first start

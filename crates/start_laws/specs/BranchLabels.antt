@@ -37,7 +37,7 @@ BeginsAtLabel {m = m} {found = found} b act h memory depth workspace =
     (base : ℕ) (addresses : List (Option ℕ)) (l : Local)
     → CanStart m found act.layout base addresses h memory depth workspace
     → l.memory ≡ memory_after_start found base memory
-        → l.registers.workspace ≡ frame_address base found.branch.workspace
+    → l.registers.workspace ≡ frame_address base found.branch.workspace
     → After m (held_by_branch m found base addresses (length memory)) machine.Plain (with_turns b.turns act)
     (label_state b.label) l
 

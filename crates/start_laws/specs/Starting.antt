@@ -37,15 +37,15 @@ IsBase x base = pos base ≡ pos data_start +ℤ x.act.layout.origin
 -- context and at whose depth the process is, and its share is left. The process goes on after the instruction, in this
 -- state among the starts.
 pub record StartsBranch (x : Situation) (s after : State) (l : Local) (found : Found) (target workspace : ℕ) : Type 0
-    where
-  pub found_is : found_at x.m target ≡ Some found
-  pub is : IsBranch x.m found
-  pub left : IsLeft x.m found
-  pub workspace_is : (base : ℕ) → IsBase x base → workspace ≡ frame_address base found.branch.workspace
-  pub context : found.par.context ≡ s.context
-  pub depth : found.par.depth ≡ s.depth
-  pub low : x.at + x.len < length x.m.code
-  pub goes_on : GoesOnAs x.m found x.act l.memory s.depth after
+  where
+    pub found_is : found_at x.m target ≡ Some found
+    pub is : IsBranch x.m found
+    pub left : IsLeft x.m found
+    pub workspace_is : (base : ℕ) → IsBase x base → workspace ≡ frame_address base found.branch.workspace
+    pub context : found.par.context ≡ s.context
+    pub depth : found.par.depth ≡ s.depth
+    pub low : x.at + x.len < length x.m.code
+    pub goes_on : GoesOnAs x.m found x.act l.memory s.depth after
 
 -- The branch is the next one of a PAR, of which some are started. If the join's base and the addresses of its
 -- parameters are those of the starter's layout, it can start the branch, whose label is paid by the number.
