@@ -381,7 +381,7 @@ numbered_port s es name t p (Some n) main channel number is =
 port_carries : (s : Surroundings) (es : List Entry) (env : Environment) (way : Direction) (name : List ℕ)
     (o : Option Expression) (t : ExprType) (p : Port) → IsOfMain s (shape es) → Meets env es
     → IsChannel es (record { name = name; subscript = o }) t
-    → port_of s env way (record { name = name; subscript = o }) ≡ Some p → type_of_values p.carries ≡ t
+    → port_of s.ports env way (record { name = name; subscript = o }) ≡ Some p → type_of_values p.carries ≡ t
 port_carries s es env way name (Some e) t p main meets channel is = absurd (cc is)
 port_carries s es env way name None t p main meets channel is =
     numbered_port s es name t p (number_in name es) main channel.type_is refl
@@ -446,12 +446,12 @@ action_well s signatures count (Assign target value) es env l sequential words m
     (meant count es target.name h.0 target.subscript (meaning_in target.name es) refl main.own whole h.2) holds h.3
     (and_parts (place_has_words target) (has_words value) words).1)
 action_well s signatures count (Input channel target) es env l sequential words main whole holds h =
-    input_well es (after_input target es) env l target (port_of s env direction.Input channel)
+    input_well es (after_input target es) env l target (port_of s.ports env direction.Input channel)
     (λ p v is typed. received_into es env target.name target.subscript h.0 v p.carries
     (meant count es target.name h.0 target.subscript (meaning_in target.name es) refl main.own whole h.2) holds
     (port_carries s es env direction.Input channel.name channel.subscript h.0 p main holds.meets h.1 is) typed)
 action_well s signatures count (Output channel value) es env l sequential words main whole holds h =
-    sent_well s h.1 (number_of env value) (port_of s env direction.Output channel) es env l
+    sent_well s h.1 (number_of env value) (port_of s.ports env direction.Output channel) es env l
     (channel_number (meaning_in channel.name es) _ h.0 h.1 (number_of env value) (truth_of env value) h.2.type_is
     (fit_has wanted.Anything es env value h.0 h.1 holds.meets h.3)) holds
 action_well s signatures count (Instance name actuals) es env l sequential words main whole holds h =
