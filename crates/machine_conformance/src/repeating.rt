@@ -95,7 +95,7 @@ fn replay_repeatedly(alloc: Global, verified: &Verified, times: u64) -> Result<u
 fn verify_repeatedly(alloc: Global, module: &Module, times: u64) -> Result<u64, Failure> {
     let mut checksum = 0;
     for _ in 0..times {
-        match verify(alloc, module) {
+        match verify(alloc, &*module) {
             Ok(verified) => checksum = mixed(checksum, verified.module().tables().budget),
             Err(refused) => return Err(refusal(refused.number, states::MEMORY)),
         }
