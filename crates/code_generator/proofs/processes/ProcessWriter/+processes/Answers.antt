@@ -482,9 +482,9 @@ write_par-returns t c =
 
 pub write_component-returns : goal.write_component-returns
 write_component-returns t c =
-    writes_component c.args.around (process_of c.args.process.now) c.deref.result.now c.in_ok-outside.outside
+    writes_component c.args.around (process_of c.args.process.now) c.deref-2.result.now c.in_ok-outside.outside
     c.variables_changed.new.scope c.next_component.new.self c.variables_changed.ensures.scope
-    (c.deref.ensures.value ∙ c.in_ok-changed.ensures.numbers) c.in_ok-outside.ensures c.in_ok-write.ensures.ok
+    (c.deref-2.ensures.value ∙ c.in_ok-changed.ensures.numbers) c.in_ok-outside.ensures c.in_ok-write.ensures.ok
     c.in_ok-end_branch.ensures c.next_component.ensures
 
 pub write_components-loop-turn-init : goal.write_components-loop-turn-init
