@@ -160,7 +160,7 @@ module _ {F R W : Type 0} (opens : F → Text → Result R FileFault → F → T
     replied text_of question (Err failure) why = withheld question failure why
 
 -- what holds for every path, for one
-pub for_path : {S E : Type 0} {P : S → Type 0} {Q : Text → E → Type 0} (result : Result S E)
+pub for_path : {S E : Type 0} (P : S → Type 0) (Q : Text → E → Type 0) (result : Result S E)
     → MatchResult result P (λ failure. (path : Text) → Q path failure) → (path : Text) → MatchResult result P (Q path)
-for_path (Ok text) has path = has
-for_path (Err failure) why path = why path
+for_path P Q (Ok text) has path = has
+for_path P Q (Err failure) why path = why path

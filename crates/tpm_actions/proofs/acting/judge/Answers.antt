@@ -17,9 +17,10 @@ returns-in-Upgrade g c =
     (inside g.F.Writer.LinkWriter.failed) string_bytes c.args.bytes.now c.in-Upgrade.path.now c.in-Upgrade.out.now _ _
     c.upgrade_to_file.result c.upgrade_to_file.ensures)
 
-pub returns-in_ok-module : goal.returns-in_ok-module
-returns-in_ok-module g c =
+pub returns-in_ok-module-in-Ask : goal.returns-in_ok-module-in-Ask
+returns-in_ok-module-in-Ask g c =
     rw c.in-Ask.is (replied g.F.Files.opens g.F.Files.creates g.F.Files.closes (inside g.F.Reader.LinkReader.left)
     (inside g.F.Reader.LinkReader.failed) (inside g.F.Writer.LinkWriter.written)
-    (inside g.F.Writer.LinkWriter.failed) c.args.bytes.now c.in_ok-module.module c.in_ok-module.ensures.found
-    c.in-Ask.path.now _ _ string_bytes c.in-Ask.question c.reply.result (c.reply.ensures c.in-Ask.path.now))
+    (inside g.F.Writer.LinkWriter.failed) c.args.bytes.now c.in_ok-module-in-Ask.module
+    c.in_ok-module-in-Ask.ensures.found c.in-Ask.path.now _ _ string_bytes c.in-Ask.question c.reply.result
+    (c.reply.ensures c.in-Ask.path.now))
