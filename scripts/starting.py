@@ -11,7 +11,7 @@ def start(main, text):
     """Runs `main` on the words of the command line, and ends with its status. `--help` prints the text, and nothing is done."""
     words = sys.argv[1:]
     if {"-h", "--help"} & {*words}:
-        print(text.strip())
+        print(text.strip(), flush=True)
         sys.exit(0)
     try:
         sys.exit(main(words))
