@@ -1,1 +1,13 @@
 pub mod StraightPieces
+pub mod ItemsFetched
+pub mod Distances
+pub mod PiecesLie
+pub mod PiecesGo
+pub mod PointsComeTo
+pub mod Behaves
+pub mod PointsComeToBe
+pub mod Asking
+pub mod Stopping
+pub mod Sending
+pub mod Receiving
+pub mod Closes

@@ -1,1 +1,6 @@
 pub mod StraightPieces
+pub mod Instructions
+pub mod LaidCode
+pub mod Points
+pub mod Behaves
+pub mod Closing

@@ -1,8 +1,70 @@
 //! The laws of code that is laid out, each the contract of a function that does nothing.
+ghost use Rattle.placed_code.specs.Behaves.{BehavioursCompose};
+ghost use Rattle.placed_code.specs.Closing.{RunsGoOn, PointsComeToBe, StopsComeToBe, SendsComeToBe};
+ghost use Rattle.placed_code.specs.Closing.{ReceivesComeToBe, BehavioursClose};
+ghost use Rattle.placed_code.specs.Instructions.{ItemsAreFetched};
+ghost use Rattle.placed_code.specs.LaidCode.{PiecesLie};
+ghost use Rattle.placed_code.specs.Points.{PiecesGo, PointsAreComeTo};
 ghost use Rattle.placed_code.specs.StraightPieces.{StraightPiecesFollow};
 
+/// The instructions of each item of a draft are fetched where the item begins, one after the other.
+pub fn items_are_fetched()
+    ensures { ItemsAreFetched }
+{}
+
 /// What pieces lead to, and what others lead to from there, is what both lead to, one after the other.
-#[tactic(auto, using(crate::proofs::StraightPieces::straight_pieces_follow))]
 pub fn straight_pieces_follow()
     ensures { StraightPiecesFollow }
+{}
+
+/// Where a module says its pieces, they lie in its code: their instructions are fetched one after the other, and lead to
+/// where labels and tables are.
+pub fn pieces_lie()
+    ensures { PiecesLie }
+{}
+
+/// Where they lie, straight pieces go to what they lead to, jumps and tests to their labels, and the end of a turn to
+/// the head of its loop while turns are left.
+pub fn pieces_go()
+    ensures { PiecesGo }
+{}
+
+/// On the plain machine the bytes of instructions that ask nothing of others lead from point to point.
+pub fn points_are_come_to()
+    ensures { PointsAreComeTo }
+{}
+
+/// What code makes a process do, and then what more code does, is what one does after the other. So are turns, and
+/// instructions before that ask nothing of others.
+pub fn behaviours_compose()
+    ensures { BehavioursCompose }
+{}
+
+/// A run of an accepted module in which one process is all goes on to the points to which its instructions lead, and
+/// turns that follow a run are more of it.
+pub fn points_come_to_be()
+    ensures points { PointsComeToBe }
+    ensures runs { RunsGoOn }
+{}
+
+/// Where it stops, the run is over.
+pub fn stops_come_to_be()
+    ensures { StopsComeToBe }
+{}
+
+/// Where it sends a message, that goes out: if something listens the process goes on, and otherwise the run is over.
+pub fn sends_come_to_be()
+    ensures { SendsComeToBe }
+{}
+
+/// Where it receives a message, its bytes come in turn, and the process goes on; or the run is over once the link has
+/// no more.
+pub fn receives_come_to_be()
+    ensures { ReceivesComeToBe }
+{}
+
+/// What code makes the only process do comes to be over links: the run comes to where the code leaves an environment, or
+/// is over where the tree of what it does waits.
+pub fn behaviours_close()
+    ensures { BehavioursClose }
 {}

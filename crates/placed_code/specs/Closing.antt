@@ -1,0 +1,171 @@
+-- What comes of a process over links, in a run of an accepted module where it is the only process.
+use Rattle.std.specs.Prelude.{◌≡◌, ℕ, zero, suc, ◌+◌, ◌*◌, ◌^◌, ◌<◌, true, false, Bool, List, [], ◌∷◌, length}
+use Rattle.std.specs.Prelude.{take, replicate, unwrap_or, nat_le, Option, Some, None}
+use Rattle.module_format.specs.Contents.{Contents}
+use Rattle.module_format.specs.Order.{IsBytes}
+use Rattle.machine_state.specs.declared.link.Link.{Link}
+use Rattle.machine_state.specs.Memory.{data_start}
+use Rattle.machine_state.specs.Moves.{link_index}
+use Rattle.link_runs.specs.ByLink.{ByLink, of_link}
+use Rattle.link_runs.specs.FirstInFirstOut.{Supply, RunMoment, IsRun, IsOver, next_of}
+use Rattle.agreement.specs.Agrees.{PlainMachine, PlainInput}
+use Rattle.plain_run.specs.RunningAlone.{point_on}
+use Rattle.accepted_runs.specs.Running.{AgreesOn}
+use Rattle.scalar_ranges.specs.Environments.{Environment, item_at}
+use Rattle.program_meaning.specs.Links.{Port, Links, incoming_at, after_reading, after_writing, message_length}
+use Rattle.program_meaning.specs.Running.{Outcome, Goes, Waits, Stuck}
+use Rattle.program_meaning.specs.Doing.{Doing, over_links}
+use Rattle.placed_code.specs.Behaves.{Behaves, Passes, Stops, Waited, IsSending, Filled, Receives}
+use Rattle.placed_code.specs.LaidCode.{LaidCode}
+use Rattle.placed_code.specs.Points.{Point, GoesTo, plain_point}
+use Rattle.placed_code.specs.StraightPieces.{Footing}
+
+-- the code of a module, where labels are at these offsets
+abbrev pub code_of : Contents → (ℕ → ℕ) → Footing → LaidCode
+code_of m labels footing = record {
+  start = data_start + 4 * m.data_words;
+  code = m.code;
+  labels = labels;
+  footing = footing;
+}
+
+-- ---- moments
+
+-- the moment after a number of turns more, if the run is not over before
+abbrev pub moment_from : Contents → ByLink Bool → RunMoment → ℕ → Option RunMoment
+moment_from m writers s zero = Some s
+moment_from m writers s (suc n) = next_of m writers (moment_from m writers s n)
+
+-- such a moment comes
+pub record ComesToBe (m : Contents) (writers : ByLink Bool) (s : RunMoment) (Is : RunMoment → Type 0) : Type 0 where
+  pub turns : ℕ
+  pub moment : RunMoment
+  pub comes : moment_from m writers s turns ≡ Some moment
+  pub is : Is moment
+
+-- turns after a run are more of it
+abbrev pub RunsGoOn : Type 0
+RunsGoOn = (m : Contents) (inputs : ByLink Supply) (writers : ByLink Bool) (n k : ℕ) (s t : RunMoment)
+    → IsRun m inputs writers n s → moment_from m writers s k ≡ Some t → IsRun m inputs writers (n + k) t
+
+-- ---- what was read and written
+
+-- the bytes that a link has still to give
+abbrev pub bytes_left : Supply → List ℕ
+bytes_left None = []
+bytes_left (Some bytes) = bytes
+
+abbrev pub written_at : ℕ → Links → List ℕ
+written_at link l = unwrap_or (item_at link l.written) []
+
+-- the links have read and written this, and have these bytes to give
+pub record HasLinks (l : Links) (s : RunMoment) : Type 0 where
+  pub four_in : length l.incoming ≡ 4
+  pub four_out : length l.written ≡ 4
+  pub read : (link : Link) → of_link s.read link ≡ length (incoming_at (link_index link) l).read
+  pub left : (link : Link) → bytes_left (of_link s.left link) ≡ (incoming_at (link_index link) l).unread
+  pub written : (link : Link) → of_link s.written link ≡ written_at (link_index link) l
+  pub are_bytes : (link : Link) → IsBytes (incoming_at (link_index link) l).unread
+
+-- ---- a process that is the only one
+
+-- nobody waits on a link
+abbrev pub idle_input : PlainInput
+idle_input = record { kept = None; waiting = None; enabled = None }
+
+-- One process runs at this point, no other is ready, nobody waits on a link, and what was read and written is this.
+pub record At (m : Contents) (c : LaidCode) (p : Point) (l : Links) (s : RunMoment) : Type 0 where
+  pub machine : PlainMachine
+  pub on : AgreesOn m machine s.world
+  pub running : machine.is_running ≡ true
+  pub here : point_on machine ≡ plain_point c p
+  pub ready : machine.ready ≡ []
+  pub outputs : machine.outputs ≡ replicate 4 None
+  pub inputs : machine.inputs ≡ replicate 4 idle_input
+  pub links : HasLinks l s
+
+-- The run is over, and this was read and written.
+pub record IsOverWith (m : Contents) (writers : ByLink Bool) (l : Links) (s : RunMoment) : Type 0 where
+  pub over : IsOver m writers s
+  pub links : HasLinks l s
+
+-- it has come to its end with this environment
+pub record HasEnded (m : Contents) (c : LaidCode) (End : Environment → Point → Type 0) (env : Environment) (l : Links)
+    (s : RunMoment) : Type 0 where
+  pub point : Point
+  pub ends : End env point
+  pub at : At m c point l s
+
+-- From a moment on the outcome comes to be: the process comes to its end, or waits for ever. Of what is stuck nothing
+-- is said.
+abbrev pub Closed : Contents → ByLink Bool → LaidCode → (Environment → Point → Type 0) → Outcome → RunMoment → Type 0
+Closed m writers c End (Goes env l) s = ComesToBe m writers s (HasEnded m c End env l)
+Closed m writers c End (Waits l) s = ComesToBe m writers s (IsOverWith m writers l)
+Closed m writers c End Stuck s = Unit {0}
+
+-- whether something listens on each link
+abbrev pub in_order : ByLink Bool → List Bool
+in_order writers = writers.first ∷ writers.second ∷ writers.third ∷ writers.fourth ∷ []
+
+-- instructions that ask nothing of others
+abbrev pub PointsComeToBe : Type 0
+PointsComeToBe = (m : Contents) (writers : ByLink Bool) (labels : ℕ → ℕ) (footing : Footing) (p q : Point) (l : Links)
+    (s : RunMoment) → let c = code_of m labels footing in GoesTo c p q → At m c p l s
+    → ComesToBe m writers s (At m c q l)
+
+-- `stopp`
+abbrev pub StopsComeToBe : Type 0
+StopsComeToBe = (m : Contents) (writers : ByLink Bool) (labels : ℕ → ℕ) (footing : Footing) (p : Point) (l : Links)
+    (s : RunMoment) → let c = code_of m labels footing in Stops c p → At m c p l s
+    → ComesToBe m writers s (IsOverWith m writers l)
+
+-- a message is sent: the process has waited for the acknowledgement, and goes on
+pub record HasWaited (m : Contents) (c : LaidCode) (p : Point) (l : Links) (s : RunMoment) : Type 0 where
+  pub point : Point
+  pub waited : Waited c p point
+  pub at : At m c point l s
+
+-- something listens on a link
+abbrev pub listens : ByLink Bool → ℕ → Bool
+listens writers link = unwrap_or (item_at link (in_order writers)) false
+
+-- `out`, by whether something listens on the link
+pub record SendsComeToBe : Type 0 where
+  pub goes : (m : Contents) (writers : ByLink Bool) (labels : ℕ → ℕ) (footing : Footing) (p : Point) (port : Port)
+      (message : List ℕ) (l : Links) (s : RunMoment) → let c = code_of m labels footing in footing.depth < 2 ^ 28
+      → IsSending c p port message → At m c p l s → listens writers port.link ≡ true
+      → ComesToBe m writers s (HasWaited m c p (after_writing port.link message l))
+  pub waits : (m : Contents) (writers : ByLink Bool) (labels : ℕ → ℕ) (footing : Footing) (p : Point) (port : Port)
+      (message : List ℕ) (l : Links) (s : RunMoment) → let c = code_of m labels footing in footing.depth < 2 ^ 28
+      → IsSending c p port message → At m c p l s → listens writers port.link ≡ false
+      → ComesToBe m writers s (IsOverWith m writers l)
+
+-- a message of these bytes is received: the process has waited for them, and goes on
+pub record HasFilled (m : Contents) (c : LaidCode) (p : Point) (bytes : List ℕ) (l : Links) (s : RunMoment) : Type 0
+  where
+    pub point : Point
+    pub filled : Filled c p bytes point
+    pub at : At m c point l s
+
+-- `in`, by whether the bytes of a message are left
+pub record ReceivesComeToBe : Type 0 where
+  pub goes : (m : Contents) (writers : ByLink Bool) (labels : ℕ → ℕ) (footing : Footing) (p : Point) (port : Port)
+      (l : Links) (s : RunMoment) → let c = code_of m labels footing in
+      let unread = (incoming_at port.link l).unread in
+      let count = message_length port.carries in
+      footing.depth < 2 ^ 28 → Receives c p port → At m c p l s → nat_le count (length unread) ≡ true
+      → ComesToBe m writers s (HasFilled m c p (take count unread) (after_reading port.link count l))
+  pub waits : (m : Contents) (writers : ByLink Bool) (labels : ℕ → ℕ) (footing : Footing) (p : Point) (port : Port)
+      (l : Links) (s : RunMoment) → let c = code_of m labels footing in
+      let unread = (incoming_at port.link l).unread in
+      footing.depth < 2 ^ 28 → Receives c p port → At m c p l s
+      → nat_le (message_length port.carries) (length unread) ≡ false
+      → ComesToBe m writers s (IsOverWith m writers (after_reading port.link (length unread) l))
+
+-- What code makes a process do comes to be over links: from the moment at which it is there, the outcome of its tree.
+-- This is of all tests of where it ends; the lemma that it rests on is of all relations.
+abbrev pub BehavioursClose : Type 0
+BehavioursClose = (m : Contents) (writers : ByLink Bool) (labels : ℕ → ℕ) (footing : Footing)
+    (end : Environment → Point → Bool) (p : Point) (t : Doing) (l : Links) (s : RunMoment)
+    → let c = code_of m labels footing in footing.depth < 2 ^ 28 → Behaves c (Passes end) p t → At m c p l s
+    → Closed m writers c (Passes end) (over_links (in_order writers) t l) s
