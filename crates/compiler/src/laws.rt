@@ -1,0 +1,13 @@
+//! The laws of what programs become, each the contract of a function that does nothing.
+
+ghost use Rattle.occam_parser.specs.declared.tree.ValueType.TheVariants as value_type;
+ghost use Rattle.program_meaning.specs.SmallPrograms.{echoes, skip};
+ghost use Rattle.machine_state.specs.SmallModules.{echo};
+ghost use Rattle.compiler.specs.Meant.{RunsAsMeant};
+
+/// A small module runs as a small program means: it sends on the byte that it receives, whatever comes in and wherever
+/// something listens.
+#[tactic(auto, using(crate::proofs::EchoMeant::echo_runs_as_meant))]
+pub fn echo_runs_as_meant()
+    ensures { RunsAsMeant echo (echoes value_type.Byte skip) }
+{}
