@@ -34,6 +34,7 @@ generated items code bytes is made =
       };
       is_code = λ other has. subst (λ (c : Code). Says (apart c.pieces) c.labels links bytes)
           (subst (λ o. IfSome o (λ c. code ≡ c)) has is) says;
+      has_code = sequential_programs_have_code items;
     }
 
 -- the same of these pieces and links

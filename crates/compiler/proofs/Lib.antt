@@ -1,2 +1,3 @@
 pub mod Generated
+pub mod Refused
 pub mod EchoMeant

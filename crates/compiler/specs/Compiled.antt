@@ -1,5 +1,5 @@
 -- The module that a program becomes, and why a source becomes none.
-use Rattle.std.specs.Prelude.{◌≡◌, ◌⊎◌, ℕ, false, true, List, map, Some, Err}
+use Rattle.std.specs.Prelude.{◌≡◌, ◌⊎◌, ⊤, ℕ, false, true, List, map, Some, Err}
 use Rattle.occam_layout.specs.Tokens.{IsSource}
 use Rattle.occam_layout.specs.Fault as layout
 use Rattle.occam_layout.specs.Reading.{read, row_of}
@@ -13,6 +13,9 @@ use Rattle.program_work.specs.Readings.{capped}
 use Rattle.program_work.specs.Programs.{is_too_much_to_write, names_in}
 use Rattle.usage_checks.specs.ItemRules.{BreaksProgram, BreaksNoRule}
 use Rattle.usage_checks.specs.Telling as usage
+use Rattle.program_meaning.specs.Sequential.{IsSequentialProgram}
+use Rattle.module_builder.specs.declared.fault.GenFault.{GenFault}
+use Rattle.module_builder.specs.declared.fault.GenFault.TheVariants as generation
 use Rattle.module_format.specs.declared.tables.Version.TheVariants.{Two}
 use Rattle.module_format.specs.Contents.{Contents}
 use Rattle.module_format.specs.Keeping.{IsFile}
@@ -39,10 +42,14 @@ abbrev pub IsItsCode : List ProgramItem → List ℕ → Type 0
 IsItsCode items bytes =
     (code : Code) → code_of items ≡ Some code → Says (apart code.pieces) code.labels (link_lengths items) bytes
 
--- what `generate` makes of a program
+abbrev pub HasCode : List ProgramItem → Type 0
+HasCode items = (code : Code) × (code_of items ≡ Some code)
+
+-- What `generate` makes of a program. A sequential one has code.
 pub record IsGenerated (items : List ProgramItem) (bytes : List ℕ) : Type 0 where
   pub is_module : IsModuleFor items bytes
   pub is_code : IsItsCode items bytes
+  pub has_code : IsSequentialProgram items → HasCode items
 
 -- The code of a program is more than is written, or its module would be above a limit of the format.
 abbrev pub IsMuch : List ProgramItem → Code → Type 0
@@ -54,6 +61,13 @@ IsMuch items code =
 abbrev pub IsTooLarge : List ProgramItem → Type 0
 IsTooLarge items =
     is_too_much_to_write items ≡ false → (code : Code) × (code_of items ≡ Some code) × IsMuch items code
+
+-- Why `generate` makes nothing of a program: memory ran out, what was written would not be certified, or it is too much
+-- or above a limit. If that is told of a sequential program, it is so.
+abbrev pub IsUngenerated : GenFault → List ProgramItem → Type 0
+IsUngenerated generation.Memory items = ⊤
+IsUngenerated generation.Invalid items = ⊤
+IsUngenerated generation.Limit items = IsSequentialProgram items → IsTooLarge items
 
 -- ---- sources
 
@@ -87,10 +101,14 @@ pub record IsProgramWith (source : List ℕ) (holds_of : List ProgramItem → Ty
   pub program : IsProgramIn source items
   pub holds : holds_of items
 
+-- The source is a program that breaks no rule, and this is why it has no module.
+abbrev pub IsWithoutModule : List ℕ → GenFault → Type 0
+IsWithoutModule source f = IsProgramWith source (λ items. BreaksNoRule items × IsUngenerated f items)
+
 -- why a source becomes no module
 abbrev pub IsRefusedFor : List ℕ → CompileFault → Type 0
 IsRefusedFor source (faults.Layout f) = (f ≡ layout.out_of_memory) ⊎ (read source ≡ Err f)
 IsRefusedFor source (faults.Syntax f) = IsUnparsed source f
 IsRefusedFor source (faults.Usage f) =
     IsProgramWith source (λ items. (f ≡ usage.out_of_memory) ⊎ IsFirst (BreaksProgram items) (Some f))
-IsRefusedFor source (faults.Generation f) = IsProgramWith source BreaksNoRule
+IsRefusedFor source (faults.Generation f) = IsWithoutModule source f
