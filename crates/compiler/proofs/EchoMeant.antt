@@ -2,7 +2,7 @@
 use Rattle.std.proofs.Common.{◌≡◌, ℕ, ◌<◌, ◌%◌, Bool, true, false, List, [], ◌∷◌, length, Option, Some, None, refl, sym}
 use Rattle.std.proofs.Common.{subst, arith}
 use Rattle.std.proofs.lemmas.Bool.{le-leb}
-use Rattle.std.specs.Prelude.{nat_le, unwrap_or, pos}
+use Rattle.std.specs.Prelude.{nat_le, pos}
 use Rattle.std.specs.Int.{w32, cast_unsigned}
 use Rattle.std.specs.List.{AllByRecursion}
 use Rattle.word_arithmetic.specs.Binary.{computed}
@@ -47,7 +47,7 @@ ends_after m items inputs writers n r (Some s) means is ends = record {
   report = subst (λ (report : Report). IsReportOf report s) (sym means) ends.1;
 }
 
--- ---- what is reported
+-- ---- what is reported, and when: by what link 0 has to give, and by whether something listens on it
 
 -- this was read from link 0 and written to it
 reports : Ending → List ℕ → List ℕ → Report
@@ -57,102 +57,58 @@ reports ending read written = record {
   written = written ∷ [] ∷ [] ∷ [] ∷ [];
 }
 
+report_of : Supply → Bool → Report
+report_of None listens = reports Idle [] []
+report_of (Some []) listens = reports Idle [] []
+report_of (Some (byte ∷ bytes)) false = reports Idle (byte ∷ []) []
+report_of (Some (byte ∷ bytes)) true = reports Ended (byte ∷ []) (byte ∷ [])
+
+turns_of : Supply → Bool → ℕ
+turns_of None listens = 8
+turns_of (Some []) listens = 9
+turns_of (Some (byte ∷ bytes)) false = 14
+turns_of (Some (byte ∷ bytes)) true = 16
+
 one_is_there : (byte : ℕ) (bytes : List ℕ) → nat_le 1 (length (byte ∷ bytes)) ≡ true
 one_is_there byte bytes = le-leb 1 (length (byte ∷ bytes)) (omega arith)
 
 same_byte : (byte : ℕ) → byte < 256 → cast_unsigned w32 (pos (byte % 256)) % 256 ≡ byte
 same_byte byte low = omega arith
 
-means_nothing : (second third fourth : List ℕ) (w x y z : Bool)
-    → meaning (echoes value_type.Byte skip) ([] ∷ second ∷ third ∷ fourth ∷ []) (w ∷ x ∷ y ∷ z ∷ [])
-    ≡ reports Idle [] []
-unfolding reports
-means_nothing second third fourth w x y z = refl
+means : (first : Supply) (second third fourth : List ℕ) (w x y z : Bool)
+    → AllByRecursion (λ byte. byte < 256) (bytes_in first)
+    → meaning (echoes value_type.Byte skip) (bytes_in first ∷ second ∷ third ∷ fourth ∷ []) (w ∷ x ∷ y ∷ z ∷ [])
+    ≡ report_of first w
+unfolding reports report_of
+means None second third fourth w x y z low = refl
+means (Some []) second third fourth w x y z low = refl
+means (Some (byte ∷ bytes)) second third fourth false x y z low = rw (one_is_there byte bytes) refl
+means (Some (byte ∷ bytes)) second third fourth true x y z low =
+    rw (one_is_there byte bytes, same_byte byte low.0) refl
 
-means_unheard : (byte : ℕ) (bytes second third fourth : List ℕ) (x y z : Bool)
-    → meaning (echoes value_type.Byte skip) ((byte ∷ bytes) ∷ second ∷ third ∷ fourth ∷ [])
-    (false ∷ x ∷ y ∷ z ∷ []) ≡ reports Idle (byte ∷ []) []
-unfolding reports
-means_unheard byte bytes second third fourth x y z = rw (one_is_there byte bytes) refl
-
-means_echo : (byte : ℕ) (bytes second third fourth : List ℕ) (x y z : Bool) → byte < 256
-    → meaning (echoes value_type.Byte skip) ((byte ∷ bytes) ∷ second ∷ third ∷ fourth ∷ [])
-    (true ∷ x ∷ y ∷ z ∷ []) ≡ reports Ended (byte ∷ []) (byte ∷ [])
-unfolding reports
-means_echo byte bytes second third fourth x y z low = rw (one_is_there byte bytes, same_byte byte low) refl
-
--- ---- runs
-
-no_reader : (second third fourth : Supply) (w x y z : Bool) → let writers : ByLink Bool =
+runs_so : (first second third fourth : Supply) (w x y z : Bool) → let writers : ByLink Bool =
     record { first = w; second = x; third = y; fourth = z } in
-    EndsAt echo writers (reports Idle [] [])
-    (moment_after echo (record { first = None; second = second; third = third; fourth = fourth }) writers 8)
-unfolding reports next turn local_step step_of instruction_of op_of instruction_step operation_step computes computed
-    outside_alternation outside_starts while_enabling while_disabling uses reads writes reads_byte writes_byte schedules
-    goes_on leads_to lands_at followed_by_code holds aligned channel counts exchanges copied all_places runs less
-    parameters_at context_at place_of local_address word_at with_word may_write_word may_read_word dispatch
-no_reader second third fourth w x y z =
+    EndsAt echo writers (report_of first w)
+    (moment_after echo (record { first = first; second = second; third = third; fourth = fourth }) writers
+    (turns_of first w))
+unfolding reports report_of turns_of next turn local_step step_of instruction_of op_of instruction_step operation_step
+    computes computed outside_alternation outside_starts while_enabling while_disabling uses reads writes reads_byte
+    writes_byte schedules goes_on leads_to lands_at followed_by_code holds aligned channel counts exchanges copied
+    all_places runs less parameters_at context_at place_of local_address word_at with_word may_write_word may_read_word
+    dispatch
+runs_so None second third fourth w x y z = (refl, record { ending = refl; read = refl; written = refl })
+runs_so (Some []) second third fourth w x y z = (refl, record { ending = refl; read = refl; written = refl })
+runs_so (Some (byte ∷ bytes)) second third fourth false x y z =
     (refl, record { ending = refl; read = refl; written = refl })
-
-nothing_comes : (second third fourth : Supply) (w x y z : Bool) → let writers : ByLink Bool =
-    record { first = w; second = x; third = y; fourth = z } in
-    EndsAt echo writers (reports Idle [] [])
-    (moment_after echo (record { first = Some []; second = second; third = third; fourth = fourth }) writers 9)
-unfolding reports next turn local_step step_of instruction_of op_of instruction_step operation_step computes computed
-    outside_alternation outside_starts while_enabling while_disabling uses reads writes reads_byte writes_byte schedules
-    goes_on leads_to lands_at followed_by_code holds aligned channel counts exchanges copied all_places runs less
-    parameters_at context_at place_of local_address word_at with_word may_write_word may_read_word dispatch
-nothing_comes second third fourth w x y z =
+runs_so (Some (byte ∷ bytes)) second third fourth true x y z =
     (refl, record { ending = refl; read = refl; written = refl })
-
-nobody_listens : (byte : ℕ) (bytes : List ℕ) (second third fourth : Supply) (x y z : Bool) → let writers : ByLink Bool =
-    record { first = false; second = x; third = y; fourth = z } in
-    EndsAt echo writers (reports Idle (byte ∷ []) [])
-    (moment_after echo (record { first = Some (byte ∷ bytes); second = second; third = third; fourth = fourth }) writers
-    14)
-unfolding reports next turn local_step step_of instruction_of op_of instruction_step operation_step computes computed
-    outside_alternation outside_starts while_enabling while_disabling uses reads writes reads_byte writes_byte schedules
-    goes_on leads_to lands_at followed_by_code holds aligned channel counts exchanges copied all_places runs less
-    parameters_at context_at place_of local_address word_at with_word may_write_word may_read_word dispatch
-nobody_listens byte bytes second third fourth x y z =
-    (refl, record { ending = refl; read = refl; written = refl })
-
-sends_on : (byte : ℕ) (bytes : List ℕ) (second third fourth : Supply) (x y z : Bool) → let writers : ByLink Bool =
-    record { first = true; second = x; third = y; fourth = z } in
-    EndsAt echo writers (reports Ended (byte ∷ []) (byte ∷ []))
-    (moment_after echo (record { first = Some (byte ∷ bytes); second = second; third = third; fourth = fourth }) writers
-    16)
-unfolding reports next turn local_step step_of instruction_of op_of instruction_step operation_step computes computed
-    outside_alternation outside_starts while_enabling while_disabling uses reads writes reads_byte writes_byte schedules
-    goes_on leads_to lands_at followed_by_code holds aligned channel counts exchanges copied all_places runs less
-    parameters_at context_at place_of local_address word_at with_word may_write_word may_read_word dispatch
-sends_on byte bytes second third fourth x y z =
-    (refl, record { ending = refl; read = refl; written = refl })
-
--- by what link 0 has to give, and by whether something listens on link 0
-ends_as_meant : (first second third fourth : Supply) (w x y z : Bool)
-    → AllByRecursion (λ byte. byte < 256) (unwrap_or first [])
-    → EndsAsMeant echo (echoes value_type.Byte skip)
-    (record { first = first; second = second; third = third; fourth = fourth })
-    (record { first = w; second = x; third = y; fourth = z })
-ends_as_meant None second third fourth w x y z low =
-    ends_after echo (echoes value_type.Byte skip) _ _ 8 (reports Idle [] []) _
-    (means_nothing (bytes_in second) (bytes_in third) (bytes_in fourth) w x y z) refl
-    (no_reader second third fourth w x y z)
-ends_as_meant (Some []) second third fourth w x y z low =
-    ends_after echo (echoes value_type.Byte skip) _ _ 9 (reports Idle [] []) _
-    (means_nothing (bytes_in second) (bytes_in third) (bytes_in fourth) w x y z) refl
-    (nothing_comes second third fourth w x y z)
-ends_as_meant (Some (byte ∷ bytes)) second third fourth false x y z low =
-    ends_after echo (echoes value_type.Byte skip) _ _ 14 (reports Idle (byte ∷ []) []) _
-    (means_unheard byte bytes (bytes_in second) (bytes_in third) (bytes_in fourth) x y z) refl
-    (nobody_listens byte bytes second third fourth x y z)
-ends_as_meant (Some (byte ∷ bytes)) second third fourth true x y z low =
-    ends_after echo (echoes value_type.Byte skip) _ _ 16 (reports Ended (byte ∷ []) (byte ∷ [])) _
-    (means_echo byte bytes (bytes_in second) (bytes_in third) (bytes_in fourth) x y z low.0) refl
-    (sends_on byte bytes second third fourth x y z)
 
 pub echo_runs_as_meant : RunsAsMeant echo (echoes value_type.Byte skip)
 echo_runs_as_meant inputs writers low =
-    ends_as_meant inputs.first inputs.second inputs.third inputs.fourth writers.first writers.second writers.third
-    writers.fourth (low Zero)
+    ends_after echo (echoes value_type.Byte skip) inputs writers (turns_of inputs.first writers.first)
+    (report_of inputs.first writers.first) _
+    (means inputs.first (bytes_in inputs.second) (bytes_in inputs.third) (bytes_in inputs.fourth) writers.first
+    writers.second writers.third writers.fourth (low Zero))
+    refl
+    (runs_so inputs.first inputs.second inputs.third inputs.fourth writers.first writers.second writers.third
+    writers.fourth)
