@@ -1,0 +1,73 @@
+//! The laws of what the code of lines does, each the contract of a function that does nothing.
+
+ghost use Rattle.meant_lines.specs.Words.{OperandsNameWords, WordsHavePlaces, BytesHavePlaces, AddressesMoveTwice};
+ghost use Rattle.meant_lines.specs.Words.{ElementsHaveAddresses, AddressesReadBack};
+ghost use Rattle.meant_lines.specs.Words.{WordsAreCounted, WordsBelowStay, FrameWordsReadBack};
+ghost use Rattle.meant_lines.specs.Instructions.{LeastWordIsPushed, ConstantsArePushed, WordsAreLoaded};
+ghost use Rattle.meant_lines.specs.Instructions.{WordsAreStored, AddressesArePushed, TablesArePushed};
+ghost use Rattle.meant_lines.specs.Instructions.{AddressesMoveOn, DistantWordsAreLoaded, DistantWordsAreStored};
+ghost use Rattle.meant_lines.specs.Instructions.{BytesAreLoaded, BytesAreStored, WordsAreSelected};
+ghost use Rattle.meant_lines.specs.Instructions.{BytesAreSelected, BytesAreMoved, RegistersAreReversed};
+ghost use Rattle.meant_lines.specs.Instructions.{ConstantsAreAdded, ConstantsAreCompared, BitsAreTurned};
+ghost use Rattle.meant_lines.specs.Instructions.{OperationsAreComputed, WordsAreShifted, OperandsNameOperations};
+ghost use Rattle.meant_lines.specs.Instructions.{WaitingIsPushedBelow, WordsAreMoved};
+
+/// Each word of the frame has its own place in memory, and the operand that names it at any workspace of the frame
+/// leads there. What is written in a word is read there, and other words stay. What code leaves of the words below one
+/// composes.
+#[tactic(auto, using(crate::proofs::Words::frame_words))]
+pub fn frame_words_stay()
+    ensures operands { OperandsNameWords }
+    ensures places { WordsHavePlaces }
+    ensures bytes { BytesHavePlaces }
+    ensures elements { ElementsHaveAddresses }
+    ensures registers { AddressesReadBack }
+    ensures twice { AddressesMoveTwice }
+    ensures counted { WordsAreCounted }
+    ensures below { WordsBelowStay }
+    ensures back { FrameWordsReadBack }
+{}
+
+/// Instructions push constants, words of the frame, and the addresses of words and of tables. What is in A is stored in
+/// a word of the frame.
+#[tactic(auto, using(crate::proofs::Instructions::pushing))]
+pub fn words_are_pushed()
+    ensures least { LeastWordIsPushed }
+    ensures constants { ConstantsArePushed }
+    ensures loaded { WordsAreLoaded }
+    ensures stored { WordsAreStored }
+    ensures addresses { AddressesArePushed }
+    ensures tables { TablesArePushed }
+{}
+
+/// Words and bytes are loaded from the address in A, stored there and moved, and subscripts select them.
+#[tactic(auto, using(crate::proofs::Instructions::addressing))]
+pub fn addresses_are_used()
+    ensures further { AddressesMoveOn }
+    ensures loaded { DistantWordsAreLoaded }
+    ensures stored { DistantWordsAreStored }
+    ensures bytes { BytesAreLoaded }
+    ensures bytes_stored { BytesAreStored }
+    ensures selected { WordsAreSelected }
+    ensures bytes_selected { BytesAreSelected }
+    ensures moved { BytesAreMoved }
+{}
+
+/// Operators put their result in the place of their operands. The code of each is that of the operation.
+#[tactic(auto, using(crate::proofs::Instructions::operating))]
+pub fn operators_are_computed()
+    ensures reversed { RegistersAreReversed }
+    ensures added { ConstantsAreAdded }
+    ensures compared { ConstantsAreCompared }
+    ensures turned { BitsAreTurned }
+    ensures computed { OperationsAreComputed }
+    ensures shifted { WordsAreShifted }
+    ensures named { OperandsNameOperations }
+{}
+
+/// What waited in a word is pushed below what is in A, and words of the frame are moved.
+#[tactic(auto, using(crate::proofs::Instructions::together))]
+pub fn instructions_follow()
+    ensures below { WaitingIsPushedBelow }
+    ensures moved { WordsAreMoved }
+{}
