@@ -1,10 +1,10 @@
 -- The invariant holds in each world that a certified module comes to, and so the module runs well.
-use Rattle.std.proofs.Common.{List, [], ◌∷◌, ◌++◌, sym, subst, append_assoc, append-nil, arith}
+use Rattle.std.proofs.Common.{◌<◌, List, [], ◌∷◌, ◌++◌, sym, subst, append_assoc, append-nil, arith}
 use Rattle.module_format.specs.Contents.{Contents}
 use Rattle.module_format.specs.Keeping.{Keeps}
 use Rattle.machine_state.specs.declared.event.Event.{Event}
 use Rattle.machine_state.specs.World.{World, loaded}
-use Rattle.machine_state.specs.Happens.{happens, world_after}
+use Rattle.machine_state.specs.Happens.{happens, world_after, most_executed}
 use Rattle.machine_state.proofs.EveryWorld.{run_further}
 use Rattle.certified_worlds.specs.Certified.{IsCertified}
 use Rattle.certified_worlds.specs.Invariant.{Holds}
@@ -13,6 +13,9 @@ use Rattle.verifier.proofs.ValidContents.{decodes, well_formed}
 use Rattle.verifier.proofs.LawfulWorlds.{IsLawful, lawful}
 use Rattle.verifier.proofs.EventsKeepInvariant.{event_holds}
 use Rattle.verifier.proofs.Start.{loaded_holds}
+use Rattle.verifier.proofs.OwnBytes.{changes_its_own}
+use Rattle.verifier.proofs.ReadBytes.{reads_its_own}
+use Rattle.verifier.proofs.Costs.{costs_are_counted}
 
 module _ (m : Contents) (k : Keeps m) (c : IsCertified m) where
   -- one event more
@@ -36,9 +39,16 @@ certified_run_holds m es k c are =
 
 pub runs_well : (m : Contents) → Keeps m → IsCertified m → RunsWell m
 runs_well m k c es are =
+    let w = world_after m es in
     let h = certified_run_holds m es k c are in
+    let owed = h.owed in
+    let most = k.bounds.budget in
+    let small : w.counters.executed < most_executed = omega (arith, owed, most) in
     record {
       no_fault = h.well;
       apart = (lawful m es k).apart;
-      within_budget = let owed = h.owed in omega arith;
+      within_budget = omega (arith, owed);
+      writes = λ e place changed. changes_its_own m es k e place changed;
+      reads = λ e other size same. reads_its_own m es k other size e same;
+      costs = λ e is. costs_are_counted m w (lawful m es k).line small h.well e (step_further m k c es e is h).well;
     }

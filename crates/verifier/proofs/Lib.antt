@@ -29,6 +29,9 @@ pub mod RootHolds
 pub mod RootEnds
 pub mod Start
 pub mod ValidContents
+pub mod OwnBytes
+pub mod ReadBytes
+pub mod Costs
 pub mod CertifiedRuns
 pub mod Examples
 pub mod ChoiceIsCertified

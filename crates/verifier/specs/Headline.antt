@@ -1,11 +1,25 @@
 -- What an accepted module promises.
-use Rattle.std.specs.Prelude.{◌≡◌, ℕ, ◌≤◌, ◌<◌, List, [], ◌∷◌, None}
+use Rattle.std.specs.Prelude.{◌≡◌, ◌≢◌, ℕ, ◌+◌, ◌≤◌, ◌<◌, true, if◌then◌else◌, List, [], ◌∷◌, length, Some, None}
+use Rattle.std.specs.Prelude.{Bool, is_some, slice_get}
+use Rattle.module_format.specs.declared.rows.Direction.{Direction}
+use Rattle.module_format.specs.declared.rows.Direction.TheVariants.{In, Out}
 use Rattle.module_format.specs.Contents.{Contents}
 use Rattle.machine_state.specs.declared.event.Event.{Event}
 use Rattle.machine_state.specs.declared.event.Event.TheVariants.{Step, Arrive, Acknowledge}
-use Rattle.machine_state.specs.World.{World}
-use Rattle.machine_state.specs.Happens.{world_after}
+use Rattle.machine_state.specs.declared.link.Link.{Link}
+use Rattle.machine_state.specs.declared.link.InputLink.{InputLink}
+use Rattle.machine_state.specs.declared.process.Channel.{Channel}
+use Rattle.machine_state.specs.declared.process.Condition.TheVariants.{Sending, Receiving, OnLink}
+use Rattle.machine_state.specs.declared.process.Exchange.{Exchange}
+use Rattle.machine_state.specs.Memory.{Memory, place_of, byte_at}
+use Rattle.machine_state.specs.Holding.{Holding, nothing, may_write, may_read, has_end}
+use Rattle.machine_state.specs.World.{World, holding_at}
+use Rattle.machine_state.specs.Moves.{link_index, channel_at}
+use Rattle.machine_state.specs.Turn.{Turn}
+use Rattle.machine_state.specs.Exchanges.{condition_of}
+use Rattle.machine_state.specs.Happens.{turn, happens, world_after}
 use Rattle.machine_state.specs.Apart.{AllApart}
+use Rattle.world_laws.specs.Parked.{InBuffer}
 
 -- an event that can happen: what arrives is a byte
 abbrev pub IsEvent : Event → Type 0
@@ -17,12 +31,77 @@ abbrev pub AreEvents : List Event → Type 0
 AreEvents [] = Unit {0}
 AreEvents (e ∷ es) = IsEvent e × AreEvents es
 
+-- ---- the bytes that an event reads and writes
+
+-- what the running process holds
+abbrev pub running_holding : World → Holding
+running_holding w = elim w.queue.running [ None ↦ nothing | Some p ↦ holding_at w.roles p ]
+
+-- A process waits on a channel of which the running process holds this end.
+pub record WaitsFor (w : World) (direction : Direction) (p : ℕ) : Type 0 where
+  pub address : ℕ
+  pub channel : Channel
+  pub there : channel_at w address ≡ Some channel
+  pub waits : channel.waiting ≡ Some p
+  pub end : has_end (running_holding w) (record { address = address; direction = direction }) ≡ true
+
+-- Which byte of memory an event may change: one that the running process may write, or one that a process that waits
+-- for a message may write, in the buffer of that message.
+-- There is no exception for the words in which a transputer keeps its lists of processes. A process that waits has
+-- those below its own workspace, and its step makes them undefined before it waits; who is in a list, and in which, is a
+-- part of the world beside memory. Nor is there one for the block of a PAR and the words of its channels. They are the
+-- opener's own when its first start makes them undefined, and nobody's until the PAR is over; nothing reads or writes
+-- them meanwhile, since how many branches are left and who waits on a channel are parts beside memory too.
+pub data MayChange (w : World) (place : ℕ) : Event → Type 0 where
+  -- its own
+  is_own : {slice : Bool} {pick : ℕ} → may_write (running_holding w) place ≡ true → MayChange w place (Step slice pick)
+  -- of a process that waits to receive on a channel on which the running process may send
+  is_received : {slice : Bool} {pick : ℕ} (p : ℕ) (e : Exchange) → WaitsFor w Out p → condition_of w p ≡ Receiving e
+      → InBuffer e place → may_write (holding_at w.roles p) place ≡ true → MayChange w place (Step slice pick)
+  -- the next one of a process that waits to receive on the link: the byte that arrives
+  arrives : {link : Link} {byte : ℕ} (input : InputLink) (p done : ℕ) (e : Exchange)
+      → slice_get w.links.inputs (link_index link) ≡ Some input → input.waiting ≡ Some p
+      → condition_of w p ≡ OnLink e done → place ≡ place_of e.address + done
+      → may_write (holding_at w.roles p) place ≡ true → MayChange w place (Arrive link byte)
+
+-- Which byte an event may read. An arrival reads none, nor does an acknowledgement.
+pub data MayRead (w : World) (place : ℕ) : Event → Type 0 where
+  -- one that the running process may read
+  is_readable : {slice : Bool} {pick : ℕ} → may_read (running_holding w) place ≡ true → MayRead w place (Step slice pick)
+  -- of the message of a process that waits to send on a channel on which the running process may receive
+  is_sent : {slice : Bool} {pick : ℕ} (p : ℕ) (e : Exchange) → WaitsFor w In p → condition_of w p ≡ Sending e
+      → InBuffer e place → may_read (holding_at w.roles p) place ≡ true → MayRead w place (Step slice pick)
+
+-- Two turns of worlds that differ in memory alone do the same: they report the same, leave the same but for memory, and
+-- bytes that were alike are alike.
+pub record DoTheSame (before other : Memory) (t u : Turn) : Type 0 where
+  pub answer : u.answer ≡ t.answer
+  pub world : u.world ≡ record t.world { memory = u.world.memory }
+  pub bytes : (place : ℕ) → byte_at other place ≡ byte_at before place
+      → byte_at u.world.memory place ≡ byte_at t.world.memory place
+
+-- how many instruction bytes an event executes: waiting costs nothing
+abbrev pub cost : World → Event → ℕ
+cost w (Step slice pick) = if is_some w.queue.running then 1 else 0
+cost w _ = 0
+
+-- ---- the promise
+
 -- Whatever happens, in whatever order: no process is ever at fault, all that processes hold stays apart, and no more
 -- instruction bytes are executed than the budget says.
-pub record IsWell (w : World) (budget : ℕ) : Type 0 where
+pub record IsWell (m : Contents) (w : World) : Type 0 where
   pub no_fault : w.fault ≡ None
   pub apart : AllApart w.roles w.channels
-  pub within_budget : w.counters.executed ≤ budget
+  pub within_budget : w.counters.executed ≤ m.budget
+  -- of whatever happens next: it changes only such bytes
+  pub writes : (e : Event) (place : ℕ) → byte_at (happens m w e).memory place ≢ byte_at w.memory place
+      → MayChange w place e
+  -- it reads only such bytes: with any others elsewhere it does the same
+  pub reads : (e : Event) (other : Memory) → length other ≡ length w.memory
+      → ((place : ℕ) → MayRead w place e → byte_at other place ≡ byte_at w.memory place)
+      → DoTheSame w.memory other (turn m w e) (turn m (record w { memory = other }) e)
+  -- and it costs one byte of the budget if it is a step of a process, else nothing
+  pub costs : (e : Event) → IsEvent e → (happens m w e).counters.executed ≡ w.counters.executed + cost w e
 
 abbrev pub RunsWell : Contents → Type 0
-RunsWell m = (events : List Event) → AreEvents events → IsWell (world_after m events) m.budget
+RunsWell m = (events : List Event) → AreEvents events → IsWell m (world_after m events)
