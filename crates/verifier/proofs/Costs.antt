@@ -1,5 +1,6 @@
 -- How many bytes an event executes.
-use Rattle.std.proofs.Common.{◌≡◌, ℕ, ◌+◌, ◌<◌, Bool, true, false, if◌then◌else◌, ℤ, Option, Some, None, Result, Ok, Err}
+use Rattle.std.proofs.Common.{◌≡◌, ℕ, ◌+◌, ◌<◌, Bool, true, false, if◌then◌else◌, ℤ, Option, Some, None, Result, Ok}
+use Rattle.std.proofs.Common.{Err}
 use Rattle.std.proofs.Common.{refl, sym, ap, ◌∙◌, subst}
 use Rattle.std.specs.Prelude.{slice_get, is_some, nat_le, nat_lt, ⊤, length}
 use Rattle.std.proofs.lemmas.Bool.{lt-leb}
@@ -18,10 +19,12 @@ use Rattle.machine_state.specs.Site.{Outcome}
 use Rattle.machine_state.specs.LocalStep.{local_step}
 use Rattle.machine_state.specs.Moves.{counted, put}
 use Rattle.machine_state.specs.Turn.{Turn, Effect, Here, at_here, answered, failed, ran, emitted, idle}
-use Rattle.machine_state.specs.Happens.{site_of, turn, happens, event_turn, step_turn, task_turn, byte_turn, prefix_turn}
+use Rattle.machine_state.specs.Happens.{site_of, turn, happens, event_turn, step_turn, task_turn, byte_turn}
+use Rattle.machine_state.specs.Happens.{prefix_turn}
 use Rattle.machine_state.specs.Happens.{settled, most_executed}
 use Rattle.machine_state.specs.EventLaws.{bytes_of}
-use Rattle.machine_state.specs.Endings.{Happened, was_at_fault, it_rests, is_busy, arrives_nowhere, is_ignored, is_taken}
+use Rattle.machine_state.specs.Endings.{Happened, was_at_fault, it_rests, is_busy, arrives_nowhere, is_ignored}
+use Rattle.machine_state.specs.Endings.{is_taken}
 use Rattle.machine_state.specs.Endings.{is_kept, is_acknowledged, TurnsInto, at_fault, has_run, has_emitted}
 use Rattle.machine_state.specs.Waiting.{Line, AllReady, line_of}
 use Rattle.machine_state.proofs.EventLaws.{events_count_bytes, faults_are_kept}
@@ -92,9 +95,10 @@ module _ (m : Contents) (w : World) (line : Line w.tasks w.queue) (small : w.cou
       limited : (p : ℕ) → Bool → Option Task → Turn
       limited p b o = if b then answered idle w else under p o
 
-      on : (o : Option ℕ) → w.queue.running ≡ o → let t = elim o as (λ o. Turn)
-          [ None ↦ answered idle w | Some p ↦ limited p (nat_le most_executed w.counters.executed) (slice_get w.tasks p) ]
-          in ((f : Fault) → t.answer ≡ Err f → ⊥) → bytes_of t.answer ≡ (if is_some o then 1 else 0)
+      on : (o : Option ℕ) → w.queue.running ≡ o → let t = elim o as (λ o. Turn) [
+        | None ↦ answered idle w
+        | Some p ↦ limited p (nat_le most_executed w.counters.executed) (slice_get w.tasks p)
+      ] in ((f : Fault) → t.answer ≡ Err f → ⊥) → bytes_of t.answer ≡ (if is_some o then 1 else 0)
       on None runs never = refl
       on (Some p) runs never =
           let there = running_there p runs in

@@ -213,7 +213,8 @@ module _ (m : Contents) (es : List Event) (keeps : Keeps m) where
   abbrev w : World
   w = world_after m es
 
-  pub buffer : (p : ℕ) (c : Condition) → (x : IsWaiting w p c) → HasBuffer (holding_at w.roles p) x.task.registers.workspace c
+  pub buffer : (p : ℕ) (c : Condition) → (x : IsWaiting w p c)
+      → HasBuffer (holding_at w.roles p) x.task.registers.workspace c
   buffer p c x = subst (HasBuffer (holding_at w.roles p) x.task.registers.workspace) x.waits
       (buffers_are_held m es p x.task keeps x.here)
 
@@ -232,7 +233,8 @@ module _ (m : Contents) (es : List Event) (keeps : Keeps m) where
           is_received x.process x.wanted x.waits x.receives x.inside
           ((buffer x.process (Receiving x.wanted) waits).writable x.wanted place (on_channel refl) x.inside)
 
-  arrival_is_own : (link : Link) (byte place : ℕ) → IsAwaited w (link_index link) place → MayChange w place (Arrive link byte)
+  arrival_is_own : (link : Link) (byte place : ℕ) → IsAwaited w (link_index link) place
+      → MayChange w place (Arrive link byte)
   arrival_is_own link byte place x =
       let e = x.waits.exchange in
       let done = x.waits.done in

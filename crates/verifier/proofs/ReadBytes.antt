@@ -2,7 +2,8 @@
 use Rattle.std.proofs.Common.{◌≡◌, ℕ, ◌+◌, ◌-◌, ◌<◌, Bool, true, false, if◌then◌else◌, inl, inr, length, ℤ, List}
 use Rattle.std.proofs.Common.{Option, Some, None, Result, Ok, Err, refl, sym, ap, ◌∙◌, subst, arith}
 use Rattle.std.specs.Prelude.{slice_get, nat_le, nat_lt, ◌%◌, ◌^◌, ◌==◌}
-use Rattle.std.proofs.lemmas.Bool.{and_parts, or_cases, or_parts, or_left, leb-true, ltb-true, cases_lt, eqb-true, eq-eqb}
+use Rattle.std.proofs.lemmas.Bool.{and_parts, or_cases, or_parts, or_left, leb-true, ltb-true, cases_lt, eqb-true}
+use Rattle.std.proofs.lemmas.Bool.{eq-eqb}
 use Rattle.std.proofs.lemmas.List.{get_or_past}
 use Rattle.prefix_decoder.specs.declared.function.Fun.{Fun}
 use Rattle.prefix_decoder.specs.Functions.{fun_of, function_code, nibble}
@@ -24,11 +25,13 @@ use Rattle.machine_state.specs.Holding.{Holding, may_write, may_read}
 use Rattle.machine_state.specs.World.{World, holding_at}
 use Rattle.machine_state.specs.Site.{Outcome, receives}
 use Rattle.machine_state.specs.LocalStep.{local_step}
-use Rattle.machine_state.specs.Moves.{wake, with_condition, dispatch, rouse, fill, fill_condition, with_input, link_index}
+use Rattle.machine_state.specs.Moves.{wake, with_condition, dispatch, rouse, fill, fill_condition, with_input}
+use Rattle.machine_state.specs.Moves.{link_index}
 use Rattle.machine_state.specs.Moves.{with_output}
 use Rattle.machine_state.specs.Turn.{Turn, Effect, at_here, answered, idle, taken, kept, busy, acknowledged, ignored}
 use Rattle.machine_state.specs.Exchanges.{condition_of, output_link, input_link}
-use Rattle.machine_state.specs.Happens.{site_of, turn, event_turn, arrive_at, arrive_turn, acknowledge_turn, world_after}
+use Rattle.machine_state.specs.Happens.{site_of, turn, event_turn, arrive_at, arrive_turn, acknowledge_turn}
+use Rattle.machine_state.specs.Happens.{world_after}
 use Rattle.machine_state.specs.Writing.{outcome_of, of_waiting, delivered_to, Delivery, delivery_by, delivery}
 use Rattle.machine_state.specs.Writing.{is_delivered, is_own, WritesWell, StepWrites}
 use Rattle.machine_state.specs.Seeing.{sent_by, sent_on, supply_by, supply, is_supplied, is_seen, Agree, SameTurn}
@@ -186,7 +189,8 @@ module _ (seen : ℕ → Bool) (w : World) (n : Memory) where
 -- ---- bytes that are alike stay so
 
 module _ (mine : ℕ → Bool) (d : Option Delivery) (old new other after : Memory) (place : ℕ)
-    (alike : byte_at other place ≡ byte_at old place) (size : length other ≡ length old) (not_mine : mine place ≡ false)
+    (alike : byte_at other place ≡ byte_at old place) (size : length other ≡ length old)
+    (not_mine : mine place ≡ false)
     (sent : (x : Delivery) → d ≡ Some x → (i : ℕ) → i < x.sent.length
     → byte_at other (place_of x.sent.address + i) ≡ byte_at old (place_of x.sent.address + i)) where
   stay_outside : WritesWell mine d old new → WritesWell mine d other after → is_delivered d place ≡ false
@@ -222,10 +226,14 @@ module _ (mine : ℕ → Bool) (d : Option Delivery) (old new other after : Memo
               let high = ltb-true place (first + x.sent.length) parts.1 in
               become_alike a b x is (place - place_of x.wanted.address) (omega (arith, low, high)) (omega (arith, low))
 
-  steps_alike : (answer : Result Effect Fault) → StepWrites mine d old new answer → StepWrites mine d other after answer
+  stay_alike : new ≡ old → after ≡ other → byte_at after place ≡ byte_at new place
+  stay_alike a b = ap (λ (m : Memory). byte_at m place) b ∙ alike ∙ sym (ap (λ (m : Memory). byte_at m place) a)
+
+  steps_alike : (answer : Result Effect Fault) → StepWrites mine d old new answer
+      → StepWrites mine d other after answer
       → byte_at after place ≡ byte_at new place
-  steps_alike (Err f) a b = ap (λ (m : Memory). byte_at m place) b ∙ alike ∙ sym (ap (λ (m : Memory). byte_at m place) a)
-  steps_alike (Ok idle) a b = ap (λ (m : Memory). byte_at m place) b ∙ alike ∙ sym (ap (λ (m : Memory). byte_at m place) a)
+  steps_alike (Err f) a b = stay_alike a b
+  steps_alike (Ok idle) a b = stay_alike a b
   steps_alike (Ok _) a b = wells_alike a b
 
 -- ---- what comes on links
@@ -239,7 +247,8 @@ wake_blind p w n =
     sym (wake_beside (λ w. record w { memory = n }) (λ w. refl) (λ w tasks. refl) (λ p w. refl) p w)
 
 condition_blind : (p : ℕ) (c : Condition) → IsBlind (with_condition p c)
-condition_blind p c w n = sym (on_task_beside (λ w. record w { memory = n }) (λ w. refl) (λ w tasks. refl) (λ p w. refl) p
+condition_blind p c w n =
+    sym (on_task_beside (λ w. record w { memory = n }) (λ w. refl) (λ w tasks. refl) (λ p w. refl) p
     (λ task. record task { condition = c }) w)
 
 rouse_blind : (o : Option ℕ) → IsBlind (rouse o)

@@ -48,10 +48,10 @@ pub record WaitsFor (w : World) (direction : Direction) (p : ℕ) : Type 0 where
 -- Which byte of memory an event may change: one that the running process may write, or one that a process that waits
 -- for a message may write, in the buffer of that message.
 -- There is no exception for the words in which a transputer keeps its lists of processes. A process that waits has
--- those below its own workspace, and its step makes them undefined before it waits; who is in a list, and in which, is a
--- part of the world beside memory. Nor is there one for the block of a PAR and the words of its channels. They are the
--- opener's own when its first start makes them undefined, and nobody's until the PAR is over; nothing reads or writes
--- them meanwhile, since how many branches are left and who waits on a channel are parts beside memory too.
+-- those below its own workspace, and its step makes them undefined before it waits; who is in a list, and in which, is
+-- a part of the world beside memory. Nor is there one for the block of a PAR and the words of its channels. They are
+-- the opener's own when its first start makes them undefined, and nobody's until the PAR is over; nothing reads or
+-- writes them meanwhile, since how many branches are left and who waits on a channel are parts beside memory too.
 pub data MayChange (w : World) (place : ℕ) : Event → Type 0 where
   -- its own
   is_own : {slice : Bool} {pick : ℕ} → may_write (running_holding w) place ≡ true → MayChange w place (Step slice pick)
@@ -67,7 +67,8 @@ pub data MayChange (w : World) (place : ℕ) : Event → Type 0 where
 -- Which byte an event may read. An arrival reads none, nor does an acknowledgement.
 pub data MayRead (w : World) (place : ℕ) : Event → Type 0 where
   -- one that the running process may read
-  is_readable : {slice : Bool} {pick : ℕ} → may_read (running_holding w) place ≡ true → MayRead w place (Step slice pick)
+  is_readable : {slice : Bool} {pick : ℕ} → may_read (running_holding w) place ≡ true
+      → MayRead w place (Step slice pick)
   -- of the message of a process that waits to send on a channel on which the running process may receive
   is_sent : {slice : Bool} {pick : ℕ} (p : ℕ) (e : Exchange) → WaitsFor w In p → condition_of w p ≡ Sending e
       → InBuffer e place → may_read (holding_at w.roles p) place ≡ true → MayRead w place (Step slice pick)

@@ -32,8 +32,8 @@ pub fn certified_runs_hold_the_invariant()
 {}
 
 /// For every list of events a certified module runs without a fault, all holdings stay apart, and at most the
-/// budget of instruction bytes is executed. Each further event changes and reads only bytes that the running process may,
-/// or that a process may which waits for a message, and costs a byte only if it is a step of a process.
+/// budget of instruction bytes is executed. Each further event changes and reads only bytes that the running process
+/// may, or that a process may which waits for a message, and costs a byte only if it is a step of a process.
 pub fn certified_modules_run_well()
     ensures { (m : Contents) → Keeps m → IsCertified m → RunsWell m }
 {}

@@ -51,8 +51,8 @@ ghost use Rattle.verifier.specs.Headline.{RunsWell};
 // A body that always reports that memory ran out meets these clauses too, since no clause can say that memory
 // is left: tests show that modules are accepted.
 pub fn verify<'a>(alloc: Global, module: &'a Module<'a>) -> Result<Verified<'a>, Refusal>
-    // Whatever events come, in whatever order: no fault, all holdings apart, no more bytes than the budget, and no byte of
-    // memory read or written but those that a process may.
+    // Whatever events come, in whatever order: no fault, all holdings apart, no more bytes than the budget, and no
+    // byte of memory read or written but those that the running process may, or one that waits for its message.
     ensures headline { OnOk result (RunsWell «module».now) }
     ensures accepts { IfOk result (λ v. (v ≡ «module».now) × IsCertified «module».now) }
     // The rule that is broken, by its number, and where; or `states::MEMORY` and 0.
