@@ -9,15 +9,16 @@ use Rattle.machine_state.specs.declared.link.Link.TheVariants.{Zero, One, Two, T
 use Rattle.link_runs.specs.ByLink.{ByLink, of_link, with_link}
 use Rattle.link_runs.specs.FirstInFirstOut.{Supply, RunMoment, IsRun, IsOver, stepped, asked, can_be_asked}
 use Rattle.link_runs.specs.FirstInFirstOut.{answered_by, next}
-use Rattle.link_runs.specs.RunLaws.{more_of, more_on, with_more}
+use Rattle.link_runs.specs.RunLaws.{WasAsked, more_of, more_on, with_more}
 use Rattle.link_runs.specs.Wanting.{is_running, wants}
 use Rattle.link_runs.proofs.ByLink.{first_alike, with_same}
 use Rattle.link_runs.proofs.Turns.{next_none}
 use Rattle.link_runs.proofs.Unasked.{unasked}
 use Rattle.link_runner.specs.declared.report.Report.{Report}
-use Rattle.link_runner.specs.Readers.{at_link, supply_of, inputs_of, IsSpent, Takes, EndsRightly}
+use Rattle.link_runner.specs.Readers.{at_link, supply_of, inputs_of, IsSpent, Takes, EndsRightly, IsReadTo}
 use Rattle.link_runner.specs.Writers.{writers_of}
 use Rattle.link_runner.specs.Runs.{Has, Keeps, Finishes, FinishesWith}
+use Rattle.link_runner.proofs.AskedBytes.{all_taken_was_asked, asked_still}
 
 -- ---- more bytes on links that have not ended
 
@@ -138,6 +139,18 @@ module _ {R W : Type 0} (left : R → Option (List ℕ)) (read_failed : R → Bo
       of_known r s (left s) all taken now has refl
       (subst (λ (o : Option (List ℕ)). Consumes o (left s) taken) has takes) spent ends
 
+  -- what was taken of a reader was asked for by the run over all that it had
+  asked_there : (inputs : ByLink Supply) (flags : ByLink Bool) (s : RunMoment) (link : Link)
+      (reads : IsReadTo left m readers readers_after flags s)
+      (rest : Rest (at_link readers link) (at_link readers_after link) (of_link inputs link) (of_link reads.taken link)
+      (of_link s.left link))
+      → WasAsked (of_link inputs link) (of_link reads.taken link) (more_of (of_link s.left link) rest.bytes)
+  asked_there inputs flags s link reads rest =
+      subst (λ (supply : Supply). WasAsked supply (of_link reads.taken link) (more_of (of_link s.left link) rest.bytes))
+      (sym rest.whole)
+      (asked_still (supply_of (at_link readers link) (of_link reads.taken link)) (of_link reads.taken link) rest.bytes
+      (of_link s.left link) rest.none (all_taken_was_asked left m readers readers_after flags s reads link))
+
   pub knows_all : (inputs : ByLink Supply) (report : Report) → ((link : Link)
       → HasHere (at_link readers link) (of_link inputs link))
       → Finishes left read_failed written write_failed m readers readers_after writers writers_after report
@@ -169,6 +182,14 @@ module _ {R W : Type 0} (left : R → Option (List ℕ)) (read_failed : R → Bo
             (extends_all m flags reads.turns (inputs_of readers reads.taken) s all
             (none_of s all a.none b.none c.none d.none) reads.run);
         over = over_still m flags reads.turns (inputs_of readers reads.taken) s all finishes.over;
+        asked = record {
+          asked = reads.taken;
+          was_asked = asked_of inputs reads.taken
+              (with_all m flags reads.turns (inputs_of readers reads.taken) s all s.left)
+              (asked_there inputs flags s Zero reads a) (asked_there inputs flags s One reads b)
+              (asked_there inputs flags s Two reads c) (asked_there inputs flags s Three reads d);
+          are_bytes = reads.are_bytes;
+        };
         unread = kept_of (with_all m flags reads.turns (inputs_of readers reads.taken) s all s.left) a.keeps b.keeps
             c.keeps d.keeps;
         writes = finishes.writes;
@@ -183,6 +204,15 @@ module _ {R W : Type 0} (left : R → Option (List ℕ)) (read_failed : R → Bo
       none_of s all a b c d One = b
       none_of s all a b c d Two = c
       none_of s all a b c d Three = d
+
+      asked_of : (all : ByLink Supply) (taken : ByLink (List ℕ)) (now : ByLink Supply)
+          → WasAsked all.first taken.first now.first → WasAsked all.second taken.second now.second
+          → WasAsked all.third taken.third now.third → WasAsked all.fourth taken.fourth now.fourth
+          → (link : Link) → WasAsked (of_link all link) (of_link taken link) (of_link now link)
+      asked_of all taken now a b c d Zero = a
+      asked_of all taken now a b c d One = b
+      asked_of all taken now a b c d Two = c
+      asked_of all taken now a b c d Three = d
 
       kept_of : (now : ByLink Supply) → KeepsHere (at_link readers_after Zero) now.first
           → KeepsHere (at_link readers_after One) now.second → KeepsHere (at_link readers_after Two) now.third

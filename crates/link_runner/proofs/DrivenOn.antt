@@ -29,6 +29,7 @@ module _ {R : Type 0} (left : R
   turns_on s t reads runs steps same = record {
     taken = reads.taken;
     takes = reads.takes;
+    are_bytes = reads.are_bytes;
     turns = suc reads.turns;
     run = one_more m (inputs_of first reads.taken) writers reads.turns t s reads.run
         (next_running m writers s runs ∙ ap Some steps);

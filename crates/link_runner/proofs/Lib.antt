@@ -1,4 +1,5 @@
 pub mod AtLinks
+pub mod AskedBytes
 pub mod ReadOn
 pub mod WrittenOn
 pub mod DrivenOn

@@ -127,21 +127,21 @@ module _ {R : Type 0} (left : R → Option (List ℕ)) (failed : R → Bool) (m 
     })
     pub none_failed : NoneFailed failed after
 
-  gives_byte : (byte : ℕ) (x y : Option R) → at_link before link ≡ x → at_link after link ≡ y
+  gives_byte : (byte : ℕ) → byte < 256 → (x y : Option R) → at_link before link ≡ x → at_link after link ≡ y
       → IsCalled left failed {E = Failed} x (Ok (Some byte)) y → GivesByte byte
-  gives_byte byte None y was is called = absurd called
-  gives_byte byte (Some old) None was is called = absurd called
-  gives_byte byte (Some old) (Some new) was is called = record {
-    reads_on = byte_read left m first before after writers s link elsewhere reads nobody ask byte old new was is
-        called.0;
+  gives_byte byte small None y was is called = absurd called
+  gives_byte byte small (Some old) None was is called = absurd called
+  gives_byte byte small (Some old) (Some new) was is called = record {
+    reads_on = byte_read left m first before after writers s link elsewhere reads nobody ask byte small old new
+        was is called.0;
     none_failed = still_none failed before after link none elsewhere
         (ap (flag_at failed) is ∙ (called.1 ∙ (sym (ap (flag_at failed) was) ∙ none.none link)));
   }
 
-  pub byte_given : (byte : ℕ)
+  pub byte_given : (byte : ℕ) → byte < 256
       → IsCalled left failed {E = Failed} (at_link before link) (Ok (Some byte)) (at_link after link)
       → GivesByte byte
-  byte_given byte called = gives_byte byte (at_link before link) (at_link after link) refl refl called
+  byte_given byte small called = gives_byte byte small (at_link before link) (at_link after link) refl refl called
 
   -- the end
   pub record GivesEnd : Type 0 where

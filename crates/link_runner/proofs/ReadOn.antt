@@ -1,10 +1,11 @@
 -- A run that is read on.
-use Rattle.std.proofs.Common.{◌≡◌, ℕ, suc, ◌+◌, Bool, true, false, is_some, ◌&&◌, List}
+use Rattle.std.proofs.Common.{◌≡◌, ℕ, suc, ◌+◌, ◌<◌, Bool, true, false, is_some, ◌&&◌, List}
 use Rattle.std.proofs.Common.{[], ◌∷◌}
 use Rattle.std.proofs.Common.{◌++◌, Option, Some, None, refl, sym, ap, subst, ◌∙◌}
 use Rattle.std.specs.Io.KnownBytes.{Consumes, Keeps}
 use Rattle.std.proofs.KnownBytes.{Consumes-trans, Consumes-kept}
 use Rattle.module_format.specs.Contents.{Contents}
+use Rattle.module_format.specs.Order.{IsBytes}
 use Rattle.machine_state.specs.declared.event.Event.TheVariants.{Arrive}
 use Rattle.machine_state.specs.declared.link.Link.{Link}
 use Rattle.machine_state.specs.declared.link.Link.TheVariants.{Zero, One, Two, Three}
@@ -20,6 +21,7 @@ use Rattle.link_runs.proofs.Unasked.{more_is, more_there, asked_alike, unasked}
 use Rattle.link_runner.specs.Readers.{at_link, inputs_of, IsSpent, Takes, EndsRightly, IsReadTo}
 use Rattle.link_runner.specs.Readers.{SameElsewhere}
 use Rattle.link_runner.proofs.AtLinks.{everywhere}
+use Rattle.link_runner.proofs.AskedBytes.{one_byte, bytes_more}
 
 and_right : (a b : Bool) → (a && b) ≡ true → b ≡ true
 and_right true b is = is
@@ -97,7 +99,8 @@ module _ {R : Type 0} (left : R → Option (List ℕ)) (m : Contents) (first bef
 
     -- ---- a byte
 
-    module _ (byte : ℕ) (old new : R) (was : at_link before link ≡ Some old) (is : at_link after link ≡ Some new)
+    module _ (byte : ℕ) (small : byte < 256) (old new : R) (was : at_link before link ≡ Some old)
+        (is : at_link after link ≡ Some new)
         (consumes : Consumes (left old) (left new) (byte ∷ [])) where
       abbrev pub with_byte_of : RunMoment
       with_byte_of = record s {
@@ -152,6 +155,11 @@ module _ {R : Type 0} (left : R → Option (List ℕ)) (m : Contents) (first bef
             (sym (of_other link on (of_link reads.taken link ++ byte ∷ []) reads.taken differ))
             (subst (λ (o : Option R). Takes left (at_link first on) o (of_link reads.taken on))
             (sym (elsewhere on differ)) (reads.takes on)));
+        are_bytes = everywhere (λ on. IsBytes (of_link taken_further on)) link
+            (subst IsBytes (sym (of_same link (of_link reads.taken link ++ byte ∷ []) reads.taken))
+            (bytes_more (of_link reads.taken link) (byte ∷ []) (reads.are_bytes link) (one_byte byte small)))
+            (λ on differ. subst IsBytes
+            (sym (of_other link on (of_link reads.taken link ++ byte ∷ []) reads.taken differ)) (reads.are_bytes on));
         turns = suc reads.turns;
         run = run_further;
         spent = reads.spent;
@@ -181,6 +189,7 @@ module _ {R : Type 0} (left : R → Option (List ℕ)) (m : Contents) (first bef
     end_read takes at_end = record {
       taken = reads.taken;
       takes = takes_as_before takes;
+      are_bytes = reads.are_bytes;
       turns = suc reads.turns;
       run = one_more m (inputs_of first reads.taken) writers reads.turns with_end_of s reads.run
           (next_asked m writers s link nobody ask
@@ -201,6 +210,7 @@ module _ {R : Type 0} (left : R → Option (List ℕ)) (m : Contents) (first bef
     none_read takes = record {
       taken = reads.taken;
       takes = takes_as_before takes;
+      are_bytes = reads.are_bytes;
       turns = reads.turns;
       run = reads.run;
       spent = reads.spent;

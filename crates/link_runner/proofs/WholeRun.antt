@@ -3,6 +3,7 @@ use Rattle.std.proofs.Common.{◌≡◌, ℕ, ◌-◌, ◌<◌, ◌≤◌, Bool,
 use Rattle.std.proofs.Common.{Some, None, Ok, Err}
 use Rattle.std.proofs.Common.{Result, refl, sym, ap, subst, ◌∙◌, arith}
 use Rattle.module_format.specs.Contents.{Contents}
+use Rattle.module_format.specs.Order.{IsBytes}
 use Rattle.machine_state.specs.declared.link.Link.{Link}
 use Rattle.machine_state.specs.declared.link.Link.TheVariants.{Zero, One, Two, Three}
 use Rattle.machine_state.specs.World.{World}
@@ -25,6 +26,7 @@ use Rattle.link_runner.specs.Writers.{writers_of, Puts, PutsOn, IsDelivered, Del
 use Rattle.link_runner.specs.Runs.{Finishes, StopsAtWrite, Runs}
 use Rattle.link_runs.specs.RunLaws.{written_if}
 use Rattle.link_runner.proofs.AtLinks.{of_by_link}
+use Rattle.link_runner.proofs.AskedBytes.{no_byte}
 use Rattle.link_runner.proofs.DrivenOn.{moved_to, goes_quietly, emits_next, counts_more, emission_counts}
 use Rattle.link_runner.proofs.WrittenOn.{puts_nothing, puts_more, puts_message, writers_stay}
 use Rattle.std.proofs.KnownBytes.{Consumes-nil}
@@ -59,6 +61,7 @@ module _ {R W : Type 0} (left : R → Option (List ℕ)) (read_failed : R → Bo
     reads = record {
       taken = for_all [];
       takes = takes;
+      are_bytes = are_bytes;
       turns = 0;
       run = refl;
       spent = spent;
@@ -74,6 +77,12 @@ module _ {R W : Type 0} (left : R → Option (List ℕ)) (read_failed : R → Bo
       takes One = takes_none (at_link first One)
       takes Two = takes_none (at_link first Two)
       takes Three = takes_none (at_link first Three)
+
+      are_bytes : (link : Link) → IsBytes (of_link (for_all []) link)
+      are_bytes Zero = no_byte
+      are_bytes One = no_byte
+      are_bytes Two = no_byte
+      are_bytes Three = no_byte
 
       spent : (link : Link) → IsSpent (of_link (inputs_of first (for_all [])) link)
       spent Zero = spent_none (at_link first Zero)

@@ -4,6 +4,7 @@ use Rattle.std.specs.Prelude.{Option}
 use Rattle.std.specs.Prelude.{Some, None, Result, Ok, Err, ⊤, slice_get}
 use Rattle.std.specs.Io.KnownBytes.{Consumes, IsAtEnd}
 use Rattle.module_format.specs.Contents.{Contents}
+use Rattle.module_format.specs.Order.{IsBytes}
 use Rattle.machine_state.specs.declared.link.Link.{Link}
 use Rattle.machine_state.specs.declared.link.Link.TheVariants.{Zero, One, Two, Three}
 use Rattle.machine_state.specs.Moves.{link_index}
@@ -84,12 +85,13 @@ module _ {R : Type 0} (left : R → Option (List ℕ)) where
   EndsRightly None (Some reader) = IsAtEnd (left reader)
   EndsRightly supply reader = ⊤
 
-  -- The run over the bytes that were taken came to this moment. All of them were asked for, and a link has ended only
-  -- where nothing is left.
+  -- The run over what was taken came to this moment. What was taken are bytes, all of them were asked for, and a link
+  -- has ended only where nothing is left.
   pub record IsReadTo (m : Contents) (before after : List (Option R)) (writers : ByLink Bool) (s : RunMoment) : Type
       0 where
     pub taken : ByLink (List ℕ)
     pub takes : (link : Link) → Takes (at_link before link) (at_link after link) (of_link taken link)
+    pub are_bytes : (link : Link) → IsBytes (of_link taken link)
     pub turns : ℕ
     pub run : IsRun m (inputs_of before taken) writers turns s
     pub spent : (link : Link) → IsSpent (of_link s.left link)

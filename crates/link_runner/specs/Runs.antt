@@ -6,6 +6,7 @@ use Rattle.machine_state.specs.Happens.{emitted, turn}
 use Rattle.link_runs.specs.ByLink.{ByLink, of_link, with_link}
 use Rattle.link_runs.specs.FirstInFirstOut.{Supply, RunMoment, IsRun, IsOver, plain_step}
 use Rattle.link_runs.specs.Wanting.{is_running}
+use Rattle.link_runner.specs.AskedBytes.{AsksForBytes}
 use Rattle.link_runner.specs.declared.report.Report.{Report}
 use Rattle.link_runner.specs.declared.report.RunError.{RunError}
 use Rattle.link_runner.specs.declared.report.RunError.TheVariants.{ReadFailed, WriteFailed, Memory}
@@ -80,13 +81,14 @@ module _ {R W : Type 0} (left : R → Option (List ℕ)) (read_failed : R → Bo
   Keeps (Some reader) None = left reader ≡ Some []
   Keeps (Some reader) (Some bytes) = left reader ≡ Some bytes
 
-  -- The run over all bytes that the readers had came to an end: they have left what it did not ask for, and what it
-  -- emitted was written.
+  -- The run over all bytes that the readers had came to an end: what it asked for are bytes, the readers have left what
+  -- it did not ask for, and what it emitted was written.
   pub record FinishesWith (inputs : ByLink Supply) (report : Report) : Type 0 where
     pub turns : ℕ
     pub moment : RunMoment
     pub run : IsRun m inputs (writers_of writers) turns moment
     pub over : IsOver m (writers_of writers) moment
+    pub asked : AsksForBytes inputs moment
     pub unread : (link : Link) → Keeps (at_link readers_after link) (of_link moment.left link)
     pub writes : Writes moment.written
     pub reported : report ≡ report_of moment

@@ -4,6 +4,7 @@
 mod boxes;
 mod device;
 mod driving;
+mod laws;
 mod providing;
 mod reading;
 mod report;
@@ -14,6 +15,7 @@ mod tally;
 mod writing;
 
 pub use device::Failed;
+pub use laws::runs_stay_well;
 pub use reading::{LinkReader, Reading};
 pub use report::{Outcome, Report, RunError};
 pub use running::run;

@@ -1,6 +1,6 @@
 //! One byte for the machine.
 
-ghost use Rattle.std.specs.Prelude.{◌≡◌, List, Option, Bool, false, Some};
+ghost use Rattle.std.specs.Prelude.{◌≡◌, ◌<◌, List, Option, Bool, false, Some};
 ghost use Rattle.machine_state.specs.World.{World};
 ghost use Rattle.link_runs.specs.ByLink.{ByLink};
 ghost use Rattle.link_runs.specs.FirstInFirstOut.{RunMoment, asked};
@@ -26,6 +26,11 @@ fn ask<R: LinkReader>(readers: &mut [Option<R>; 4], link: Link) -> Result<Option
     }
 }
 
+/// A byte is below 256, as the machine takes it.
+fn is_in_range(_byte: u8)
+    ensures { _byte < 256 }
+{}
+
 /// No process is running, and this link is the one to be asked: its next byte arrives, or it has ended.
 pub(crate) fn supply<M: Machine, R: LinkReader>(
     machine: &mut M,
@@ -44,6 +49,7 @@ pub(crate) fn supply<M: Machine, R: LinkReader>(
 {
     match ask(readers, link) {
         Ok(Some(byte)) => {
+            is_in_range(byte);
             tally.read.add(link, 1);
             machine.react(Event::Arrive { link, byte });
         }

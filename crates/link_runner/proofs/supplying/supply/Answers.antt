@@ -22,7 +22,7 @@ returns-in-Ok-Some-clause-supplies g c = λ first writers s shown nobody ask rea
     let asks = rw c.in-Ok-Some.field-0-is at c.in-Ok-Some.ensures in
     let gives =
     byte_given g.R.LinkReader.left g.R.LinkReader.failed m first c.args.readers.now c.ask.new.readers writers s link
-    nobody ask reads none asks.elsewhere byte asks.called in
+    nobody ask reads none asks.elsewhere byte c.is_in_range.ensures asks.called in
     supplies_byte g.R.LinkReader.left g.R.LinkReader.failed m first c.args.readers.now c.ask.new.readers writers s link
     nobody ask reads none asks.elsewhere byte _ (g.M.Machine.shows c.react.new.self) gives
     (g.met.M.Machine.reached c.args.machine.now s.world shown)
