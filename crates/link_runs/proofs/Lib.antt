@@ -6,3 +6,4 @@ pub mod Unasked
 pub mod Arriving
 pub mod EchoRuns
 pub mod PlainSteps
+pub mod Deadlocks

@@ -5,3 +5,4 @@ pub mod RunLaws
 pub mod Awaiting
 pub mod EchoRuns
 pub mod Driving
+pub mod Deadlocks

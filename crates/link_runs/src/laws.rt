@@ -3,6 +3,7 @@
 ghost use Rattle.link_runs.specs.RunLaws.{RunsAreMadeOfEvents, OneMomentAfterEachTurn, OneMomentIsLast};
 ghost use Rattle.link_runs.specs.RunLaws.{UnaskedBytesChangeNothing};
 ghost use Rattle.link_runs.specs.Awaiting.{ArrivalsComeToAnEnd};
+ghost use Rattle.link_runs.specs.Deadlocks.{DeadlocksStay};
 ghost use Rattle.link_runs.specs.EchoRuns.{EchoRuns};
 
 /// A first-in first-out run is a list of events: its world is the one that they lead to, and what it asks for and
@@ -39,4 +40,10 @@ pub fn arrivals_come_to_an_end()
 #[tactic(auto, using(crate::proofs::EchoRuns::echo_rules))]
 pub fn echo_runs()
     ensures { EchoRuns }
+{}
+
+/// In a deadlock no byte and no acknowledgement that comes makes a process run, however many come.
+#[tactic(auto, using(crate::proofs::Deadlocks::deadlocks_last))]
+pub fn deadlocks_stay()
+    ensures { DeadlocksStay }
 {}

@@ -6,6 +6,6 @@ mod laws;
 
 pub use driving::{Machine, Progress, Reaction};
 pub use laws::{
-    arrivals_come_to_an_end, echo_runs, runs_are_made_of_events, there_is_one_run,
+    arrivals_come_to_an_end, deadlocks_stay, echo_runs, runs_are_made_of_events, there_is_one_run,
     unasked_bytes_change_nothing,
 };
