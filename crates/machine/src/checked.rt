@@ -6,10 +6,12 @@ mod links;
 mod machine;
 mod step;
 
-ghost use Rattle.std.specs.Prelude.{◌≡◌, IfOk, IsTrue};
+ghost use Rattle.std.specs.Prelude.{◌≡◌, IfOk, IsTrue, MatchOption, Some, None, slice_get, length};
 ghost use Rattle.machine_state.specs.Exchanges.{bytes_at};
 ghost use Rattle.machine_state.specs.LocalStep.{are_defined};
 ghost use Rattle.machine_state.specs.Memory.{place_of};
+ghost use Rattle.machine_state.specs.Moves.{link_index, channel_at};
+ghost use Rattle.machine_state.specs.Views.{role_view};
 ghost use Rattle.machine_state.specs.World.{loaded};
 ghost use Rattle.machine_state.specs.Happens.{turn};
 ghost use Rattle.traffic.specs.Settling.{OnMemory};
@@ -21,7 +23,9 @@ ghost use Rattle.link_runs.specs.Wanting.{is_running, wants};
 pub(crate) use act::Act;
 use certificate::Module;
 use machine::Machine;
-use machine_state::{Effect, Event, Exchange, Link};
+use machine_state::{
+    Channel, Effect, Event, Exchange, Fault, InputLink, Link, OutputLink, Role, Task,
+};
 use std::alloc::{AllocError, Global};
 use std::marker::Model;
 pub use traffic::Stop;
@@ -135,6 +139,56 @@ impl<'a> Checked<'a> {
         ensures { result ≡ is_running self.now.world }
     {
         self.machine.traffic.running().is_some()
+    }
+
+    /// The fault that the machine is at.
+    pub fn fault(&self) -> Option<Fault>
+        ensures { result ≡ self.now.world.fault }
+    {
+        self.machine.fault()
+    }
+
+    /// How many processes there are, those that have ended among them.
+    pub fn count(&self) -> u64
+        ensures { result ≡ length self.now.world.tasks }
+    {
+        self.machine.traffic.count()
+    }
+
+    /// The process of this number, if there is one.
+    pub fn task(&self, process: u64) -> Option<Task>
+        ensures { result ≡ slice_get self.now.world.tasks process }
+    {
+        self.machine.traffic.task(process)
+    }
+
+    /// What the process of this number has for good, and its part in the open joins, if there is one.
+    pub fn role(&self, process: u64) -> Option<&Role>
+        ensures { let found = slice_get self.now.world.roles process in
+            MatchOption result (found ≡ None) (λ role. found ≡ Some (role_view role.now)) }
+    {
+        self.machine.traffic.store().role(process)
+    }
+
+    /// The input side of the link.
+    pub fn input(&self, link: Link) -> InputLink
+        ensures { slice_get self.now.world.links.inputs (link_index link) ≡ Some result }
+    {
+        self.machine.traffic.input(link)
+    }
+
+    /// The output side of the link.
+    pub fn output(&self, link: Link) -> OutputLink
+        ensures { slice_get self.now.world.links.outputs (link_index link) ≡ Some result }
+    {
+        self.machine.traffic.output(link)
+    }
+
+    /// The channel at the address, if there is one.
+    pub fn channel(&self, address: u32) -> Option<Channel>
+        ensures { result ≡ channel_at self.now.world address }
+    {
+        self.machine.traffic.channel(address)
     }
 
     /// Whether some process waits for a byte on the link or has enabled it, and none is kept there.
