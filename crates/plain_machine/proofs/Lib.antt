@@ -7,3 +7,5 @@ pub mod Waiting
 pub mod DecodedOperations
 pub mod WholeInstructions
 pub mod FunctionsPerformed
+pub mod EntriesRun
+pub mod JoinedEntries

@@ -5,4 +5,5 @@ pub mod PlainByte
 pub mod Staying
 pub mod Waiting
 pub mod Decoded
+pub mod Sequences
 pub mod PlainRun

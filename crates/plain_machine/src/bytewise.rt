@@ -31,6 +31,7 @@ fn execute(
     let instruction = DecodedInstruction {
         operation,
         length: 1,
+        second: 0,
         operand,
     };
     match perform(bytes, registers, code_start, &instruction) {
