@@ -1,7 +1,7 @@
 -- The code of expressions: it pushes the value. Of the registers it keeps at most A, below the value, if it is small.
 use Rattle.std.specs.Prelude.{ℕ, ◌+◌, ◌/◌, ◌%◌, nat_eq, nat_le, int_le, ℤ, pos, unsigned_abs, Bool, true, false, List}
 use Rattle.std.specs.Prelude.{[]}
-use Rattle.std.specs.Prelude.{◌∷◌, ◌++◌, if◌then◌else◌, ◌&&◌, Option, Some, None, Result, Ok, Err}
+use Rattle.std.specs.Prelude.{◌∷◌, ◌++◌, if◌then◌else◌, not, ◌&&◌, Option, Some, None, Result, Ok, Err}
 use Rattle.std.specs.Ordering.{int_eq}
 use Rattle.prefix_decoder.specs.declared.function.Fun.TheVariants as fun
 use Rattle.word_arithmetic.specs.Word.{least_word, greatest_word, checked_sum, checked_difference}
@@ -33,7 +33,7 @@ use Rattle.code_pieces.specs.declared.operations.TheConstants.{REMAINDER, DIVIDE
 use Rattle.code_pieces.specs.declared.operations.TheConstants.{SHIFT_LEFT, AND, OR, SUM, REVERSE}
 use Rattle.line_pieces.specs.declared.expressions.Pushes.{Pushes}
 use Rattle.line_pieces.specs.declared.expressions.Pushes.TheVariants as pushes
-use Rattle.code_pieces.specs.Pieces.{Piece, Direct, TableAddress, operates, loads, stores, points, constant, below}
+use Rattle.code_pieces.specs.Pieces.{Piece, Direct, TableAddress, operates, loads, stores, points, constant}
 use Rattle.code_pieces.specs.Pieces.{word_after}
 use Rattle.line_pieces.specs.Homes.{Home, Word, Block, Table, Passed, home_of}
 
@@ -263,29 +263,44 @@ element_code h m c s = []
 
 -- ---- two operands
 
--- An operand beside another one: its code where a temporary is free and where the next one is, and whether it takes two
--- registers at most.
+-- An operand beside another one: its code where a temporary is free and where the next one is, whether it is one push,
+-- and whether it takes two registers at most.
 pub record Operand : Type 0 where
   pub first : List Piece
   pub second : List Piece
+  pub leaf : Bool
   pub small : Bool
 
 abbrev pub beside : List Entry → Term → List Piece → List Piece → Operand
 beside es x first second = record {
   first = first;
   second = second;
+  leaf = is_leaf_term es x;
   small = is_small_term es x;
 }
 
+-- what was pushed last is exchanged with what is below it, unless their order does not matter
+abbrev pub exchanged : (in_order : Bool) → List Piece
+exchanged true = operates REVERSE ∷ []
+exchanged false = []
+
 -- A left operand that waited in a temporary is pushed, below the right one, or on it if their order does not matter.
 abbrev pub back : (in_order : Bool) → ℕ → List Piece
-back true t = below t
-back false t = loads t ∷ []
+back in_order t = loads t ∷ exchanged in_order
 
 -- The right operand is pushed on the left one. If it takes three registers, the left one waits for it in a temporary.
 abbrev pub onto : (in_order : Bool) → ℕ → (small : Bool) → List Piece → List Piece
 onto in_order t true right = right
 onto in_order t false right = stores t ∷ right ++ back in_order t
+
+-- Whether the first of two operands comes last: it is one push, and the second one takes three registers.
+abbrev pub comes_last : (leaf small : Bool) → Bool
+comes_last leaf small = leaf && not small
+
+-- two operands, the first one below the second
+abbrev pub both : (in_order last : Bool) → ℕ → Operand → Operand → List Piece
+both in_order true t x y = y.first ++ (x.first ++ exchanged in_order)
+both in_order false t x y = x.first ++ onto in_order t y.small y.second
 
 -- A constant is pushed below an operand. If that takes three registers, it comes first.
 abbrev pub after_constant : ℤ → (small : Bool) → List Piece → List Piece
@@ -334,18 +349,19 @@ comparison_pushes comparison.GreaterOrEqual a b = below_constant pushes.Exchange
 comparison_pushes comparison.Equal a b = equality_pushes a b
 comparison_pushes comparison.NotEqual a b = equality_pushes a b
 
-abbrev pub arithmetic_pushes : Option ℤ → Pushes
-arithmetic_pushes None = pushes.Both
-arithmetic_pushes (Some v) = pushes.Left
+-- beside a constant that is added the left one is alone
+abbrev pub unless_added : Option ℤ → Pushes → Pushes
+unless_added None how = how
+unless_added (Some v) how = pushes.Left
 
 abbrev pub pushes_of : PairOperator → Option ℤ → Option ℤ → Pushes
-pushes_of (pair.Arithmetic op) a b = arithmetic_pushes (added_for op b)
+pushes_of (pair.Arithmetic op) a b = unless_added (added_for op b) pushes.Both
 pushes_of (pair.Comparison op) a b = comparison_pushes op a b
 
 abbrev pub pushed : Pushes → ℕ → Operand → Operand → List Piece
-pushed pushes.Both t x y = x.first ++ onto true t y.small y.second
-pushed pushes.Either t x y = x.first ++ onto false t y.small y.second
-pushed pushes.Exchanged t x y = y.first ++ onto true t x.small x.second
+pushed pushes.Both t x y = both true (comes_last x.leaf y.small) t x y
+pushed pushes.Either t x y = both false (comes_last x.leaf y.small) t x y
+pushed pushes.Exchanged t x y = both true (comes_last y.leaf x.small) t y x
 pushed pushes.Left t x y = x.first
 pushed pushes.Right t x y = y.first
 pushed (pushes.OnConstant v) t x y = after_constant v x.small x.first
@@ -374,7 +390,13 @@ abbrev pub pair_code : PairOperator → Option ℤ → Option ℤ → List Piece
 pair_code (pair.Arithmetic op) a b = adds_or (added_for op b) (operates (pair_operation op) ∷ [])
 pair_code (pair.Comparison op) a b = comparison_code op a b
 
--- An operand more of a chain, by its value if it is a constant. The order of the operands of a chain does not matter.
+-- The first two operands of a chain, by the constant that the second one adds, if there is one. The order of the
+-- operands of a chain does not matter.
+abbrev pub first_two : ℕ → ChainOperator → Option ℤ → Operand → Operand → List Piece
+first_two t op added x y =
+    pushed (unless_added added pushes.Either) t x y ++ adds_or added (operates (chain_operation op) ∷ [])
+
+-- an operand more of a chain, by its value if it is a constant
 abbrev pub joined : ℕ → ChainOperator → Option ℤ → (small : Bool) → List Piece → List Piece
 joined t op value small right =
     adds_or (added_by op value) (onto false t small right ++ operates (chain_operation op) ∷ [])
@@ -422,8 +444,9 @@ abbrev mutual
   pub terms_code : List Home → List Entry → ℕ → ChainOperator → Option Front → Terms → List Piece
   terms_code hs es t op front (Two x y) =
       constant_or (covered front 2)
-      (term_code hs es t x
-      ++ joined t op (exact_value (bound_of_term es y)) (is_small_term es y) (term_code hs es (word_after t 1) y))
+      (first_two t op (added_by op (exact_value (bound_of_term es y)))
+      (beside es x (term_code hs es t x) (term_code hs es (word_after t 1) x))
+      (beside es y (term_code hs es t y) (term_code hs es (word_after t 1) y)))
   terms_code hs es t op front (Then xs x) =
       terms_code hs es t op front xs
       ++ unless (is_known (covered front (count_of xs + 1)))

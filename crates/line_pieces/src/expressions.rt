@@ -18,7 +18,7 @@ ghost use Rattle.line_pieces.specs.Expressions.{byte_address, address_code, elem
 ghost use Rattle.line_pieces.specs.Expressions.{element_code, expression_code, term_code, truth, known_address};
 ghost use Rattle.line_pieces.specs.Expressions.{subscript_code, pushes_of, pair_code, equality_code};
 ghost use Rattle.line_pieces.specs.Expressions.{are_passed_bytes, added_for, added_by, next_above, next_below};
-ghost use Rattle.line_pieces.specs.Expressions.{comparison_pushes, comparison_code, negated_unless};
+ghost use Rattle.line_pieces.specs.Expressions.{comparison_pushes, comparison_code, negated_unless, comes_last};
 
 use crate::home::Home;
 use crate::listing::Listing;
@@ -389,6 +389,16 @@ pub(crate) fn is_small_term(scope: &Scope, operand: &Operand) -> bool
         Operand::Bracketed(inner) => is_small(scope, inner),
         Operand::Converted { operand, .. } => is_small_term(scope, operand),
     }
+}
+
+/// Whether the first of two operands comes last: it is one push, and the second one takes three registers.
+pub(crate) fn comes_last(scope: &Scope, first: &Operand, second: &Operand) -> bool
+    ensures { result ≡ comes_last (is_leaf_term (entries_of scope.now) (term_of first.now))
+        (is_small_term (entries_of scope.now) (term_of second.now)) }
+{
+    let is_leaf = is_leaf_term(scope, first);
+    let is_small = is_small_term(scope, second);
+    is_leaf && !is_small
 }
 
 impl Listing {

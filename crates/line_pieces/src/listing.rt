@@ -5,7 +5,7 @@ ghost use Rattle.prefix_decoder.specs.declared.function.Fun.TheVariants as fun;
 ghost use Rattle.code_pieces.specs.Pieces.{Direct, TableAddress, operates, loads, stores, points, constant, below};
 ghost use Rattle.code_pieces.specs.Pieces.{counted};
 ghost use Rattle.code_pieces.specs.PieceViews.{pieces_of, piece_of};
-ghost use Rattle.line_pieces.specs.Expressions.{back};
+ghost use Rattle.line_pieces.specs.Expressions.{back, exchanged};
 ghost use Rattle.line_pieces.specs.Limits.{is_too_much};
 
 use crate::noting::Notes;
@@ -157,11 +157,18 @@ impl Listing {
     pub(crate) fn push_back(&mut self, temporary: u32, in_order: bool) -> Result<(), AllocError>
         ensures { IfOk result (λ _. self.new ≡ self.old ++ back in_order temporary) }
     {
+        self.load(temporary)?;
+        self.exchange(in_order)
+    }
+
+    /// Exchanges what was pushed last with what is below it, unless their order does not matter.
+    pub(crate) fn exchange(&mut self, in_order: bool) -> Result<(), AllocError>
+        ensures { IfOk result (λ _. self.new ≡ self.old ++ exchanged in_order) }
+    {
         if in_order {
-            self.push_below(temporary)
-        } else {
-            self.load(temporary)
+            self.operate(REVERSE)?;
         }
+        Ok(())
     }
 
     /// Pushes the address of a table.

@@ -10,12 +10,13 @@ ghost use Rattle.line_pieces.specs.Homes.{home_of};
 ghost use Rattle.line_pieces.specs.SettingViews.{entries_in, homes_in, expression_in, term_in, onto_in, joined_in};
 ghost use Rattle.line_pieces.specs.SettingViews.{on_constant_in, subscript_in, first_in};
 ghost use Rattle.line_pieces.specs.SettingViews.{others_in, operands_in, value_in, front_at};
+ghost use Rattle.line_pieces.specs.SettingViews.{both_in, either_in, first_two_in};
 ghost use Rattle.line_pieces.specs.Expressions.{single, address_code, element_of_words, table_element};
 ghost use Rattle.line_pieces.specs.Expressions.{element_code, without};
 
 use crate::expressions::{
-    Pushes, added_by, are_passed_bytes, chain_operation, covered, is_byte_reference, is_small_term,
-    offset_of, or_zero, pushes_of, single,
+    Pushes, added_by, are_passed_bytes, chain_operation, comes_last, covered, is_byte_reference,
+    is_small_term, offset_of, or_zero, pushes_of, single,
 };
 use crate::home::Home;
 use crate::listing::Listing;
@@ -72,20 +73,44 @@ impl Listing {
             }
             Operation::Chain {
                 operator,
-                first,
-                second,
                 others,
+                ..
             } => match covered(front, 2) {
                 Some(value) => {
                     self.constant(value)?;
                     self.write_others(setting, front, *operator, others)
                 }
                 None => {
-                    self.write_operand(setting, first)?;
-                    self.write_joined(setting, None, *operator, second)?;
+                    self.write_first_two(setting, operation)?;
                     self.write_others(setting, front, *operator, others)
                 }
             },
+        }
+    }
+
+    /// The first two operands of a chain, with their operation. Another operation has none.
+    #[cycle(write)]
+    fn write_first_two(&mut self, setting: Setting, operation: &Operation) -> Result<(), AllocError>
+        ensures { IfOk result (λ _. self.new ≡ self.old ++ first_two_in setting.entry (operation_of operation.now)) }
+    {
+        let Operation::Chain {
+            operator,
+            first,
+            second,
+            ..
+        } = operation
+        else {
+            return Ok(());
+        };
+        match added_by(*operator, read_operand(setting.scope, second).value()) {
+            Some(value) => {
+                self.write_operand(setting, first)?;
+                self.direct(Fun::AddConstant, value)
+            }
+            None => {
+                self.write_either(setting, operation)?;
+                self.operate(chain_operation(*operator))
+            }
         }
     }
 
@@ -101,15 +126,14 @@ impl Listing {
             ≡ self.old ++ operands_in setting.entry pushes (operation_of operation.now)) }
     {
         match (operation, pushes) {
-            (Operation::Pair { left, right, .. }, Pushes::Both) => {
-                self.write_operand(setting, left)?;
-                self.write_onto(setting, right, true)
-            }
-            (Operation::Pair { left, right, .. }, Pushes::Either) => {
-                self.write_operand(setting, left)?;
-                self.write_onto(setting, right, false)
-            }
+            (Operation::Pair { .. }, Pushes::Both) => self.write_both(setting, operation, true),
+            (Operation::Pair { .. }, Pushes::Either) => self.write_both(setting, operation, false),
             (Operation::Pair { left, right, .. }, Pushes::Exchanged) => {
+                if comes_last(setting.scope, right, left) {
+                    self.write_operand(setting, left)?;
+                    self.write_operand(setting, right)?;
+                    return self.exchange(true);
+                }
                 self.write_operand(setting, right)?;
                 self.write_onto(setting, left, true)
             }
@@ -124,6 +148,46 @@ impl Listing {
             }
             _ => Ok(()),
         }
+    }
+
+    /// Both operands of an operator between two, the right one on the left one. A left one that is a leaf comes last if
+    /// the right one takes three registers. Another operation has none.
+    #[cycle(write)]
+    fn write_both(
+        &mut self,
+        setting: Setting,
+        operation: &Operation,
+        in_order: bool,
+    ) -> Result<(), AllocError>
+        ensures { IfOk result (λ _. self.new
+            ≡ self.old ++ both_in in_order setting.entry (operation_of operation.now)) }
+    {
+        let Operation::Pair { left, right, .. } = operation else {
+            return Ok(());
+        };
+        if comes_last(setting.scope, left, right) {
+            self.write_operand(setting, right)?;
+            self.write_operand(setting, left)?;
+            return self.exchange(in_order);
+        }
+        self.write_operand(setting, left)?;
+        self.write_onto(setting, right, in_order)
+    }
+
+    /// The first two operands of a chain, in any order. Another operation has none.
+    #[cycle(write)]
+    fn write_either(&mut self, setting: Setting, operation: &Operation) -> Result<(), AllocError>
+        ensures { IfOk result (λ _. self.new ≡ self.old ++ either_in setting.entry (operation_of operation.now)) }
+    {
+        let Operation::Chain { first, second, .. } = operation else {
+            return Ok(());
+        };
+        if comes_last(setting.scope, first, second) {
+            self.write_operand(setting, second)?;
+            return self.write_operand(setting, first);
+        }
+        self.write_operand(setting, first)?;
+        self.write_onto(setting, second, false)
     }
 
     /// An operand, on a constant.

@@ -1,11 +1,15 @@
 use Rattle.std.proofs.Common.{◌≡◌, ◌≤◌, length, map, option_map, arith, sym, ap, ◌∙◌, rules}
+use Rattle.std.specs.Int.{w32}
+use Rattle.std.proofs.lemmas.Int.{to_z-of_z}
 use Rattle.std.proofs.lemmas.List.{append-nil}
 use Rattle.occam_parser.specs.declared.tree.Operation.{Chain}
 use Rattle.occam_parser.specs.Expressions.{Chained, Two}
 use Rattle.occam_parser.specs.Views.{operation_of, term_of, with_others}
 use Rattle.occam_parser.proofs.Seen.{view-Chain}
 use Rattle.scalar_ranges.specs.FrontViews.{seen_front}
+use Rattle.scalar_ranges.specs.Bounds.{exact_value}
 use Rattle.line_pieces.proofs.ChainCode.{others_next, others_done, front_known, front_pushed, chain_written_if}
+use Rattle.line_pieces.proofs.ChainCode.{first_last, first_below, second_added, both_joined}
 use Rattle.line_pieces.proofs.OffsetsFound.{first_written}
 use Rattle.line_pieces.proofs.OperandsBelow.{onto_written_if}
 use Rattle.line_pieces.proofs.listing.Listing.+write.Goals as goal
@@ -30,8 +34,8 @@ write_operation-returns-in_ok-constant-in-Some t c =
     c.constant.new.self c.covered.ensures c.in-Some.is (search rules))
     c.write_others.ensures
 
-pub write_operation-returns-in_ok-write_joined-in-None : goal.write_operation-returns-in_ok-write_joined-in-None
-write_operation-returns-in_ok-write_joined-in-None t c =
+pub write_operation-returns-in_ok-write_first_two-in-None : goal.write_operation-returns-in_ok-write_first_two-in-None
+write_operation-returns-in_ok-write_first_two-in-None t c =
     let chain = c.in-Chain in
     let s = c.args.setting in
     let front = option_map seen_front c.args.front in
@@ -45,11 +49,50 @@ write_operation-returns-in_ok-write_joined-in-None t c =
     (sym c.deref-in-None.ensures.value) in
     chain_written_if c.write_others-in-None.result s chain.operator front first second others
     (operation_of c.args.operation.now)
-    c.args.self.now c.write_joined.new.self c.write_others-in-None.new.self whole c.requires.varies c.requires.front
-    (front_pushed s chain.operator front first second c.covered.result c.args.self.now
-    c.write_operand-in-None.new.self c.write_joined.new.self c.covered.ensures c.in-None.is
-    c.in_ok-write_operand-in-None.ensures c.in_ok-write_joined-in-None.ensures)
+    c.args.self.now c.write_first_two.new.self c.write_others-in-None.new.self whole c.requires.varies c.requires.front
+    (front_pushed s chain.operator front first second others (operation_of c.args.operation.now) c.covered.result
+    c.args.self.now c.write_first_two.new.self c.covered.ensures c.in-None.is whole
+    c.in_ok-write_first_two-in-None.ensures)
     c.write_others-in-None.ensures
+
+pub write_either-returns-then-comes_last : goal.write_either-returns-then-comes_last
+write_either-returns-then-comes_last t c =
+    let chain = c.in-Chain in
+    first_last c.write_operand-then-comes_last.result c.args.setting chain.operator (term_of chain.first)
+    (term_of chain.second) (map term_of chain.others.items) (operation_of c.args.operation.now) c.comes_last.result
+    c.args.self.now c.write_operand.new.self c.write_operand-then-comes_last.new.self
+    (ap operation_of chain.is ∙ view-Chain chain.operator chain.first chain.second chain.others)
+    c.comes_last.ensures c.if-comes_last.true c.in_ok-write_operand.ensures c.write_operand-then-comes_last.ensures
+
+pub write_either-returns : goal.write_either-returns
+write_either-returns t c =
+    let chain = c.in-Chain in
+    first_below c.write_onto.result c.args.setting chain.operator (term_of chain.first)
+    (term_of chain.second) (map term_of chain.others.items) (operation_of c.args.operation.now) c.comes_last.result
+    c.args.self.now c.write_operand-2.new.self c.write_onto.new.self
+    (ap operation_of chain.is ∙ view-Chain chain.operator chain.first chain.second chain.others)
+    c.comes_last.ensures c.if-comes_last.false c.in_ok-write_operand-2.ensures c.write_onto.ensures
+
+pub write_first_two-returns-in_ok-write_operand-in-Some : goal.write_first_two-returns-in_ok-write_operand-in-Some
+write_first_two-returns-in_ok-write_operand-in-Some t c =
+    let chain = c.in-Chain in
+    second_added c.direct.result c.args.setting chain.operator (term_of chain.first) (term_of chain.second)
+    (map term_of chain.others.items) (operation_of c.args.operation.now) c.value.result c.added_by.result
+    c.in-Some.value _ c.args.self.now c.write_operand.new.self c.direct.new.self
+    (ap operation_of chain.is ∙ view-Chain chain.operator chain.first chain.second chain.others)
+    (c.value.ensures ∙ ap exact_value c.read_operand.ensures.bounds) c.added_by.ensures c.in-Some.is
+    (to_z-of_z w32 c.in-Some.value (search rules)) c.in_ok-write_operand-in-Some.ensures c.direct.ensures
+
+pub write_first_two-returns-in_ok-write_either-in-None : goal.write_first_two-returns-in_ok-write_either-in-None
+write_first_two-returns-in_ok-write_either-in-None t c =
+    let chain = c.in-Chain in
+    both_joined c.operate.result c.args.setting chain.operator (term_of chain.first) (term_of chain.second)
+    (map term_of chain.others.items) (operation_of c.args.operation.now) c.value.result c.added_by.result
+    _ c.args.self.now c.write_either.new.self c.operate.new.self
+    (ap operation_of chain.is ∙ view-Chain chain.operator chain.first chain.second chain.others)
+    (c.value.ensures ∙ ap exact_value c.read_operand.ensures.bounds) c.added_by.ensures c.in-None.is
+    (to_z-of_z w32 c.chain_operation.result (search rules) ∙ c.chain_operation.ensures)
+    c.in_ok-write_either-in-None.ensures c.operate.ensures
 
 pub write_onto-returns : goal.write_onto-returns
 write_onto-returns t c =
