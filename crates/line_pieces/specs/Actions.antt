@@ -4,7 +4,7 @@ use Rattle.std.specs.Prelude.{nat_eq, if◌then◌else◌, Bool, true, false, Op
 use Rattle.prefix_decoder.specs.declared.function.Fun.TheVariants as fun
 use Rattle.occam_parser.specs.declared.tree.ValueType.{ValueType}
 use Rattle.occam_parser.specs.declared.tree.ValueType.TheVariants as value_type
-use Rattle.occam_parser.specs.Expressions.{Expression}
+use Rattle.occam_parser.specs.Expressions.{Expression, Alone, Term, Named, Element}
 use Rattle.occam_parser.specs.Lines.{Place, Action, Skip, Stop, Assign, Input, Output, Instance}
 use Rattle.scalar_ranges.specs.Entries.{Meaning, Scalar, Array, Channel, Channels, Entry, meaning_in}
 use Rattle.scalar_ranges.specs.Bounds.{bound_of, range_found}
@@ -149,9 +149,24 @@ abbrev pub input_code : List Home → List Entry → ℕ → Place → Place →
 input_code hs es t channel target =
     target_address (target_of hs es t target) ++ exchange hs es channel INPUT ++ cleaned (target_of hs es t target)
 
+-- where the value of an expression is already: a variable, or an element of an array
+abbrev pub source_of_term : List Home → List Entry → ℕ → Term → Target
+source_of_term hs es t (Named name) = target_of hs es t (record { name = name; subscript = None })
+source_of_term hs es t (Element name e) = target_of hs es t (record { name = name; subscript = Some e })
+source_of_term hs es t x = NoTarget
+
+abbrev pub source_of : List Home → List Entry → ℕ → Expression → Target
+source_of hs es t (Alone x) = source_of_term hs es t x
+source_of hs es t e = NoTarget
+
+-- the address of a message: where its value is already, or else a temporary in which it is stored
+abbrev pub message_code : Target → ℕ → (value : List Piece) → List Piece
+message_code NoTarget t value = value ++ stores t ∷ points t ∷ []
+message_code source t value = target_address source
+
 abbrev pub output_code : List Home → List Entry → ℕ → Place → Expression → List Piece
 output_code hs es t channel value =
-    expression_code hs es t value ++ stores t ∷ points t ∷ exchange hs es channel OUTPUT
+    message_code (source_of hs es t value) t (expression_code hs es t value) ++ exchange hs es channel OUTPUT
 
 -- ---- actions
 

@@ -9,17 +9,17 @@ ghost use Rattle.code_pieces.specs.Pieces.{moves, counted};
 ghost use Rattle.line_pieces.specs.Actions.{stores_below, store_known, store_code, assign_code, target_address};
 ghost use Rattle.line_pieces.specs.Actions.{channel_code, element_home, channel_home, length_of, carried, exchange};
 ghost use Rattle.line_pieces.specs.Actions.{stores_at, store_other, stored_offset};
-ghost use Rattle.line_pieces.specs.Actions.{link_code, cleaned, input_code, output_code, test_code};
+ghost use Rattle.line_pieces.specs.Actions.{link_code, cleaned, input_code, output_code, test_code, message_code};
 ghost use Rattle.line_pieces.specs.Noted.{place_code};
-ghost use Rattle.line_pieces.specs.SettingViews.{entries_in, homes_in, subscript_in};
+ghost use Rattle.line_pieces.specs.SettingViews.{entries_in, homes_in, subscript_in, expression_in};
 ghost use Rattle.line_pieces.specs.TargetViews.{target_seen};
 
 use crate::expressions::{is_small, offset_of, or_zero, single};
 use crate::home::Home;
 use crate::listing::Listing;
-use crate::noting::{ChannelEnd, ChannelPlace, Way};
+use crate::noting::{Access, ChannelEnd, ChannelPlace, Way};
 use crate::setting::{Setting, word_after};
-use crate::targets::{Target, target_of};
+use crate::targets::{Target, source_of, target_of};
 use code_pieces::{GREATEST_WORD, Piece, operations};
 use occam_parser::{Expr, Place, ValueType};
 use prefix_decoder::Fun;
@@ -134,14 +134,14 @@ impl Listing {
         }
     }
 
-    /// What a target is a part of is written.
-    fn note_target(&mut self, target: Target) -> Result<(), AllocError>
+    /// What a target is a part of is read or written.
+    fn note_target(&mut self, target: Target, access: Access) -> Result<(), AllocError>
         ensures { IfOk result (λ _. self.new ≡ self.old) }
     {
         match target {
             Target::Nothing => Ok(()),
             Target::Word { word, .. } | Target::Known { word, .. } | Target::Other { word, .. } => {
-                self.writes(word)
+                self.accesses(word, access)
             }
         }
     }
@@ -159,7 +159,7 @@ impl Listing {
         let above = setting.above();
         let target = target_of(above, place_ref(target));
         self.write_expression(setting, value)?;
-        self.note_target(target)?;
+        self.note_target(target, Access::Writes)?;
         self.write_store(above, target, setting.top)
     }
 
@@ -270,11 +270,34 @@ impl Listing {
             (entries_in setting.entry) setting.entry.top (place_of channel.now) (place_of target.now)) }
     {
         let target = target_of(setting, place_ref(target));
-        self.note_target(target)?;
+        self.note_target(target, Access::Writes)?;
         self.write_target_address(setting, target)?;
         self.note_channel(setting, channel, Way::In)?;
         self.write_exchange(setting, channel, operations::INPUT)?;
         self.write_cleaned(setting, target)
+    }
+
+    /// The address of a message: where its value is already, or else a temporary in which it is stored.
+    fn write_message(
+        &mut self,
+        setting: Setting,
+        source: Target,
+        value: &Expr,
+    ) -> Result<(), AllocError>
+        ensures { IfOk result (λ _. self.new ≡ self.old
+            ++ message_code (target_seen setting.entry source.entry) setting.entry.top
+            (expression_in setting.entry (expression_of value.now))) }
+    {
+        match source {
+            Target::Nothing => {
+                self.write_expression(setting, value)?;
+                self.store(setting.top)?;
+                self.point(setting.top)
+            }
+            Target::Word { .. } | Target::Known { .. } | Target::Other { .. } => {
+                self.write_target_address(setting, source)
+            }
+        }
     }
 
     /// An output.
@@ -287,9 +310,9 @@ impl Listing {
         ensures { IfOk result (λ _. self.new ≡ self.old ++ output_code (homes_in setting.entry)
             (entries_in setting.entry) setting.entry.top (place_of channel.now) (expression_of value.now)) }
     {
-        self.write_expression(setting, value)?;
-        self.store(setting.top)?;
-        self.point(setting.top)?;
+        let source = source_of(setting, value);
+        self.note_target(source, Access::Reads)?;
+        self.write_message(setting, source, value)?;
         self.note_channel(setting, channel, Way::Out)?;
         self.write_exchange(setting, channel, operations::OUTPUT)
     }

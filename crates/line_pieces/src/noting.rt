@@ -124,20 +124,26 @@ impl Notes {
 }
 
 impl Listing {
+    /// The variable with this first word is used.
+    pub(crate) fn accesses(&mut self, word: u32, access: Access) -> Result<(), AllocError>
+        ensures { self.new ≡ self.old }
+    {
+        self.notes.note_word(word, access)?;
+        Ok(())
+    }
+
     /// The variable with this first word is read.
     pub(crate) fn reads(&mut self, word: u32) -> Result<(), AllocError>
         ensures { self.new ≡ self.old }
     {
-        self.notes.note_word(word, Access::Reads)?;
-        Ok(())
+        self.accesses(word, Access::Reads)
     }
 
     /// The variable with this first word is written.
     pub(crate) fn writes(&mut self, word: u32) -> Result<(), AllocError>
         ensures { self.new ≡ self.old }
     {
-        self.notes.note_word(word, Access::Writes)?;
-        Ok(())
+        self.accesses(word, Access::Writes)
     }
 
     /// An end of a channel is used whose messages have `length` bytes.

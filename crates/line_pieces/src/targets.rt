@@ -1,13 +1,14 @@
-//! What is stored into.
+//! What is stored into, and what is sent from where it is.
 
 ghost use Rattle.std.specs.Prelude.{◌≡◌};
 ghost use Rattle.program_uses.specs.PlaceViews.{place_at};
-ghost use Rattle.line_pieces.specs.TargetViews.{target_seen, target_in};
+ghost use Rattle.occam_parser.specs.Views.{expression_of, term_of};
+ghost use Rattle.line_pieces.specs.TargetViews.{target_seen, target_in, source_of_term_in, source_in};
 
 use crate::expressions::single;
 use crate::home::Home;
 use crate::setting::Setting;
-use occam_parser::{Expr, ValueType};
+use occam_parser::{Expr, Operand, Operation, ValueType};
 use program_uses::PlaceRef;
 use scalar_ranges::{Meaning, range_of};
 
@@ -72,5 +73,40 @@ pub fn target_of<'e, 'a>(setting: Setting, place: PlaceRef<'e, 'a>) -> Target<'e
             }
         }
         _ => Target::Nothing,
+    }
+}
+
+/// Where the value of an operand is already: a variable, or an element of an array.
+fn source_of_operand<'e, 'a>(setting: Setting, operand: &'e Operand<'a>) -> Target<'e, 'a>
+    ensures { target_seen setting.entry result ≡ source_of_term_in setting.entry (term_of operand.now) }
+{
+    match operand {
+        Operand::Name(name) => {
+            let subscript = None;
+            target_of(setting, PlaceRef { name, subscript })
+        }
+        Operand::Element { name, subscript } => {
+            let subscript = Some(subscript);
+            target_of(setting, PlaceRef { name, subscript })
+        }
+        Operand::Integer(_)
+        | Operand::Character(_)
+        | Operand::Truth(_)
+        | Operand::MostPos
+        | Operand::MostNeg
+        | Operand::Bracketed(_)
+        | Operand::Converted { .. } => Target::Nothing,
+    }
+}
+
+/// Where the value of an expression is already.
+pub(crate) fn source_of<'e, 'a>(setting: Setting, value: &'e Expr<'a>) -> Target<'e, 'a>
+    ensures { target_seen setting.entry result ≡ source_in setting.entry (expression_of value.now) }
+{
+    match &*value.operation {
+        Operation::Operand(operand) => source_of_operand(setting, operand),
+        Operation::Prefix { .. } | Operation::Pair { .. } | Operation::Chain { .. } => {
+            Target::Nothing
+        }
     }
 }
