@@ -1,13 +1,13 @@
 -- The code of actions and tests: assignments, inputs and outputs, and the jump of a condition.
 use Rattle.std.specs.Prelude.{ℕ, ◌+◌, ℤ, pos, unsigned_abs, List, [], ◌∷◌, ◌++◌}
-use Rattle.std.specs.Prelude.{nat_eq, if◌then◌else◌, Bool, true, false, Option, Some, None}
+use Rattle.std.specs.Prelude.{nat_eq, if◌then◌else◌, not, ◌||◌, Bool, true, false, Option, Some, None}
 use Rattle.prefix_decoder.specs.declared.function.Fun.TheVariants as fun
 use Rattle.occam_parser.specs.declared.tree.ValueType.{ValueType}
 use Rattle.occam_parser.specs.declared.tree.ValueType.TheVariants as value_type
-use Rattle.occam_parser.specs.Expressions.{Expression, Alone, Term, Named, Element}
+use Rattle.occam_parser.specs.Expressions.{Expression, Alone, Paired, Chained, Term, Named, Element}
 use Rattle.occam_parser.specs.Lines.{Place, Action, Skip, Stop, Assign, Input, Output, Instance}
 use Rattle.scalar_ranges.specs.Entries.{Meaning, Scalar, Array, Channel, Channels, Entry, meaning_in}
-use Rattle.scalar_ranges.specs.Bounds.{bound_of, range_found}
+use Rattle.scalar_ranges.specs.Bounds.{bound_of, bound_of_term, exact_value, range_found}
 use Rattle.scalar_ranges.specs.Narrowing.{Tested, test_of}
 use Rattle.code_pieces.specs.declared.operations.TheConstants.{LOAD_BYTE, INPUT, OUTPUT, STORE_BYTE, STOP_PROCESS}
 use Rattle.code_pieces.specs.declared.operations.TheConstants.{MINIMUM_INTEGER}
@@ -16,7 +16,7 @@ use Rattle.code_pieces.specs.Pieces.{moves, below, word_after, Code, written}
 use Rattle.line_pieces.specs.Homes.{Home, Word, Link, Passed, home_of}
 use Rattle.line_pieces.specs.Declarations.{Frame, facts_in}
 use Rattle.line_pieces.specs.Expressions.{expression_code, known_address, subscript_code, single, Subscript}
-use Rattle.line_pieces.specs.Expressions.{subscript_of, without, or_zero}
+use Rattle.line_pieces.specs.Expressions.{subscript_of, without, or_zero, is_known}
 
 -- ---- what a place is
 
@@ -188,13 +188,25 @@ action_code f es n (Instance name actuals) = None
 
 -- ---- tests
 
--- Only a test of a scalar against a constant narrows what is known. Of another condition the machine has to forget what
--- it compared, and `adc 0` makes it.
-abbrev pub forgets : Option Tested → List Piece
-forgets None = Direct fun.AddConstant (pos 0) ∷ []
-forgets (Some test) = []
+-- Whether the machine may know which word of the frame an operand is. It is no constant, and of an element the number
+-- is known.
+abbrev pub may_be_word : List Entry → Term → Bool
+may_be_word es (Element name e) = is_known (single (range_found (bound_of es e)))
+may_be_word es x = not (is_known (exact_value (bound_of_term es x)))
+
+-- Whether a condition may show something of a word: then it is a comparison with one, maybe in brackets or negated.
+abbrev pub may_show : List Entry → Expression → Bool
+may_show es (Paired op x y) = may_be_word es x || may_be_word es y
+may_show es (Chained op xs) = false
+may_show es e = true
+
+-- Only a test of a scalar against a constant narrows what is known. Of another condition that may show something of a
+-- word the machine has to forget what it compared, and `adc 0` makes it.
+abbrev pub forgets : (shows : Bool) → Option Tested → List Piece
+forgets true None = Direct fun.AddConstant (pos 0) ∷ []
+forgets shows test = []
 
 -- a condition, and a jump to a label where it does not hold
 abbrev pub test_code : List Home → List Entry → ℕ → Expression → ℕ → List Piece
 test_code hs es t e label =
-    expression_code hs es t e ++ forgets (test_of es e) ++ JumpUnless label ∷ []
+    expression_code hs es t e ++ forgets (may_show es e) (test_of es e) ++ JumpUnless label ∷ []

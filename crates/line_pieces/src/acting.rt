@@ -14,6 +14,7 @@ ghost use Rattle.line_pieces.specs.Noted.{place_code};
 ghost use Rattle.line_pieces.specs.SettingViews.{entries_in, homes_in, subscript_in, expression_in};
 ghost use Rattle.line_pieces.specs.TargetViews.{target_seen};
 
+use crate::conditions::may_show;
 use crate::expressions::{is_small, offset_of, or_zero, single};
 use crate::home::Home;
 use crate::listing::Listing;
@@ -328,7 +329,7 @@ impl Listing {
             setting.entry.top (expression_of condition.now) label) }
     {
         self.write_expression(setting, condition)?;
-        if test_of(setting.scope, condition).is_none() {
+        if may_show(setting.scope, condition) && test_of(setting.scope, condition).is_none() {
             self.direct(Fun::AddConstant, 0)?;
         }
         self.push(Piece::JumpUnless { to: label })

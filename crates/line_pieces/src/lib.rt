@@ -3,6 +3,7 @@
 
 mod acting;
 mod branches;
+mod conditions;
 mod counting;
 mod declaring;
 mod expressions;
