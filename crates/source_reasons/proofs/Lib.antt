@@ -1,0 +1,4 @@
+pub mod TokensAlike
+pub mod FaultsExplained
+pub mod LinesFound
+pub mod BadTokens
