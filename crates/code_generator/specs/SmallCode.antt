@@ -54,20 +54,20 @@ sums_pieces =
     ∷ loads 3 ∷ loads 4 ∷ operates SUM ∷ stores 3 ∷ Jump 2 ∷ Row 3 where_small
     ∷ loads 3 ∷ loads 2 ∷ operates SUM ∷ stores 3 ∷ Row 2 in_the_loop
     ∷ points 4 ∷ LoopBack 0 1 ∷ Row 1 (unknown_word 2 ∷ unknown_word 3 ∷ [])
-    ∷ loads 3 ∷ stores 4 ∷ points 4 ∷ operates MINIMUM_INTEGER ∷ constant (pos 4) ∷ operates OUTPUT
+    ∷ points 3 ∷ operates MINIMUM_INTEGER ∷ constant (pos 4) ∷ operates OUTPUT
     ∷ operates STOP_PROCESS ∷ []
 
 -- the bytes of each instruction
 abbrev pub sums_lengths : List ℕ
 sums_lengths =
     1 ∷ 1 ∷ 1 ∷ 1 ∷ 1 ∷ 1 ∷ 1 ∷ 1 ∷ 1 ∷ 1 ∷ 1 ∷ 2 ∷ 1 ∷ 1 ∷ 1 ∷ 1 ∷ 2 ∷ 1 ∷ 1 ∷ 1 ∷ 1 ∷ 2 ∷ 1 ∷ 1 ∷ 1 ∷ 1 ∷ 2 ∷ 1
-    ∷ 1 ∷ 2 ∷ 2 ∷ 1 ∷ 1 ∷ 1 ∷ 2 ∷ 1 ∷ 1 ∷ 2 ∷ []
+    ∷ 1 ∷ 2 ∷ 2 ∷ 1 ∷ 2 ∷ 1 ∷ 1 ∷ 2 ∷ []
 
 abbrev pub sums_bytes : List ℕ
 sums_bytes =
     0x40 ∷ 0xd2 ∷ 0x40 ∷ 0xd3 ∷ 0x40 ∷ 0xd3 ∷ 0x41 ∷ 0xd4 ∷ 0x44 ∷ 0xd5 ∷ 0x12 ∷ 0x24 ∷ 0xf2 ∷ 0x54 ∷ 0x44 ∷ 0xf7
     ∷ 0x72 ∷ 0x26 ∷ 0x44 ∷ 0xf9 ∷ 0xa6 ∷ 0x73 ∷ 0x74 ∷ 0x25 ∷ 0xf2 ∷ 0xd3 ∷ 0x05 ∷ 0x73 ∷ 0x72 ∷ 0x25 ∷ 0xf2 ∷ 0xd3
-    ∷ 0x14 ∷ 0x21 ∷ 0x4b ∷ 0x22 ∷ 0xf1 ∷ 0x73 ∷ 0xd4 ∷ 0x14 ∷ 0x24 ∷ 0xf2 ∷ 0x44 ∷ 0xfb ∷ 0x21 ∷ 0xf5 ∷ []
+    ∷ 0x14 ∷ 0x21 ∷ 0x4b ∷ 0x22 ∷ 0xf1 ∷ 0x13 ∷ 0x24 ∷ 0xf2 ∷ 0x44 ∷ 0xfb ∷ 0x21 ∷ 0xf5 ∷ []
 
 abbrev pub said_unknown : ℕ → ℕ → Said
 said_unknown word span = record { word = word; span = span; fact = facts.Number least_word greatest_word }
@@ -77,29 +77,29 @@ said_loop = record { word = 4; span = 2; fact = facts.Loop (pos 1) 4 22 }
 
 abbrev pub sums_rows : List SaidRow
 sums_rows =
-    record { label = 0; workspace = in_root; number = 31; entries = said_unknown 2 2 ∷ said_loop ∷ [] }
+    record { label = 0; workspace = in_root; number = 29; entries = said_unknown 2 2 ∷ said_loop ∷ [] }
     ∷ record {
       label = 3;
       workspace = in_root;
-      number = 19;
+      number = 17;
       entries =
           record { word = 2; span = 1; fact = facts.Number least_word (pos 100) } ∷ said_unknown 3 1 ∷ said_loop ∷ [];
     }
-    ∷ record { label = 2; workspace = in_root; number = 14; entries = said_unknown 2 2 ∷ said_loop ∷ [] }
-    ∷ record { label = 1; workspace = in_root; number = 9; entries = said_unknown 2 2 ∷ [] } ∷ []
+    ∷ record { label = 2; workspace = in_root; number = 12; entries = said_unknown 2 2 ∷ said_loop ∷ [] }
+    ∷ record { label = 1; workspace = in_root; number = 7; entries = said_unknown 2 2 ∷ [] } ∷ []
 
 abbrev pub sums_needs : Needs
 sums_needs = needs_of sums_pieces (sizes_of sums_pieces sums_lengths)
 
--- Four numbers are received and added up, with the number of the turn in place of one above 100. The code is 46 bytes,
--- of which a run executes 107 at most, and takes 6 words of the frame.
+-- Four numbers are received and added up, with the number of the turn in place of one above 100. The code is 44 bytes,
+-- of which a run executes 105 at most, and takes 6 words of the frame.
 pub record SumsHaveCode : Type 0 where
   pub pieces : code_of (sums or_adds) ≡ Some (record { pieces = sums_pieces; labels = 4 })
   pub apart : apart sums_pieces ≡ sums_pieces
   pub lengths : needed (draft_code sums_pieces 4) sums_lengths ≡ sums_lengths
   pub bytes : spelled (draft_code sums_pieces 4) sums_lengths ≡ sums_bytes
   pub rows : said_rows sums_needs sums_pieces ≡ sums_rows
-  pub budget : sums_needs.need ≡ 107
+  pub budget : sums_needs.need ≡ 105
   pub words : words_taken sums_pieces ≡ 6
 
 -- ---- a byte is sent back
@@ -110,7 +110,7 @@ echo_pieces =
     constant (pos 0) ∷ stores 2
     ∷ points 2 ∷ operates MINIMUM_INTEGER ∷ Direct fun.LoadNonLocalPointer (pos 4) ∷ constant (pos 1) ∷ operates INPUT
     ∷ points 2 ∷ operates LOAD_BYTE ∷ stores 2
-    ∷ loads 2 ∷ stores 3 ∷ points 3 ∷ operates MINIMUM_INTEGER ∷ constant (pos 1) ∷ operates OUTPUT
+    ∷ points 2 ∷ operates MINIMUM_INTEGER ∷ constant (pos 1) ∷ operates OUTPUT
     ∷ operates STOP_PROCESS ∷ []
 
 -- ---- an element is stored
@@ -124,7 +124,7 @@ element_pieces =
     ∷ points 3 ∷ points 4 ∷ constant (pos 4) ∷ operates MOVE
     ∷ constant (pos 5) ∷ stores 5 ∷ points 5 ∷ points 4 ∷ constant (pos 4) ∷ operates MOVE
     ∷ loads 3 ∷ stores 2
-    ∷ loads 2 ∷ stores 3 ∷ points 3 ∷ operates MINIMUM_INTEGER ∷ constant (pos 4) ∷ operates OUTPUT
+    ∷ points 2 ∷ operates MINIMUM_INTEGER ∷ constant (pos 4) ∷ operates OUTPUT
     ∷ operates STOP_PROCESS ∷ []
 
 -- ---- a choice under a replicator
@@ -146,7 +146,7 @@ picks_pieces =
     ∷ loads 2 ∷ Direct fun.EqualsConstant (pos 6) ∷ JumpUnless 2
     ∷ constant (pos 1) ∷ stores 2 ∷ Jump 0 ∷ Row 2 (unknown_word 2 ∷ []) ∷ operates STOP_PROCESS
     ∷ Row 0 (record { word = 2; span = 1; fact = Between (pos 1) (pos 1) } ∷ [])
-    ∷ loads 2 ∷ stores 3 ∷ points 3 ∷ operates MINIMUM_INTEGER ∷ constant (pos 4) ∷ operates OUTPUT
+    ∷ points 2 ∷ operates MINIMUM_INTEGER ∷ constant (pos 4) ∷ operates OUTPUT
     ∷ operates STOP_PROCESS ∷ []
 
 -- ---- a procedure is called
@@ -176,7 +176,7 @@ calls_pieces =
     ∷ points 2 ∷ operates MINIMUM_INTEGER ∷ Direct fun.LoadNonLocalPointer (pos 4) ∷ constant (pos 4) ∷ operates INPUT
     ∷ constant (pos 3) ∷ stores 3 ∷ Row 0 (unknown_word 2 ∷ unknown_word 3 ∷ [])
     ∷ loads 3 ∷ stores 4 ∷ points 4 ∷ points 2 ∷ constant (pos 4) ∷ operates MOVE
-    ∷ loads 2 ∷ stores 3 ∷ points 3 ∷ operates MINIMUM_INTEGER ∷ constant (pos 4) ∷ operates OUTPUT
+    ∷ points 2 ∷ operates MINIMUM_INTEGER ∷ constant (pos 4) ∷ operates OUTPUT
     ∷ operates STOP_PROCESS ∷ []
 
 -- A byte is received and sent; an array is set to 0 and stored into by moves; (-7) / 2 is one constant; a choice
