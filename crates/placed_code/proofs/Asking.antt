@@ -1,6 +1,6 @@
 -- A process whose next instruction asks something of others: a run comes to the last byte of it.
-use Rattle.std.proofs.Common.{◌≡◌, ℕ, ◌+◌, ◌*◌, ◌≤◌, ℤ, pos, true, List, length, Option, Some, Ok, is_some, refl, sym}
-use Rattle.std.proofs.Common.{ap, subst, ◌∙◌, arith}
+use Rattle.std.proofs.Common.{◌≡◌, ℕ, ◌+◌, ◌≤◌, true, length, Option, Some, is_some, refl, sym}
+use Rattle.std.proofs.Common.{ap, ◌∙◌, arith}
 use Rattle.module_format.specs.Contents.{Contents}
 use Rattle.machine_state.specs.declared.instruction.Instruction.{Instruction}
 use Rattle.machine_state.specs.World.{World}
@@ -9,8 +9,7 @@ use Rattle.plain_machine.specs.declared.decoded.DecodedInstruction.{DecodedInstr
 use Rattle.plain_machine.specs.declared.flow.PlainFlow.{PlainFlow}
 use Rattle.plain_machine.specs.Decoded.{instruction_in, decoded_operation, decoded_fetched, decoded_at}
 use Rattle.plain_machine.specs.PlainByte.{function_step}
-use Rattle.plain_machine.specs.PlainRun.{PlainPoint, stepped_there}
-use Rattle.plain_machine.specs.PlainStep.{PlainState, Stepped, leaves, plain_step}
+use Rattle.plain_machine.specs.PlainStep.{PlainState, leaves, plain_step}
 use Rattle.plain_machine.proofs.DecodedOperations.{decodes}
 use Rattle.plain_machine.proofs.WholeInstructions.{next_in}
 use Rattle.agreement.specs.Agrees.{PlainMachine}

@@ -1,9 +1,9 @@
 -- What code makes a process do, one after the other.
-use Rattle.std.proofs.Common.{◌≡◌, ℕ, zero, suc, ◌<◌, List, arith}
+use Rattle.std.proofs.Common.{ℕ, zero, suc, ◌<◌, arith}
 use Rattle.std.specs.Prelude.{IsTrue}
 use Rattle.scalar_ranges.specs.Environments.{Environment}
 use Rattle.program_uses.specs.Indices.{turn_by_turn}
-use Rattle.program_meaning.specs.Doing.{Doing, Leaves, Halts, Fails, Asks, Sends, doing_then, AllWell}
+use Rattle.program_meaning.specs.Doing.{Doing, Leaves, doing_then, AllWell}
 use Rattle.placed_code.specs.LaidCode.{LaidCode}
 use Rattle.placed_code.specs.Points as points
 use Rattle.placed_code.specs.Points.{Point, GoesTo}

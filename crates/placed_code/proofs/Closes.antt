@@ -1,7 +1,7 @@
 -- What code makes a process do comes to be over links.
 use Rattle.std.proofs.Common.{◌≡◌, ℕ, zero, suc, ◌<◌, ◌^◌, Bool, true, false, cond, List, [], ◌∷◌, length, take, Some}
 use Rattle.std.proofs.Common.{refl}
-use Rattle.std.proofs.Common.{sym, ap, subst, ◌∙◌, arith}
+use Rattle.std.proofs.Common.{subst, arith}
 use Rattle.std.specs.Prelude.{nat_le, slice_index}
 use Rattle.std.proofs.lemmas.Bool.{leb-true}
 use Rattle.std.proofs.lemmas.List.{length-take-le}
@@ -21,9 +21,11 @@ use Rattle.placed_code.specs.Points.{Point}
 use Rattle.placed_code.specs.StraightPieces.{Footing}
 use Rattle.placed_code.proofs.PointsComeToBe.{later_still, points_come_to_be}
 use Rattle.placed_code.proofs.Receiving.{receives_come_to_be}
-use Rattle.placed_code.proofs.Sending.{index_is, sends_come_to_be}
+use Rattle.placed_code.proofs.LinkNumbers.{index_is}
+use Rattle.placed_code.proofs.Sending.{sends_come_to_be}
 use Rattle.placed_code.proofs.Stopping.{stops_come_to_be}
 
+-- a byte before bytes
 one_before : (b : ℕ) (bytes : List ℕ) → b < 256 → IsBytes bytes → (i : ℕ) → slice_index (b ∷ bytes) i < 256
 one_before b bytes first rest zero = first
 one_before b bytes first rest (suc i) = rest i
@@ -40,21 +42,25 @@ module _ (m : Contents) (writers : ByLink Bool) (labels : ℕ → ℕ) (footing 
   abbrev c : LaidCode
   c = code_of m labels footing
 
+  -- what closes from a later moment on closes
   closed_later : (o : Outcome) (s t : RunMoment) (n : ℕ) → moment_from m writers s n ≡ Some t
       → Closed m writers c End o t → Closed m writers c End o s
   closed_later (Goes env l) s t n first x = later_still n t first x
   closed_later (Waits l) s t n first x = later_still n t first x
   closed_later Stuck s t n first x = tt
 
+  -- by a test
   by_test : (b : Bool) (o q : Outcome) (s : RunMoment) → (b ≡ true → Closed m writers c End o s)
       → (b ≡ false → Closed m writers c End q s) → Closed m writers c End (cond b o q) s
   by_test true o q s first second = first refl
   by_test false o q s first second = second refl
 
+  -- a link of this number has bytes to give
   bytes_here : (l : Links) (s : RunMoment) (port : ℕ) → port < 4 → HasLinks l s → IsBytes (incoming_at port l).unread
   bytes_here l s port less links =
       subst (λ (k : ℕ). IsBytes (incoming_at k l).unread) (index_is port less) (links.are_bytes _)
 
+  -- along all that the process does
   pub closes : {p : Point} {t : Doing} → Behaves c End p t → (l : Links) (s : RunMoment) → At m c p l s
       → Closed m writers c End (over_links (in_order writers) t l) s
   closes (over {p = p} e) l s at =

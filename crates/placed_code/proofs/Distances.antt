@@ -1,14 +1,16 @@
 -- Distances between offsets of code: they are words, and lead from where they are taken to where they are to.
-use Rattle.std.proofs.Common.{◌≡◌, ℕ, ◌+◌, ◌-◌, ◌%◌, ◌^◌, ◌<◌, ◌≤◌, ℤ, pos, FitsSigned, arith, ap, ◌∙◌, sym, refl}
+use Rattle.std.proofs.Common.{◌≡◌, ℕ, ◌+◌, ◌-◌, ◌%◌, ◌^◌, ◌<◌, ◌≤◌, pos, FitsSigned, arith}
 use Rattle.std.specs.Prelude.{◌-ℤ◌}
 use Rattle.std.specs.Int.{w32, cast_unsigned, cast_signed}
 use Rattle.std.proofs.lemmas.Int.{ints, of_z-to_z}
 use Rattle.machine_state.specs.LocalStep.{address, target, word_of}
-use Rattle.module_format.specs.declared.limits.TheConstants.{MAX_LONG_CODE, MAX_CONSTANTS}
+use Rattle.module_format.specs.declared.limits.TheConstants.{MAX_LONG_CODE}
 
+-- a distance within code is a word
 pub distance_fits : (from to : ℕ) → from ≤ MAX_LONG_CODE → to ≤ MAX_LONG_CODE → FitsSigned w32 (pos to -ℤ pos from)
 distance_fits from to a b = omega (arith, ints)
 
+-- so is a number below 2^31
 pub number_fits : (n : ℕ) → n < 2 ^ 31 → FitsSigned w32 (pos n)
 number_fits n less = omega (arith, ints)
 

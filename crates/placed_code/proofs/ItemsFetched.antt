@@ -1,13 +1,11 @@
 -- The instructions of an item are fetched where the item begins, one after the other.
-use Rattle.std.proofs.Common.{◌≡◌, ◌⊎◌, ℕ, zero, suc, ◌+◌, ◌<◌, ◌≤◌, ℤ, pos, List, [], ◌∷◌, ◌++◌, length, drop, take}
+use Rattle.std.proofs.Common.{◌≡◌, ℕ, zero, suc, ◌+◌, pos, List, [], ◌∷◌, ◌++◌, length, drop}
 use Rattle.std.proofs.Common.{slice_get, Some, Ok, FitsSigned, refl, sym, ap, subst, ◌∙◌, inl, inr, arith, append_assoc}
-use Rattle.std.proofs.Common.{append-nil, length-append, zero-add, suc-add, add-zero}
-use Rattle.std.specs.Prelude.{sum, cond}
+use Rattle.std.proofs.Common.{append-nil, length-append, add-zero}
 use Rattle.std.specs.Int.{w32}
 use Rattle.std.specs.List.{AllByRecursion}
 use Rattle.std.proofs.lemmas.Bool.{cases_lt, lt-ltb, le-ltb}
 use Rattle.std.proofs.lemmas.List.{drop_at, drop-drop}
-use Rattle.prefix_decoder.specs.declared.function.Fun.{Fun}
 use Rattle.prefix_decoder.specs.declared.function.Fun.TheVariants as fun
 use Rattle.prefix_decoder.specs.declared.decoding.Instr.{Instr}
 use Rattle.prefix_decoder.specs.Spelling.{spelling}
@@ -17,11 +15,11 @@ use Rattle.prefix_decoder.proofs.Outcomes.{fetched-only}
 use Rattle.module_builder.specs.declared.item.Item.{Item}
 use Rattle.module_builder.specs.declared.item.Item.TheVariants as items
 use Rattle.module_builder.specs.Drafts.{Code}
-use Rattle.module_builder.specs.Layouts.{offset, value, load_len, Fits}
-use Rattle.module_builder.specs.Spelling.{spelled, spelled_item, filled, ldpi}
-use Rattle.module_builder.proofs.Growing.{offset-nil, offset-cons}
+use Rattle.module_builder.specs.Layouts.{offset, value, load_len}
+use Rattle.module_builder.specs.Spelling.{spelled, spelled_item, ldpi}
+use Rattle.module_builder.proofs.Growing.{offset-cons}
 use Rattle.module_builder.proofs.Places.{spelled_at}
-use Rattle.placed_code.specs.Instructions.{instruction, distance_to, filling, address_instructions, instructions_of}
+use Rattle.placed_code.specs.Instructions.{distance_to, filling, instructions_of}
 use Rattle.placed_code.specs.Instructions.{AreFetched, none, more, ItemsAreFetched}
 
 -- ---- offsets

@@ -8,6 +8,11 @@ pub mod Behaves
 pub mod PointsComeToBe
 pub mod Asking
 pub mod Stopping
+pub mod LinkNumbers
+pub mod ChangedItems
+pub mod WordBelow
+pub mod OneEnd
 pub mod Sending
 pub mod Receiving
 pub mod Closes
+pub mod RunsBegin

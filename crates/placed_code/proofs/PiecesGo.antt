@@ -1,6 +1,6 @@
 -- What pieces do where they lie.
-use Rattle.std.proofs.Common.{◌≡◌, ◌⊎◌, ℕ, ◌+◌, ◌-◌, ◌%◌, ◌^◌, ◌==◌, ℤ, pos, Bool, true, false, cond, List, Option}
-use Rattle.std.proofs.Common.{Some, Ok, FitsSigned, refl, sym, ap, subst, ◌∙◌, inl, inr, arith}
+use Rattle.std.proofs.Common.{◌≡◌, ℕ, ◌+◌, ◌-◌, ◌%◌, ◌^◌, ◌==◌, ℤ, pos, Bool, true, false, List, Option}
+use Rattle.std.proofs.Common.{Some, FitsSigned, refl, sym, ap, subst, ◌∙◌, inl, inr, arith}
 use Rattle.std.specs.Prelude.{unwrap_or, int_lt, if◌then◌else◌, ◌+ℤ◌}
 use Rattle.std.specs.Int.{w32}
 use Rattle.std.proofs.lemmas.Int.{ints}
@@ -15,19 +15,19 @@ use Rattle.machine_state.specs.declared.instruction.Instruction.{Instruction}
 use Rattle.machine_state.specs.declared.instruction.Instruction.TheVariants as instructions
 use Rattle.machine_state.specs.Instructions.{instruction_of, op_of}
 use Rattle.machine_state.specs.LocalStep.{address, target, word_of}
-use Rattle.machine_state.specs.Memory.{Memory}
 use Rattle.plain_machine.specs.declared.flow.PlainFlow.TheVariants as flow
-use Rattle.plain_machine.specs.PlainStep.{PlainState, Stepped, leaves, plain_step, plain_operation, with_turn}
+use Rattle.plain_machine.specs.PlainStep.{leaves, plain_step, plain_operation}
 use Rattle.code_pieces.specs.declared.operations.TheConstants.{LOOP_END, LOAD_POINTER_TO_INSTRUCTION}
-use Rattle.code_pieces.specs.Pieces.{Piece, Direct, Jump, JumpUnless, LoopBack, TableAddress}
+use Rattle.code_pieces.specs.Pieces.{Piece, Direct, Jump, JumpUnless, LoopBack}
 use Rattle.code_pieces.specs.Laying.{operand_at}
 use Rattle.placed_code.specs.LaidCode.{LaidCode, Fetches, Reaches, LoopsBack, LoadsTable, IsAt, Lie}
 use Rattle.placed_code.specs.LaidCode as laid
-use Rattle.placed_code.specs.Points.{Point, Executes, Steps, GoesTo, there, steps, point, state_in, without_top}
-use Rattle.placed_code.specs.Points.{turned, index_in, count_in, PiecesGo}
+use Rattle.placed_code.specs.Points.{Point, Steps, GoesTo, there, steps, point, without_top}
+use Rattle.placed_code.specs.Points.{turned, count_in, PiecesGo}
 use Rattle.placed_code.specs.StraightPieces.{Held, Leads, LeadOn, done, next, table, state_at, with_pushed}
 use Rattle.placed_code.specs.StraightPieces.{word_address}
 
+-- instructions after others
 pub goes_both : {c : LaidCode} {p q r : Point} → GoesTo c p q → GoesTo c q r → GoesTo c p r
 goes_both there b = b
 goes_both (steps x a) b = steps x (goes_both a b)

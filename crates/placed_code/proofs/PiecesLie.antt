@@ -1,16 +1,16 @@
 -- Where pieces lie in the code of a module that says them.
 use Rattle.std.proofs.Common.{◌≡◌, ◌⊎◌, ℕ, zero, suc, ◌+◌, ◌-◌, ◌*◌, ◌<◌, ◌≤◌, ℤ, pos, Bool, true, false, List, []}
 use Rattle.std.proofs.Common.{◌∷◌, ◌++◌}
-use Rattle.std.proofs.Common.{length, ◌%◌, ◌^◌, drop, get_or, slice_get, Option, Some, None, Ok, FitsSigned, refl}
+use Rattle.std.proofs.Common.{length, ◌%◌, ◌^◌, drop, get_or, slice_get, Option, Some, None, FitsSigned, refl}
 use Rattle.std.proofs.Common.{sym, ap, subst, ◌∙◌, inl, inr}
-use Rattle.std.proofs.Common.{arith, append_assoc, append-nil, length-append, zero-add, suc-add, add-zero, add-suc}
-use Rattle.std.specs.Prelude.{sum, unwrap_or, nat_eq, if◌then◌else◌, ◌-ℤ◌, slice_index_or}
+use Rattle.std.proofs.Common.{arith, append_assoc, length-append, zero-add, add-zero}
+use Rattle.std.specs.Prelude.{sum, unwrap_or, if◌then◌else◌, ◌-ℤ◌}
 use Rattle.std.specs.Int.{w32}
 use Rattle.std.specs.List.{AllByRecursion}
 use Rattle.std.specs.Option.{option_to_list}
 use Rattle.std.proofs.lemmas.Bool.{cases_lt, lt-ltb, le-ltb, eq-eqb}
 use Rattle.std.proofs.lemmas.Bool.Decides.{eqb_tells}
-use Rattle.std.proofs.lemmas.List.{drop_at, drop-drop, get_or_append_left, get_or-append-add}
+use Rattle.std.proofs.lemmas.List.{drop_at, drop-drop, get_or-append-add}
 use Rattle.prefix_decoder.specs.declared.function.Fun.{Fun}
 use Rattle.prefix_decoder.specs.declared.function.Fun.TheVariants as fun
 use Rattle.prefix_decoder.specs.Spelling.{spelling}
@@ -37,7 +37,7 @@ use Rattle.code_pieces.specs.Laying.{items_in, items_from, workspace_behind, lab
 use Rattle.code_pieces.specs.Laying.{tables_before}
 use Rattle.code_pieces.specs.Laying.{placed_from, places_of, are_same, operand_at, distance, operation}
 use Rattle.code_pieces.specs.Tables.{constants_of, table_bytes, value_bytes}
-use Rattle.placed_code.specs.Instructions.{AreFetched, none, more, instructions_of, instruction, filling, distance_to}
+use Rattle.placed_code.specs.Instructions.{AreFetched, none, more, instruction, filling, distance_to}
 use Rattle.placed_code.specs.Instructions.{address_instructions}
 use Rattle.placed_code.specs.LaidCode.{LaidCode, Fetches, Reaches, LoopsBack, LoadsTable, IsAt, Lie, laid_code}
 use Rattle.placed_code.specs.LaidCode.{item_count}
@@ -49,6 +49,7 @@ use Rattle.placed_code.proofs.ItemsFetched.{items_are_fetched}
 
 -- ---- single instructions
 
+-- the one instruction of a list
 one_fetched : {code : List ℕ} {at : ℕ} {i : Instr} {to : ℕ} → AreFetched code at (i ∷ []) to
     → Fetches code at i.fun i.operand to
 one_fetched (more {i = i} there none) = record { len = i.len; there = there; ends = refl }
@@ -61,6 +62,7 @@ pub record Three (code : List ℕ) (at : ℕ) (distance : ℤ) (to : ℕ) : Type
   pub fills : (middle ≡ last) ⊎ Fetches code middle fun.AddConstant (pos 0) last
   pub points : Fetches code last fun.Operate (pos ldpi) to
 
+-- without `adc 0`
 two_are : {code : List ℕ} {at to : ℕ} (distance : ℤ)
     → AreFetched code at (instruction fun.LoadConstant distance ∷ instruction fun.Operate (pos ldpi) ∷ []) to
     → Three code at distance to
@@ -72,6 +74,7 @@ two_are {at = at} distance (more there rest) = record {
   points = one_fetched rest;
 }
 
+-- with it
 three_are : {code : List ℕ} {at to : ℕ} (distance : ℤ)
     → AreFetched code at (instruction fun.LoadConstant distance ∷ instruction fun.AddConstant (pos 0)
     ∷ instruction fun.Operate (pos ldpi) ∷ []) to
@@ -84,6 +87,7 @@ three_are {at = at} distance (more there (more filled rest)) = record {
   points = one_fetched rest;
 }
 
+-- by whether the bytes before are fewer than there is place for
 address_fetched : (code : List ℕ) (at to : ℕ) (lengths : List ℕ) (end n : ℕ)
     → AreFetched code at (address_instructions lengths end n) to → Three code at (pos (distance_to lengths end n)) to
 address_fetched code at to lengths end n all =
@@ -96,6 +100,7 @@ address_fetched code at to lengths end n all =
 
 -- ---- lists from an item on
 
+-- the first item from a place on is the one at that place
 get_from_drop : {A : Type 0} (xs : List A) (n : ℕ) (x : A) (ys : List A) → drop n xs ≡ x ∷ ys
     → slice_get xs n ≡ Some x
 get_from_drop [] zero x ys is = absurd (cc)
@@ -105,12 +110,14 @@ get_from_drop (y ∷ xs) zero x ys is =
     ap Some same
 get_from_drop (y ∷ xs) (suc n) x ys is = get_from_drop xs n x ys is
 
+-- what is after it
 drop_next : {A : Type 0} (xs : List A) (n : ℕ) (x : A) (ys : List A) → drop n xs ≡ x ∷ ys → drop (suc n) xs ≡ ys
 drop_next [] zero x ys is = absurd (cc)
 drop_next [] (suc n) x ys is = absurd (cc)
 drop_next (y ∷ xs) zero x ys is = cc
 drop_next (y ∷ xs) (suc n) x ys is = drop_next xs n x ys is
 
+-- what is after some items from a place on
 drop_more : {A : Type 0} (xs ys zs : List A) (n : ℕ) → drop n xs ≡ ys ++ zs → drop (n + length ys) xs ≡ zs
 drop_more xs ys zs n is =
     sym (drop-drop (length ys) n xs) ∙ ap (drop (length ys)) is ∙ drop_at ys zs (length ys) refl
@@ -152,6 +159,7 @@ items_after ts workspace (p ∷ before) later =
     (drop_at first others (length (items_in [] (pos 0) p)) size)
     ∙ items_after ts (workspace_behind p workspace) before later
 
+-- the workspace after a piece
 depth_stays : (depth : ℕ) (p : Piece) (workspace : Workspace) → workspace.depth ≡ pos depth → StaysAt depth p
     → (workspace_behind p workspace).depth ≡ pos depth
 depth_stays depth (Direct f e) workspace is stays = is
@@ -199,11 +207,13 @@ number_other l k ns (Some m) other =
       | inr differs ↦ ap (λ (b : Bool). if b then k else number_at l ns) differs.0
     ]
 
+-- and its own is where it is counted
 number_here : (l k : ℕ) (ns : List Numbered) (o : Option ℕ) → o ≡ Some l → number_at l (with_label o k ns) ≡ k
 number_here l k ns o is =
     ap (λ (p : Option ℕ). number_at l (with_label p k ns)) is
     ∙ ap (λ (b : Bool). if b then k else number_at l ns) (eq-eqb l l refl)
 
+-- what holds of all labels holds of those of later pieces
 differ_rest : (o : Option ℕ) (ls : List ℕ) → AllDiffer (option_to_list o ++ ls) → AllDiffer ls
 differ_rest None ls all = all
 differ_rest (Some l) ls all = all.1
@@ -283,6 +293,7 @@ places_at (suc n) placed others l less =
 
 -- ---- tables
 
+-- a table has four bytes for each value
 length-table : (t : List ℤ) → length (table_bytes t) ≡ 4 * length t
 length-table [] = refl
 length-table (v ∷ t) =
@@ -304,6 +315,7 @@ offset_within (t ∷ ts) values =
     let here = offset_by (are_same t values) (4 * length t) (offset_in ts values) (length (constants_of ts)) rest in
     omega (arith, size, both, here)
 
+-- the operands of `adc 0` and of what is after it are words
 filling_words : (size len : ℕ) (is : List Instr) → AllByRecursion (λ (i : Instr). FitsSigned w32 i.operand) is
     → AllByRecursion (λ (i : Instr). FitsSigned w32 i.operand) (filling size len ++ is)
 filling_words size len is words =

@@ -1,13 +1,11 @@
 -- The bytes of instructions that ask nothing of others lead on, on the plain machine.
-use Rattle.std.proofs.Common.{◌≡◌, ℕ, ◌+◌, ℤ, pos, true, List, Option, Some, Ok, is_some, refl, sym, ap, subst, ◌∙◌}
-use Rattle.prefix_decoder.specs.declared.decoding.Instr.{Instr}
-use Rattle.prefix_decoder.specs.Fetching.{fetched}
+use Rattle.std.proofs.Common.{◌≡◌, ℕ, ◌+◌, true, Option, Some, is_some, refl, sym, ap, ◌∙◌}
 use Rattle.machine_state.specs.declared.instruction.Instruction.{Instruction}
 use Rattle.plain_machine.specs.declared.decoded.DecodedInstruction.{DecodedInstruction}
 use Rattle.plain_machine.specs.Decoded.{instruction_in, decoded_operation, decoded_fetched, decoded_at}
 use Rattle.plain_machine.specs.PlainByte.{function_step}
-use Rattle.plain_machine.specs.PlainRun.{PlainPoint, RunsTo, CanRun}
-use Rattle.plain_machine.specs.PlainStep.{PlainState, Stepped, leaves, plain_step}
+use Rattle.plain_machine.specs.PlainRun.{PlainPoint, CanRun}
+use Rattle.plain_machine.specs.PlainStep.{PlainState, leaves, plain_step}
 use Rattle.plain_machine.proofs.DecodedOperations.{decodes}
 use Rattle.plain_machine.proofs.WholeInstructions.{next_in, leads_on}
 use Rattle.placed_code.specs.LaidCode.{LaidCode}
@@ -15,6 +13,7 @@ use Rattle.placed_code.specs.Points.{Point, Steps, GoesTo, there, steps, plain_p
 use Rattle.placed_code.specs.StraightPieces.{state_at, word_address}
 
 module _ (c : LaidCode) (executed : ℕ) (from : PlainPoint) (can : CanRun c.start c.code executed from) where
+  -- one instruction
   step_comes : (p q : Point) → Steps c p q → Comes c.start c.code from (plain_point c p)
       → Comes c.start c.code from (plain_point c q)
   step_comes p q x came =
@@ -38,6 +37,7 @@ module _ (c : LaidCode) (executed : ℕ) (from : PlainPoint) (can : CanRun c.sta
             (leaves x.flow (state_in c q)) does here x.alone;
       }
 
+  -- several
   goes_come : {p q : Point} → GoesTo c p q → Comes c.start c.code from (plain_point c p)
       → Comes c.start c.code from (plain_point c q)
   goes_come there came = came

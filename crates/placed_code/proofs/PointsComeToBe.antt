@@ -1,15 +1,14 @@
 -- A run of an accepted module goes on to the points to which instructions lead that ask nothing of others.
-use Rattle.std.proofs.Common.{◌≡◌, ℕ, zero, suc, ◌+◌, ◌*◌, ℤ, pos, Bool, true, false, List, [], ◌∷◌, Option, Some, None}
-use Rattle.std.proofs.Common.{Ok, Err, Result, refl, sym, ap, subst, ◌∙◌, arith, is_some, add-zero, add-suc}
+use Rattle.std.proofs.Common.{◌≡◌, ℕ, zero, suc, ◌+◌, Bool, true, Option, Some, None}
+use Rattle.std.proofs.Common.{Ok, Result, refl, sym, ap, subst, ◌∙◌, add-zero, add-suc}
 use Rattle.std.specs.Prelude.{if◌then◌else◌}
 use Rattle.module_format.specs.Contents.{Contents}
 use Rattle.machine_state.specs.declared.fault.Fault.{Fault}
 use Rattle.machine_state.specs.Happens.{Effect, ran, turn, happens}
-use Rattle.machine_state.specs.Memory.{data_start}
 use Rattle.machine_state.specs.World.{World}
 use Rattle.link_runs.specs.ByLink.{ByLink}
 use Rattle.link_runs.specs.Driving.{Quietly}
-use Rattle.link_runs.specs.FirstInFirstOut.{Supply, RunMoment, IsRun, next, next_of, moment_after, plain_step, stepped}
+use Rattle.link_runs.specs.FirstInFirstOut.{Supply, RunMoment, IsRun, next, next_of, plain_step, stepped}
 use Rattle.link_runs.specs.FirstInFirstOut.{followed_up, answered_by, asked}
 use Rattle.link_runs.specs.Wanting.{is_running}
 use Rattle.plain_machine.specs.PlainRun.{PlainPoint, RunsTo, CanRun}
@@ -21,7 +20,7 @@ use Rattle.accepted_runs.proofs.RunningAlone.{can_step, there, leads, can_run_al
 use Rattle.program_meaning.specs.Links.{Links}
 use Rattle.placed_code.specs.Closing.{code_of, moment_from, ComesToBe, RunsGoOn, At, HasLinks, PointsComeToBe}
 use Rattle.placed_code.specs.LaidCode.{LaidCode}
-use Rattle.placed_code.specs.Points.{Point, GoesTo, Comes, plain_point}
+use Rattle.placed_code.specs.Points.{Point, GoesTo, plain_point}
 use Rattle.placed_code.specs.StraightPieces.{Footing}
 use Rattle.placed_code.proofs.PointsComeTo.{points_are_come_to}
 

@@ -1,10 +1,9 @@
 -- A message that the only process receives: byte by byte it comes, as far as there are bytes.
 use Rattle.std.proofs.Common.{◌≡◌, ◌≢◌, ◌⊎◌, ℕ, zero, suc, ◌+◌, ◌*◌, ◌%◌, ◌^◌, ◌<◌, ◌≤◌, ◌==◌, ℤ, pos, Bool, true}
 use Rattle.std.proofs.Common.{false}
-use Rattle.std.proofs.Common.{List, [], ◌∷◌, ◌++◌, length, take, drop, Option, Some, None, Ok, slice_get, refl, sym, ap}
-use Rattle.std.proofs.Common.{subst, ◌∙◌, arith, inl, inr, add-zero, append_assoc, append-nil, length-append, is_some}
-use Rattle.std.specs.Prelude.{unwrap_or, if◌then◌else◌, replicate, slice_set, ◌&&◌, ◌||◌, is_none, nat_le, nat_eq}
-use Rattle.std.proofs.Math.Seq.{take-nil}
+use Rattle.std.proofs.Common.{List, [], ◌∷◌, ◌++◌, length, take, drop, Option, Some, None, slice_get, refl, sym, ap}
+use Rattle.std.proofs.Common.{subst, ◌∙◌, arith, inl, inr, append_assoc, append-nil, length-append, is_some}
+use Rattle.std.specs.Prelude.{unwrap_or, if◌then◌else◌, replicate, slice_set, ◌&&◌, ◌||◌, is_none, nat_eq}
 use Rattle.std.proofs.lemmas.Bool.{eq-eqb, ne_eqb, leb-true, leb-false}
 use Rattle.std.proofs.lemmas.Option.{slice_get_within}
 use Rattle.module_format.specs.Contents.{Contents}
@@ -21,12 +20,12 @@ use Rattle.machine_state.specs.declared.instruction.Instruction.TheVariants.{Ope
 use Rattle.machine_state.specs.Exchanges.{link_of, input_link}
 use Rattle.machine_state.specs.Happens.{ran, turn, happens, world_after}
 use Rattle.machine_state.specs.LocalStep.{address}
-use Rattle.machine_state.specs.Memory.{Memory, data_start, place_of, scheduling_word, byte_at, with_byte, with_word}
+use Rattle.machine_state.specs.Memory.{Memory, data_start, place_of, scheduling_word, byte_at, with_byte}
 use Rattle.machine_state.specs.Memory.{word_at}
 use Rattle.machine_state.specs.Moves.{link_index}
-use Rattle.machine_state.specs.World.{World, input_word}
+use Rattle.machine_state.specs.World.{World}
 use Rattle.machine_state.proofs.Lines.{got_set, got_other}
-use Rattle.machine_state.proofs.Reading.{word_at-with_word, byte_at-with_word_other, length-with_word, length-with_byte}
+use Rattle.machine_state.proofs.Reading.{word_at-with_word, length-with_word, length-with_byte}
 use Rattle.machine_state.proofs.Reading.{byte_at-with_byte, byte_at-with_byte_other, word_at-with_byte_other}
 use Rattle.link_runs.specs.ByLink.{ByLink, of_link, with_link, first_link}
 use Rattle.link_runs.specs.FirstInFirstOut.{Supply, RunMoment, next, next_of, plain_step, stepped, answered_by, asked}
@@ -39,14 +38,13 @@ use Rattle.plain_machine.specs.PlainStep.{PlainState, Stepped, plain_operation, 
 use Rattle.plain_machine.specs.PlainStep.{HasWord, plain_word}
 use Rattle.agreement.specs.Agrees.{PlainMachine, PlainInput, PlainArrival, Agrees, code_word}
 use Rattle.agreement.specs.Arriving.{Comes, runs_on}
-use Rattle.agreement.specs.Leaving.{waiting_by, awaited_by, dispatched_in, resumed}
+use Rattle.agreement.specs.Leaving.{waiting_by, dispatched_in, resumed}
 use Rattle.agreement.specs.TurnsAgree.{byte_stepped, plain_state}
 use Rattle.agreement.specs.Waking.{IsTaken, taken_by, waiting_on, filled_by, next_place}
 use Rattle.agreement.proofs.ChannelWords.{address_fits}
 use Rattle.agreement.proofs.Dispatching.{code_word_is}
 use Rattle.agreement.proofs.Links.{inputs_are_shown}
 use Rattle.agreement.proofs.Taking.{bytes_are_taken}
-use Rattle.plain_run.specs.RunningAlone.{point_on}
 use Rattle.plain_run.specs.Stepping.{IsButForLinks, executed_by, AsksInput, received}
 use Rattle.plain_run.proofs.Stepping.{can_receive, receives}
 use Rattle.accepted_runs.specs.Running.{AgreesOn}
@@ -55,32 +53,27 @@ use Rattle.accepted_runs.proofs.RunningAlone.{can_step, there, leads}
 use Rattle.scalar_ranges.specs.Environments.{item_at}
 use Rattle.program_meaning.specs.Links.{Port, Links, Incoming, with_item, read_on, after_reading, incoming_at}
 use Rattle.program_meaning.specs.Links.{nothing_came, message_length}
-use Rattle.placed_code.specs.Behaves.{Receives, Filled, Has, IsBuffer, IsScheduling, IsAmong, buffer}
+use Rattle.placed_code.specs.Behaves.{Receives, Filled, Has, IsScheduling, IsAmong, buffer}
 use Rattle.placed_code.specs.Closing.{code_of, moment_from, ComesToBe, At, HasLinks, IsOverWith, HasFilled, idle_input}
-use Rattle.placed_code.specs.Closing.{bytes_left, written_at, ReceivesComeToBe}
+use Rattle.placed_code.specs.Closing.{bytes_left, ReceivesComeToBe}
 use Rattle.placed_code.specs.LaidCode.{LaidCode}
 use Rattle.placed_code.specs.Points.{Point, point, state_in, plain_point}
-use Rattle.placed_code.specs.StraightPieces.{Footing, Held, state_at, word_address, word_place}
+use Rattle.placed_code.specs.StraightPieces.{Footing, word_address}
 use Rattle.placed_code.proofs.Asking as asking
 use Rattle.placed_code.proofs.Asking.{Asks}
+use Rattle.placed_code.proofs.LinkNumbers.{index_is, input_is}
+use Rattle.placed_code.proofs.ChangedItems.{item_same, item_other, length-with_item}
+use Rattle.placed_code.proofs.OneEnd.{one_end}
+use Rattle.placed_code.proofs.WordBelow.{below_place, beside_words, beside_stays}
 use Rattle.placed_code.proofs.PointsComeToBe.{links_stay, one_turn, quiet_turns, later_still}
-use Rattle.placed_code.proofs.Sending.{beside_stays}
-use Rattle.placed_code.proofs.Sending.{index_is, item_same, item_other, length-with_item, below_place, beside_words}
-use Rattle.placed_code.proofs.Sending.{one_end}
 
--- ---- links by their numbers
-
-input_is : (k : ℕ) → k < 4 → input_link (input_word k) ≡ Some (link_index (link_of k))
-input_is zero less = refl
-input_is (suc zero) less = refl
-input_is (suc (suc zero)) less = refl
-input_is (suc (suc (suc zero))) less = refl
-input_is (suc (suc (suc (suc k)))) less = absurd (omega (arith, less))
+-- ---- inputs
 
 -- the inputs where somebody waits on one of them
 abbrev awaiting : Link → PlainInput → List PlainInput
 awaiting link i = slice_set (replicate 4 idle_input) (link_index link) i
 
+-- a link that is idle
 idle_of : (link : Link) → slice_get (replicate 4 idle_input) (link_index link) ≡ Some idle_input
 idle_of Zero = refl
 idle_of One = refl
@@ -100,6 +93,7 @@ awaited_no_more One i = refl
 awaited_no_more Two i = refl
 awaited_no_more Three i = refl
 
+-- the lowest link that is this one
 first_same : (link : Link) → first_link (λ on. nat_eq (link_index link) (link_index on)) ≡ Some link
 first_same Zero = refl
 first_same One = refl
@@ -128,6 +122,7 @@ reading_next : (n k : ℕ) (l : Links) (b : ℕ) (rest : List ℕ) → (incoming
 reading_next n k l b rest is =
     ap (λ (xs : List Incoming). record { incoming = xs; written = l.written }) (items_next n k l.incoming b rest is)
 
+-- no byte is read
 items_stay : (k : ℕ) (xs : List Incoming) → with_item (read_on 0) k xs ≡ xs
 items_stay k [] = refl
 items_stay zero (x ∷ xs) =
@@ -145,6 +140,7 @@ left_then k l b rest less is =
     ap (λ (i : Incoming). i.unread) (item_same (read_on 1) k l.incoming nothing_came less)
     ∙ ap (λ (u : List ℕ). drop 1 u) is
 
+-- what a link has to give, if it has a byte
 supply_is : (o : Supply) (b : ℕ) (rest : List ℕ) → bytes_left o ≡ b ∷ rest → o ≡ Some (b ∷ rest)
 supply_is None b rest is = absurd (cc)
 supply_is (Some bytes) b rest is = ap Some is
@@ -342,11 +338,13 @@ module _ (m : Contents) (labels : ℕ → ℕ) (footing : Footing) (shallow : fo
     abbrev events_there : Agrees m w.machine (world_after m w.on.runs.reached.events)
     events_there = subst (λ (v : World). Agrees m w.machine v) w.on.runs.reached.world w.on.agrees
 
+    -- its own link
     here_is : slice_get w.machine.inputs (link_index link) ≡ Some (waiting (length bytes))
     here_is =
         ap (λ (xs : List PlainInput). slice_get xs (link_index link)) w.inputs
         ∙ got_set (replicate 4 idle_input) (link_index link) idle_input (waiting (length bytes)) (idle_of link)
 
+    -- another one
     there_is : (on : Link) → link_index link ≢ link_index on
         → slice_get w.machine.inputs (link_index on) ≡ Some idle_input
     there_is on differ =
@@ -374,6 +372,7 @@ module _ (m : Contents) (labels : ℕ → ℕ) (footing : Footing) (shallow : fo
         ap (λ (b : Bool). if b then Some (stepped m writers s) else answered_by m s (asked s)) still
         ∙ ap (λ (o : Option Link). answered_by m s o) is
 
+    -- if its link has ended, none is asked
     none_asked : of_link s.left link ≡ None → asked s ≡ None
     none_asked ended =
         first_alike (can_be_asked s) (λ on. false) (λ on. elim (compared link on) [
@@ -385,6 +384,7 @@ module _ (m : Contents) (labels : ℕ → ℕ) (footing : Footing) (shallow : fo
               ap (λ (b : Bool). b && is_some (of_link s.left on)) (wants_by on idle_input (there_is on differ))
         ])
 
+    -- otherwise it is
     link_asked : (supply : List ℕ) → of_link s.left link ≡ Some supply → asked s ≡ Some link
     link_asked supply some =
         first_alike (can_be_asked s) (λ on. nat_eq (link_index link) (link_index on)) (λ on.

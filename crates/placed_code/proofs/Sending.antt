@@ -1,16 +1,11 @@
 -- A message that the only process sends: it goes out, and the process goes on if something listens.
-use Rattle.std.proofs.Common.{◌≡◌, ◌≢◌, ◌⊎◌, ℕ, zero, suc, ◌+◌, ◌*◌, ◌%◌, ◌^◌, ◌<◌, ◌≤◌, ℤ, pos, negsuc, Bool, true}
+use Rattle.std.proofs.Common.{◌≡◌, ℕ, suc, ◌+◌, ◌*◌, ◌%◌, ◌^◌, ◌<◌, ◌≤◌, ℤ, pos, Bool, true}
 use Rattle.std.proofs.Common.{false, List}
-use Rattle.std.proofs.Common.{[], ◌∷◌, ◌++◌, length, Option, Some, None, Ok, Err, Result, slice_get, refl, sym, ap}
+use Rattle.std.proofs.Common.{[], ◌∷◌, ◌++◌, length, Option, Some, None, Ok, Result, slice_get, refl, sym, ap}
 use Rattle.std.proofs.Common.{subst}
-use Rattle.std.proofs.Common.{◌∙◌, arith, inl, inr, add-zero, add-suc}
+use Rattle.std.proofs.Common.{◌∙◌, arith, inl, inr, add-zero}
 use Rattle.std.specs.Prelude.{unwrap_or, if◌then◌else◌, replicate, slice_set}
-use Rattle.std.proofs.lemmas.Int.{ints}
-use Rattle.std.proofs.lemmas.Bool.{cases_lt}
 use Rattle.std.proofs.lemmas.Option.{slice_get_within}
-use Rattle.prefix_decoder.specs.declared.function.Fun.{Fun}
-use Rattle.prefix_decoder.specs.declared.decoding.Instr.{Instr}
-use Rattle.prefix_decoder.specs.declared.decoding.DecodeFault.{DecodeFault}
 use Rattle.module_format.specs.Contents.{Contents}
 use Rattle.machine_state.specs.declared.event.Event.TheVariants.{Acknowledge}
 use Rattle.machine_state.specs.declared.fault.Fault.{Fault}
@@ -19,13 +14,13 @@ use Rattle.machine_state.specs.declared.link.Link.TheVariants.{Zero, One, Two, T
 use Rattle.machine_state.specs.declared.op.Op.TheVariants as ops
 use Rattle.machine_state.specs.declared.instruction.Instruction.TheVariants.{Operate}
 use Rattle.machine_state.specs.Exchanges.{link_of, output_link, bytes_at}
-use Rattle.machine_state.specs.Happens.{Effect, emitted, turn, happens, world_after}
+use Rattle.machine_state.specs.Happens.{Effect, emitted, turn, happens}
 use Rattle.machine_state.specs.LocalStep.{address}
-use Rattle.machine_state.specs.Memory.{Memory, data_start, place_of, local_address, scheduling_word, byte_at, with_word}
+use Rattle.machine_state.specs.Memory.{Memory, data_start, place_of, scheduling_word, byte_at}
 use Rattle.machine_state.specs.Memory.{word_at}
 use Rattle.machine_state.specs.Moves.{link_index}
-use Rattle.machine_state.specs.World.{World, output_word}
-use Rattle.machine_state.proofs.Reading.{word_at-with_word, byte_at-with_word_other, length-with_word}
+use Rattle.machine_state.specs.World.{World}
+use Rattle.machine_state.proofs.Reading.{word_at-with_word, length-with_word}
 use Rattle.link_runs.specs.ByLink.{ByLink, of_link, with_link}
 use Rattle.link_runs.specs.FirstInFirstOut.{RunMoment, next, next_of, plain_step, stepped, answered_by, asked}
 use Rattle.link_runs.specs.FirstInFirstOut.{followed_up, delivered}
@@ -36,55 +31,35 @@ use Rattle.plain_machine.specs.PlainStep as plain
 use Rattle.plain_machine.specs.PlainStep.{PlainState, Stepped, plain_operation, with_plain_word, plain_code_offset}
 use Rattle.plain_machine.specs.PlainStep.{plain_word, HasWord}
 use Rattle.agreement.specs.Agrees.{PlainMachine, Agrees, code_word}
-use Rattle.agreement.specs.Arriving.{Comes, runs_on}
+use Rattle.agreement.specs.Arriving.{runs_on}
 use Rattle.agreement.specs.Leaving.{sent_by, message_in, dispatched_in, resumed}
 use Rattle.agreement.specs.TurnsAgree.{Emits, byte_stepped, plain_state}
 use Rattle.agreement.specs.Waking.{acknowledged_on, IsAcknowledged}
 use Rattle.agreement.proofs.Acknowledging.{acknowledged_go_on}
 use Rattle.agreement.proofs.ChannelWords.{address_fits}
 use Rattle.agreement.proofs.Dispatching.{code_word_is}
-use Rattle.plain_run.specs.RunningAlone.{point_on}
 use Rattle.plain_run.specs.Stepping.{IsButForLinks, executed_by, AsksOutput, sent}
 use Rattle.plain_run.proofs.Stepping.{can_send, sends}
 use Rattle.accepted_runs.specs.Running.{AgreesOn}
 use Rattle.accepted_runs.proofs.NeverAtFault.{runs_further}
 use Rattle.accepted_runs.proofs.RunningAlone.{can_step, there}
-use Rattle.code_pieces.specs.declared.modules.TheConstants.{BASE}
-use Rattle.scalar_ranges.specs.Environments.{item_at}
-use Rattle.program_meaning.specs.Links.{Port, Links, with_item, after_writing}
-use Rattle.placed_code.specs.Behaves.{IsSending, Has, IsBuffer, IsScheduling, Waited, buffer}
+use Rattle.program_meaning.specs.Links.{Port, Links, after_writing}
+use Rattle.placed_code.specs.Behaves.{IsSending, Has, Waited, buffer}
 use Rattle.placed_code.specs.Closing.{code_of, moment_from, ComesToBe, At, HasLinks, IsOverWith, HasWaited, listens}
-use Rattle.placed_code.specs.Closing.{in_order, written_at, SendsComeToBe}
-use Rattle.placed_code.specs.LaidCode.{LaidCode, Fetches}
+use Rattle.placed_code.specs.Closing.{written_at, SendsComeToBe}
+use Rattle.placed_code.specs.LaidCode.{LaidCode}
 use Rattle.placed_code.specs.Points.{Point, point, state_in, plain_point}
-use Rattle.placed_code.specs.StraightPieces.{Footing, Held, state_at, word_address, word_place}
+use Rattle.placed_code.specs.StraightPieces.{Footing, word_address}
 use Rattle.placed_code.proofs.Asking as asking
 use Rattle.placed_code.proofs.Asking.{Asks}
+use Rattle.placed_code.proofs.LinkNumbers.{index_is, output_is, listens_is}
+use Rattle.placed_code.proofs.ChangedItems.{item_same, item_other, length-with_item}
+use Rattle.placed_code.proofs.OneEnd.{one_end}
+use Rattle.placed_code.proofs.WordBelow.{beside_words, beside_stays}
 use Rattle.placed_code.proofs.PointsComeToBe.{links_stay, quiet_turns}
 use Rattle.placed_code.proofs.Stopping.{rests}
 
--- ---- links by their numbers
-
-pub index_is : (k : ℕ) → k < 4 → link_index (link_of k) ≡ k
-index_is zero less = refl
-index_is (suc zero) less = refl
-index_is (suc (suc zero)) less = refl
-index_is (suc (suc (suc zero))) less = refl
-index_is (suc (suc (suc (suc k)))) less = absurd (omega (arith, less))
-
-output_is : (k : ℕ) → k < 4 → output_link (output_word k) ≡ Some (link_index (link_of k))
-output_is zero less = refl
-output_is (suc zero) less = refl
-output_is (suc (suc zero)) less = refl
-output_is (suc (suc (suc zero))) less = refl
-output_is (suc (suc (suc (suc k)))) less = absurd (omega (arith, less))
-
-listens_is : (writers : ByLink Bool) (k : ℕ) → k < 4 → listens writers k ≡ of_link writers (link_of k)
-listens_is writers zero less = refl
-listens_is writers (suc zero) less = refl
-listens_is writers (suc (suc zero)) less = refl
-listens_is writers (suc (suc (suc zero))) less = refl
-listens_is writers (suc (suc (suc (suc k)))) less = absurd (omega (arith, less))
+-- ---- outputs
 
 -- the output on which a process waits, and once it does not
 waits_there : (outputs : List (Option ℕ)) (link : Link) (workspace : ℕ) → outputs ≡ replicate 4 None
@@ -106,26 +81,7 @@ idle_again outputs Two workspace is =
 idle_again outputs Three workspace is =
     ap (λ (xs : List (Option ℕ)). slice_set (slice_set xs 3 (Some workspace)) 3 None) is
 
--- ---- items that are changed
-
-pub item_same : {A : Type 0} (f : A → A) (i : ℕ) (xs : List A) (d : A) → i < length xs
-    → unwrap_or (item_at i (with_item f i xs)) d ≡ f (unwrap_or (item_at i xs) d)
-item_same f i [] d less = absurd (omega (arith, less))
-item_same f zero (x ∷ xs) d less = refl
-item_same f (suc i) (x ∷ xs) d less = item_same f i xs d (omega (arith, less))
-
-pub item_other : {A : Type 0} (f : A → A) (i j : ℕ) (xs : List A) → i ≢ j
-    → item_at j (with_item f i xs) ≡ item_at j xs
-item_other f i j [] differ = refl
-item_other f zero zero (x ∷ xs) differ = absurd (differ refl)
-item_other f zero (suc j) (x ∷ xs) differ = refl
-item_other f (suc i) zero (x ∷ xs) differ = refl
-item_other f (suc i) (suc j) (x ∷ xs) differ = item_other f i j xs (λ e. differ (ap suc e))
-
-pub length-with_item : {A : Type 0} (f : A → A) (i : ℕ) (xs : List A) → length (with_item f i xs) ≡ length xs
-length-with_item f i [] = refl
-length-with_item f zero (x ∷ xs) = refl
-length-with_item f (suc i) (x ∷ xs) = ap suc (length-with_item f i xs)
+-- ---- what was written
 
 -- what was written is followed by the message
 written_on : (l : Links) (s : RunMoment) (port : ℕ) (message : List ℕ) (on : Link) → HasLinks l s → port < 4
@@ -150,11 +106,7 @@ written_on l s port message on links less =
           (item_other more port (link_index on) l.written (λ e. differ (k ∙ e))))
     ]
 
--- ---- word W-1
-
-pub below_place : (d : ℕ) → d < 2 ^ 28 → place_of (scheduling_word (word_address d) 0) + 4 ≡ word_place d
-unfolding place_of local_address
-below_place d small = omega (arith, ints)
+-- ---- the bytes of a message
 
 -- a message that lies beside it is the same
 bytes_are : (memory : Memory) (place : ℕ) (bytes : List ℕ) → Has memory place bytes
@@ -169,45 +121,6 @@ bytes_are memory place (b ∷ bytes) has =
     subst (λ (n : ℕ). byte_at memory n ≡ Some byte) next (has (suc i) byte is)) in
     ap (λ (o : Option ℕ). unwrap_or o 0 ∷ bytes_at memory (place + 1) (length bytes)) first
     ∙ ap (λ (xs : List ℕ). b ∷ xs) (bytes_are memory (place + 1) bytes rest)
-
--- what is not among the words that scheduling takes is before them or after
-pub beside_words : (d place : ℕ) → (IsScheduling d place → ⊥) → (place + 4 < word_place d) ⊎ (word_place d ≤ place)
-beside_words d place free =
-    elim (cases_lt place (4 * d)) [
-      | inl low ↦ inl (omega (arith, low))
-      | inr high ↦ elim (cases_lt place (word_place d)) [
-        | inl below ↦ absurd (free (high, below))
-        | inr above ↦ inr above
-      ]
-    ]
-
--- what is beside the words that scheduling takes stays when word W-1 is written
-pub beside_stays : (d : ℕ) → d < 2 ^ 28 → (memory : Memory) (v : ℤ) (place : ℕ)
-    → (place + 4 < word_place d) ⊎ (word_place d ≤ place)
-    → byte_at (with_plain_word (scheduling_word (word_address d) 0) v memory) place ≡ byte_at memory place
-beside_stays d small memory v place (inl low) =
-    let w = below_place d small in
-    byte_at-with_word_other memory (place_of (scheduling_word (word_address d) 0)) place (Some v)
-    (inl (omega (arith, w, low)))
-beside_stays d small memory v place (inr high) =
-    let w = below_place d small in
-    byte_at-with_word_other memory (place_of (scheduling_word (word_address d) 0)) place (Some v)
-    (inr (omega (arith, w, high)))
-
--- ---- where an instruction ends
-
-len_in : Result Instr DecodeFault → ℕ
-len_in (Ok i) = i.len
-len_in (Err e) = 0
-
-pub one_end : (code : List ℕ) (at : ℕ) (f g : Fun) (e d : ℤ) (to end : ℕ) → Fetches code at f e to
-    → Fetches code at g d end → to ≡ end
-unfolding len_in
-one_end code at f g e d to end x y =
-    let len : x.len ≡ y.len = sym (ap len_in x.there) ∙ ap len_in y.there in
-    let first = x.ends in
-    let second = y.ends in
-    omega (arith, len, first, second)
 
 -- ---- a message that goes out
 

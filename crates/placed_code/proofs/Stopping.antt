@@ -1,5 +1,5 @@
 -- A run in which the only process stops or waits, and no byte is awaited, is over.
-use Rattle.std.proofs.Common.{◌≡◌, ℕ, suc, ◌+◌, ◌*◌, Bool, true, false, List, [], ◌∷◌, Option, Some, None, Ok, refl}
+use Rattle.std.proofs.Common.{◌≡◌, ℕ, suc, Bool, true, false, List, Option, Some, None, refl}
 use Rattle.std.proofs.Common.{sym, ap, subst, ◌∙◌, is_some, slice_get}
 use Rattle.std.specs.Prelude.{◌&&◌, ◌||◌, is_none, if◌then◌else◌, replicate}
 use Rattle.module_format.specs.Contents.{Contents}
@@ -11,7 +11,7 @@ use Rattle.machine_state.specs.declared.instruction.Instruction.TheVariants.{Ope
 use Rattle.machine_state.specs.Happens.{ran, turn, happens, world_after}
 use Rattle.machine_state.specs.Moves.{link_index}
 use Rattle.machine_state.specs.World.{World}
-use Rattle.link_runs.specs.ByLink.{ByLink, of_link, first_link}
+use Rattle.link_runs.specs.ByLink.{ByLink, of_link}
 use Rattle.link_runs.specs.FirstInFirstOut.{RunMoment, IsOver, next, next_of, plain_step, stepped, answered_by, asked}
 use Rattle.link_runs.specs.FirstInFirstOut.{can_be_asked}
 use Rattle.link_runs.specs.Wanting.{is_running, wants, asks}
@@ -31,13 +31,14 @@ use Rattle.program_meaning.specs.Links.{Links}
 use Rattle.placed_code.specs.Behaves.{Stops}
 use Rattle.placed_code.specs.Closing.{code_of, idle_input, ComesToBe, At, IsOverWith, StopsComeToBe}
 use Rattle.placed_code.specs.LaidCode.{LaidCode}
-use Rattle.placed_code.specs.Points.{Point, point, state_in}
+use Rattle.placed_code.specs.Points.{Point}
 use Rattle.placed_code.specs.StraightPieces.{Footing}
 use Rattle.placed_code.proofs.Asking as asking
 use Rattle.placed_code.proofs.PointsComeToBe.{links_stay, one_turn, quiet_turns}
 
 -- ---- nobody runs, and no byte is awaited
 
+-- each link is idle
 pub idle_there : (inputs : List PlainInput) (link : Link) → inputs ≡ replicate 4 idle_input
     → slice_get inputs (link_index link) ≡ Some idle_input
 idle_there inputs Zero is = ap (λ (xs : List PlainInput). slice_get xs 0) is
@@ -56,6 +57,7 @@ wants_nothing link w input here kept waiting enabled =
 
 module _ (m : Contents) (machine : PlainMachine) (w : World) (on : AgreesOn m machine w)
     (inputs : machine.inputs ≡ replicate 4 idle_input) where
+  -- so no byte is wanted
   nothing_wanted : (link : Link) → wants link w ≡ false
   nothing_wanted link =
       let events = on.runs.reached.events in
@@ -65,6 +67,7 @@ module _ (m : Contents) (machine : PlainMachine) (w : World) (on : AgreesOn m ma
       subst (λ (v : World). wants link v ≡ false) (sym on.runs.reached.world)
       (wants_nothing link (world_after m events) x.link x.here x.kept x.waiting x.enabled)
 
+  -- and if nobody runs, the run is over
   pub rests : (writers : ByLink Bool) (s : RunMoment) → s.world ≡ w → machine.is_running ≡ false → IsOver m writers s
   unfolding next
   rests writers s is off =

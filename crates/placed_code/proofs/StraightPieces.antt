@@ -3,6 +3,7 @@ use Rattle.std.proofs.Common.{List, ◌++◌}
 use Rattle.code_pieces.specs.Pieces.{Piece}
 use Rattle.placed_code.specs.StraightPieces.{Footing, Held, LeadOn, done, next, table, StraightPiecesFollow}
 
+-- pieces, and then others
 pub lead_both : {w : Footing} {ps qs : List Piece} {g h k : Held} → LeadOn w ps g h → LeadOn w qs h k
     → LeadOn w (ps ++ qs) g k
 lead_both done b = b

@@ -1,14 +1,22 @@
 -- What comes of a process over links, in a run of an accepted module where it is the only process.
-use Rattle.std.specs.Prelude.{◌≡◌, ℕ, zero, suc, ◌+◌, ◌*◌, ◌^◌, ◌<◌, true, false, Bool, List, [], ◌∷◌, length}
+use Rattle.std.specs.Prelude.{◌≡◌, ℕ, zero, suc, pos, ◌+◌, ◌*◌, ◌^◌, ◌<◌, true, false, Bool, List, [], ◌∷◌, length}
 use Rattle.std.specs.Prelude.{take, replicate, unwrap_or, nat_le, Option, Some, None}
 use Rattle.module_format.specs.Contents.{Contents}
+use Rattle.module_format.specs.Keeping.{Keeps}
+use Rattle.module_format.specs.Stack.{of_empty}
 use Rattle.module_format.specs.Order.{IsBytes}
 use Rattle.machine_state.specs.declared.link.Link.{Link}
 use Rattle.machine_state.specs.Memory.{data_start}
 use Rattle.machine_state.specs.Moves.{link_index}
 use Rattle.link_runs.specs.ByLink.{ByLink, of_link}
-use Rattle.link_runs.specs.FirstInFirstOut.{Supply, RunMoment, IsRun, IsOver, next_of}
+use Rattle.link_runs.specs.FirstInFirstOut.{Supply, RunMoment, IsRun, IsOver, next_of, beginning}
 use Rattle.agreement.specs.Agrees.{PlainMachine, PlainInput}
+use Rattle.agreement.specs.Loading.{loaded_bytes}
+use Rattle.plain_machine.specs.Plain.{defined}
+use Rattle.verifier.specs.Headline.{RunsWell}
+use Rattle.code_pieces.specs.declared.modules.TheConstants.{BASE}
+use Rattle.code_pieces.specs.Pieces.{Piece}
+use Rattle.code_pieces.specs.LaidModule.{Says, laid_module}
 use Rattle.plain_run.specs.RunningAlone.{point_on}
 use Rattle.accepted_runs.specs.Running.{AgreesOn}
 use Rattle.scalar_ranges.specs.Environments.{Environment, item_at}
@@ -16,7 +24,7 @@ use Rattle.program_meaning.specs.Links.{Port, Links, incoming_at, after_reading,
 use Rattle.program_meaning.specs.Running.{Outcome, Goes, Waits, Stuck}
 use Rattle.program_meaning.specs.Doing.{Doing, over_links}
 use Rattle.placed_code.specs.Behaves.{Behaves, Passes, Stops, Waited, IsSending, Filled, Receives}
-use Rattle.placed_code.specs.LaidCode.{LaidCode}
+use Rattle.placed_code.specs.LaidCode.{LaidCode, laid_code}
 use Rattle.placed_code.specs.Points.{Point, GoesTo, plain_point}
 use Rattle.placed_code.specs.StraightPieces.{Footing}
 
@@ -169,3 +177,24 @@ BehavioursClose = (m : Contents) (writers : ByLink Bool) (labels : ℕ → ℕ) 
     (end : Environment → Point → Bool) (p : Point) (t : Doing) (l : Links) (s : RunMoment)
     → let c = code_of m labels footing in footing.depth < 2 ^ 28 → Behaves c (Passes end) p t → At m c p l s
     → Closed m writers c (Passes end) (over_links (in_order writers) t l) s
+
+-- ---- where a run begins
+
+-- the code of pieces is that of the module that says them
+abbrev pub LaidCodeIsOfItsModule : Type 0
+LaidCodeIsOfItsModule = (ps : List Piece) (labels : ℕ) (links bytes : List ℕ) (says : Says ps labels links bytes)
+    (depth : ℕ) → let c = laid_code ps labels says.arrangement.lengths depth in
+    c ≡ code_of (laid_module ps labels links says.arrangement) c.labels c.footing
+
+-- at the first byte of a module, with nothing in its registers
+abbrev pub first_point : Contents → Point
+first_point m = record {
+  at = 0;
+  held = record { stack = of_empty (pos 0); memory = defined (loaded_bytes m) };
+}
+
+-- A run of a valid module that runs well begins there, at the workspace that is its base.
+abbrev pub RunsBegin : Type 0
+RunsBegin = (m : Contents) (inputs : ByLink Supply) (labels : ℕ → ℕ) (footing : Footing) (l : Links) → Keeps m
+    → ∥ RunsWell m ∥₁ → m.base ≡ BASE + footing.depth → HasLinks l (beginning m inputs)
+    → At m (code_of m labels footing) (first_point m) l (beginning m inputs)

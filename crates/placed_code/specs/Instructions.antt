@@ -1,5 +1,5 @@
 -- The instructions of a draft's items under a layout, and where they are fetched.
-use Rattle.std.specs.Prelude.{◌≡◌, ⊤, ℕ, suc, ◌+◌, ◌-◌, ℤ, pos, List, [], ◌∷◌, ◌++◌, length, sum, slice_get, nat_lt}
+use Rattle.std.specs.Prelude.{◌≡◌, ℕ, suc, ◌+◌, ◌-◌, ℤ, pos, List, [], ◌∷◌, ◌++◌, length, sum, slice_get, nat_lt}
 use Rattle.std.specs.Prelude.{if◌then◌else◌, FitsSigned, Some, Ok}
 use Rattle.std.specs.Int.{w32}
 use Rattle.std.specs.List.{AllByRecursion}

@@ -1,8 +1,6 @@
 -- A process that runs code that is laid out, between two instructions, and what it does by itself.
-use Rattle.std.specs.Prelude.{◌≡◌, ℕ, ◌==◌, Bool, true, false, if◌then◌else◌, ℤ, pos, int_lt, List, Some}
+use Rattle.std.specs.Prelude.{◌≡◌, ℕ, ◌==◌, true, false, ℤ, pos, int_lt, List, Some}
 use Rattle.prefix_decoder.specs.declared.function.Fun.{Fun}
-use Rattle.module_format.specs.declared.stack.Stack.{Stack}
-use Rattle.module_format.specs.Stack.{popped}
 use Rattle.machine_state.specs.declared.instruction.Instruction.{Instruction}
 use Rattle.machine_state.specs.Instructions.{instruction_of}
 use Rattle.machine_state.specs.LocalStep.{address}

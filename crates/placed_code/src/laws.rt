@@ -1,7 +1,7 @@
 //! The laws of code that is laid out, each the contract of a function that does nothing.
 ghost use Rattle.placed_code.specs.Behaves.{BehavioursCompose};
 ghost use Rattle.placed_code.specs.Closing.{RunsGoOn, PointsComeToBe, StopsComeToBe, SendsComeToBe};
-ghost use Rattle.placed_code.specs.Closing.{ReceivesComeToBe, BehavioursClose};
+ghost use Rattle.placed_code.specs.Closing.{ReceivesComeToBe, BehavioursClose, LaidCodeIsOfItsModule, RunsBegin};
 ghost use Rattle.placed_code.specs.Instructions.{ItemsAreFetched};
 ghost use Rattle.placed_code.specs.LaidCode.{PiecesLie};
 ghost use Rattle.placed_code.specs.Points.{PiecesGo, PointsAreComeTo};
@@ -67,4 +67,10 @@ pub fn receives_come_to_be()
 /// is over where the tree of what it does waits.
 pub fn behaviours_close()
     ensures { BehavioursClose }
+{}
+
+/// The code of pieces is that of the module that says them, and a run of a module begins at its first byte.
+pub fn runs_begin()
+    ensures code { LaidCodeIsOfItsModule }
+    ensures begins { RunsBegin }
 {}
