@@ -1,4 +1,4 @@
--- What a run asks for are bytes, and so it is at no fault where its module runs well.
+-- What a run asks for are bytes, and so it is made of events that can happen.
 use Rattle.std.proofs.Common.{◌≡◌, ℕ, zero, suc, ◌<◌, ◌==◌, Bool, true, false, if◌then◌else◌, List, [], ◌∷◌, ◌++◌}
 use Rattle.std.proofs.Common.{Option, Some, None, refl, sym, ap, subst, ◌∙◌, append_assoc, append-nil, eq-eqb, arith}
 use Rattle.std.proofs.lemmas.List.{append_cancel_right}
@@ -13,8 +13,8 @@ use Rattle.link_runs.specs.ByLink.{ByLink, of_link}
 use Rattle.link_runs.specs.FirstInFirstOut.{Supply, RunMoment}
 use Rattle.link_runs.specs.RunLaws.{WasAsked, HasEvents, arrivals, more_of}
 use Rattle.link_runs.proofs.Events.{runs_made_of_events}
-use Rattle.verifier.specs.Headline.{AreEvents, IsWell, RunsWell}
-use Rattle.link_runner.specs.AskedBytes.{AsksForBytes, RunsStayWell}
+use Rattle.verifier.specs.Headline.{AreEvents}
+use Rattle.link_runner.specs.AskedBytes.{AsksForBytes, RunsOfBytesCanHappen}
 use Rattle.link_runner.specs.Readers.{at_link, inputs_of, supply_of, IsSpent, Takes, IsReadTo}
 use Rattle.link_runner.proofs.AtLinks.{of_by_link}
 
@@ -62,19 +62,15 @@ asked_once (Some all) first second None was again = sym again ∙ was
 asked_once (Some all) first second (Some rest) was again =
     append_cancel_right second first rest (sym again ∙ was)
 
-stays_well : (m : Contents) (inputs : ByLink Supply) (writers : ByLink Bool) (s : RunMoment) → RunsWell m
-    → HasEvents m inputs writers s → AsksForBytes inputs s → IsWell s.world m.budget
-stays_well m inputs writers s well has asks =
-    subst (λ (w : World). IsWell w m.budget) (sym has.world) (well has.events (are_events has.events arrived))
+pub runs_of_bytes_can_happen : RunsOfBytesCanHappen
+runs_of_bytes_can_happen m inputs writers n s run asks =
+    let has = runs_made_of_events m inputs writers n s run in
+    record { events = has.events; are = are_events has.events (arrived has); world = has.world }
   where
-    arrived : (link : Link) → IsBytes (arrivals link has.events)
-    arrived link = subst IsBytes
+    arrived : (has : HasEvents m inputs writers s) (link : Link) → IsBytes (arrivals link has.events)
+    arrived has link = subst IsBytes
         (sym (asked_once (of_link inputs link) (of_link asks.asked link) (arrivals link has.events)
         (of_link s.left link) (asks.was_asked link) (has.arrived link))) (asks.are_bytes link)
-
-pub runs_stay_well : RunsStayWell
-runs_stay_well m inputs writers n s well run asks =
-    stays_well m inputs writers s well (runs_made_of_events m inputs writers n s run) asks
 
 -- ---- what was taken was asked for
 

@@ -1,9 +1,8 @@
 //! The laws of what a run asks for.
 
-ghost use Rattle.link_runner.specs.AskedBytes.{RunsStayWell};
+ghost use Rattle.link_runner.specs.AskedBytes.{RunsOfBytesCanHappen};
 
-/// A run that asks for bytes is at no fault, and executes no more than the budget says, where its module runs well: so
-/// are the runs of accepted modules.
-pub fn runs_stay_well()
-    ensures { RunsStayWell }
+/// A run that asks for bytes is made of events that can happen, so the runs of accepted modules are at no fault.
+pub fn runs_of_bytes_can_happen()
+    ensures { RunsOfBytesCanHappen }
 {}

@@ -15,7 +15,7 @@ mod tally;
 mod writing;
 
 pub use device::Failed;
-pub use laws::runs_stay_well;
+pub use laws::runs_of_bytes_can_happen;
 pub use reading::{LinkReader, Reading};
 pub use report::{Outcome, Report, RunError};
 pub use running::run;

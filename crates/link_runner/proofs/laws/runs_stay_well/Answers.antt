@@ -1,5 +1,0 @@
-use Rattle.link_runner.proofs.AskedBytes as asked_bytes
-use Rattle.link_runner.proofs.laws.runs_stay_well.Goals as goal
-
-pub returns : goal.returns
-returns c = asked_bytes.runs_stay_well
