@@ -1,6 +1,10 @@
 //! Words and bytes that pointers lead to.
 #![tactic(auto, unfolding(crate::specs::PlainStep::plain_step, crate::specs::PlainStep::plain_operation))]
 
+ghost use Rattle.std.specs.Prelude.{◌≡◌};
+ghost use Rattle.machine_state.specs.LocalStep.{address, word_of};
+ghost use Rattle.machine_state.specs.Memory.{local_address};
+ghost use Rattle.module_format.specs.Stack.{with_top};
 ghost use Rattle.machine_state.specs.declared.instruction.Instruction.TheVariants as instruction;
 ghost use Rattle.machine_state.specs.declared.op.Op.TheVariants as operation;
 ghost use Rattle.plain_machine.specs.PlainStep.{state_of, plain_step, plain_operation, Does, IsSafe, IsOperationSafe};
@@ -9,6 +13,16 @@ use crate::flow::PlainFlow;
 use crate::registers::PlainRegisters;
 use crate::words::{copy, load, load_byte, store, store_byte};
 use machine_state::local_address;
+
+/// `ldnlp`: A becomes the address of the word with this number from A.
+#[inline]
+pub(crate) fn load_non_local_pointer(registers: &mut PlainRegisters, operand: i32)
+    ensures { let pointer = word_of (local_address (address registers.old.stack.a) operand) in
+        registers.new ≡ record registers.old { stack = with_top pointer registers.old.stack } }
+{
+    let address = local_address(registers.stack.a.cast_unsigned(), operand);
+    registers.set_top(address.cast_signed());
+}
 
 /// `ldnl`: A becomes the word with this number from A.
 #[inline]
