@@ -37,6 +37,7 @@ module _ (m : Contents) (labels : ℕ → ℕ) (footing : Footing) where
     pub ready : now.ready ≡ machine.ready
     pub outputs : now.outputs ≡ machine.outputs
     pub inputs : now.inputs ≡ machine.inputs
+    pub finished : now.counters.is_finished ≡ machine.counters.is_finished
     pub inside : q.at ≤ length m.code
 
   pub asks : (machine : PlainMachine) (w : World) (on : AgreesOn m machine w) (running : machine.is_running ≡ true)
@@ -70,5 +71,6 @@ module _ (m : Contents) (labels : ℕ → ℕ) (footing : Footing) where
         ready = refl;
         outputs = refl;
         inputs = refl;
+        finished = refl;
         inside = let within = whole.within in let ends = x.fetches.ends in omega (arith, within, ends);
       }

@@ -38,7 +38,7 @@ first_bytes (suc n) (b ∷ bytes) are =
     one_before b (take n bytes) (are 0) (first_bytes n bytes (λ i. are (suc i)))
 
 module _ (m : Contents) (writers : ByLink Bool) (labels : ℕ → ℕ) (footing : Footing) (shallow : footing.depth < 2 ^ 28)
-    (End : Environment → Point → Type 0) where
+    (finish : m.finish ≡ length m.code) (End : Environment → Point → Type 0) where
   abbrev c : LaidCode
   c = code_of m labels footing
 
@@ -66,7 +66,7 @@ module _ (m : Contents) (writers : ByLink Bool) (labels : ℕ → ℕ) (footing 
   closes (over {p = p} e) l s at =
       record { turns = 0; moment = s; comes = refl; is = record { point = p; ends = e; at = at } }
   closes any l s at = tt
-  closes (halts {p = p} x) l s at = stops_come_to_be m writers labels footing p l s x at
+  closes (halts {p = p} x) l s at = stops_come_to_be.stops m writers labels footing p l s finish x at
   closes (steps {p = p} {q = q} {t = t} x rest) l s at =
       let r = points_come_to_be m writers labels footing p q l s (points.steps x points.there) at in
       closed_later (over_links (in_order writers) t l) s r.moment r.turns r.comes (closes rest l r.moment r.is)
@@ -95,5 +95,5 @@ module _ (m : Contents) (writers : ByLink Bool) (labels : ℕ → ℕ) (footing 
       (λ none. sends_come_to_be.waits m writers labels footing p port message l s shallow x at none)
 
 pub behaviours_close : BehavioursClose
-behaviours_close m writers labels footing end p t l s shallow behaves at =
-    closes m writers labels footing shallow (Passes end) behaves l s at
+behaviours_close m writers labels footing end p t l s shallow finish behaves at =
+    closes m writers labels footing shallow finish (Passes end) behaves l s at

@@ -144,6 +144,7 @@ module _ (m : Contents) (labels : ℕ → ℕ) (footing : Footing) where
           ready = at.ready;
           outputs = at.outputs;
           inputs = at.inputs;
+          unfinished = at.unfinished;
           links = links_stay x.world at.links;
         };
       }

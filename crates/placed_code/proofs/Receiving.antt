@@ -23,7 +23,7 @@ use Rattle.machine_state.specs.LocalStep.{address}
 use Rattle.machine_state.specs.Memory.{Memory, data_start, place_of, scheduling_word, byte_at, with_byte}
 use Rattle.machine_state.specs.Memory.{word_at}
 use Rattle.machine_state.specs.Moves.{link_index}
-use Rattle.machine_state.specs.World.{World}
+use Rattle.machine_state.specs.World.{Counters, World}
 use Rattle.machine_state.proofs.Lines.{got_set, got_other}
 use Rattle.machine_state.proofs.Reading.{word_at-with_word, length-with_word, length-with_byte}
 use Rattle.machine_state.proofs.Reading.{byte_at-with_byte, byte_at-with_byte_other, word_at-with_byte_other}
@@ -292,6 +292,7 @@ module _ (m : Contents) (labels : ℕ → ℕ) (footing : Footing) (shallow : fo
     pub stack : machine.registers.stack ≡ p.held.stack
     pub fills : Fills bytes machine.memory
     pub inside : behind ≤ length m.code
+    pub unfinished : machine.counters.is_finished ≡ false
     pub links : HasLinks l s
 
   -- ---- a byte more in memory
@@ -477,6 +478,7 @@ module _ (m : Contents) (labels : ℕ → ℕ) (footing : Footing) (shallow : fo
             stack = refl;
             fills = first_fills;
             inside = a.inside;
+            unfinished = a.finished ∙ at.unfinished;
             links = links_stay (happens m a.world plain_step) at.links;
           };
         }
@@ -569,6 +571,7 @@ module _ (m : Contents) (labels : ℕ → ℕ) (footing : Footing) (shallow : fo
             stack = w.stack;
             fills = fills_then;
             inside = w.inside;
+            unfinished = w.unfinished;
             links = links_then port.link x.link l s b rest later w.links unread;
           };
         }
@@ -633,6 +636,7 @@ module _ (m : Contents) (labels : ℕ → ℕ) (footing : Footing) (shallow : fo
               outputs = w.outputs;
               inputs = ap (λ (xs : List PlainInput). slice_set xs (link_index link) idle_input) w.inputs
                   ∙ awaited_no_more link (waiting n);
+              unfinished = w.unfinished;
               links = links_then port.link x.link l s b rest later w.links unread;
             };
           };
@@ -666,6 +670,9 @@ module _ (m : Contents) (labels : ℕ → ℕ) (footing : Footing) (shallow : fo
       → IsOver m writers s
   ends bytes l s w ended = asks_turn bytes l s w None (none_asked bytes l s w ended)
 
+  not_finished : (bytes : List ℕ) (l : Links) (s : RunMoment) → Waits bytes l s → s.world.counters.is_finished ≡ false
+  not_finished bytes l s w = sym (ap (λ (k : Counters). k.is_finished) w.on.agrees.counters) ∙ w.unfinished
+
   -- the link has no byte more
   runs_dry : (bytes : List ℕ) (l : Links) (s : RunMoment) (supply : Supply) → Waits bytes l s
       → (incoming_at port.link l).unread ≡ [] → of_link s.left link ≡ supply
@@ -674,7 +681,7 @@ module _ (m : Contents) (labels : ℕ → ℕ) (footing : Footing) (shallow : fo
     turns = 0;
     moment = s;
     comes = refl;
-    is = record { over = ends bytes l s w is; links = w.links };
+    is = record { over = ends bytes l s w is; is_finished = not_finished bytes l s w; links = w.links };
   }
   runs_dry bytes l s (Some (b ∷ rest)) w none is =
       let here = ap (λ (k : ℕ). (incoming_at k l).unread) (index_is port.link x.link) in
@@ -707,6 +714,7 @@ module _ (m : Contents) (labels : ℕ → ℕ) (footing : Footing) (shallow : fo
         stack = w.stack;
         fills = w.fills;
         inside = w.inside;
+        unfinished = w.unfinished;
         links = still;
       } in
       record {
@@ -714,7 +722,11 @@ module _ (m : Contents) (labels : ℕ → ℕ) (footing : Footing) (shallow : fo
         moment = ended;
         comes = asks_turn bytes l s w (Some link) (link_asked bytes l s w [] is)
             ∙ ap (λ (o : Supply). Some (supplied m link o s)) is;
-        is = record { over = ends bytes l ended waits_still (of_same link None s.left); links = still };
+        is = record {
+          over = ends bytes l ended waits_still (of_same link None s.left);
+          is_finished = not_finished bytes l s w;
+          links = still;
+        };
       }
 
   dries : (unread bytes : List ℕ) (l : Links) (s : RunMoment) → Waits bytes l s

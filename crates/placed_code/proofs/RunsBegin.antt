@@ -27,5 +27,6 @@ runs_begin m inputs labels footing l keeps well base links = record {
   ready = refl;
   outputs = refl;
   inputs = refl;
+  unfinished = refl;
   links = links;
 }

@@ -19,7 +19,7 @@ use Rattle.machine_state.specs.LocalStep.{address}
 use Rattle.machine_state.specs.Memory.{Memory, data_start, place_of, scheduling_word, byte_at}
 use Rattle.machine_state.specs.Memory.{word_at}
 use Rattle.machine_state.specs.Moves.{link_index}
-use Rattle.machine_state.specs.World.{World}
+use Rattle.machine_state.specs.World.{Counters, World}
 use Rattle.machine_state.proofs.Reading.{word_at-with_word, length-with_word}
 use Rattle.link_runs.specs.ByLink.{ByLink, of_link, with_link}
 use Rattle.link_runs.specs.FirstInFirstOut.{RunMoment, next, next_of, plain_step, stepped, answered_by, asked}
@@ -235,6 +235,7 @@ module _ (m : Contents) (labels : ℕ → ℕ) (footing : Footing) (shallow : fo
             else out) off);
         is = record {
           over = rests m after world on (a.inputs ∙ at.inputs) writers out refl refl;
+          is_finished = sym (ap (λ (k : Counters). k.is_finished) on.agrees.counters) ∙ a.finished ∙ at.unfinished;
           links = links_stay world at.links;
         };
       }
@@ -331,6 +332,7 @@ module _ (m : Contents) (labels : ℕ → ℕ) (footing : Footing) (shallow : fo
             ready = refl;
             outputs = idle_again a.now.outputs link workspace (a.outputs ∙ at.outputs);
             inputs = a.inputs ∙ at.inputs;
+            unfinished = a.finished ∙ at.unfinished;
             links = record {
               four_in = at.links.four_in;
               four_out = length-with_item (λ (before : List ℕ). before ++ message) port.link l.written

@@ -2,6 +2,9 @@
 use Rattle.std.proofs.Common.{◌≡◌, ℕ, suc, Bool, true, false, List, Option, Some, None, refl}
 use Rattle.std.proofs.Common.{sym, ap, subst, ◌∙◌, is_some, slice_get}
 use Rattle.std.specs.Prelude.{◌&&◌, ◌||◌, is_none, if◌then◌else◌, replicate}
+use Rattle.std.specs.Prelude.{◌==◌, ◌||◌}
+use Rattle.std.proofs.Common.{arith}
+use Rattle.std.proofs.lemmas.Bool.{eq-eqb, ne_eqb}
 use Rattle.module_format.specs.Contents.{Contents}
 use Rattle.machine_state.specs.declared.link.InputLink.{InputLink}
 use Rattle.machine_state.specs.declared.link.Link.{Link}
@@ -10,7 +13,7 @@ use Rattle.machine_state.specs.declared.op.Op.TheVariants as ops
 use Rattle.machine_state.specs.declared.instruction.Instruction.TheVariants.{Operate}
 use Rattle.machine_state.specs.Happens.{ran, turn, happens, world_after}
 use Rattle.machine_state.specs.Moves.{link_index}
-use Rattle.machine_state.specs.World.{World}
+use Rattle.machine_state.specs.World.{World, Counters}
 use Rattle.link_runs.specs.ByLink.{ByLink, of_link}
 use Rattle.link_runs.specs.FirstInFirstOut.{RunMoment, IsOver, next, next_of, plain_step, stepped, answered_by, asked}
 use Rattle.link_runs.specs.FirstInFirstOut.{can_be_asked}
@@ -28,10 +31,9 @@ use Rattle.plain_run.proofs.Stepping.{left}
 use Rattle.accepted_runs.specs.Running.{AgreesOn}
 use Rattle.accepted_runs.proofs.RunningAlone.{can_step, there, leads}
 use Rattle.program_meaning.specs.Links.{Links}
-use Rattle.placed_code.specs.Behaves.{Stops}
-use Rattle.placed_code.specs.Closing.{code_of, idle_input, ComesToBe, At, IsOverWith, StopsComeToBe}
+use Rattle.placed_code.specs.Closing.{code_of, idle_input, ComesToBe, At, IsOverAs, StopsComeToBe}
 use Rattle.placed_code.specs.LaidCode.{LaidCode}
-use Rattle.placed_code.specs.Points.{Point}
+use Rattle.placed_code.specs.Points.{Executes, Point}
 use Rattle.placed_code.specs.StraightPieces.{Footing}
 use Rattle.placed_code.proofs.Asking as asking
 use Rattle.placed_code.proofs.PointsComeToBe.{links_stay, one_turn, quiet_turns}
@@ -86,10 +88,12 @@ module _ (m : Contents) (labels : ℕ → ℕ) (footing : Footing) where
   abbrev c : LaidCode
   c = code_of m labels footing
 
-  stop_comes_to_be : (writers : ByLink Bool) (p : Point) (l : Links) (s : RunMoment) → Stops c p → At m c p l s
-      → ComesToBe m writers s (IsOverWith m writers l)
+  -- by whether the module is finished where the instruction ends
+  stop_comes_to_be : (writers : ByLink Bool) (p : Point) (l : Links) (s : RunMoment)
+      (x : Executes c p (Operate ops.StopProcess)) (finished : Bool) → (x.behind == m.finish) ≡ finished → At m c p l s
+      → ComesToBe m writers s (IsOverAs finished m writers l)
   unfolding plain.plain_step plain_operation
-  stop_comes_to_be writers p l s x at =
+  stop_comes_to_be writers p l s x finished tested at =
       let a = asking.asks m labels footing at.machine s.world at.on at.running p (Operate ops.StopProcess) flow.Stop x
       at.here refl in
       let can = can_step m a.now a.world a.on in
@@ -107,6 +111,9 @@ module _ (m : Contents) (labels : ℕ → ℕ) (footing : Footing) where
       }) in
       let on = leads m a.now after a.world a.on came in
       let quiet = quiet_turns m writers s a.world a.quietly in
+      let finish_is : after.counters.is_finished ≡ finished =
+      ap (λ (b : Bool). b || ((byte_stepped m a.now).state.registers.at == m.finish)) (a.finished ∙ at.unfinished)
+      ∙ ap (λ (t : Stepped). t.state.registers.at == m.finish) a.stepped ∙ tested in
       let runs : is_running a.world ≡ true = sym a.on.agrees.running ∙ a.running in
       record {
         turns = suc quiet.turns;
@@ -116,9 +123,18 @@ module _ (m : Contents) (labels : ℕ → ℕ) (footing : Footing) where
         is = record {
           over = rests m after (happens m a.world plain_step) on (a.inputs ∙ at.inputs) writers
               (record s { world = happens m a.world plain_step }) refl refl;
+          is_finished = sym (ap (λ (k : Counters). k.is_finished) on.agrees.counters) ∙ finish_is;
           links = links_stay (happens m a.world plain_step) at.links;
         };
       }
 
 pub stops_come_to_be : StopsComeToBe
-stops_come_to_be m writers labels footing p l s x at = stop_comes_to_be m labels footing writers p l s x at
+stops_come_to_be = record {
+  finishes = λ m writers labels footing p l s finish x at.
+      stop_comes_to_be m labels footing writers p l s x.executes true
+      (eq-eqb x.executes.behind m.finish (x.ends ∙ sym finish)) at;
+  stops = λ m writers labels footing p l s finish x at.
+      let inside = x.inside in
+      stop_comes_to_be m labels footing writers p l s x.executes false
+      (ne_eqb x.executes.behind m.finish (λ e. omega (arith, e, finish, inside))) at;
+}

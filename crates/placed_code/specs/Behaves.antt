@@ -19,9 +19,15 @@ use Rattle.placed_code.specs.StraightPieces.{Held, LeadOn, word_place}
 
 -- ---- what is asked of others
 
--- `stopp` is next
-abbrev pub Stops : LaidCode → Point → Type 0
-Stops c p = Executes c p (Operate ops.StopProcess)
+-- `stopp` is next, and more code is after it
+pub record Stops (c : LaidCode) (p : Point) : Type 0 where
+  pub executes : Executes c p (Operate ops.StopProcess)
+  pub inside : executes.behind < length c.code
+
+-- it is next, and is the end of the code
+pub record Finishes (c : LaidCode) (p : Point) : Type 0 where
+  pub executes : Executes c p (Operate ops.StopProcess)
+  pub ends : executes.behind ≡ length c.code
 
 -- where the message is for which A has the length, and C the address
 abbrev pub buffer : Point → ℕ

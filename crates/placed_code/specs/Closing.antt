@@ -23,7 +23,7 @@ use Rattle.scalar_ranges.specs.Environments.{Environment, item_at}
 use Rattle.program_meaning.specs.Links.{Port, Links, incoming_at, after_reading, after_writing, message_length}
 use Rattle.program_meaning.specs.Running.{Outcome, Goes, Waits, Stuck}
 use Rattle.program_meaning.specs.Doing.{Doing, over_links}
-use Rattle.placed_code.specs.Behaves.{Behaves, Passes, Stops, Waited, IsSending, Filled, Receives}
+use Rattle.placed_code.specs.Behaves.{Behaves, Passes, Stops, Finishes, Waited, IsSending, Filled, Receives}
 use Rattle.placed_code.specs.LaidCode.{LaidCode, laid_code}
 use Rattle.placed_code.specs.Points.{Point, GoesTo, plain_point}
 use Rattle.placed_code.specs.StraightPieces.{Footing}
@@ -90,12 +90,18 @@ pub record At (m : Contents) (c : LaidCode) (p : Point) (l : Links) (s : RunMome
   pub ready : machine.ready ≡ []
   pub outputs : machine.outputs ≡ replicate 4 None
   pub inputs : machine.inputs ≡ replicate 4 idle_input
+  pub unfinished : machine.counters.is_finished ≡ false
   pub links : HasLinks l s
 
--- The run is over, and this was read and written.
-pub record IsOverWith (m : Contents) (writers : ByLink Bool) (l : Links) (s : RunMoment) : Type 0 where
+-- The run is over, is finished or not, and this was read and written.
+pub record IsOverAs (finished : Bool) (m : Contents) (writers : ByLink Bool) (l : Links) (s : RunMoment) : Type 0 where
   pub over : IsOver m writers s
+  pub is_finished : s.world.counters.is_finished ≡ finished
   pub links : HasLinks l s
+
+-- it is over without being finished
+abbrev pub IsOverWith : Contents → ByLink Bool → Links → RunMoment → Type 0
+IsOverWith m writers l s = IsOverAs false m writers l s
 
 -- it has come to its end with this environment
 pub record HasEnded (m : Contents) (c : LaidCode) (End : Environment → Point → Type 0) (env : Environment) (l : Links)
@@ -121,11 +127,14 @@ PointsComeToBe = (m : Contents) (writers : ByLink Bool) (labels : ℕ → ℕ) (
     (s : RunMoment) → let c = code_of m labels footing in GoesTo c p q → At m c p l s
     → ComesToBe m writers s (At m c q l)
 
--- `stopp`
-abbrev pub StopsComeToBe : Type 0
-StopsComeToBe = (m : Contents) (writers : ByLink Bool) (labels : ℕ → ℕ) (footing : Footing) (p : Point) (l : Links)
-    (s : RunMoment) → let c = code_of m labels footing in Stops c p → At m c p l s
-    → ComesToBe m writers s (IsOverWith m writers l)
+-- `stopp`, in a module that finishes at the end of its code: there, and before it
+pub record StopsComeToBe : Type 0 where
+  pub finishes : (m : Contents) (writers : ByLink Bool) (labels : ℕ → ℕ) (footing : Footing) (p : Point) (l : Links)
+      (s : RunMoment) → let c = code_of m labels footing in m.finish ≡ length m.code → Finishes c p → At m c p l s
+      → ComesToBe m writers s (IsOverAs true m writers l)
+  pub stops : (m : Contents) (writers : ByLink Bool) (labels : ℕ → ℕ) (footing : Footing) (p : Point) (l : Links)
+      (s : RunMoment) → let c = code_of m labels footing in m.finish ≡ length m.code → Stops c p → At m c p l s
+      → ComesToBe m writers s (IsOverWith m writers l)
 
 -- a message is sent: the process has waited for the acknowledgement, and goes on
 pub record HasWaited (m : Contents) (c : LaidCode) (p : Point) (l : Links) (s : RunMoment) : Type 0 where
@@ -175,7 +184,8 @@ pub record ReceivesComeToBe : Type 0 where
 abbrev pub BehavioursClose : Type 0
 BehavioursClose = (m : Contents) (writers : ByLink Bool) (labels : ℕ → ℕ) (footing : Footing)
     (end : Environment → Point → Bool) (p : Point) (t : Doing) (l : Links) (s : RunMoment)
-    → let c = code_of m labels footing in footing.depth < 2 ^ 28 → Behaves c (Passes end) p t → At m c p l s
+    → let c = code_of m labels footing in footing.depth < 2 ^ 28 → m.finish ≡ length m.code
+    → Behaves c (Passes end) p t → At m c p l s
     → Closed m writers c (Passes end) (over_links (in_order writers) t l) s
 
 -- ---- where a run begins
