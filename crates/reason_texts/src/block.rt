@@ -1,0 +1,155 @@
+//! The place at fault: its number and column, its line, and carets below what is meant.
+
+ghost use Rattle.std.specs.Prelude.{◌≡◌, ◌+◌, ◌++◌, ◌^◌, ◌<◌, OnOk, drop, map, option_map, replicate, string_bytes};
+ghost use Rattle.std.specs.Prelude.{take};
+ghost use Rattle.reason_texts.specs.Blocks.{place_text, number_text, shown_byte, line_text, below_text, block_text};
+ghost use Rattle.reason_texts.specs.Blocks.{hint_text, caret_count, meant, closed_text, named_text};
+
+use std::alloc::AllocError;
+
+/// Some bytes of a line.
+#[derive(Clone, Copy)]
+pub(crate) struct Span {
+    pub(crate) at: usize,
+    pub(crate) len: usize,
+}
+
+/// Appends where a fault is, as editors read it.
+pub(crate) fn push_place(
+    text: &mut String,
+    path: &str,
+    line: u32,
+    at: usize,
+) -> Result<(), AllocError>
+    requires { at < 2 ^ 63 }
+    ensures { OnOk result (string_bytes text.new ≡ string_bytes text.old ++ place_text path.now line at) }
+{
+    let column = at + 1;
+    write!(text, "{path}:{line}:{column}: ")
+}
+
+/// Appends the number of a fault.
+pub(crate) fn push_number(text: &mut String, number: u8) -> Result<(), AllocError>
+    ensures { OnOk result (string_bytes text.new ≡ string_bytes text.old ++ number_text number) }
+{
+    writeln!(text, " (O{number})")
+}
+
+/// A byte of a line as it is shown.
+fn shown_byte(byte: u8) -> u8
+    ensures value { result ≡ shown_byte byte }
+    ensures ascii { result < 128 }
+{
+    if byte >= 32 && byte < 127 { byte } else { b'?' }
+}
+
+/// Appends bytes of a line as they are shown.
+fn push_bytes(text: &mut String, bytes: &[u8]) -> Result<(), AllocError>
+    ensures { OnOk result (string_bytes text.new ≡ string_bytes text.old ++ map shown_byte bytes.now) }
+{
+    for byte in bytes {
+        text.push(char::from(shown_byte(*byte)))?;
+    }
+    Ok(())
+}
+
+/// At most this number of bytes of a line, from an offset on.
+#[tactic(auto, using(std::proofs::lemmas::List::take_min))]
+fn part(line: &[u8], from: usize, len: usize) -> &[u8]
+    ensures { result.now ≡ take len (drop from line.now) }
+{
+    let (_, rest) = line.split_at(from.min(line.len()));
+    let (part, _) = rest.split_at(len.min(rest.len()));
+    part
+}
+
+/// Some bytes of a line, of which at most 100 are told.
+pub(crate) fn meant(line: &[u8], at: usize, len: usize) -> &[u8]
+    ensures { result.now ≡ meant line.now at len }
+{
+    part(line, at, len.min(100))
+}
+
+/// Appends bytes of a line, and the quote that ends them.
+#[tactic(auto, unfolding(crate::specs::Blocks::closed_text))]
+fn push_closed(text: &mut String, bytes: &[u8]) -> Result<(), AllocError>
+    ensures { OnOk result (string_bytes text.new ≡ string_bytes text.old ++ closed_text bytes.now) }
+{
+    push_bytes(text, bytes)?;
+    text.push_str("`")?;
+    Ok(())
+}
+
+/// Appends bytes of a line, after what is said of them.
+#[tactic(auto, unfolding(crate::specs::Blocks::named_text))]
+pub(crate) fn push_named(text: &mut String, bytes: &[u8]) -> Result<(), AllocError>
+    ensures { OnOk result (string_bytes text.new ≡ string_bytes text.old ++ named_text bytes.now) }
+{
+    text.push_str(": `")?;
+    push_closed(text, bytes)?;
+    Ok(())
+}
+
+/// Appends the part of a line that is shown, which begins at an offset.
+#[tactic(auto, unfolding(crate::specs::Blocks::line_text))]
+fn push_line(text: &mut String, line: &[u8], from: usize) -> Result<(), AllocError>
+    ensures { OnOk result (string_bytes text.new ≡ string_bytes text.old ++ line_text line.now from) }
+{
+    push_bytes(text, part(line, from, 200))?;
+    text.push_str("\n")?;
+    Ok(())
+}
+
+/// Appends a sign as often as this.
+fn push_times(text: &mut String, count: usize, sign: u8) -> Result<(), AllocError>
+    requires { sign < 128 }
+    ensures { OnOk result (string_bytes text.new ≡ string_bytes text.old ++ replicate count sign) }
+{
+    for _ in 0..count {
+        text.push(char::from(sign))?;
+    }
+    Ok(())
+}
+
+/// How many carets are below some bytes: one at least, and 100 at most.
+fn caret_count(len: usize) -> usize
+    ensures { result ≡ caret_count len }
+{
+    if len == 0 {
+        return 1;
+    }
+    len.min(100)
+}
+
+/// Appends the carets below some bytes of the part of a line that begins at an offset.
+#[tactic(auto, unfolding(crate::specs::Blocks::below_text))]
+fn push_below(text: &mut String, before: usize, len: usize) -> Result<(), AllocError>
+    ensures { OnOk result (string_bytes text.new ≡ string_bytes text.old ++ below_text before len) }
+{
+    push_times(text, before, b' ')?;
+    push_times(text, caret_count(len), b'^')?;
+    Ok(())
+}
+
+/// Appends a line, and carets below some of its bytes.
+#[tactic(auto, unfolding(crate::specs::Blocks::block_text))]
+pub(crate) fn push_block(text: &mut String, line: &[u8], span: Span) -> Result<(), AllocError>
+    ensures { OnOk result (string_bytes text.new ≡ string_bytes text.old ++ block_text line.now span.at span.len) }
+{
+    let from = span.at.saturating_sub(100);
+    push_line(text, line, from)?;
+    push_below(text, span.at - from, span.len)?;
+    text.push_str("\n")?;
+    Ok(())
+}
+
+/// Appends a hint, if there is one.
+pub(crate) fn push_hint(text: &mut String, hint: Option<&str>) -> Result<(), AllocError>
+    ensures { OnOk result (string_bytes text.new
+        ≡ string_bytes text.old ++ hint_text (option_map (λ h. h.now) hint.entry)) }
+{
+    match hint {
+        Some(hint) => writeln!(text, "  hint: {hint}"),
+        None => Ok(()),
+    }
+}

@@ -1,0 +1,256 @@
+//! What is written of a source that has no lines of tokens.
+
+ghost use Rattle.std.specs.Prelude.{◌≡◌, ◌++◌, ◌≤◌, ◌<◌, ◌^◌, OnOk, IfOk, length, option_map, map, string_bytes};
+ghost use Rattle.source_reasons.specs.Lines.{line_found, sight_of};
+ghost use Rattle.source_reasons.specs.LayoutReasons.{place_of, layout_reason};
+ghost use Rattle.reason_texts.specs.LayoutTexts.{token_sentence, deep_sentence, token_text, sentence, token_hint};
+ghost use Rattle.reason_texts.specs.LayoutTexts.{byte_hint, hint};
+ghost use Rattle.reason_texts.specs.LayoutTexts.{len_of, byte_at, told_text, head_text, tail_text, whole_text};
+ghost use Rattle.reason_texts.specs.LayoutTexts.{source_text, layout_text};
+
+use crate::block::{Span, meant, push_block, push_hint, push_named, push_number, push_place};
+use occam_layout::LayoutFault;
+use source_reasons::{Above, BadToken, LayoutReason, TokenFault, find_line, layout_reason};
+use std::alloc::{AllocError, Global};
+
+/// How many bytes of a line are meant.
+fn len_of(reason: LayoutReason) -> usize
+    ensures { result ≡ len_of reason }
+{
+    match reason {
+        LayoutReason::OddIndentation { spaces } => spaces,
+        LayoutReason::BadToken(bad) => bad.len,
+        _ => 1,
+    }
+}
+
+/// What is wrong where a token should begin.
+fn token_sentence(fault: TokenFault) -> &'static str
+    ensures { result.now ≡ token_sentence fault }
+{
+    match fault {
+        TokenFault::NoToken => "no token begins so",
+        TokenFault::LargeNumber => "the greatest number is 2147483647",
+        TokenFault::HexadecimalDigits(0) => "a hexadecimal digit was wanted behind `#`",
+        TokenFault::HexadecimalDigits(_) => "a number has at most 8 hexadecimal digits",
+        TokenFault::Unclosed => "no quote ends this literal on its line",
+        TokenFault::Unspelled => "no character is spelled so",
+        TokenFault::NotOneCharacter => "one character was wanted between these quotes",
+    }
+}
+
+/// Appends that a line is too deep.
+fn push_deep(text: &mut String, level: usize, above: Option<Above>) -> Result<(), AllocError>
+    ensures { OnOk result (string_bytes text.new ≡ string_bytes text.old ++ deep_sentence level above) }
+{
+    match above {
+        Some(above) => write!(
+            text,
+            "level {level}, but line {} is at level {}",
+            above.line, above.level
+        ),
+        None => write!(text, "level {level}, but a source begins at level 0"),
+    }
+}
+
+/// Appends what is wrong where a token should begin, and the bytes that are meant.
+#[tactic(auto, unfolding(crate::specs::LayoutTexts::token_text))]
+fn push_token(text: &mut String, line: &[u8], bad: BadToken) -> Result<(), AllocError>
+    ensures { OnOk result (string_bytes text.new ≡ string_bytes text.old ++ token_text line.now bad) }
+{
+    text.push_str(token_sentence(bad.fault))?;
+    push_named(text, meant(line, bad.at, bad.len))?;
+    Ok(())
+}
+
+/// Appends why a line has no tokens, or a source no lines.
+#[tactic(auto, unfolding(crate::specs::LayoutTexts::sentence))]
+fn push_sentence(text: &mut String, line: &[u8], reason: LayoutReason) -> Result<(), AllocError>
+    ensures { OnOk result (string_bytes text.new ≡ string_bytes text.old ++ sentence line.now reason) }
+{
+    match reason {
+        LayoutReason::OddIndentation { spaces } => {
+            write!(text, "indented by {spaces}, but a level is two spaces")
+        }
+        LayoutReason::TooDeep { level, above } => push_deep(text, level, above),
+        LayoutReason::NoCharacter { at } => {
+            let byte = byte_at(line, at);
+            write!(text, "byte {byte} is no character of a source")
+        }
+        LayoutReason::BadToken(bad) => push_token(text, line, bad),
+        LayoutReason::TooManyLines => text.push_str("a source has at most 32768 lines"),
+        LayoutReason::TooManyBytes { bytes } => {
+            write!(text, "{bytes} bytes, but a source has at most 1048576")
+        }
+    }
+}
+
+/// What to write in place of a byte that is no character of a source, or begins no token.
+fn byte_hint(byte: u8) -> Option<&'static str>
+    ensures { option_map (λ h. h.now) result ≡ byte_hint byte }
+{
+    match byte {
+        b'\t' => Some("a source has no tabs; a level is two spaces"),
+        b'\r' => Some("lines end with a line feed alone, and not with a carriage return before it"),
+        b';' => Some("a message has one part; send the parts one after the other, in a SEQ"),
+        b'_' => Some("a name has letters, digits and dots"),
+        b'.' => Some("there are no real numbers, and a name begins with a letter"),
+        b'\x80'..=b'\xff' => Some("a source is ASCII, in comments and strings too"),
+        _ => None,
+    }
+}
+
+/// What to write in place of bytes that are no token.
+fn token_hint(fault: TokenFault, byte: u8) -> Option<&'static str>
+    ensures { option_map (λ h. h.now) result ≡ token_hint fault byte }
+{
+    match fault {
+        TokenFault::NoToken => byte_hint(byte),
+        TokenFault::LargeNumber => Some("the least number is MOSTNEG INT"),
+        TokenFault::HexadecimalDigits(0) => Some(
+            "there are no directives such as #USE; a program is one source",
+        ),
+        TokenFault::Unspelled => Some(
+            "the spellings are *c *n *t *s *' *\" ** and *# with two digits",
+        ),
+        TokenFault::NotOneCharacter => Some(
+            "a text of several characters is a table, as VAL [2]BYTE t IS \"ab\":",
+        ),
+        _ => None,
+    }
+}
+
+/// What to write in place of a line that has no tokens.
+fn hint(reason: LayoutReason, byte: u8) -> Option<&'static str>
+    ensures { option_map (λ h. h.now) result ≡ hint reason byte }
+{
+    match reason {
+        LayoutReason::OddIndentation { .. } => Some(
+            "an expression does not go on on the next line",
+        ),
+        LayoutReason::TooDeep { .. } => Some(
+            "a line is at most one level, of two spaces, below the line above it",
+        ),
+        LayoutReason::NoCharacter { .. } => byte_hint(byte),
+        LayoutReason::BadToken(bad) => token_hint(bad.fault, byte),
+        _ => None,
+    }
+}
+
+/// The byte at a place of a line, or a space at its end.
+fn byte_at(line: &[u8], at: usize) -> u8
+    ensures { result ≡ byte_at line.now at }
+{
+    match line.get(at) {
+        Some(byte) => *byte,
+        None => b' ',
+    }
+}
+
+/// How many bytes of the line are before those that are meant.
+fn place_of(reason: LayoutReason) -> usize
+    ensures { result ≡ place_of reason }
+{
+    match reason {
+        LayoutReason::NoCharacter { at } => at,
+        LayoutReason::BadToken(bad) => bad.at,
+        _ => 0,
+    }
+}
+
+/// Appends why a source is refused, and the number.
+#[tactic(auto, unfolding(crate::specs::LayoutTexts::told_text))]
+fn push_told(
+    text: &mut String,
+    number: u8,
+    line: &[u8],
+    reason: LayoutReason,
+) -> Result<(), AllocError>
+    ensures { OnOk result (string_bytes text.new ≡ string_bytes text.old ++ told_text number line.now reason) }
+{
+    push_sentence(text, line, reason)?;
+    push_number(text, number)?;
+    Ok(())
+}
+
+/// Appends where and why a line is refused.
+#[tactic(auto, unfolding(crate::specs::LayoutTexts::head_text))]
+fn push_head(
+    text: &mut String,
+    path: &str,
+    fault: LayoutFault,
+    line: &[u8],
+    reason: LayoutReason,
+) -> Result<(), AllocError>
+    requires { place_of reason ≤ length line.now }
+    ensures { OnOk result (string_bytes text.new ≡ string_bytes text.old ++ head_text path.now fault line.now reason) }
+{
+    push_place(text, path, fault.line, place_of(reason))?;
+    push_told(text, fault.number, line, reason)?;
+    Ok(())
+}
+
+/// Appends the line, and what to write in its place.
+#[tactic(auto, unfolding(crate::specs::LayoutTexts::tail_text))]
+fn push_tail(text: &mut String, line: &[u8], reason: LayoutReason) -> Result<(), AllocError>
+    ensures { OnOk result (string_bytes text.new ≡ string_bytes text.old ++ tail_text line.now reason) }
+{
+    let (at, len) = (place_of(reason), len_of(reason));
+    push_block(text, line, Span { at, len })?;
+    push_hint(text, hint(reason, byte_at(line, at)))?;
+    Ok(())
+}
+
+/// Appends why a line is refused.
+#[tactic(auto, unfolding(crate::specs::LayoutTexts::whole_text))]
+fn push_whole(
+    text: &mut String,
+    path: &str,
+    fault: LayoutFault,
+    line: &[u8],
+    reason: LayoutReason,
+) -> Result<(), AllocError>
+    requires { place_of reason ≤ length line.now }
+    ensures { OnOk result (string_bytes text.new
+        ≡ string_bytes text.old ++ whole_text path.now fault line.now reason) }
+{
+    push_head(text, path, fault, line, reason)?;
+    push_tail(text, line, reason)?;
+    Ok(())
+}
+
+/// Appends why a source without lines is refused.
+#[tactic(auto, unfolding(crate::specs::LayoutTexts::source_text))]
+fn push_source(
+    text: &mut String,
+    path: &str,
+    fault: LayoutFault,
+    reason: LayoutReason,
+) -> Result<(), AllocError>
+    ensures { OnOk result (string_bytes text.new ≡ string_bytes text.old ++ source_text path.now fault reason) }
+{
+    write!(text, "{path}: ")?;
+    push_told(text, fault.number, b"", reason)?;
+    Ok(())
+}
+
+/// What is written of a source that has no lines of tokens: the place, the reason, the line, and a hint. The path is
+/// that of the source. There is no text where [`layout_reason`] has no reason.
+pub fn layout_text(
+    alloc: Global,
+    path: &str,
+    source: &[u8],
+    fault: LayoutFault,
+) -> Result<Option<String>, AllocError>
+    ensures { IfOk result (λ text. option_map string_bytes text ≡ layout_text path.now source.now fault) }
+{
+    let Some(reason) = layout_reason(source, fault.line) else {
+        return Ok(None);
+    };
+    let mut text = String::new(alloc);
+    match find_line(source, fault.line) {
+        Some(line) => push_whole(&mut text, path, fault, line.bytes, reason)?,
+        None => push_source(&mut text, path, fault, reason)?,
+    }
+    Ok(Some(text))
+}
