@@ -3,7 +3,8 @@
 ghost use Rattle.std.specs.Prelude.{◌≡◌, ◌<◌, ◌≤◌, length, option_map, IfSome, map};
 ghost use Rattle.occam_parser.specs.Terminals.{terminals_of};
 ghost use Rattle.occam_parser.specs.Blocks.{row_of, rows_of};
-ghost use Rattle.program_reasons.specs.Contexts.{last_up_to, line_numbered, mark_of, is_declaration, places_of, context_of};
+ghost use Rattle.program_reasons.specs.Contexts.{last_up_to, line_numbered, mark_of, is_declaration, places_of};
+ghost use Rattle.program_reasons.specs.Contexts.{context_of};
 ghost use Rattle.program_reasons.specs.Contexts.{places_below, places_below_other, only_one};
 
 use crate::forms::Form;

@@ -8,7 +8,8 @@ ghost use Rattle.program_reasons.specs.Forms.{past_brackets, past_type, past_sha
 ghost use Rattle.program_reasons.specs.Forms.{past_parentheses, past_value, past_constant, past_names, past_whole};
 ghost use Rattle.program_reasons.specs.Forms.{past_formal, past_procedure, past_expression_alone, past_place_alone};
 ghost use Rattle.program_reasons.specs.Forms.{past_named_action, past_placed, past_replicator, past_process};
-ghost use Rattle.program_reasons.specs.Forms.{past_marked_process, past_guard, past_conditioned, past_input, past_item};
+ghost use Rattle.program_reasons.specs.Forms.{past_marked_process, past_guard, past_conditioned, past_input};
+ghost use Rattle.program_reasons.specs.Forms.{past_item};
 ghost use Rattle.program_reasons.specs.Forms.{past_colon, past_form};
 
 use crate::expressions::past_expression;
