@@ -1,0 +1,18 @@
+//! Asks what is written of sources that are refused, and prints each case in text that differs.
+//!
+//! The arguments name files of cases; without any, the cases are read from standard input. The last line has the
+//! counts. The status is 1 if a case differs or cannot be read.
+#![tactic(auto)]
+
+mod asking;
+mod quoted;
+mod setting;
+
+use conformance::try_cases;
+use setting::Setting;
+use std::io;
+use std::process::ExitCode;
+
+fn main(rt: HostRuntime) -> io::Result<ExitCode> {
+    try_cases::<Setting, HostRuntime>(&rt)
+}
