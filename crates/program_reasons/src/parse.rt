@@ -92,7 +92,8 @@ fn of_number(number: u8, reason: Option<ParseReason>) -> Option<ParseReason>
 
 /// Why lines are no program, where [`parse`](occam_parser::parse) reports this fault.
 ///
-/// It is `None` if no line has the number of the fault, as where memory ran out, or if that line is not at fault.
+/// A missing body is its own reason. Of another fault there is none if no line has its number, as where memory ran out,
+/// or if that line is not at fault in this way.
 #[tactic(auto, unfolding(crate::specs::ParseReasons::parse_reason))]
 pub fn parse_reason(lines: &[Line<'_>], fault: ParseFault) -> Option<ParseReason>
     // What is wrong with the line at fault.
