@@ -56,7 +56,7 @@ module _ (m : Contents) (w : World) (events : List Event) (well : ∥ RunsWell m
       events = events;
       world = is;
       no_fault = fault_of w w.fault refl never_fault;
-      within_budget = in_budget;
+      within_limit = in_budget;
     };
     are = are;
   }
@@ -71,7 +71,7 @@ module _ (m : Contents) (w : World) (on : RunsOn m w) where
       (ap (λ (v : World). happens m v e) on.reached.world ∙ sym (run_further m (loaded m) on.reached.events e)) on.keeps
 
   pub below_most : w.counters.executed < most_executed
-  below_most = let low = on.reached.within_budget in let most = on.keeps.bounds.budget in omega (arith, low, most)
+  below_most = let low = on.reached.within_limit in let most = on.keeps.bounds.budget in omega (arith, low, most)
 
   line_there : Line w.tasks w.queue
   line_there =

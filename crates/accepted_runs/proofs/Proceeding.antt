@@ -38,20 +38,21 @@ module _ (m : Contents) (before w : World) (quietly : Quietly m before w) (on : 
     is_shown = subst shown (idle_stays m w told) then;
   }
 
-  stops_there : (r : Reaction) (p : Progress) → (turn m w plain_step).answer ≡ Ok (reported r last)
-      → progress_by r ≡ Some p → Proceeds m before p last shown
-  stops_there reactions.Ran p told is = absurd (cc)
-  stops_there (reactions.Emitted link) p told is =
-      let same : progresses.Emitted link ≡ p = cc in
-      subst (λ (q : Progress). Proceeds m before q last shown) same (comes_to_emit link told)
-  stops_there reactions.Idle p told is =
-      let same : progresses.Idle ≡ p = cc in
-      subst (λ (q : Progress). Proceeds m before q last shown) same (comes_to_rest told)
-  stops_there reactions.Taken p told is = absurd (answers_as_a_step m w taken told)
-  stops_there reactions.Kept p told is = absurd (answers_as_a_step m w kept told)
-  stops_there reactions.Busy p told is = absurd (answers_as_a_step m w busy told)
-  stops_there reactions.Acknowledged p told is = absurd (answers_as_a_step m w acknowledged told)
-  stops_there reactions.Ignored p told is = absurd (answers_as_a_step m w ignored told)
+  module _ {S : Type 0} (stopped : World → S → Type 0) where
+    stops_there : (r : Reaction) (p : Progress) → (turn m w plain_step).answer ≡ Ok (reported r last)
+        → progress_by r ≡ Some p → Proceeds m before (Ok p) last shown stopped
+    stops_there reactions.Ran p told is = absurd (cc)
+    stops_there (reactions.Emitted link) p told is =
+        let same : progresses.Emitted link ≡ p = cc in
+        subst (λ (q : Progress). Proceeds m before (Ok q) last shown stopped) same (comes_to_emit link told)
+    stops_there reactions.Idle p told is =
+        let same : progresses.Idle ≡ p = cc in
+        subst (λ (q : Progress). Proceeds m before (Ok q) last shown stopped) same (comes_to_rest told)
+    stops_there reactions.Taken p told is = absurd (answers_as_a_step m w taken told)
+    stops_there reactions.Kept p told is = absurd (answers_as_a_step m w kept told)
+    stops_there reactions.Busy p told is = absurd (answers_as_a_step m w busy told)
+    stops_there reactions.Acknowledged p told is = absurd (answers_as_a_step m w acknowledged told)
+    stops_there reactions.Ignored p told is = absurd (answers_as_a_step m w ignored told)
 
 -- a Step after which the next one follows has run
 has_run : (r : Reaction) (last : List ℕ) → progress_by r ≡ None → reported r last ≡ ran
@@ -122,10 +123,11 @@ module _ (start now after : PlainExecution) (r : Reaction) (on : HasGoneOn start
           (somebody_runs start.contents here.world ran (ran_on is) (λ e. cc)) (ran_on is);
     }
 
-    pub proceeds : (p : Progress) → progress_by r ≡ Some p → Proceeds start.contents w p after.last (Shows after)
-    proceeds p is =
-        stops_there start.contents w here.world here.quietly runs_there after.last (Shows after) did.is_shown r p
-        did.answer is
+    pub proceeds : {S : Type 0} (stopped : World → S → Type 0) (p : Progress) → progress_by r ≡ Some p
+        → Proceeds start.contents w (Ok p) after.last (Shows after) stopped
+    proceeds stopped p is =
+        stops_there start.contents w here.world here.quietly runs_there after.last (Shows after) did.is_shown stopped r
+        p did.answer is
 
     -- less of the budget is left
     pub comes_down : progress_by r ≡ None → after.contents.budget - after.machine.counters.executed
@@ -134,7 +136,7 @@ module _ (start now after : PlainExecution) (r : Reaction) (on : HasGoneOn start
         let more = one_more_byte start.contents here.world ran (ran_on is) (λ e. cc) in
         let after_is = ap (λ (c : Counters). c.executed) did.is_shown.agrees.counters in
         let now_is = ap (λ (c : Counters). c.executed) here.shows.agrees.counters in
-        let low = did.is_shown.runs.reached.within_budget in
+        let low = did.is_shown.runs.reached.within_limit in
         let budget = ap (λ (m : Contents). m.budget) same in
         omega (arith, more, after_is, now_is, low, budget)
 

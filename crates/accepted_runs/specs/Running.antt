@@ -19,7 +19,7 @@ pub record PlainExecution : Type 0 where
 pub record RunsOn (m : Contents) (w : World) : Type 0 where
   pub keeps : Keeps m
   pub well : ∥ RunsWell m ∥₁
-  pub reached : IsReached m w
+  pub reached : IsReached m m.budget w
   pub are : AreEvents reached.events
 
 -- the same, and the machine agrees with this world

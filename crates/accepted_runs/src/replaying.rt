@@ -3,12 +3,12 @@
 ghost use Rattle.std.specs.Prelude.{◌≡◌, OnOk, IfOk, Ok};
 ghost use Rattle.machine_state.specs.World.{World};
 ghost use Rattle.machine_state.specs.Happens.{emitted, turn, happens};
-ghost use Rattle.link_runs.specs.Driving.{IsShown};
+ghost use Rattle.accepted_runs.specs.Running.{Shows};
 ghost use Rattle.accepted_runs.specs.Replaying.{GoesOut, Tells};
 
 use crate::report::Replay;
 use crate::running::Run;
-use link_runs::{Machine, Reaction};
+use link_runs::Reaction;
 use machine_state::{Event, Link};
 use std::alloc::{AllocError, Global};
 use verifier::Verified;
@@ -21,22 +21,17 @@ fn put_out(out: &mut [Vec<u8>; 4], link: Link, bytes: &[u8]) -> Result<(), Alloc
     out[link.index()].extend_from_slice(bytes)
 }
 
-/// One event of a machine: what it emits goes after what went out before.
+/// One event of a run: what it emits goes after what went out before.
 #[inline(always)]
-fn follow<M: Machine>(
-    machine: &mut M,
-    event: Event,
-    out: &mut [Vec<u8>; 4],
-) -> Result<(), AllocError>
-    requires { IsShown M.shows machine.old }
-    ensures contents { M.contents machine.new ≡ M.contents machine.old }
-    ensures world { OnOk result ((w : World) → M.shows machine.old w
-        → M.shows machine.new (happens (M.contents machine.old) w event)) }
-    ensures out { OnOk result ((w : World) → M.shows machine.old w
-        → GoesOut (turn (M.contents machine.old) w event).answer out.old out.new) }
+fn follow(machine: &mut Run<'_>, event: Event, out: &mut [Vec<u8>; 4]) -> Result<(), AllocError>
+    ensures contents { machine.new.contents ≡ machine.old.contents }
+    ensures world { OnOk result ((w : World) → Shows machine.old w
+        → Shows machine.new (happens machine.old.contents w event)) }
+    ensures out { OnOk result ((w : World) → Shows machine.old w
+        → GoesOut (turn machine.old.contents w event).answer out.old out.new) }
 {
-    match machine.react(event) {
-        Reaction::Emitted { link } => put_out(out, link, machine.message()),
+    match machine.advance(event) {
+        Reaction::Emitted { link } => put_out(out, link, machine.sent()),
         _ => Ok(()),
     }
 }

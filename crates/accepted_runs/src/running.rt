@@ -14,6 +14,7 @@ use machine_state::{Effect, Event, Link};
 use module_format::Tables;
 use plain_machine::DecodedCode;
 use std::alloc::{AllocError, Global};
+use std::convert::Infallible;
 use std::marker::Model;
 use verifier::Verified;
 
@@ -94,7 +95,7 @@ impl<'a> Run<'a> {
 
     /// One event, with the message that it sent still in the machine.
     #[inline(always)]
-    fn advance(&mut self, event: Event) -> Reaction
+    pub(crate) fn advance(&mut self, event: Event) -> Reaction
         ensures contents { self.new.contents ≡ self.old.contents }
         ensures reacts { (w : World) → Shows self.old w
             → HasReacted self.old.contents w event result self.new.last (Shows self.new) }
@@ -150,7 +151,7 @@ impl<'a> Run<'a> {
 
     /// The bytes of the message that the last event sent, none if it sent no message.
     #[inline(always)]
-    fn sent(&self) -> &[u8]
+    pub(crate) fn sent(&self) -> &[u8]
         ensures { result.now ≡ self.now.last }
     {
         if self.has_sent {
@@ -194,26 +195,40 @@ impl<'a> Machine for Run<'a> {
     ghost use Rattle.accepted_runs.specs.Running.{Shows};
     ghost use Rattle.accepted_runs.specs.Awaiting.{plain_awaited, awaited_as};
 
+    /// It never stops of itself.
+    type Stop = Infallible;
+
     ghost contents = { λ r. r.contents };
 
+    ghost limit = { λ r. r.contents.budget };
+
     ghost shows = { λ r w. Shows r w };
+
+    ghost stops = { λ r w never. ⊥ };
 
     ghost last = { λ r. r.last };
 
     ghost awaits = { λ r. plain_awaited r.machine };
 
-    fn proceed(&mut self) -> Progress {
+    fn proceed(&mut self) -> Result<Progress, Infallible> {
         'steps: loop {
             let reaction = self.go_on();
             if let Some(progress) = progress_of(reaction) {
-                return progress;
+                return Ok(progress);
             }
         }
     }
 
     #[inline(always)]
-    fn react(&mut self, event: Event) -> Reaction {
-        self.advance(event)
+    fn arrive(&mut self, link: Link, byte: u8) -> Result<(), Infallible> {
+        self.advance(Event::Arrive { link, byte });
+        Ok(())
+    }
+
+    #[inline(always)]
+    fn acknowledge(&mut self, link: Link) -> Result<(), Infallible> {
+        self.advance(Event::Acknowledge { link });
+        Ok(())
     }
 
     fn message(&self) -> &[u8] {

@@ -8,13 +8,12 @@ use Rattle.machine_state.specs.declared.event.Event.{Event}
 use Rattle.machine_state.specs.declared.event.Event.TheVariants.{Step, Arrive, Acknowledge}
 use Rattle.machine_state.specs.declared.link.Link.{Link}
 use Rattle.machine_state.specs.Moves.{link_index}
-use Rattle.machine_state.specs.World.{World}
 use Rattle.link_runs.specs.ByLink.{ByLink, of_link}
 use Rattle.link_runs.specs.FirstInFirstOut.{Supply, RunMoment}
 use Rattle.link_runs.specs.RunLaws.{WasAsked, HasEvents, arrivals, more_of}
 use Rattle.link_runs.proofs.Events.{runs_made_of_events}
 use Rattle.verifier.specs.Headline.{AreEvents}
-use Rattle.link_runner.specs.AskedBytes.{AsksForBytes, RunsOfBytesCanHappen}
+use Rattle.link_runner.specs.AskedBytes.{RunsOfBytesCanHappen}
 use Rattle.link_runner.specs.Readers.{at_link, inputs_of, supply_of, IsSpent, Takes, IsReadTo}
 use Rattle.link_runner.proofs.AtLinks.{of_by_link}
 

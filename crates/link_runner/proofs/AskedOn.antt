@@ -11,8 +11,8 @@ use Rattle.link_runs.specs.ByLink.{ByLink, of_link, first_link}
 use Rattle.link_runs.specs.FirstInFirstOut.{RunMoment, asked, can_be_asked}
 use Rattle.link_runs.specs.Wanting.{is_running, wants}
 use Rattle.link_runs.proofs.ByLink.{first_alike}
-use Rattle.link_runner.specs.declared.report.RunError.{RunError}
-use Rattle.link_runner.specs.declared.report.RunError.TheVariants.{ReadFailed, WriteFailed, Memory}
+use Rattle.link_runner.specs.declared.report.Halt.{Halt}
+use Rattle.link_runner.specs.declared.report.Halt.TheVariants.{ReadFailed, WriteFailed, Stopped}
 use Rattle.link_runner.specs.declared.tally.Tally.{Tally}
 use Rattle.link_runner.specs.Counting.{flag_of, ended_at, tally_of}
 use Rattle.link_runner.specs.Readers.{IsReadTo, NoneFailed, ReadsOn, count_open, IsSupplied, Supplies}
@@ -41,7 +41,7 @@ asked_by_tally s tally o counts is =
 -- ---- where the asking has come to
 
 module _ {M R : Type 0} (left : R → Option (List ℕ)) (failed : R → Bool) (contents : M → Contents)
-    (shows : M → World → Type 0) (awaits : M → ℕ) where
+    (limit : M → ℕ) (shows : M → World → Type 0) (awaits : M → ℕ) where
   -- a moment that was read on to, as the machine and the tally have it
   pub record IsLed (m : Contents) (first readers : List (Option R)) (writers : ByLink Bool) (s : RunMoment)
       (machine : M) (tally : Tally) : Type 0 where
@@ -53,6 +53,7 @@ module _ {M R : Type 0} (left : R → Option (List ℕ)) (failed : R → Bool) (
   pub record IsAsking (machine_before : M) (readers_before : List (Option R)) (tally_before : Tally) (machine : M)
       (readers : List (Option R)) (tally : Tally) (running : Bool) : Type 0 where
     pub same : contents machine ≡ contents machine_before
+    pub same_limit : limit machine ≡ limit machine_before
     pub runs : (w : World) → shows machine w → running ≡ is_running w
     pub leads : (first : List (Option R)) (writers : ByLink Bool) (s : RunMoment) → shows machine_before s.world
         → IsReadTo left (contents machine_before) first readers_before writers s → NoneFailed failed readers_before
@@ -64,6 +65,7 @@ module _ {M R : Type 0} (left : R → Option (List ℕ)) (failed : R → Bool) (
       → IsAsking machine readers tally machine readers tally running
   begins_asking machine readers tally running runs = record {
     same = refl;
+    same_limit = refl;
     runs = runs;
     leads = λ first writers s shown reads none counts. record {
       moment = s;
@@ -93,20 +95,25 @@ module _ {M R : Type 0} (left : R → Option (List ℕ)) (failed : R → Bool) (
       counts = supplied.counts;
     }
 
-    -- asking failed
-    pub stops_asking : (before : M) (tally new newest : Tally) (shown last : World
-        → Type 0) (link : Link) (e : RunError)
+    -- asking failed, or the machine stopped of itself
+    pub stops_asking : {S : Type 0} (before : M) (tally new : Tally) (shown : World → Type 0)
+        (stopped : World → S → Type 0) (link : Link) (e : Halt S)
         → (led : IsLed m first readers writers s before tally)
-        → Supplies left failed m first later writers led.moment link (Err e) new shown
-        → Provides left failed m first later writers s (Err e) newest last
-    stops_asking before tally new newest shown last link (ReadFailed on) led supplies = record {
+        → Supplies left failed m first later writers led.moment link (Err e) new shown stopped
+        → Provides left failed m first later writers s (Err e) new shown stopped
+    stops_asking before tally new shown stopped link (ReadFailed on) led supplies = record {
       moment = led.moment;
       written = led.goes.written;
       fails = subst (λ (l : Link). FailsToRead left failed m first later writers led.moment l) (sym supplies.0)
           supplies.1;
     }
-    stops_asking before tally new newest shown last link (WriteFailed on) led supplies = absurd supplies
-    stops_asking before tally new newest shown last link Memory led supplies = absurd supplies
+    stops_asking before tally new shown stopped link (WriteFailed on) led supplies = absurd supplies
+    stops_asking before tally new shown stopped link (Stopped stop) led supplies = record {
+      moment = supplies.moment;
+      goes = joined led.moment supplies.moment led.goes supplies.goes;
+      is_shown = supplies.is_shown;
+      counts = supplies.counts;
+    }
 
   -- what is asked ends
   pub falls : (w v : World) (tally_was tally_is : Tally) (n : ℕ) (machine later : M) (was is : Bool) → was ≡ false

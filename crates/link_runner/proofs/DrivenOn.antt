@@ -1,8 +1,9 @@
 -- A run that is driven on.
 use Rattle.std.proofs.Common.{◌≡◌, ℕ, suc, ◌<◌, ◌≤◌, Bool, true, false, List}
 use Rattle.std.proofs.Common.{Option}
-use Rattle.std.proofs.Common.{Some, Ok, Result, refl, sym, ap, ◌∙◌, arith}
+use Rattle.std.proofs.Common.{Some, Ok, Err, Result, refl, sym, ap, ◌∙◌, arith}
 use Rattle.module_format.specs.Contents.{Contents}
+use Rattle.machine_state.specs.declared.event.Event.TheVariants.{Acknowledge}
 use Rattle.machine_state.specs.declared.fault.Fault.{Fault}
 use Rattle.machine_state.specs.declared.link.Link.{Link}
 use Rattle.machine_state.specs.World.{World}
@@ -13,8 +14,8 @@ use Rattle.link_runs.specs.FirstInFirstOut.{RunMoment, plain_step, stepped, foll
 use Rattle.link_runs.proofs.Turns.{next_running, one_more}
 use Rattle.link_runs.specs.Driving.{Quietly}
 use Rattle.link_runs.specs.Driving as drives
+use Rattle.link_runs.proofs.FromOutside.{outside_counts_nothing}
 use Rattle.link_runs.proofs.PlainSteps.{one_more_byte}
-use Rattle.link_runner.proofs.OneByte.{acknowledgement_counts_nothing}
 use Rattle.link_runner.specs.Readers.{inputs_of, IsReadTo}
 
 -- the moment in another world
@@ -60,6 +61,15 @@ module _ {R : Type 0} (left : R
       left_same true is = rw is refl
       left_same false is = rw is refl
 
+  -- the Step that is at fault
+  pub fails_next : (s : RunMoment) (f : Fault) → IsReadTo left m first readers writers s → is_running s.world ≡ true
+      → (turn m s.world plain_step).answer ≡ Err f
+      → IsReadTo left m first readers writers (moved_to (happens m s.world plain_step) s)
+  fails_next s f reads runs answer =
+      turns_on s (moved_to (happens m s.world plain_step) s) reads runs
+      (ap (λ (a : Result Effect Fault). followed_up m writers a (moved_to (happens m s.world plain_step) s)) answer)
+      refl
+
 -- Steps only add to the count
 pub counts_up : (m : Contents) (v w : World) → Quietly m v w → v.counters.executed ≤ w.counters.executed
 counts_up m v w drives.at_once = omega arith
@@ -94,7 +104,7 @@ emission_counts m flags v w link message s quietly answer at_step = by_writer (o
     by_writer : (b : Bool) → of_link flags link ≡ b
         → v.counters.executed < (delivered m flags link message s).world.counters.executed
     by_writer true is =
-        let same = acknowledgement_counts_nothing m s.world link in
+        let same = outside_counts_nothing m s.world (Acknowledge link) refl in
         let more = stepped_count in
         rw is (omega (arith, same, more))
     by_writer false is = rw is stepped_count

@@ -1,32 +1,31 @@
 -- What becomes of asking one link.
 use Rattle.std.proofs.Common.{◌≡◌, ◌⊎◌, inl, inr, ℕ, ◌+◌, ◌<◌, Bool, true, false, is_none, cond, List}
 use Rattle.std.proofs.Common.{[]}
-use Rattle.std.proofs.Common.{Option, Some, None, Ok, Err, refl, sym, ap, subst, ◌∙◌, arith, add-zero}
+use Rattle.std.proofs.Common.{Option, Some, None, Ok, Err, refl, sym, ap, subst, ◌∙◌, arith}
 use Rattle.module_format.specs.Contents.{Contents}
 use Rattle.machine_state.specs.declared.event.Event.{Event}
-use Rattle.machine_state.specs.declared.event.Event.TheVariants.{Step, Arrive, Acknowledge}
+use Rattle.machine_state.specs.declared.event.Event.TheVariants.{Arrive}
 use Rattle.machine_state.specs.declared.link.Link.{Link}
 use Rattle.machine_state.specs.declared.link.Link.TheVariants.{Zero, One, Two, Three}
 use Rattle.machine_state.specs.World.{World}
-use Rattle.machine_state.specs.EventLaws.{bytes_of}
-use Rattle.machine_state.specs.Endings as turns
-use Rattle.machine_state.specs.Endings.{Happened, Rests}
-use Rattle.machine_state.specs.Happens.{Turn, turn, happens}
-use Rattle.machine_state.proofs.EventLaws.{events_count_bytes}
-use Rattle.machine_state.proofs.Turns.{turn_happens}
+use Rattle.machine_state.specs.Happens.{happens}
 use Rattle.link_runs.specs.ByLink.{ByLink, of_link, with_link}
 use Rattle.link_runs.specs.Awaiting.{awaited}
-use Rattle.link_runs.specs.Driving.{IsReached}
+use Rattle.link_runs.specs.Deadlocks.{is_from_outside}
+use Rattle.link_runs.specs.Driving as drives
+use Rattle.link_runs.specs.Driving.{IsReached, StopsAt}
 use Rattle.link_runs.specs.FirstInFirstOut.{RunMoment, asked}
 use Rattle.link_runs.specs.Wanting.{is_running, wants}
 use Rattle.link_runs.proofs.Arriving.{closer}
+use Rattle.link_runs.proofs.FromOutside.{outside_counts_nothing}
 use Rattle.link_runner.specs.declared.device.Failed.{Failed}
 use Rattle.link_runner.specs.declared.tally.Counts.{Counts}
 use Rattle.link_runner.specs.declared.tally.Ended.{Ended}
 use Rattle.link_runner.specs.declared.tally.Tally.{Tally}
 use Rattle.link_runner.specs.Counting.{saturated, with_flag, with_count, ended_at, counts_of, tally_of}
 use Rattle.link_runner.specs.Readers.{at_link, flag_at, NoneFailed, SameElsewhere, Takes, EndsRightly}
-use Rattle.link_runner.specs.Readers.{IsReadTo}
+use Rattle.link_runner.specs.Readers as readers
+use Rattle.link_runner.specs.Readers.{IsReadTo, IsReadOn, IsThere}
 use Rattle.link_runner.specs.Readers.{IsCalled, FailsToRead, count_open, IsSupplied}
 use Rattle.link_runner.proofs.AtLinks.{still_none, now_one}
 use Rattle.link_runner.proofs.ReadOn.{byte_read, end_read, none_read, takes_same, asked_is_open, asked_is_wanted}
@@ -60,57 +59,20 @@ open_fewer Three s here = let was = ap {B = ℕ} (λ (o : Option (List ℕ)). co
   was,
 )
 
--- ---- an arrival executes nothing
-
-abbrev CountsNothing : Event → Turn → Type 0
-CountsNothing (Step slice pick) t = Unit {0}
-CountsNothing (Arrive link byte) t = bytes_of t.answer ≡ 0
-CountsNothing (Acknowledge link) t = bytes_of t.answer ≡ 0
-
-rests_uncounted : {e : Event} {effect : _} (w : World) → Rests e effect
-    → CountsNothing e (record { world = w; answer = Ok effect })
-rests_uncounted w turns.is_idle = tt
-rests_uncounted w turns.is_busy = refl
-rests_uncounted w turns.arrives_nowhere = refl
-rests_uncounted w turns.is_ignored = refl
-
-fails_uncounted : (e : Event) (w : World) (f : _) → CountsNothing e (record { world = w; answer = Err f })
-fails_uncounted (Step slice pick) w f = tt
-fails_uncounted (Arrive link byte) w f = refl
-fails_uncounted (Acknowledge link) w f = refl
-
-uncounted : (m : Contents) (w : World) (e : Event) (t : Turn) → Happened m w e t → CountsNothing e t
-uncounted m w e t (turns.was_at_fault f is) = fails_uncounted e w f
-uncounted m w e t (turns.it_rests rests) = rests_uncounted w rests
-uncounted m w e t (turns.is_outside p task why runs here) = tt
-uncounted m w e t (turns.is_prefix p task byte operand runs here at none it next) = tt
-uncounted m w e t (turns.is_step p task byte f runs here at is ends) = tt
-uncounted m w e t (turns.is_taken input p here waits) = refl
-uncounted m w e t (turns.is_kept input here nobody empty) = refl
-uncounted m w e t (turns.is_acknowledged output p here waits) = refl
-
-pub arrival_counts_nothing : (m : Contents) (w : World) (link : Link) (byte : ℕ)
-    → (happens m w (Arrive link byte)).counters.executed ≡ w.counters.executed
-arrival_counts_nothing m w link byte =
-    events_count_bytes m w (Arrive link byte)
-    ∙ (ap (λ (n : ℕ). w.counters.executed + n)
-    (uncounted m w (Arrive link byte) (turn m w (Arrive link byte)) (turn_happens m w (Arrive link byte)))
-    ∙ add-zero w.counters.executed)
-
-pub acknowledgement_counts_nothing : (m : Contents) (w : World) (link : Link)
-    → (happens m w (Acknowledge link)).counters.executed ≡ w.counters.executed
-acknowledgement_counts_nothing m w link =
-    events_count_bytes m w (Acknowledge link)
-    ∙ (ap (λ (n : ℕ). w.counters.executed + n)
-    (uncounted m w (Acknowledge link) (turn m w (Acknowledge link)) (turn_happens m w (Acknowledge link)))
-    ∙ add-zero w.counters.executed)
-
-pub wanted_comes_closer : (m : Contents) (w : World) (link : Link) (byte : ℕ) → IsReached m w → wants link w ≡ true
+pub wanted_comes_closer : (m : Contents) (w : World) (link : Link) (byte limit : ℕ)
+    → IsReached m limit w → wants link w ≡ true
     → (is_running (happens m w (Arrive link byte)) ≡ true) ⊎ (awaited (happens m w (Arrive link byte)) < awaited w)
-wanted_comes_closer m w link byte reached wanted =
+wanted_comes_closer m w link byte limit reached wanted =
     subst (λ (v : World). v.fault ≡ None → wants link v ≡ true
     → (is_running (happens m v (Arrive link byte)) ≡ true) ⊎ (awaited (happens m v (Arrive link byte)) < awaited v))
     (sym reached.world) (closer m reached.events link byte) reached.no_fault wanted
+
+-- ---- a machine that stops of itself
+
+pub is_there_after : (m : Contents) (w : World) (e : Event) (stopped : World → Type 0) → is_from_outside e ≡ true
+    → StopsAt m w e stopped → IsThere m stopped (happens m w e)
+is_there_after m w e stopped is (drives.at_fault f told stops) = readers.there stops
+is_there_after m w e stopped is (drives.before_it stops) = readers.behind w e is refl stops
 
 -- ---- the link that is asked
 
@@ -191,23 +153,51 @@ module _ {R : Type 0} (left : R → Option (List ℕ)) (failed : R → Bool) (m 
 
   -- ---- what the caller learns
 
-  pub supplies_byte : (byte : ℕ) (tally : Tally) (shown : World → Type 0) → GivesByte byte → IsReached m s.world
+  -- the moment after a byte
+  abbrev after_byte : ℕ → RunMoment
+  after_byte byte = record s {
+    world = happens m s.world (Arrive link byte);
+    read = with_link link (of_link s.read link + 1) s.read;
+  }
+
+  counted_byte : (byte : ℕ) (tally : Tally)
       → tally ≡ record (tally_of s) { read = with_count link 1 (counts_of s.read) }
-      → shown (happens m s.world (Arrive link byte)) → IsSupplied left failed m first after writers s tally shown
-  supplies_byte byte tally shown gives reached counts is_shown = record {
-    moment = record s {
-      world = happens m s.world (Arrive link byte);
-      read = with_link link (of_link s.read link + 1) s.read;
-    };
+      → tally ≡ tally_of (after_byte byte)
+  counted_byte byte tally counts =
+      counts ∙ ap (λ (counts : Counts). record (tally_of s) { read = counts }) (counted_one link s.read)
+
+  -- the machine stopped of itself at the arrival
+  pub supplies_nothing : (byte : ℕ) (tally : Tally) (stopped : World → Type 0) → GivesByte byte
+      → tally ≡ record (tally_of s) { read = with_count link 1 (counts_of s.read) }
+      → StopsAt m s.world (Arrive link byte) stopped
+      → IsReadOn left failed m first after writers s tally (IsThere m stopped)
+  supplies_nothing byte tally stopped gives counts stops = record {
+    moment = after_byte byte;
     goes = record {
       reads = gives.reads_on;
       none_failed = gives.none_failed;
       written = refl;
-      count = arrival_counts_nothing m s.world link byte;
+      count = outside_counts_nothing m s.world (Arrive link byte) refl;
+    };
+    is_shown = is_there_after m s.world (Arrive link byte) stopped refl stops;
+    counts = counted_byte byte tally counts;
+  }
+
+  pub supplies_byte : (byte limit : ℕ) (tally : Tally) (shown : World → Type 0) → GivesByte byte
+      → IsReached m limit s.world
+      → tally ≡ record (tally_of s) { read = with_count link 1 (counts_of s.read) }
+      → shown (happens m s.world (Arrive link byte)) → IsSupplied left failed m first after writers s tally shown
+  supplies_byte byte limit tally shown gives reached counts is_shown = record {
+    moment = after_byte byte;
+    goes = record {
+      reads = gives.reads_on;
+      none_failed = gives.none_failed;
+      written = refl;
+      count = outside_counts_nothing m s.world (Arrive link byte) refl;
     };
     is_shown = is_shown;
-    counts = counts ∙ ap (λ (counts : Counts). record (tally_of s) { read = counts }) (counted_one link s.read);
-    closer = elim (wanted_comes_closer m s.world link byte reached (asked_is_wanted s link ask)) [
+    counts = counted_byte byte tally counts;
+    closer = elim (wanted_comes_closer m s.world link byte limit reached (asked_is_wanted s link ask)) [
       | inl runs ↦ inl runs
       | inr less ↦ inr (let same = ap (λ (t : Tally). count_open t.ended) counts in omega (arith, less, same))
     ];

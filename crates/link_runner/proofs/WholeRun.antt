@@ -9,25 +9,26 @@ use Rattle.machine_state.specs.declared.link.Link.TheVariants.{Zero, One, Two, T
 use Rattle.machine_state.specs.World.{World}
 use Rattle.machine_state.specs.Happens.{emitted, turn, happens}
 use Rattle.link_runs.specs.ByLink.{ByLink, of_link, for_all}
-use Rattle.link_runs.specs.Driving.{Quietly, ComesToRest, ComesToEmit}
+use Rattle.link_runs.specs.Driving as drives
+use Rattle.link_runs.specs.Driving.{Quietly, ComesToRest, ComesToEmit, ComesToStop, StopsAt}
 use Rattle.link_runs.specs.FirstInFirstOut.{RunMoment, beginning, delivered, plain_step, IsOver}
 use Rattle.link_runs.specs.Wanting.{is_running}
 use Rattle.link_runner.specs.declared.report.Outcome.{Outcome}
 use Rattle.link_runner.specs.declared.report.Report.{Report}
-use Rattle.link_runner.specs.declared.report.RunError.{RunError}
-use Rattle.link_runner.specs.declared.report.RunError.TheVariants.{ReadFailed, WriteFailed, Memory}
+use Rattle.link_runner.specs.declared.report.Halt.{Halt}
+use Rattle.link_runner.specs.declared.report.Halt.TheVariants.{ReadFailed, WriteFailed, Stopped}
 use Rattle.link_runner.specs.declared.tally.Counts.{Counts}
-use Rattle.link_runner.specs.declared.tally.Ended.{Ended}
 use Rattle.link_runner.specs.declared.tally.Tally.{Tally}
 use Rattle.link_runner.specs.Counting.{tally_of, report_of}
 use Rattle.link_runner.specs.Readers.{at_link, inputs_of, supply_of, IsSpent, Takes, EndsRightly, IsReadTo, NoneFailed}
-use Rattle.link_runner.specs.Readers.{ReadsOn, Provides, IsProvided, absent_of}
+use Rattle.link_runner.specs.Readers as readers_at
+use Rattle.link_runner.specs.Readers.{ReadsOn, Provides, IsProvided, absent_of, tally_at_start, IsThere, GoesOn}
 use Rattle.link_runner.specs.Writers.{writers_of, Puts, PutsOn, IsDelivered, Delivers}
-use Rattle.link_runner.specs.Runs.{Finishes, StopsAtWrite, Runs}
+use Rattle.link_runner.specs.Runs.{Finishes, StopsAtWrite, Drives, ComesTo, ComesToEnd, StopsOfItself}
 use Rattle.link_runs.specs.RunLaws.{written_if}
 use Rattle.link_runner.proofs.AtLinks.{of_by_link}
 use Rattle.link_runner.proofs.AskedBytes.{no_byte}
-use Rattle.link_runner.proofs.DrivenOn.{moved_to, goes_quietly, emits_next, counts_more, emission_counts}
+use Rattle.link_runner.proofs.DrivenOn.{moved_to, goes_quietly, fails_next, emits_next, counts_more, emission_counts}
 use Rattle.link_runner.proofs.WrittenOn.{puts_nothing, puts_more, puts_message, writers_stay}
 use Rattle.std.proofs.KnownBytes.{Consumes-nil}
 
@@ -40,6 +41,18 @@ module _ {R W : Type 0} (left : R → Option (List ℕ)) (read_failed : R → Bo
         → Puts written (at_link first_writers link) (at_link writers link) (of_link s.written link)
     pub no_read_failed : NoneFailed read_failed readers
     pub no_write_failed : NoneFailed write_failed writers
+
+  comes_to : (s : RunMoment) (readers : List (Option R)) (writers : List (Option W)) → IsDrivenTo s readers writers
+      → (tally : Tally) (shown : World → Type 0) → tally ≡ tally_of s → shown s.world
+      → ComesTo left read_failed written write_failed m first readers first_writers writers s tally shown
+  comes_to s readers writers driven tally shown counts is_shown = record {
+    reads = driven.reads;
+    writes = driven.writes;
+    is_shown = is_shown;
+    counts = counts;
+    no_read_failed = driven.no_read_failed;
+    no_write_failed = driven.no_write_failed;
+  }
 
   -- ---- the start
 
@@ -156,11 +169,17 @@ module _ {R W : Type 0} (left : R → Option (List ℕ)) (read_failed : R → Bo
           → IsDrivenTo with_message readers after
       message_delivered after tally shown delivers = told after delivers.none_failed delivers.puts
 
-      pub message_fails : (after : List (Option W)) (e : RunError) (tally : Tally) (shown : World → Type 0)
-          → Delivers written write_failed m link message emitting writers after (Err e) tally shown
-          → Runs left read_failed written write_failed m first readers first_writers after (Err e)
-      message_fails after (ReadFailed on) tally shown delivers = absurd delivers
-      message_fails after (WriteFailed on) tally shown delivers =
+      pub message_fails : {S : Type 0} (after : List (Option W)) (e : Halt S) (tally : Tally) (shown : World → Type 0)
+          (stopped : World → S → Type 0)
+          → Delivers written write_failed m link message emitting writers after (Err e) tally shown stopped
+          → Drives left read_failed written write_failed m first readers first_writers after (Err e) tally shown stopped
+      message_fails after (ReadFailed on) tally shown stopped delivers = absurd delivers
+      message_fails after (Stopped stop) tally shown stopped delivers = record {
+        moment = with_message;
+        comes = comes_to with_message readers after (told after delivers.none_failed delivers.puts) tally
+            (IsThere m (λ w. stopped w stop)) delivers.counts delivers.is_shown;
+      }
+      message_fails after (WriteFailed on) tally shown stopped delivers =
           subst (λ (l : Link). StopsAtWrite left read_failed written write_failed m first readers first_writers after l)
           (sym delivers.0) (record {
             moment = s;
@@ -177,12 +196,17 @@ module _ {R W : Type 0} (left : R → Option (List ℕ)) (read_failed : R → Bo
             no_read_failed = driven.no_read_failed;
             one_failed = delivers.1.one_failed;
           })
-      message_fails after Memory tally shown delivers = absurd delivers
 
-    pub provide_fails : (later : List (Option R)) (e : RunError) (tally : Tally) (shown : World → Type 0)
-        → Provides left read_failed m first later (writers_of first_writers) s (Err e) tally shown
-        → Runs left read_failed written write_failed m first later first_writers writers (Err e)
-    provide_fails later (ReadFailed link) tally shown provides = record {
+    pub provide_fails : {S : Type 0} (later : List (Option R)) (e : Halt S) (tally : Tally) (shown : World → Type 0)
+        (stopped : World → S → Type 0)
+        → Provides left read_failed m first later (writers_of first_writers) s (Err e) tally shown stopped
+        → Drives left read_failed written write_failed m first later first_writers writers (Err e) tally shown stopped
+    provide_fails later (Stopped stop) tally shown stopped provides = record {
+      moment = provides.moment;
+      comes = comes_to provides.moment later writers (provided provides.moment later provides.goes) tally
+          (IsThere m (λ w. stopped w stop)) provides.counts provides.is_shown;
+    }
+    provide_fails later (ReadFailed link) tally shown stopped provides = record {
       moment = provides.moment;
       fails = provides.fails;
       writes = λ link. subst (λ (all : ByLink (List ℕ)). Puts written (at_link first_writers link) (at_link writers
@@ -190,48 +214,45 @@ module _ {R W : Type 0} (left : R → Option (List ℕ)) (read_failed : R → Bo
           (of_link all link)) (sym provides.written) (driven.writes link);
       no_write_failed = driven.no_write_failed;
     }
-    provide_fails later (WriteFailed link) tally shown provides = absurd provides
-    provide_fails later Memory tally shown provides = absurd provides
+    provide_fails later (WriteFailed link) tally shown stopped provides = absurd provides
 
-    pub finishes : (report : Report) → IsOver m (writers_of first_writers) s → report ≡ report_of s
-        → Finishes left read_failed written write_failed m first readers first_writers writers report
-    finishes report over reported = record {
-      moment = s;
-      reads = driven.reads;
-      writes = driven.writes;
-      over = over;
-      reported = reported;
-      no_read_failed = driven.no_read_failed;
-      no_write_failed = driven.no_write_failed;
-    }
+    pub ends : (tally : Tally) (shown : World → Type 0) → IsOver m (writers_of first_writers) s
+        → tally ≡ tally_of s → shown s.world
+        → ComesToEnd left read_failed written write_failed m first readers first_writers writers tally shown
+    ends tally shown over counts is_shown =
+        record { moment = s; comes = comes_to s readers writers driven tally shown counts is_shown; over = over }
 
 -- ---- the loop
 
 module _ {M R W : Type 0} (left : R → Option (List ℕ)) (read_failed : R → Bool) (written : W → Option (List ℕ))
-    (write_failed : W → Bool) (contents : M → Contents) (shows : M → World → Type 0) where
-  pub record IsDriving (m : Contents) (first : List (Option R)) (first_writers : List (Option W)) (machine : M)
+    (write_failed : W → Bool) (contents : M → Contents) (limit : M → ℕ) (shows : M → World → Type 0) where
+  pub record IsDriving (m : Contents) (bound : ℕ) (first : List (Option R)) (first_writers : List (Option W))
+      (machine : M)
       (readers : List (Option R)) (writers : List (Option W)) (tally : Tally) (executed : ℕ) : Type 0 where
     pub same : contents machine ≡ m
+    pub most : limit machine ≡ bound
     pub moment : RunMoment
     pub is_shown : shows machine moment.world
     pub driven : IsDrivenTo left read_failed written write_failed m first first_writers moment readers writers
     pub counts : tally ≡ tally_of moment
     pub count : executed ≡ moment.world.counters.executed
 
-  module _ (m : Contents) (first : List (Option R)) (first_writers : List (Option W)) (machine : M)
+  module _ (m : Contents) (bound : ℕ) (first : List (Option R)) (first_writers : List (Option W)) (machine : M)
       (readers : List (Option R)) (writers : List (Option W)) (tally : Tally) (executed : ℕ)
-      (driving : IsDriving m first first_writers machine readers writers tally executed) where
+      (driving : IsDriving m bound first first_writers machine readers writers tally executed) where
     abbrev flags : ByLink Bool
     flags = writers_of first_writers
 
     -- what `provide` says, of this run
-    pub provides_here : (later : List (Option R)) (r : Result Bool RunError) (new : Tally) (shown : World → Type 0)
+    pub provides_here : {S : Type 0} (later : List (Option R)) (r : Result Bool (Halt S)) (new : Tally)
+        (shown : World → Type 0) (stopped : World → S → Type 0)
         → ((ever : List (Option R)) (on : ByLink Bool) (s : RunMoment) → shows machine s.world
         → IsReadTo left (contents machine) ever readers on s → NoneFailed read_failed readers → tally ≡ tally_of s
-        → Provides left read_failed (contents machine) ever later on s r new shown)
-        → Provides left read_failed m first later flags driving.moment r new shown
-    provides_here later r new shown provides =
-        subst (λ (n : Contents). Provides left read_failed n first later flags driving.moment r new shown) driving.same
+        → Provides left read_failed (contents machine) ever later on s r new shown stopped)
+        → Provides left read_failed m first later flags driving.moment r new shown stopped
+    provides_here later r new shown stopped provides =
+        subst (λ (n : Contents). Provides left read_failed n first later flags driving.moment r new shown stopped)
+        driving.same
         (provides first flags driving.moment driving.is_shown
         (subst (λ (n : Contents). IsReadTo left n first readers flags driving.moment) (sym driving.same)
         driving.driven.reads) driving.driven.no_read_failed driving.counts)
@@ -296,22 +317,65 @@ module _ {M R W : Type 0} (left : R → Option (List ℕ)) (read_failed : R → 
               omega (arith, more, same, count);
         }
 
-        pub message_stops : (after : List (Option W)) (e : RunError) (newest : Tally) (shown_last : World → Type 0)
-            → Delivers written write_failed m link message at_message writers after (Err e) newest shown_last
-            → Runs left read_failed written write_failed m first later first_writers after (Err e)
-        message_stops after e newest shown_last delivers =
+        pub message_stops : {S : Type 0} (after : List (Option W)) (e : Halt S) (newest : Tally)
+            (shown_last : World → Type 0) (stopped : World → S → Type 0)
+            → Delivers written write_failed m link message at_message writers after (Err e) newest shown_last stopped
+            → Drives left read_failed written write_failed m first later first_writers after (Err e) newest shown_last
+            stopped
+        message_stops after e newest shown_last stopped delivers =
             message_fails left read_failed written write_failed m first first_writers (moved_to emits.world p.moment)
             later
             writers (driven_on emits.world emits.quietly) link message emits.runs emits.emits after e newest shown_last
-            delivers
+            stopped delivers
+
+      -- the machine stops of itself at a Step
+      pub stops_itself : (stopped : World → Type 0) → ComesToStop m p.moment.world stopped
+          → StopsOfItself left read_failed written write_failed m first later first_writers writers new stopped
+      stops_itself stopped stops = by_stop stops.stops
+        where
+          driven_on_it : IsDrivenTo left read_failed written write_failed m first first_writers (moved_to stops.world
+              p.moment)
+              later writers
+          driven_on_it = driven_on stops.world stops.quietly
+
+          by_stop : StopsAt m stops.world plain_step stopped
+              → StopsOfItself left read_failed written write_failed m first later first_writers writers new stopped
+          by_stop (drives.at_fault f told is) = record {
+            moment = moved_to (happens m stops.world plain_step) p.moment;
+            comes = record {
+              reads = fails_next left m first later flags (moved_to stops.world p.moment) f driven_on_it.reads
+                  stops.runs told;
+              writes = driven_on_it.writes;
+              is_shown = readers_at.there is;
+              counts = p.counts;
+              no_read_failed = driven_on_it.no_read_failed;
+              no_write_failed = driven_on_it.no_write_failed;
+            };
+          }
+          by_stop (drives.before_it is) = record {
+            moment = moved_to stops.world p.moment;
+            comes = comes_to left read_failed written write_failed m first first_writers (moved_to stops.world p.moment)
+                later writers driven_on_it
+                new (IsThere m stopped) p.counts (readers_at.there is);
+          }
+
+      pub goes_no_further : {S : Type 0} (last : List ℕ) (shown_now : World → Type 0) (stopped : World → S → Type 0)
+          (halt : Halt S) → GoesOn m p.moment.world (Err halt) last shown_now stopped
+          → Drives left read_failed written write_failed m first later first_writers writers (Err halt) new shown_now
+          stopped
+      goes_no_further last shown_now stopped (ReadFailed link) goes = absurd goes
+      goes_no_further last shown_now stopped (WriteFailed link) goes = absurd goes
+      goes_no_further last shown_now stopped (Stopped stop) goes = stops_itself (λ w. stopped w stop) goes
 
     pub drives_further : (machine_after : M) (later : List (Option R)) (after : List (Option W)) (new : Tally) (count
         : ℕ)
-        → contents machine_after ≡ m → (advanced : IsAdvanced machine_after later after new)
+        → contents machine_after ≡ m → limit machine_after ≡ bound
+        → (advanced : IsAdvanced machine_after later after new)
         → count ≡ advanced.moment.world.counters.executed
-        → IsDriving m first first_writers machine_after later after new count
-    drives_further machine_after later after new count same advanced is = record {
+        → IsDriving m bound first first_writers machine_after later after new count
+    drives_further machine_after later after new count same most advanced is = record {
       same = same;
+      most = most;
       moment = advanced.moment;
       is_shown = advanced.is_shown;
       driven = advanced.driven;
@@ -320,14 +384,14 @@ module _ {M R W : Type 0} (left : R → Option (List ℕ)) (read_failed : R → 
     }
 
     pub less_is_left : (machine_after : M) (later : List (Option R)) (after : List (Option W)) (new : Tally) (count : ℕ)
-        → contents machine_after ≡ m → (advanced : IsAdvanced machine_after later after new)
-        → count ≡ advanced.moment.world.counters.executed → advanced.moment.world.counters.executed ≤ m.budget
-        → (contents machine_after).budget - count < (contents machine).budget - executed
-    less_is_left machine_after later after new count same advanced is within =
+        → limit machine_after ≡ bound → (advanced : IsAdvanced machine_after later after new)
+        → count ≡ advanced.moment.world.counters.executed
+        → advanced.moment.world.counters.executed ≤ limit machine_after
+        → limit machine_after - count < limit machine - executed
+    less_is_left machine_after later after new count most advanced is within =
         let more = advanced.more in
-        let budget = ap (λ (n : Contents). n.budget) same in
-        let budget_before = ap (λ (n : Contents). n.budget) driving.same in
-        omega (arith, more, is, within, budget, budget_before)
+        let before = driving.most in
+        omega (arith, more, is, within, most, before)
 
 -- ---- what is counted and reported
 
@@ -346,16 +410,10 @@ absent_is None = refl
 absent_is (Some reader) = refl
 
 -- nothing is counted at the start
-pub counts_at_first : {R : Type 0} (m : Contents) (first : List (Option R)) (ended : Ended) (read written : Counts)
-    → ended ≡ absent_of first
-    → read ≡ record { first = 0; second = 0; third = 0; fourth = 0 }
-    → written ≡ record { first = 0; second = 0; third = 0; fourth = 0 }
-    → record { ended = ended; read = read; written = written } ≡ tally_of (beginning m (inputs_of first (for_all [])))
-counts_at_first m first ended read written e r w =
-    ap (λ (x : Counts). record { ended = ended; read = x; written = written }) r
-    ∙ (ap (λ (x : Counts). record { ended = ended; read = zeroes; written = x }) w
-    ∙ (ap (λ (x : Ended). record { ended = x; read = zeroes; written = zeroes }) e
-    ∙ (ap (λ (b : Bool). of_flags b (is_none (at_link first One)) (is_none (at_link first Two))
+pub counts_at_first : {R : Type 0} (m : Contents) (first : List (Option R))
+    → tally_at_start first ≡ tally_of (beginning m (inputs_of first (for_all [])))
+counts_at_first m first =
+    ap (λ (b : Bool). of_flags b (is_none (at_link first One)) (is_none (at_link first Two))
     (is_none (at_link first Three))) (absent_is (at_link first Zero))
     ∙ (ap (λ (b : Bool). of_flags (is_none (supply_of (at_link first Zero) [])) b (is_none (at_link first Two))
     (is_none (at_link first Three))) (absent_is (at_link first One))
@@ -363,7 +421,7 @@ counts_at_first m first ended read written e r w =
     (is_none (supply_of (at_link first One) [])) b (is_none (at_link first Three))) (absent_is (at_link first Two))
     ∙ ap (λ (b : Bool). of_flags (is_none (supply_of (at_link first Zero) []))
     (is_none (supply_of (at_link first One) [])) (is_none (supply_of (at_link first Two) [])) b)
-    (absent_is (at_link first Three)))))))
+    (absent_is (at_link first Three))))
 
 pub report_is : (s : RunMoment) (outcome : Outcome) (executed : ℕ) (read written : List ℕ)
     → outcome ≡ (report_of s).outcome → executed ≡ s.world.counters.executed → read ≡ (report_of s).read
@@ -374,3 +432,21 @@ report_is s outcome executed read written o e r w =
     ∙ (ap (λ (x : ℕ). record { outcome = (report_of s).outcome; executed = x; read = read; written = written }) e
     ∙ (ap (λ (x : List ℕ). record (report_of s) { read = x; written = written }) r
     ∙ ap (λ (x : List ℕ). record (report_of s) { written = x }) w))
+
+-- a run that came to its end is one that finishes with its report
+pub finishes : {R W : Type 0} (left : R → Option (List ℕ)) (read_failed : R → Bool) (written : W → Option (List ℕ))
+    (write_failed : W → Bool) (m : Contents) (first readers : List (Option R)) (first_writers writers : List (Option W))
+    (tally : Tally) (shown : World → Type 0) (report : Report)
+    (ends : ComesToEnd left read_failed written write_failed m first readers first_writers writers tally shown)
+    → report ≡ report_of ends.moment
+    → Finishes left read_failed written write_failed m first readers first_writers writers report
+finishes left read_failed written write_failed m first readers first_writers writers tally shown report ends reported =
+    record {
+      moment = ends.moment;
+      reads = ends.comes.reads;
+      writes = ends.comes.writes;
+      over = ends.over;
+      reported = reported;
+      no_read_failed = ends.comes.no_read_failed;
+      no_write_failed = ends.comes.no_write_failed;
+    }

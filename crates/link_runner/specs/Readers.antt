@@ -7,14 +7,19 @@ use Rattle.module_format.specs.Contents.{Contents}
 use Rattle.module_format.specs.Order.{IsBytes}
 use Rattle.machine_state.specs.declared.link.Link.{Link}
 use Rattle.machine_state.specs.declared.link.Link.TheVariants.{Zero, One, Two, Three}
+use Rattle.machine_state.specs.declared.event.Event.{Event}
+use Rattle.machine_state.specs.Happens.{happens}
 use Rattle.machine_state.specs.Moves.{link_index}
 use Rattle.machine_state.specs.World.{World}
 use Rattle.link_runs.specs.Awaiting.{awaited}
 use Rattle.link_runs.specs.ByLink.{ByLink, of_link, by_link}
+use Rattle.link_runs.specs.Deadlocks.{is_from_outside}
+use Rattle.link_runs.specs.Driving.{Proceeds, ComesToStop}
+use Rattle.link_runs.specs.declared.driving.Progress.{Progress}
 use Rattle.link_runs.specs.FirstInFirstOut.{Supply, RunMoment, IsRun, IsOver, asked}
 use Rattle.link_runs.specs.Wanting.{is_running}
-use Rattle.link_runner.specs.declared.report.RunError.{RunError}
-use Rattle.link_runner.specs.declared.report.RunError.TheVariants.{ReadFailed, WriteFailed, Memory}
+use Rattle.link_runner.specs.declared.report.Halt.{Halt}
+use Rattle.link_runner.specs.declared.report.Halt.TheVariants.{ReadFailed, WriteFailed, Stopped}
 use Rattle.link_runner.specs.declared.tally.Ended.{Ended}
 use Rattle.link_runner.specs.declared.tally.Tally.{Tally}
 use Rattle.link_runner.specs.Counting.{tally_of}
@@ -37,6 +42,14 @@ absent_of all = record {
   second = is_none (at_link all One);
   third = is_none (at_link all Two);
   fourth = is_none (at_link all Three);
+}
+
+-- nothing went over a link yet, and those without a reader have ended
+abbrev pub tally_at_start : {A : Type 0} → List (Option A) → Tally
+tally_at_start readers = record {
+  ended = absent_of readers;
+  read = record { first = 0; second = 0; third = 0; fourth = 0 };
+  written = record { first = 0; second = 0; third = 0; fourth = 0 };
 }
 
 -- the flag of one that is there
@@ -137,6 +150,19 @@ count_open ended = count_if ended.first + count_if ended.second + count_if ended
 abbrev pub askable : RunMoment → Tally → ℕ
 askable s tally = awaited s.world + count_open tally.ended
 
+-- what became of a machine that was to go on by itself
+abbrev pub GoesOn : {S : Type 0} → Contents → World → Result Progress (Halt S) → List ℕ → (World → Type 0)
+    → (World → S → Type 0) → Type 0
+GoesOn m w (Ok progress) last shown stopped = Proceeds m w (Ok progress) last shown stopped
+GoesOn m w (Err (Stopped stop)) last shown stopped = ComesToStop m w (λ v. stopped v stop)
+GoesOn m w (Err (ReadFailed link)) last shown stopped = ⊥
+GoesOn m w (Err (WriteFailed link)) last shown stopped = ⊥
+
+-- A machine that stopped of itself is in this world, or in one from which what came last from outside leads there.
+pub data IsThere (m : Contents) (stopped : World → Type 0) (w : World) : Type 0 where
+  there : stopped w → IsThere m stopped w
+  behind : (v : World) (e : Event) → is_from_outside e ≡ true → w ≡ happens m v e → stopped v → IsThere m stopped w
+
 module _ {R : Type 0} (left : R → Option (List ℕ)) (failed : R → Bool) (m : Contents)
     (first readers : List (Option R)) (writers : ByLink Bool) (s : RunMoment) where
   -- The link was asked, and a process runs, or less can be asked.
@@ -147,6 +173,13 @@ module _ {R : Type 0} (left : R → Option (List ℕ)) (failed : R → Bool) (m 
     pub counts : tally ≡ tally_of moment
     pub closer : (is_running moment.world ≡ true) ⊎ (askable moment tally < askable s (tally_of s))
 
+  -- the run was read on to a moment in whose world this holds
+  pub record IsReadOn (tally : Tally) (shown : World → Type 0) : Type 0 where
+    pub moment : RunMoment
+    pub goes : ReadsOn left failed m first readers writers s moment
+    pub is_shown : shown moment.world
+    pub counts : tally ≡ tally_of moment
+
   -- reading failed at some moment that the run was read on to
   pub record FailsLater (link : Link) : Type 0 where
     pub moment : RunMoment
@@ -154,11 +187,13 @@ module _ {R : Type 0} (left : R → Option (List ℕ)) (failed : R → Bool) (m 
     pub fails : FailsToRead left failed m first readers writers moment link
 
   -- what became of asking this link
-  abbrev pub Supplies : Link → Result ⊤ RunError → Tally → (World → Type 0) → Type 0
-  Supplies link (Ok _) tally shown = IsSupplied tally shown
-  Supplies link (Err (ReadFailed on)) tally shown = (on ≡ link) × FailsToRead left failed m first readers writers s link
-  Supplies link (Err (WriteFailed on)) tally shown = ⊥
-  Supplies link (Err Memory) tally shown = ⊥
+  abbrev pub Supplies : {S : Type 0} → Link → Result ⊤ (Halt S) → Tally → (World → Type 0) → (World → S → Type 0)
+      → Type 0
+  Supplies link (Ok _) tally shown stopped = IsSupplied tally shown
+  Supplies link (Err (ReadFailed on)) tally shown stopped =
+      (on ≡ link) × FailsToRead left failed m first readers writers s link
+  Supplies link (Err (WriteFailed on)) tally shown stopped = ⊥
+  Supplies link (Err (Stopped stop)) tally shown stopped = IsReadOn tally (IsThere m (λ w. stopped w stop))
 
   -- The links were asked until a process runs, or until nothing is left to be done.
   pub record IsProvided (running : Bool) (tally : Tally) (shown : World → Type 0) : Type 0 where
@@ -169,11 +204,11 @@ module _ {R : Type 0} (left : R → Option (List ℕ)) (failed : R → Bool) (m 
     pub runs : is_running moment.world ≡ running
     pub over : running ≡ false → IsOver m writers moment
 
-  abbrev pub Provides : Result Bool RunError → Tally → (World → Type 0) → Type 0
-  Provides (Ok running) tally shown = IsProvided running tally shown
-  Provides (Err (ReadFailed link)) tally shown = FailsLater link
-  Provides (Err (WriteFailed link)) tally shown = ⊥
-  Provides (Err Memory) tally shown = ⊥
+  abbrev pub Provides : {S : Type 0} → Result Bool (Halt S) → Tally → (World → Type 0) → (World → S → Type 0) → Type 0
+  Provides (Ok running) tally shown stopped = IsProvided running tally shown
+  Provides (Err (ReadFailed link)) tally shown stopped = FailsLater link
+  Provides (Err (WriteFailed link)) tally shown stopped = ⊥
+  Provides (Err (Stopped stop)) tally shown stopped = IsReadOn tally (IsThere m (λ w. stopped w stop))
 
 -- a run that is under way: it came to some moment by reading
 pub record IsUnderWay {M R : Type 0} (left : R → Option (List ℕ)) (failed : R → Bool) (contents : M → Contents)

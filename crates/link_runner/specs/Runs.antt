@@ -3,6 +3,7 @@ use Rattle.std.specs.Prelude.{◌≡◌, ℕ, Bool, true, List, [], ◌++◌, Op
 use Rattle.module_format.specs.Contents.{Contents}
 use Rattle.machine_state.specs.declared.link.Link.{Link}
 use Rattle.machine_state.specs.Happens.{emitted, turn}
+use Rattle.machine_state.specs.World.{World}
 use Rattle.link_runs.specs.ByLink.{ByLink, of_link, with_link}
 use Rattle.link_runs.specs.FirstInFirstOut.{Supply, RunMoment, IsRun, IsOver, plain_step}
 use Rattle.link_runs.specs.Wanting.{is_running}
@@ -10,8 +11,11 @@ use Rattle.link_runner.specs.AskedBytes.{AsksForBytes}
 use Rattle.link_runner.specs.declared.report.Report.{Report}
 use Rattle.link_runner.specs.declared.report.RunError.{RunError}
 use Rattle.link_runner.specs.declared.report.RunError.TheVariants.{ReadFailed, WriteFailed, Memory}
-use Rattle.link_runner.specs.Counting.{report_of}
-use Rattle.link_runner.specs.Readers.{at_link, NoneFailed, OneFailed, IsReadTo, FailsToRead}
+use Rattle.link_runner.specs.declared.report.Halt.{Halt}
+use Rattle.link_runner.specs.declared.report.Halt.TheVariants as halts
+use Rattle.link_runner.specs.declared.tally.Tally.{Tally}
+use Rattle.link_runner.specs.Counting.{report_of, tally_of}
+use Rattle.link_runner.specs.Readers.{at_link, NoneFailed, OneFailed, IsReadTo, FailsToRead, IsThere}
 use Rattle.link_runner.specs.Writers.{writers_of, Puts, IsPart}
 
 module _ {R W : Type 0} (left : R → Option (List ℕ)) (read_failed : R → Bool) (written : W → Option (List ℕ))
@@ -58,6 +62,36 @@ module _ {R W : Type 0} (left : R → Option (List ℕ)) (read_failed : R → Bo
   pub record StopsForMemory : Type 0 where
     pub unread : readers_after ≡ readers
     pub unwritten : writers_after ≡ writers
+
+  -- ---- a machine that is driven
+
+  -- The run came to this moment: all the bytes that were taken were asked for, all that it emitted was written, and
+  -- this holds of its world.
+  pub record ComesTo (moment : RunMoment) (tally : Tally) (shown : World → Type 0) : Type 0 where
+    pub reads : IsReadTo left m readers readers_after (writers_of writers) moment
+    pub writes : Writes moment.written
+    pub is_shown : shown moment.world
+    pub counts : tally ≡ tally_of moment
+    pub no_read_failed : NoneFailed read_failed readers_after
+    pub no_write_failed : NoneFailed write_failed writers_after
+
+  -- so it did, and nothing is left to do
+  pub record ComesToEnd (tally : Tally) (shown : World → Type 0) : Type 0 where
+    pub moment : RunMoment
+    pub comes : ComesTo moment tally shown
+    pub over : IsOver m (writers_of writers) moment
+
+  -- so it did, and there the machine stopped of itself
+  pub record StopsOfItself (tally : Tally) (stopped : World → Type 0) : Type 0 where
+    pub moment : RunMoment
+    pub comes : ComesTo moment tally (IsThere m stopped)
+
+  -- What a machine does that is driven, whatever its readers turn out to give, and whether or not it stops of itself.
+  abbrev pub Drives : {S : Type 0} → Result ⊤ (Halt S) → Tally → (World → Type 0) → (World → S → Type 0) → Type 0
+  Drives (Ok done) tally shown stopped = ComesToEnd tally shown
+  Drives (Err (halts.ReadFailed link)) tally shown stopped = StopsAtRead link
+  Drives (Err (halts.WriteFailed link)) tally shown stopped = StopsAtWrite link
+  Drives (Err (halts.Stopped stop)) tally shown stopped = StopsOfItself tally (λ w. stopped w stop)
 
   -- What `run` does, whatever its readers turn out to give: they are asked link by link, and may fail. `RunsWith` says
   -- it of readers whose bytes are known beforehand, as one run over all of these.

@@ -9,11 +9,11 @@ use Rattle.machine_state.specs.World.{World}
 use Rattle.link_runs.specs.ByLink.{ByLink, of_link, by_link}
 use Rattle.link_runs.specs.FirstInFirstOut.{RunMoment, delivered}
 use Rattle.link_runs.specs.RunLaws.{written_if}
-use Rattle.link_runner.specs.declared.report.RunError.{RunError}
-use Rattle.link_runner.specs.declared.report.RunError.TheVariants.{ReadFailed, WriteFailed, Memory}
+use Rattle.link_runner.specs.declared.report.Halt.{Halt}
+use Rattle.link_runner.specs.declared.report.Halt.TheVariants.{ReadFailed, WriteFailed, Stopped}
 use Rattle.link_runner.specs.declared.tally.Tally.{Tally}
 use Rattle.link_runner.specs.Counting.{tally_of}
-use Rattle.link_runner.specs.Readers.{at_link, NoneFailed, OneFailed, SameElsewhere}
+use Rattle.link_runner.specs.Readers.{at_link, NoneFailed, OneFailed, SameElsewhere, IsThere}
 
 -- on which links there is a writer
 abbrev pub writers_of : {W : Type 0} → List (Option W) → ByLink Bool
@@ -81,11 +81,12 @@ module _ {W : Type 0} (written : W → Option (List ℕ)) where
       pub is_shown : shown (delivered m (writers_of before) link message s).world
 
     -- what became of a message
-    abbrev pub Delivers : Contents → Link → List ℕ → RunMoment → List (Option W) → List (Option W)
-        → Result ⊤ RunError → Tally → (World → Type 0) → Type 0
-    Delivers m link message s before after (Ok _) tally shown =
+    abbrev pub Delivers : {S : Type 0} → Contents → Link → List ℕ → RunMoment → List (Option W) → List (Option W)
+        → Result ⊤ (Halt S) → Tally → (World → Type 0) → (World → S → Type 0) → Type 0
+    Delivers m link message s before after (Ok _) tally shown stopped =
         IsDelivered m link message s before after tally shown
-    Delivers m link message s before after (Err (WriteFailed on)) tally shown =
+    Delivers m link message s before after (Err (WriteFailed on)) tally shown stopped =
         (on ≡ link) × FailsToPut link message before after
-    Delivers m link message s before after (Err (ReadFailed on)) tally shown = ⊥
-    Delivers m link message s before after (Err Memory) tally shown = ⊥
+    Delivers m link message s before after (Err (ReadFailed on)) tally shown stopped = ⊥
+    Delivers m link message s before after (Err (Stopped stop)) tally shown stopped =
+        IsDelivered m link message s before after tally (IsThere m (λ w. stopped w stop))

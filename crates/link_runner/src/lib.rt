@@ -15,9 +15,11 @@ mod tally;
 mod writing;
 
 pub use device::Failed;
+pub use driving::drive;
 pub use laws::runs_of_bytes_can_happen;
 pub use reading::{LinkReader, Reading};
-pub use report::{Outcome, Report, RunError};
+pub use report::{Halt, Outcome, Report, RunError};
 pub use running::run;
 pub use sending::write_whole;
+pub use tally::Tally;
 pub use writing::{LinkWriter, Writing};

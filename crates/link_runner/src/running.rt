@@ -5,7 +5,8 @@ ghost use Rattle.link_runner.specs.Runs.{Runs, RunsWith};
 
 use crate::driving::drive;
 use crate::reading::LinkReader;
-use crate::report::{Report, RunError};
+use crate::report::{Halt, Report, RunError};
+use crate::tally::Tally;
 use crate::writing::LinkWriter;
 use accepted_runs::Run;
 use std::alloc::Global;
@@ -31,5 +32,11 @@ pub fn run<R: LinkReader, W: LinkWriter>(
         writers.new result }
 {
     let mut machine = Run::load(alloc, verified)?;
-    drive(&mut machine, readers, writers)
+    let mut tally = Tally::at_start(readers);
+    match drive(&mut machine, readers, writers, &mut tally) {
+        Ok(()) => Ok(Report::at_end(&machine, &tally)),
+        Err(Halt::ReadFailed(link)) => Err(RunError::ReadFailed(link)),
+        Err(Halt::WriteFailed(link)) => Err(RunError::WriteFailed(link)),
+        Err(Halt::Stopped(never)) => match never {},
+    }
 }

@@ -8,11 +8,11 @@ ghost use Rattle.link_runner.specs.Readers.{NoneFailed};
 ghost use Rattle.link_runner.specs.Writers.{WritesWhole, PutsMessage, Delivers};
 
 use crate::device::Failed;
-use crate::report::RunError;
+use crate::report::Halt;
 use crate::tally::Tally;
 use crate::writing::LinkWriter;
 use link_runs::Machine;
-use machine_state::{Event, Link};
+use machine_state::Link;
 
 /// Writes the whole message, in as many calls as that takes. If a call fails, a part of it is written.
 pub fn write_whole<W: LinkWriter>(writer: &mut W, message: &[u8]) -> Result<(), Failed>
@@ -54,22 +54,25 @@ pub(crate) fn deliver<M: Machine, W: LinkWriter>(
     writers: &mut [Option<W>; 4],
     tally: &mut Tally,
     link: Link,
-) -> Result<(), RunError>
+) -> Result<(), Halt<M::Stop>>
     requires shown { IsShown M.shows machine.old }
     requires none_failed { NoneFailed W.failed writers.old }
     ensures contents { M.contents machine.new ≡ M.contents machine.old }
+    ensures limit { M.limit machine.new ≡ M.limit machine.old }
     ensures delivers { (s : RunMoment) → M.shows machine.old s.world → tally.old ≡ tally_of s
         → Delivers W.written W.failed (M.contents machine.old) link (M.last machine.old) s writers.old writers.new
-        result tally.new (M.shows machine.new) }
+        result tally.new (M.shows machine.new) (M.stops machine.new) }
 {
     let message = machine.message();
     match put(writers, link, message) {
         Some(Ok(())) => {
             tally.written.add(link, message.len() as u64);
-            machine.react(Event::Acknowledge { link });
+            match machine.acknowledge(link) {
+                Ok(()) => Ok(()),
+                Err(stop) => Err(Halt::Stopped(stop)),
+            }
         }
-        None => {}
-        Some(Err(Failed)) => return Err(RunError::WriteFailed(link)),
+        None => Ok(()),
+        Some(Err(Failed)) => Err(Halt::WriteFailed(link)),
     }
-    Ok(())
 }

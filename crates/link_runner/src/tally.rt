@@ -4,8 +4,8 @@ ghost use Rattle.std.specs.Prelude.{◌≡◌, ◌∷◌, [], not, ◌&&◌, is_
 ghost use Rattle.machine_state.specs.World.{World};
 ghost use Rattle.link_runs.specs.ByLink.{first_link};
 ghost use Rattle.link_runs.specs.Wanting.{wants};
-ghost use Rattle.link_runner.specs.Counting.{flag_of, with_flag, with_count};
-ghost use Rattle.link_runner.specs.Readers.{at_link, absent_of};
+ghost use Rattle.link_runner.specs.Counting.{flag_of, with_flag, with_count, in_order};
+ghost use Rattle.link_runner.specs.Readers.{at_link, absent_of, tally_at_start};
 
 use link_runs::Machine;
 use machine_state::Link;
@@ -131,10 +131,37 @@ impl Counts {
     }
 }
 
-/// What a runner keeps of the links.
+/// What a runner keeps of the links: which have ended, and how many bytes went over each.
 #[derive(Clone, Copy)]
-pub(crate) struct Tally {
+pub struct Tally {
     pub(crate) ended: Ended,
     pub(crate) read: Counts,
     pub(crate) written: Counts,
+}
+
+impl Tally {
+    /// No byte went over a link yet, and those without a reader have ended.
+    pub fn at_start<R>(readers: &[Option<R>; 4]) -> Self
+        ensures { result ≡ tally_at_start readers.now }
+    {
+        Tally {
+            ended: Ended::at_start(readers),
+            read: Counts::none(),
+            written: Counts::none(),
+        }
+    }
+
+    /// How many bytes were read from each link.
+    pub fn read(&self) -> [u64; 4]
+        ensures { result ≡ in_order self.now.read }
+    {
+        self.read.to_array()
+    }
+
+    /// How many bytes were written on each link.
+    pub fn written(&self) -> [u64; 4]
+        ensures { result ≡ in_order self.now.written }
+    {
+        self.written.to_array()
+    }
 }

@@ -1,5 +1,5 @@
 -- In a deadlock nothing that comes from outside makes a process run.
-use Rattle.std.proofs.Common.{◌≡◌, ℕ, zero, suc, Bool, true, false, ◌&&◌, not, is_none, is_some, List, [], ◌∷◌, Option}
+use Rattle.std.proofs.Common.{◌≡◌, ℕ, zero, suc, Bool, true, false, ◌&&◌, is_none, is_some, List, [], ◌∷◌, Option}
 use Rattle.std.proofs.Common.{Some, None, Err, refl, sym, ap, subst, ◌∙◌, inl, inr, slice_get, slice_set}
 use Rattle.std.proofs.lemmas.Bool.{cases_eq}
 use Rattle.std.proofs.lemmas.Option.{same_Some}
@@ -11,9 +11,9 @@ use Rattle.machine_state.specs.declared.fault.Fault.{Fault}
 use Rattle.machine_state.specs.declared.link.InputLink.{InputLink}
 use Rattle.machine_state.specs.declared.link.OutputLink.{OutputLink}
 use Rattle.machine_state.specs.Happens.{Turn, turn, happens, run_from, event_turn, answered, ignored, busy, kept, taken}
-use Rattle.machine_state.specs.Happens.{acknowledged, arrive_at, arrive_turn, acknowledge_turn}
+use Rattle.machine_state.specs.Happens.{acknowledged, arrive_at}
 use Rattle.machine_state.specs.Moves.{link_index, with_input, with_output, picked, dispatch, fill, rouse, wake}
-use Rattle.machine_state.specs.World.{World, Queue, Links}
+use Rattle.machine_state.specs.World.{World, Queue}
 use Rattle.machine_state.proofs.Lines.{got_set, got_other}
 use Rattle.link_runs.specs.Wanting.{is_running}
 use Rattle.link_runs.specs.Deadlocks.{is_empty, is_quiet_input, is_quiet_output, is_deadlock, is_from_outside}

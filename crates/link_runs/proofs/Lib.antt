@@ -7,3 +7,4 @@ pub mod Arriving
 pub mod EchoRuns
 pub mod PlainSteps
 pub mod Deadlocks
+pub mod FromOutside

@@ -1,9 +1,10 @@
--- What a machine does that is driven event by event, and that no event brings to a fault.
-use Rattle.std.specs.Prelude.{◌≡◌, ℕ, ◌≤◌, true, false, List, None, Ok}
+-- What a machine does that is driven event by event, and that may stop of itself.
+use Rattle.std.specs.Prelude.{◌≡◌, ⊤, ℕ, ◌≤◌, true, false, List, None, Result, Ok, Err}
 use Rattle.module_format.specs.Contents.{Contents}
 use Rattle.machine_state.specs.declared.event.Effect.{Effect as LentEffect}
 use Rattle.machine_state.specs.declared.event.Effect.TheVariants as effects
 use Rattle.machine_state.specs.declared.event.Event.{Event}
+use Rattle.machine_state.specs.declared.fault.Fault.{Fault}
 use Rattle.machine_state.specs.declared.link.Link.{Link}
 use Rattle.machine_state.specs.World.{World}
 use Rattle.machine_state.specs.Happens.{Effect, ran, idle, emitted, taken, kept, busy, acknowledged, ignored, turn}
@@ -15,12 +16,12 @@ use Rattle.link_runs.specs.declared.driving.Progress.TheVariants as progresses
 use Rattle.link_runs.specs.declared.driving.Reaction.{Reaction}
 use Rattle.link_runs.specs.declared.driving.Reaction.TheVariants as reactions
 
--- Events lead to this world, nothing is at fault there, and no more was executed than the budget says.
-pub record IsReached (m : Contents) (w : World) : Type 0 where
+-- Events lead to this world, nothing is at fault there, and no more was executed than this limit.
+pub record IsReached (m : Contents) (limit : ℕ) (w : World) : Type 0 where
   pub events : List Event
   pub world : w ≡ world_after m events
   pub no_fault : w.fault ≡ None
-  pub within_budget : w.counters.executed ≤ m.budget
+  pub within_limit : w.counters.executed ≤ limit
 
 -- the machine is in some world
 abbrev pub IsShown : {M : Type 0} → (M → World → Type 0) → M → Type 0
@@ -48,10 +49,30 @@ pub record ComesToEmit (m : Contents) (before : World) (link : Link) (message : 
   pub emits : (turn m world plain_step).answer ≡ Ok (emitted link message)
   pub is_shown : shown (happens m world plain_step)
 
+-- Where the machine stopped of itself at this event: it is at fault by the event, or in the world where it was.
+pub data StopsAt (m : Contents) (w : World) (e : Event) (stopped : World → Type 0) : Type 0 where
+  at_fault : (f : Fault) → (turn m w e).answer ≡ Err f → stopped (happens m w e) → StopsAt m w e stopped
+  before_it : stopped w → StopsAt m w e stopped
+
+-- After such Steps the machine stopped of itself at the next one.
+pub record ComesToStop (m : Contents) (before : World) (stopped : World → Type 0) : Type 0 where
+  pub world : World
+  pub quietly : Quietly m before world
+  pub runs : is_running world ≡ true
+  pub stops : StopsAt m world plain_step stopped
+
 -- what was done by the machine when it was to go on
-abbrev pub Proceeds : Contents → World → Progress → List ℕ → (World → Type 0) → Type 0
-Proceeds m before progresses.Idle last shown = ComesToRest m before shown
-Proceeds m before (progresses.Emitted link) last shown = ComesToEmit m before link last shown
+abbrev pub Proceeds : {S : Type 0} → Contents → World → Result Progress S → List ℕ → (World → Type 0)
+    → (World → S → Type 0) → Type 0
+Proceeds m before (Ok progresses.Idle) last shown stopped = ComesToRest m before shown
+Proceeds m before (Ok (progresses.Emitted link)) last shown stopped = ComesToEmit m before link last shown
+Proceeds m before (Err stop) last shown stopped = ComesToStop m before (λ w. stopped w stop)
+
+-- The event happened, or the machine stopped of itself at it.
+abbrev pub Takes : {S : Type 0} → Contents → World → Event → Result ⊤ S → (World → Type 0) → (World → S → Type 0)
+    → Type 0
+Takes m w e (Ok done) shown stopped = shown (happens m w e)
+Takes m w e (Err stop) shown stopped = StopsAt m w e (λ v. stopped v stop)
 
 -- what a reaction reports
 abbrev pub reported : Reaction → List ℕ → Effect

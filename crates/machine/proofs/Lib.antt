@@ -1,2 +1,4 @@
 pub mod Granting
 pub mod Performing
+pub mod NewFaults
+pub mod Bounding

@@ -28,6 +28,7 @@ use machine_state::{
 };
 use std::alloc::{AllocError, Global};
 use std::marker::Model;
+pub(crate) use step::MOST_EXECUTED;
 pub use traffic::Stop;
 
 /// A machine that runs a module, however faulty, and checks each rule at each instruction.

@@ -1,6 +1,8 @@
 //! The machine that runs any module, and reports the first rule that a process breaks.
 #![tactic(auto)]
 
+mod bounded;
 mod checked;
 
+pub use bounded::{Bounded, Cause};
 pub use checked::{Checked, Stop};

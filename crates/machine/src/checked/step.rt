@@ -24,7 +24,7 @@ use prefix_decoder::operand::{after_prefix, with_nibble};
 use traffic::{Here, Stop};
 
 /// No count of executed bytes goes beyond this.
-const MOST_EXECUTED: u64 = 1 << 63;
+pub(crate) const MOST_EXECUTED: u64 = 1 << 63;
 
 /// A Step of a process, which is at a byte of the module's code.
 #[derive(Clone, Copy)]

@@ -6,9 +6,6 @@ use Rattle.machine_state.specs.World.{World}
 use Rattle.accepted_runs.proofs.EventByEvent.{IsGoing, nothing_out, begins, goes_on, is_over}
 use Rattle.accepted_runs.proofs.replaying.replay.Goals as goal
 
-pub follow-requires : goal.follow-requires
-follow-requires c = (c.loop-event.invariant.world, c.loop-event.invariant.shows)
-
 pub loop-event-init : goal.loop-event-init
 loop-event-init c =
     let loaded = c.in_ok-machine.ensures in

@@ -7,9 +7,10 @@ invariant-loop-machine g l =
     let machine = g.M.Machine in
     let reader = g.R.LinkReader in
     let writer = g.W.LinkWriter in
-    IsDriving reader.left reader.failed writer.written writer.failed machine.contents machine.shows
-    (machine.contents l.initial.machine) l.initial.readers l.initial.writers l.machine l.readers l.writers l.tally
+    IsDriving reader.left reader.failed writer.written writer.failed machine.contents machine.limit
+    machine.shows (machine.contents l.initial.machine) (machine.limit l.initial.machine) l.initial.readers
+    l.initial.writers l.machine l.readers l.writers l.tally
     l.executed
 
 abbrev pub decreases-loop-machine : goal.decreases-loop-machine
-decreases-loop-machine g l = (g.M.Machine.contents l.machine).budget - l.executed
+decreases-loop-machine g l = g.M.Machine.limit l.machine - l.executed

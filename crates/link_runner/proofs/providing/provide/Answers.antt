@@ -58,17 +58,20 @@ returns-in_err-supply-clause-provides g c = λ first writers s shown reads none 
     led.moment) (sym c.loop-running.invariant.same) led.goes.reads in
     let supplies = c.in_err-supply.ensures.supplies first writers led.moment led.is_shown nobody ask reads_there
     led.goes.none_failed led.counts in
-    stops_asking g.R.LinkReader.left g.R.LinkReader.failed g.M.Machine.contents g.M.Machine.shows g.M.Machine.awaits
+    stops_asking g.R.LinkReader.left g.R.LinkReader.failed g.M.Machine.contents g.M.Machine.limit g.M.Machine.shows
+    g.M.Machine.awaits
     m first c.loop-running.readers c.supply.new.readers writers s c.loop-running.machine c.loop-running.tally
-    c.supply.new.tally c.supply.new.tally (g.M.Machine.shows c.supply.new.machine)
-    (g.M.Machine.shows c.supply.new.machine) c.in-Some.link c.in_err-supply.field-0.0 led
+    c.supply.new.tally (g.M.Machine.shows c.supply.new.machine) (g.M.Machine.stops c.supply.new.machine)
+    c.in-Some.link c.in_err-supply.field-0.0 led
     (subst (λ (n : Contents). Supplies g.R.LinkReader.left g.R.LinkReader.failed n first c.supply.new.readers writers
     led.moment c.in-Some.link (Err c.in_err-supply.field-0.0) c.supply.new.tally
-    (g.M.Machine.shows c.supply.new.machine)) c.loop-running.invariant.same supplies))
+    (g.M.Machine.shows c.supply.new.machine) (g.M.Machine.stops c.supply.new.machine))
+    c.loop-running.invariant.same supplies))
 
 pub loop-running-preserved : goal.loop-running-preserved
 loop-running-preserved g c = record {
   same = c.in_ok-supply.ensures.contents ∙ c.loop-running.invariant.same;
+  same_limit = c.in_ok-supply.ensures.limit ∙ c.loop-running.invariant.same_limit;
   runs = c.running-running-in-loop-running.ensures;
   leads = λ first writers s shown reads none counts.
       let m = g.M.Machine.contents c.args.machine.now in
@@ -78,7 +81,8 @@ loop-running-preserved g c = record {
       let ask = asked_by_tally led.moment c.loop-running.tally (Some c.in-Some.link) led.counts
       (c.in-Some.ensures led.moment.world led.is_shown) in
       let supplies = rw c.loop-running.invariant.same at c.in_ok-supply.ensures.supplies in
-      led_on g.R.LinkReader.left g.R.LinkReader.failed g.M.Machine.contents g.M.Machine.shows g.M.Machine.awaits m first
+      led_on g.R.LinkReader.left g.R.LinkReader.failed g.M.Machine.contents g.M.Machine.limit g.M.Machine.shows
+      g.M.Machine.awaits m first
       c.loop-running.readers c.supply.new.readers writers s c.loop-running.machine c.supply.new.machine
       c.loop-running.tally c.supply.new.tally led
       (supplies first writers led.moment led.is_shown nobody ask led.goes.reads led.goes.none_failed led.counts);
@@ -96,7 +100,8 @@ loop-running-smaller g c =
     let supplies = rw c.loop-running.invariant.same at c.in_ok-supply.ensures.supplies in
     let supplied =
     supplies u.first u.writers led.moment led.is_shown nobody ask led.goes.reads led.goes.none_failed led.counts in
-    falls g.R.LinkReader.left g.R.LinkReader.failed g.M.Machine.contents g.M.Machine.shows g.M.Machine.awaits
+    falls g.R.LinkReader.left g.R.LinkReader.failed g.M.Machine.contents g.M.Machine.limit g.M.Machine.shows
+    g.M.Machine.awaits
     led.moment.world supplied.moment.world c.loop-running.tally c.supply.new.tally _ c.loop-running.machine
     c.supply.new.machine c.loop-running.running c.running-running-in-loop-running.result was
     (g.met.M.Machine.awaits_so c.loop-running.machine led.moment.world led.is_shown)

@@ -7,7 +7,7 @@ abbrev pub invariant-loop-running : goal.invariant-loop-running
 invariant-loop-running g l =
     let machine = g.M.Machine in
     let reader = g.R.LinkReader in
-    IsAsking reader.left reader.failed machine.contents machine.shows machine.awaits l.initial.machine
+    IsAsking reader.left reader.failed machine.contents machine.limit machine.shows machine.awaits l.initial.machine
     l.initial.readers l.initial.tally l.machine l.readers l.tally l.running
 
 abbrev pub decreases-loop-running : goal.decreases-loop-running

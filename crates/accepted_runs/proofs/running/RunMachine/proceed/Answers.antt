@@ -1,5 +1,6 @@
 use Rattle.std.proofs.Common.{◌≡◌, ◌∙◌, None, Some, ap, arith, rules}
 use Rattle.module_format.specs.Contents.{Contents}
+use Rattle.machine_state.specs.World.{World}
 use Rattle.accepted_runs.specs.Reacting.{progress_by}
 use Rattle.accepted_runs.proofs.Proceeding.{has_not_gone, gone_twice, proceeds, gone_further, comes_down}
 use Rattle.accepted_runs.proofs.running.RunMachine.proceed.Goals as goal
@@ -17,7 +18,7 @@ returns-in-Some-clause-proceeds c w shows =
     let x = c.go_on-reaction.ensures in
     let on = gone_twice c.args.self.now c.steps.self x.now c.steps.invariant x.gone in
     proceeds c.args.self.now x.now c.go_on-reaction.new.self c.go_on-reaction.result on x.same x.steps w shows
-    c.in-Some.progress some
+    (λ (v : World) (never : _). ⊥) c.in-Some.progress some
 
 pub steps-smaller : goal.steps-smaller
 steps-smaller c =

@@ -1,0 +1,4 @@
+use Rattle.accepted_runs.proofs.running.RunMachine.arrive.Goals as goal
+
+pub returns-clause-takes : goal.returns-clause-takes
+returns-clause-takes c w shows = (c.advance.ensures.reacts w shows).is_shown
