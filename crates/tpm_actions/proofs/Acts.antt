@@ -4,7 +4,9 @@ use Rattle.std.specs.Prelude.{string_bytes}
 use Rattle.std.specs.Borrow.{Bor}
 use Rattle.command_line.specs.Words.{Text}
 use Rattle.verifier.specs.declared.Refusal.{Refusal}
+use Rattle.tpm_actions.specs.declared.extent.Extent.{Extent}
 use Rattle.tpm_actions.specs.declared.files.FileFault.{FileFault}
+use Rattle.tpm_actions.specs.Extents.{extent_of}
 use Rattle.tpm_actions.specs.declared.files.FileFault.TheVariants as file_faults
 use Rattle.tpm_actions.specs.declared.report.Failure.{Failure}
 use Rattle.tpm_actions.specs.declared.report.Failure.TheVariants as failures
@@ -20,7 +22,7 @@ use Rattle.tpm_actions.specs.Acting.{starved_by_text}
 module _ {F R W : Type 0} (opens : F → Text → Result R FileFault → F → Type 0)
     (creates : F → Text → Result W FileFault → F → Type 0) (closes : F → W → Bool → F → Type 0)
     (left : R → Option (List ℕ)) (read_failed : R → Bool) (written : W → Option (List ℕ))
-    (write_failed : W → Bool) (reads : F → List ℕ → Result (List ℕ) FileFault → F → Type 0) (words : List Text)
+    (write_failed : W → Bool) (reads : F → List ℕ → Extent → Result (List ℕ) FileFault → F → Type 0) (words : List Text)
     (asked : Asked) (before after : F) (out_before out_after : Option (List ℕ)) where
   pub acts_told : line_of words ≡ Some asked → (u : Unit {0})
       → Performs opens creates closes left read_failed written write_failed reads asked before after out_before
@@ -58,7 +60,7 @@ module _ {F R W : Type 0} (opens : F → Text → Result R FileFault → F → T
           (record { bytes = file.bytes; next = file.next; read = file.read; holds = done }) same is
 
   starved_at : (status : ℕ) → status ≡ 4 → line_of words ≡ Some asked → out_after ≡ out_before
-      → reads before (path_of asked) (Err file_faults.Memory) after
+      → reads before (path_of asked) (extent_of asked) (Err file_faults.Memory) after
       ⊎ Hinders opens creates closes left read_failed written write_failed reads asked before after failures.Memory
       → Acts opens creates closes left read_failed written write_failed reads words before after out_before out_after
       status
@@ -67,7 +69,7 @@ module _ {F R W : Type 0} (opens : F → Text → Result R FileFault → F → T
 
   -- the module file, or that of a link, was not read
   unread_at : (path : Bor Text) (status : ℕ) → status ≡ 3 → line_of words ≡ Some asked → out_after ≡ out_before
-      → ((path.now ≡ path_of asked) × reads before (path_of asked) (Err file_faults.Failed) after)
+      → ((path.now ≡ path_of asked) × reads before (path_of asked) (extent_of asked) (Err file_faults.Failed) after)
       ⊎ Hinders opens creates closes left read_failed written write_failed reads asked before after
       (failures.Unread path)
       → Acts opens creates closes left read_failed written write_failed reads words before after out_before out_after

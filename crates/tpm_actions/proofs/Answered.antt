@@ -1,7 +1,9 @@
 -- What is reported about a file that was read, as the answer of the program.
 use Rattle.std.proofs.Common.{ℕ, Bool, List, Option, Result, Ok, Err, MatchResult, inr}
 use Rattle.command_line.specs.Words.{Text}
+use Rattle.tpm_actions.specs.declared.extent.Extent.{Extent}
 use Rattle.tpm_actions.specs.declared.files.FileFault.{FileFault}
+use Rattle.tpm_actions.specs.Extents.{extent_of}
 use Rattle.tpm_actions.specs.declared.report.Failure.{Failure}
 use Rattle.tpm_actions.specs.declared.report.Failure.TheVariants as failures
 use Rattle.command_line.specs.Asked.{Asked, path_of}
@@ -10,8 +12,9 @@ use Rattle.tpm_actions.specs.Acting.{Answers, Hinders, IsTold, IsHindered}
 module _ {F R W : Type 0} (opens : F → Text → Result R FileFault → F → Type 0)
     (creates : F → Text → Result W FileFault → F → Type 0) (closes : F → W → Bool → F → Type 0)
     (left : R → Option (List ℕ)) (read_failed : R → Bool) (written : W → Option (List ℕ))
-    (write_failed : W → Bool) (reads : F → List ℕ → Result (List ℕ) FileFault → F → Type 0) (asked : Asked)
-    (bytes : List ℕ) (before next after : F) (read : reads before (path_of asked) (Ok bytes) next) where
+    (write_failed : W → Bool) (reads : F → List ℕ → Extent → Result (List ℕ) FileFault → F → Type 0) (asked : Asked)
+    (bytes : List ℕ) (before next after : F)
+    (read : reads before (path_of asked) (extent_of asked) (Ok bytes) next) where
   hinders : (failure : Failure)
       → IsHindered opens creates closes left read_failed written write_failed bytes asked next after failure
       → Hinders opens creates closes left read_failed written write_failed reads asked before after failure

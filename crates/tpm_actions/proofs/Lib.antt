@@ -1,3 +1,5 @@
+pub mod FirstBytes
+pub mod Extents
 pub mod Acts
 pub mod Answered
 pub mod Judged

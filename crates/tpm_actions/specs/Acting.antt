@@ -14,7 +14,9 @@ use Rattle.compiler.specs.declared.source.CompileFault.{CompileFault}
 use Rattle.compiler.specs.Compiled.{IsRefusedFor}
 use Rattle.verifier.specs.Reports.{Reports, out_of_memory}
 use Rattle.verifier.specs.declared.upgrading.UpgradeFault.{UpgradeFault}
+use Rattle.tpm_actions.specs.declared.extent.Extent.{Extent}
 use Rattle.tpm_actions.specs.declared.files.FileFault.{FileFault}
+use Rattle.tpm_actions.specs.Extents.{extent_of}
 use Rattle.tpm_actions.specs.declared.files.FileFault.TheVariants as file_faults
 use Rattle.tpm_actions.specs.declared.report.Report.TheVariants.{Accepted}
 use Rattle.tpm_actions.specs.declared.report.Failure.{Failure}
@@ -219,12 +221,12 @@ module _ {F R W : Type 0} (opens : F → Text → Result R FileFault → F → T
       IsStopped bytes asked before after failures.Memory ⊎ IsUntold bytes asked before after
   IsHindered bytes asked before after failure = IsStopped bytes asked before after failure
 
-  module _ (reads : F → List ℕ → Result (List ℕ) FileFault → F → Type 0) where
+  module _ (reads : F → List ℕ → Extent → Result (List ℕ) FileFault → F → Type 0) where
     -- The file that is asked for was read. It gave bytes, and left files, of which this holds.
     pub record Reads (asked : Asked) (before : F) (holds_of : List ℕ → F → Type 0) : Type 0 where
       pub bytes : List ℕ
       pub next : F
-      pub read : reads before (path_of asked) (Ok bytes) next
+      pub read : reads before (path_of asked) (extent_of asked) (Ok bytes) next
       pub holds : holds_of bytes next
 
     -- why nothing is reported, where the file that is asked for was read
@@ -240,11 +242,12 @@ module _ {F R W : Type 0} (opens : F → Text → Result R FileFault → F → T
     abbrev pub Answers : Asked → F → F → Result Text Failure → Type 0
     Answers asked before after (Ok text) = Reads asked before (λ bytes next. IsTold bytes asked next after text)
     Answers asked before after (Err (failures.Unread path)) =
-        ((path.now ≡ path_of asked) × reads before (path_of asked) (Err file_faults.Failed) after)
+        ((path.now ≡ path_of asked) × reads before (path_of asked) (extent_of asked) (Err file_faults.Failed) after)
         ⊎ Hinders asked before after (failures.Unread path)
     Answers asked before after (Err failures.Unwritten) = ⊥
     Answers asked before after (Err failures.Memory) =
-        reads before (path_of asked) (Err file_faults.Memory) after ⊎ Hinders asked before after failures.Memory
+        reads before (path_of asked) (extent_of asked) (Err file_faults.Memory) after
+        ⊎ Hinders asked before after failures.Memory
     Answers asked before after (Err failure) = Hinders asked before after failure
 
     -- What the program did as asked: it wrote the report; it wrote the explanation of a refusal, and returned that; it
@@ -280,7 +283,7 @@ module _ {F R W : Type 0} (opens : F → Text → Result R FileFault → F → T
           → Acts words before after out_before out_after status
       -- the file is not read
       unread : (asked : Asked) → line_of words ≡ Some asked
-          → reads before (path_of asked) (Err file_faults.Failed) after
+          → reads before (path_of asked) (extent_of asked) (Err file_faults.Failed) after
           → out_after ≡ out_before → status ≡ FAILED → Acts words before after out_before out_after status
       -- a file was not opened, created, written or closed, or a link failed, or memory ran out for them
       stopped : (asked : Asked) (failure : Failure) → line_of words ≡ Some asked
@@ -300,7 +303,7 @@ module _ {F R W : Type 0} (opens : F → Text → Result R FileFault → F → T
           → Acts words before after out_before out_after status
       -- memory ran out at the file
       starved_by_file : (asked : Asked) → line_of words ≡ Some asked
-          → reads before (path_of asked) (Err file_faults.Memory) after
+          → reads before (path_of asked) (extent_of asked) (Err file_faults.Memory) after
           → out_after ≡ out_before → status ≡ STARVED → Acts words before after out_before out_after status
       -- what was asked for was done, and then memory ran out for the text of the report
       starved_by_text : (asked : Asked) → line_of words ≡ Some asked

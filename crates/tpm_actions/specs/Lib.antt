@@ -3,6 +3,8 @@ pub mod FilesInOrder
 pub mod FilesOnLinks
 pub mod Compiling
 pub mod Malformed
+pub mod Opened
+pub mod Extents
 pub mod Upgrading
 pub mod Explaining
 pub mod Acting

@@ -5,12 +5,14 @@ ghost use Rattle.command_line.specs.Words.{words_of};
 ghost use Rattle.command_line.specs.Links.{paths_of};
 ghost use Rattle.tpm_actions.specs.FilesInOrder.{inside};
 ghost use Rattle.command_line.specs.Asked.{asked_about, asked_of, path_of, runs};
+ghost use Rattle.tpm_actions.specs.Extents.{extent_of};
 ghost use Rattle.tpm_actions.specs.Texts.{misuse_status, status_of};
 ghost use Rattle.tpm_actions.specs.Acting.{Acts, Answers, HasRun, IsAccepted, IsTold, IsHindered, Performs, TellsOf};
 ghost use Rattle.tpm_actions.specs.Acting.{WithholdsOf, WithholdsVerdict};
 
 use crate::compiling::compile_to_file;
 use crate::explaining::explain;
+use crate::extent::Extent;
 use crate::files::{FileFault, Files};
 use crate::report::{DONE, Failure, MISUSED, Report, STARVED};
 use crate::run_report::run_report;
@@ -116,6 +118,16 @@ fn read_path<'a>(line: Line<'a>) -> &'a str
     }
 }
 
+/// How far that file is read.
+fn read_extent(line: Line) -> Extent
+    ensures { result ≡ extent_of (asked_of line.entry) }
+{
+    match line {
+        Line::Compile { .. } => Extent::Source,
+        Line::Upgrade { .. } | Line::Ask { .. } => Extent::Module,
+    }
+}
+
 /// The report on the source or the module in the file.
 fn answer<'a, F: Files>(alloc: Global, line: Line<'a>, files: &mut F) -> Result<String, Failure<'a>>
     ensures { let answers = Answers F.opens F.creates F.closes (inside F.Reader.left) (inside F.Reader.failed)
@@ -123,7 +135,8 @@ fn answer<'a, F: Files>(alloc: Global, line: Line<'a>, files: &mut F) -> Result<
         MatchResult result (λ text. answers (Ok (string_bytes text))) (λ failure. answers (Err failure)) }
 {
     let path = read_path(line);
-    match files.read(path) {
+    let extent = read_extent(line);
+    match files.read(path, extent) {
         Ok(bytes) => judge(alloc, bytes.as_slice(), line, files),
         Err(FileFault::Failed) => Err(Failure::Unread(path)),
         Err(FileFault::Memory) => Err(Failure::Memory),
@@ -172,6 +185,8 @@ fn misuse<E: Write>(fault: LineFault, err: &mut E) -> u8
 
 /// The program: does what these words ask for, of which the first is its name, and returns the exit
 /// status. A report goes to `out`, faults and asked-for help go to `err`.
+// A body that always reports that memory ran out at the words meets this clause too, since no clause can say that
+// memory is left: command lines show that each command is done.
 pub fn act<'a, F: Files, O: Write, E: Write>(
     alloc: Global,
     words: &'a [&'a str],

@@ -1,9 +1,11 @@
 //! Files by path.
 
-ghost use Rattle.std.specs.Prelude.{◌≡◌, ℕ, Bool, false, List, Result, Ok, Err, MatchResult, IfOk, is_ok, ⊤};
+ghost use Rattle.std.specs.Prelude.{◌≡◌, ℕ, Bool, false, List, Result, Ok, Err, MatchResult, IfOk, is_ok};
 ghost use Rattle.std.specs.Global.{Box};
+ghost use Rattle.tpm_actions.specs.declared.extent.Extent.{Extent};
 ghost use Rattle.tpm_actions.specs.declared.files.FileFault.{FileFault};
 
+use crate::extent::{Extent, read_beginning};
 use crate::opened::{FileReader, FileWriter};
 use link_runner::{Failed, LinkReader, LinkWriter, Reading, Writing};
 use std::io::{self, Write};
@@ -35,8 +37,8 @@ pub trait Files {
     /// A file that is written.
     type Writer: LinkWriter + Drop;
 
-    /// What a read of the file at a path can give, and what the files are afterwards.
-    ghost reads: { Self → List ℕ → Result (List ℕ) FileFault → Self → Type 0 };
+    /// What a read of the file at a path can give if it goes so far, and what the files are afterwards.
+    ghost reads: { Self → List ℕ → Extent → Result (List ℕ) FileFault → Self → Type 0 };
 
     /// The same of opening it.
     ghost opens: { Self → List ℕ → Result (Box Self.Reader) FileFault → Self → Type 0 };
@@ -47,10 +49,10 @@ pub trait Files {
     /// Whether a writer can be closed, and what the files are afterwards.
     ghost closes: { Self → Box Self.Writer → Bool → Self → Type 0 };
 
-    /// All bytes of the file at this path.
-    fn read(&mut self, path: &str) -> Result<Vec<u8>, FileFault>
-        ensures { MatchResult result (λ bytes. reads self.old path.now (Ok bytes.items) self.new)
-            (λ fault. reads self.old path.now (Err fault) self.new) };
+    /// The bytes of the file at this path, as far as this goes: what `read_beginning` reads of them.
+    fn read(&mut self, path: &str, extent: Extent) -> Result<Vec<u8>, FileFault>
+        ensures { MatchResult result (λ bytes. reads self.old path.now extent (Ok bytes.items) self.new)
+            (λ fault. reads self.old path.now extent (Err fault) self.new) };
 
     /// The file at this path, to be read from its beginning. Nothing has failed yet.
     fn open(&mut self, path: &str) -> Result<Box<Self::Reader>, FileFault>
@@ -67,7 +69,7 @@ pub trait Files {
         ensures { closes self.old writer (is_ok result) self.new };
 }
 
-/// The files that a runtime opens, of which nothing is known.
+/// The files that a runtime opens, of which nothing is known. What is done with them leaves it as it was.
 #[derive(Drop)]
 pub struct SystemFiles<'a, R>(pub &'a R);
 
@@ -76,16 +78,17 @@ impl<R: rt::Files + AllocGlobal> Files for SystemFiles<'_, R> {
 
     type Writer = Writing<FileWriter<R::File>>;
 
-    ghost reads = { λ before path bytes after. ⊤ };
+    ghost reads = { λ before path extent bytes after. after ≡ before };
 
-    ghost opens = { λ before path reader after. ⊤ };
+    ghost opens = { λ before path reader after. after ≡ before };
 
-    ghost creates = { λ before path writer after. ⊤ };
+    ghost creates = { λ before path writer after. after ≡ before };
 
-    ghost closes = { λ before writer closed after. ⊤ };
+    ghost closes = { λ before writer closed after. after ≡ before };
 
-    fn read(&mut self, path: &str) -> Result<Vec<u8>, FileFault> {
-        Ok(fs::read(self.0, path)?)
+    fn read(&mut self, path: &str, extent: Extent) -> Result<Vec<u8>, FileFault> {
+        let file = fs::File::open(self.0, path)?;
+        Ok(read_beginning(self.0.alloc(), file, extent)?)
     }
 
     fn open(&mut self, path: &str) -> Result<Box<Self::Reader>, FileFault> {
@@ -100,9 +103,8 @@ impl<R: rt::Files + AllocGlobal> Files for SystemFiles<'_, R> {
         Box::new(self.0.alloc(), writer).map_err(|_| FileFault::Memory)
     }
 
-    // Nothing is known of these files, so there is nothing to ensure.
     fn close(&mut self, writer: Box<Self::Writer>) -> Result<(), Failed>
-        ensures { ⊤ }
+        ensures { self.new ≡ self.old }
     {
         Box::into_inner(writer)
             .into_inner()

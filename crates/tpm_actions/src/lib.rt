@@ -4,7 +4,9 @@
 mod acting;
 mod compiling;
 mod explaining;
+mod extent;
 mod files;
+mod laws;
 mod opened;
 mod report;
 mod run_report;
@@ -13,5 +15,7 @@ mod telling;
 mod upgrading;
 
 pub use acting::act;
+pub use extent::{Extent, MAGIC_BYTES, read_beginning};
 pub use files::{FileFault, Files, SystemFiles};
+pub use laws::beginnings_decide;
 pub use report::{DONE, FAILED, MISUSED, REFUSED, STARVED};

@@ -1,6 +1,9 @@
 //! Open files. A regular file goes through a buffer. A pipe, a terminal or a device does not: a byte that is written
 //! there is there at once, and none is taken before it is asked for.
 
+ghost use Rattle.std.specs.Prelude.{◌≡◌, IfOk};
+ghost use Rattle.tpm_actions.specs.Opened.{reader_left, writer_held};
+
 use crate::files::FileFault;
 use std::alloc::Global;
 use std::fs::OpenFile;
@@ -14,8 +17,10 @@ pub enum FileReader<F> {
 }
 
 impl<F: Read + OpenFile + Drop> FileReader<F> {
-    /// The open file. A folder cannot be read.
-    pub fn new(alloc: Global, file: F) -> Result<Self, FileFault> {
+    /// The open file, of which no byte is taken yet. A folder cannot be read.
+    pub fn new(alloc: Global, file: F) -> Result<Self, FileFault>
+        ensures { IfOk result (λ reader. reader_left F.remaining reader ≡ F.remaining file) }
+    {
         let metadata = file.metadata()?;
         if metadata.is_dir() {
             Err(FileFault::Failed)
@@ -28,6 +33,8 @@ impl<F: Read + OpenFile + Drop> FileReader<F> {
 }
 
 impl<F: Read> Read for FileReader<F> {
+    ghost remaining = { reader_left F.remaining };
+
     fn read(&mut self, buffer: &mut [u8]) -> io::Result<usize> {
         match self {
             FileReader::Regular(file) => file.read(buffer),
@@ -44,8 +51,10 @@ pub enum FileWriter<F: Write + Drop> {
 }
 
 impl<F: Write + OpenFile + Drop> FileWriter<F> {
-    /// The open file.
-    pub fn new(alloc: Global, file: F) -> Result<Self, FileFault> {
+    /// The open file, to which no byte is written yet.
+    pub fn new(alloc: Global, file: F) -> Result<Self, FileFault>
+        ensures { IfOk result (λ writer. writer_held F.contents writer ≡ F.contents file) }
+    {
         if file.metadata()?.is_file() {
             Ok(FileWriter::Regular(BufWriter::new(alloc, file)?))
         } else {
@@ -55,6 +64,8 @@ impl<F: Write + OpenFile + Drop> FileWriter<F> {
 }
 
 impl<F: Write + Drop> Write for FileWriter<F> {
+    ghost contents = { writer_held F.contents };
+
     fn write(&mut self, bytes: &[u8]) -> io::Result<usize> {
         match self {
             FileWriter::Regular(file) => file.write(bytes),

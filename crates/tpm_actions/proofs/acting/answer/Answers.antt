@@ -7,15 +7,19 @@ pub returns-in-Ok : goal.returns-in-Ok
 returns-in-Ok g c =
     answered g.F.Files.opens g.F.Files.creates g.F.Files.closes (inside g.F.Reader.LinkReader.left)
     (inside g.F.Reader.LinkReader.failed) (inside g.F.Writer.LinkWriter.written)
-    (inside g.F.Writer.LinkWriter.failed) g.F.Files.reads _ _ _ _ _ (rw c.read_path-path.ensures at c.in-Ok.ensures)
+    (inside g.F.Writer.LinkWriter.failed) g.F.Files.reads _ _ _ _ _ (rw (
+      c.read_path-path.ensures,
+      c.read_extent-extent.ensures,
+    ) at c.in-Ok.ensures)
     string_bytes c.judge.result (rw c.as_slice.ensures.value at c.judge.ensures)
 
 pub returns-in-Err-Failed : goal.returns-in-Err-Failed
 returns-in-Err-Failed g c = inl (
   c.read_path-path.ensures,
-  rw (c.in-Err-Failed.field-0-is, c.read_path-path.ensures) at c.in-Err-Failed.ensures,
+  rw (c.in-Err-Failed.field-0-is, c.read_path-path.ensures, c.read_extent-extent.ensures) at c.in-Err-Failed.ensures,
 )
 
 pub returns-in-Err-Memory : goal.returns-in-Err-Memory
 returns-in-Err-Memory g c =
-    inl (rw (c.in-Err-Memory.field-0-is, c.read_path-path.ensures) at c.in-Err-Memory.ensures)
+    inl (rw (c.in-Err-Memory.field-0-is, c.read_path-path.ensures, c.read_extent-extent.ensures) at
+    c.in-Err-Memory.ensures)

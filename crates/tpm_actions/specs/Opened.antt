@@ -1,0 +1,17 @@
+-- What is known of open files, by what is known of the files themselves.
+use Rattle.std.specs.Prelude.{ℕ, List, Option}
+use Rattle.std.specs.Io.Buffered.{reader_remaining, writer_contents}
+use Rattle.tpm_actions.specs.declared.opened.FileReader.{FileReader}
+use Rattle.tpm_actions.specs.declared.opened.FileReader.TheVariants as readers
+use Rattle.tpm_actions.specs.declared.opened.FileWriter.{FileWriter}
+use Rattle.tpm_actions.specs.declared.opened.FileWriter.TheVariants as writers
+
+-- the bytes that are left to be read, where those of the file are known
+abbrev pub reader_left : {F : Type 0} → (F → Option (List ℕ)) → FileReader F → Option (List ℕ)
+reader_left remaining (readers.Regular file) = reader_remaining remaining file
+reader_left remaining (readers.Other file) = remaining file
+
+-- the bytes that were written, where those in the file are known
+abbrev pub writer_held : {F : Type 0} → (F → Option (List ℕ)) → FileWriter F → Option (List ℕ)
+writer_held contents (writers.Regular file) = writer_contents contents file
+writer_held contents (writers.Other file) = contents file
