@@ -35,20 +35,20 @@ fn check_out_of_memory(rt: HostRuntime) {
 
 #[test]
 fn compile_with_ample_memory(rt: HostRuntime) {
-    counts(&rt, ask_source(rt.alloc(), SUMS, Question::Compiled), 382);
+    counts(&rt, ask_source(rt.alloc(), SUMS, Question::Compiled), 380);
 }
 
 #[test]
 fn compile_out_of_memory(rt: HostRuntime) {
-    may_count(&rt, ask_source(rt.alloc(), SUMS, Question::Compiled), 382);
+    may_count(&rt, ask_source(rt.alloc(), SUMS, Question::Compiled), 380);
 }
 
 #[test]
 fn compile_processes_with_ample_memory(rt: HostRuntime) {
-    counts(&rt, ask_source(rt.alloc(), RELAY, Question::Compiled), 594);
+    counts(&rt, ask_source(rt.alloc(), RELAY, Question::Compiled), 588);
 }
 
 #[test]
 fn compile_processes_out_of_memory(rt: HostRuntime) {
-    may_count(&rt, ask_source(rt.alloc(), RELAY, Question::Compiled), 594);
+    may_count(&rt, ask_source(rt.alloc(), RELAY, Question::Compiled), 588);
 }

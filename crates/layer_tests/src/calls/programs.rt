@@ -41,7 +41,7 @@ PROC main(CHAN OF INT in0, CHAN OF INT out0)
 :
 ";
 
-/// Four numbers are received and added up, and the sum is sent. The module has a header of 84 bytes, 46 bytes of code,
+/// Four numbers are received and added up, and the sum is sent. The module has a header of 84 bytes, 44 bytes of code,
 /// and label rows of 65, 82, 65 and 40 bytes: at the head of the loop, at the second choice, after the choices, and
 /// after the loop. A row without entries has 23 bytes, the entry of a number 17, and that of the loop 25.
 pub(crate) const SUMS: &[u8] = b"\
@@ -62,7 +62,7 @@ PROC main(CHAN OF INT in0, CHAN OF INT out0)
 ";
 
 /// A byte from one of two links goes over a channel to another process, which sends it on. The module has a header of
-/// 84 bytes, 126 bytes of code, six label rows of one entry each, 40 bytes, and a row of a PAR of 144 bytes.
+/// 84 bytes, 120 bytes of code, six label rows of one entry each, 40 bytes, and a row of a PAR of 144 bytes.
 pub(crate) const RELAY: &[u8] = b"\
 PROC main(CHAN OF BYTE in0, CHAN OF BYTE in1, CHAN OF BYTE out0)
   CHAN OF BYTE c:
