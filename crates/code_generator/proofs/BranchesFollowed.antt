@@ -32,15 +32,15 @@ use Rattle.code_generator.specs.declared.guards.Exits.{Exits}
 use Rattle.code_generator.specs.declared.processes.ProcessWriter.{ProcessWriter}
 use Rattle.code_generator.specs.Waiting.{condition_in}
 use Rattle.code_generator.specs.Alternations.{GoesOn, StaysSo, stops_at, guard_code, stopping, Chooses}
-use Rattle.code_generator.specs.Alternations.{Stops, in_branch, branch_code, WritesBranch, count_of, branches_code}
-use Rattle.code_generator.specs.Alternations.{WritesBranches, some_code, WritesSome, after_turns}
+use Rattle.code_generator.specs.Alternations.{WritesStop, in_branch, branch_code, WritesBranch, count_of, branches_code}
+use Rattle.code_generator.specs.Alternations.{WritesBranches, turn_site, some_code, WritesSome, after_turns}
 use Rattle.code_generator.specs.Alternations.{FollowsAlt, FollowsRepeatedAlt}
 use Rattle.code_generator.specs.CallViews.{surroundings_of}
 use Rattle.line_pieces.specs.Declarations.{Frame, with_home}
 use Rattle.line_pieces.specs.FrameViews.{frame_seen}
 use Rattle.line_pieces.specs.HomeViews.{home_seen, homes_seen}
 use Rattle.line_pieces.specs.Homes.{Nowhere}
-use Rattle.code_generator.specs.Processes.{Site, at_place, row_of, process_code, turn_site, turned, times}
+use Rattle.code_generator.specs.Processes.{Site, at_place, row_of, process_code, turned, times}
 use Rattle.code_generator.specs.Written.{site_of, Appends, WritesProcess}
 use Rattle.code_generator.proofs.PartsWritten.{appends_before, appends_closed, appends_then, site_after}
 use Rattle.code_generator.proofs.LoopsWritten.{ended_block}
@@ -81,7 +81,7 @@ pub writes_branch : (around : calling.Surroundings) (line : ℕ) (g : Guard) (p 
     → row.listing ≡ s.listing ++ row_of x.here (frame_seen s.frame) (known_of s.scope) ∷ [] → site_of row ≡ site_of s
     → Chooses row guard x.next stops g → WritesProcess guard within around p
     → moved.listing ≡ within.listing ++ Jump x.end ∷ [] → known_of moved.scope ≡ next (known_of within.scope)
-    → frame_seen moved.frame ≡ frame_seen within.frame → moved.label ≡ within.label → Stops moved w stops
+    → frame_seen moved.frame ≡ frame_seen within.frame → moved.label ≡ within.label → WritesStop moved w stops
     → WritesBranch s w around x (Guarded line g p)
 writes_branch around line g p x s row guard within moved w stops first same chosen process jumps moves named counted
     ends =
@@ -172,7 +172,7 @@ some_more around exits x c n {s} {t} {w} scope enters first one =
     record {
       code = appends_then (some_code here exits x c n (site_of s))
           (λ label. branch_code here (exits n) c
-          (turn_site a (Mark mark.Alt) x.name.now c repeats (site_of s) n label)) s.listing
+          (turn_site a x c (site_of s) n label)) s.listing
           t.listing w.listing t.label w.label first.code
           (subst (λ (z : Site). Appends t.listing w.listing w.label (branch_code here (exits n) c z))
           (λ i. record { frame = first.frame i; known = known i; label = t.label }) one.code);

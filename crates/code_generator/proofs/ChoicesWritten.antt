@@ -1,187 +1,236 @@
--- The choices of an IF are written one after the other.
-use Rattle.std.proofs.Common.{◌≡◌, ℕ, ◌+◌, ◌<◌, Bool, true, false, ◌&&◌, nat_eq, List, [], ◌∷◌, ◌++◌, length, map, take}
-use Rattle.std.proofs.Common.{get_or, Option, refl, sym, ap, subst, ◌∙◌, arith, Result, Ok, Err, IfOk}
-use Rattle.std.proofs.lemmas.Bool.{eqb-true, eq-eqb}
+-- The choices of an IF are written one after the other, and then what comes after those that are tested.
+use Rattle.std.proofs.Common.{◌≡◌, ℕ, ◌+◌, ◌<◌, ◌≤◌, true, false, cond, List, [], ◌∷◌, ◌++◌, length, map, take, get_or}
+use Rattle.std.proofs.Common.{Option, Bor, refl, sym, ap, subst, ◌∙◌, arith, rules}
 use Rattle.std.proofs.lemmas.List.{append_assoc, take_all}
-use Rattle.small_laws.proofs.Comparisons.{lt-eqb}
 use Rattle.occam_layout.specs.declared.mark.Mark.TheVariants as mark
+use Rattle.occam_parser.specs.declared.tree.Body.{the_lemmas}
+use Rattle.occam_parser.specs.declared.tree.Choice.{Choice}
 use Rattle.occam_parser.specs.Terminals.{Mark}
 use Rattle.occam_parser.specs.Expressions.{Expression}
+use Rattle.occam_parser.specs.Views.{expression_of}
 use Rattle.occam_parser.specs.Blocks.{Process, Part, Choices, Components, Further, Component, Chosen}
-use Rattle.occam_parser.specs.BlockViews.{all_of}
+use Rattle.occam_parser.specs.BlockViews.{all_of, process_of, choice_of, all_choices}
 use Rattle.occam_parser.proofs.SeenBlocks.{all_push}
 use Rattle.scalar_ranges.specs.declared.scope.Scope as code_scope
-use Rattle.scalar_ranges.specs.Moves.{begin, next, end}
+use Rattle.scalar_ranges.specs.Moves.{Known, begin, next, end}
 use Rattle.scalar_ranges.specs.Scopes.{known_of}
 use Rattle.code_generator.specs.declared.calling.Surroundings as calling
+use Rattle.code_generator.specs.declared.choices.IfEnding as code_ending
+use Rattle.code_generator.specs.declared.choices.IfEnding.TheVariants as if_ending
 use Rattle.code_generator.specs.CallViews.{surroundings_of}
 use Rattle.program_uses.proofs.Adding.{taken_one}
 use Rattle.usage_checks.specs.AfterProcesses.{inside, after_components, after_component, chosen}
-use Rattle.code_pieces.specs.declared.operations.TheConstants.{STOP_PROCESS}
 use Rattle.code_generator.specs.declared.processes.ProcessWriter.{ProcessWriter}
-use Rattle.code_pieces.specs.Pieces.{Piece, Jump, operates, Code, closed_by}
+use Rattle.code_pieces.specs.Pieces.{Piece, Jump, Code, no_code, then_code, closed_by}
 use Rattle.line_pieces.specs.FrameViews.{frame_seen}
 use Rattle.line_pieces.specs.Actions.{test_code}
-use Rattle.code_generator.specs.Processes.{Site, Surroundings, at_place, row_of, is_true, in_choice, tested_choice}
-use Rattle.code_generator.specs.Processes.{last_choice, passes, ends_passing}
-use Rattle.code_generator.specs.Processes.{process_code, choices_code, tested_code, choice_code, last_code}
-use Rattle.code_generator.specs.Written.{site_of, Appends, Writes, if_code, chosen_code}
-use Rattle.code_generator.specs.Written.{WritesIf, WritesChoices, WritesChoice, WritesPart, WritesChosen}
-use Rattle.code_generator.specs.Written.{WritesProcess}
-use Rattle.code_generator.proofs.ChoicesPassed.{passes_last}
-use Rattle.code_generator.proofs.PartsWritten.{appends_before, appends_closed, appends_then, site_after, writes_none}
+use Rattle.line_pieces.specs.Declarations.{Frame}
+use Rattle.code_generator.specs.Processes.{Site, Surroundings, at_place, row_of, is_true, is_skip, process_code}
+use Rattle.code_generator.specs.Processes.{PlacedChoice, PlacedChoices, NoChoice, ThenChoice, Stops, Always, Opens}
+use Rattle.code_generator.specs.Processes.{EndedChoices, taken_code, tested_code, open_code, ending_code}
+use Rattle.code_generator.specs.Processes.{choices_code, opening, with_opening, placed_choices, placed}
+use Rattle.code_generator.specs.Written.{site_of, Appends, Writes, WritesProcess, choice_as, WritesAs, tested_at}
+use Rattle.code_generator.specs.Written.{WritesTested, ending_at, after_ending, WritesEnding, if_choices}
+use Rattle.code_generator.specs.Written.{placed_ending, LeavesSkip, AreEnded, choices_at, WritesChoices}
+use Rattle.code_generator.specs.Written.{after_if, if_at, WritesIf}
+use Rattle.code_generator.proofs.PartsWritten.{appends_before, appends_closed, then_none, writes_then}
+use Rattle.code_generator.proofs.SkipsSeen.{skip_code}
+
+pub choice_seen : (x : Choice)
+    → Chosen x.line (expression_of x.condition) (process_of x.process) ≡ choice_of x
+choice_seen x = search (rules, the_lemmas)
 
 -- ---- one choice after the other
 
--- some choices, whether they are all of an IF, and whether only `TRUE` with `SKIP` comes after them
-abbrev pub upto_code : {part : Part} → Surroundings → ℕ → (is_all is_open : Bool) → Components part → Site
-    → Option Code
-upto_code here end true is_open cs s = choices_code here end cs s
-upto_code here end false is_open cs s = tested_code here end is_open cs s
-
-abbrev pub WritesUpTo : {part : Part} → (s t : ProcessWriter) → calling.Surroundings → ℕ → (is_all is_open : Bool)
-    → Components part → Type 0
-WritesUpTo s t a end is_all is_open cs =
-    Writes s t (upto_code (surroundings_of a) end is_all is_open cs (site_of s))
-    (after_components (surroundings_of a).around (Mark mark.If) cs (known_of s.scope))
-
-choices_more : {part : Part} (is_last is_open : Bool) (around : calling.Surroundings) (end : ℕ) (cs : Components part)
-    (c : Component part) {s t w : ProcessWriter} → WritesUpTo s t around end false (is_last && passes c) cs
-    → WritesPart t w around end is_last is_open c → WritesUpTo s w around end is_last is_open (Further cs c)
-choices_more true is_open around end cs c {s} {t} {w} first one =
+pub tested_next : {A : Type 0} (around : calling.Surroundings) (end : ℕ) (f : A → Component Choices) (xs : List A)
+    (i : ℕ) (x : A) {s t w : ProcessWriter} → i < length xs → x ≡ get_or xs i x
+    → WritesTested s t around end (all_of (map f (take i xs))) → WritesAs t w around (tested_code end) (f x)
+    → WritesTested s w around end (all_of (map f (take (i + 1) xs)))
+tested_next around end f xs i x {s} {t} {w} h is first one =
     let here = surroundings_of around in
-    let a = here.around in
-    record {
-      code = appends_then (tested_code here end (passes c) cs (site_of s))
-          (λ label. last_code here end c
-          (at_place (after_components a (Mark mark.If) cs (known_of s.scope)) label (site_of s)))
-          s.listing t.listing w.listing t.label w.label first.code
-          (subst (λ z. Appends t.listing w.listing w.label (last_code here end c z)) (site_after first) one.code);
-      known = one.known ∙ ap (after_component a (Mark mark.If) c) first.known;
-      frame = one.frame ∙ first.frame;
-    }
-choices_more false is_open around end cs c {s} {t} {w} first one =
-    let here = surroundings_of around in
-    let a = here.around in
-    record {
-      code = appends_then (tested_code here end false cs (site_of s))
-          (λ label. choice_code here end is_open c
-          (at_place (after_components a (Mark mark.If) cs (known_of s.scope)) label (site_of s)))
-          s.listing t.listing w.listing t.label w.label first.code
-          (subst (λ z. Appends t.listing w.listing w.label (choice_code here end is_open c z)) (site_after first)
-          one.code);
-      known = one.known ∙ ap (after_component a (Mark mark.If) c) first.known;
-      frame = one.frame ∙ first.frame;
-    }
+    let cs = all_of (map f (take i xs)) in
+    subst (λ cs. WritesTested s w around end cs) (sym (all_push f (take i xs) (take (i + 1) xs) x (taken_one xs i x x h is)))
+    (writes_then (tested_at here end cs (site_of s))
+    (λ g label. tested_code end g
+    (placed here (f x) (after_components here.around (Mark mark.If) cs (known_of s.scope))) label) first
+    (subst
+    (λ k. Appends t.listing w.listing w.label (tested_code end (frame_seen t.frame) (placed here (f x) k) t.label))
+    first.known one.code)
+    (one.known ∙ ap (after_component here.around (Mark mark.If) (f x)) first.known) one.frame)
 
--- nothing is written yet
-pub choices_start : (around : calling.Surroundings) (end n : ℕ) (is_open : Bool) (part : Part) (s : ProcessWriter)
-    → 0 < n → WritesUpTo s s around end (nat_eq 0 n) is_open (all_of {part = part} [])
-choices_start around end n is_open part s h =
-    subst (λ b. WritesUpTo s s around end b is_open (all_of {part = part} [])) (sym (lt-eqb 0 n h))
-    (writes_none s)
+pub tested_done : {A : Type 0} (around : calling.Surroundings) (end : ℕ) (f : A → Component Choices) (xs : List A)
+    (i : ℕ) {s t : ProcessWriter} → length xs ≤ i → WritesTested s t around end (all_of (map f (take i xs)))
+    → WritesTested s t around end (all_of (map f xs))
+tested_done around end f xs i {s} {t} h x =
+    subst (λ ys. WritesTested s t around end (all_of (map f ys))) (take_all i xs h) x
 
-pub both_where : (b one other : Bool) → (b ≡ true → one ≡ other) → (b && one) ≡ (b && other)
-both_where true one other same = same refl
-both_where false one other same = refl
+-- ---- what comes after them
 
-pub choices_next : {part : Part} {A : Type 0} (around : calling.Surroundings) (end : ℕ) (f : A → Component part)
-    (xs : List A) (i : ℕ) (x : A) (is_last is_open : Bool) {s t w : ProcessWriter} → i < length xs
-    → x ≡ get_or xs i x → is_last ≡ nat_eq (i + 1) (length xs)
-    → is_open ≡ (nat_eq (i + 2) (length xs) && ends_passing (all_of (map f xs)))
-    → WritesUpTo s t around end (nat_eq i (length xs))
-    (nat_eq (i + 1) (length xs) && ends_passing (all_of (map f xs))) (all_of (map f (take i xs)))
-    → WritesPart t w around end is_last is_open (f x)
-    → WritesUpTo s w around end (nat_eq (i + 1) (length xs))
-    (nat_eq (i + 1 + 1) (length xs) && ends_passing (all_of (map f xs))) (all_of (map f (take (i + 1) xs)))
-choices_next around end f xs i x is_last is_open {s} {t} {w} h is last opens before one =
-    let done = all_of (map f (take i xs)) in
-    let ends = ends_passing (all_of (map f xs)) in
-    let number : i + 2 ≡ i + 1 + 1 = omega arith in
-    let same : (is_last && ends) ≡ (is_last && passes (f x)) =
-    both_where is_last ends (passes (f x)) (λ yes. passes_last f xs i x h is (eqb-true _ _ (sym last ∙ yes))) in
-    let first = subst (λ b. WritesUpTo s t around end false b done) (ap (λ b. b && ends) (sym last) ∙ same)
-    (subst (λ b. WritesUpTo s t around end b (nat_eq (i + 1) (length xs) && ends) done)
-    (lt-eqb i (length xs) h) before) in
-    let more = choices_more is_last is_open around end done (f x) first one in
-    subst (λ cs. WritesUpTo s w around end (nat_eq (i + 1) (length xs)) (nat_eq (i + 1 + 1) (length xs) && ends) cs)
-    (sym (all_push f (take i xs) (take (i + 1) xs) x (taken_one xs i x x h is)))
-    (subst (λ b. WritesUpTo s w around end (nat_eq (i + 1) (length xs)) b (Further done (f x)))
-    (opens ∙ ap (λ k. nat_eq k (length xs) && ends) number)
-    (subst (λ b. WritesUpTo s w around end b is_open (Further done (f x))) last more))
+-- `TRUE` with what does nothing has no code
+skip_taken : (w : Surroundings) (f : Frame) (k : Known) (line : ℕ) (e : Expression) (p : Process)
+    (c : Component Choices) (label : ℕ) → Chosen line e p ≡ c → is_skip p ≡ true
+    → taken_code f (placed w c k) label ≡ no_code label
+skip_taken w f k line e p c label is skips =
+    ap (λ c. taken_code f (placed w c k) label) (sym is)
+    ∙ skip_code w p (record { frame = f; known = chosen e k; label = label }) skips
 
-pub choices_done : {part : Part} {A : Type 0} (around : calling.Surroundings) (end : ℕ) (f : A → Component part)
-    (xs : List A) (i : ℕ) (is_open : Bool) {s t : ProcessWriter} → i ≡ length xs
-    → WritesUpTo s t around end (nat_eq i (length xs)) is_open (all_of (map f (take i xs)))
-    → WritesChoices s t around end (all_of (map f xs))
-choices_done around end f xs i is_open {s} {t} h x =
-    let whole = subst (λ b. WritesUpTo s t around end b is_open (all_of (map f (take i xs))))
-    (eq-eqb i (length xs) h) x in
-    subst (λ ys. WritesChoices s t around end (all_of (map f ys))) (take_all i xs (omega arith)) whole
+pub ending_is : (w : Surroundings) (end : ℕ) (x : code_ending.IfEnding) (s : Site) → LeavesSkip x
+    → ending_at w end x s ≡ ending_code end s.frame (placed_ending w x s.known) s.label
+ending_is w end if_ending.Stops s skips = refl
+ending_is w end (if_ending.Always last) s skips = refl
+ending_is w end (if_ending.Opens opened last) s skips =
+    let c = last.now in
+    let first = choice_as (open_code end) w (choice_of opened.now) s in
+    let k = after_component w.around (Mark mark.If) (choice_of opened.now) s.known in
+    ap (then_code first) (λ i label. skip_taken w s.frame k c.line (expression_of c.condition) (process_of c.process)
+    (choice_of c) label (choice_seen c) skips i)
+    ∙ then_none first
 
--- an IF without a choice
-pub no_choices : {part : Part} {A : Type 0} (around : calling.Surroundings) (end : ℕ) (f : A → Component part)
-    (xs : List A) (s : ProcessWriter) (listing : List Piece) → length xs ≡ 0
-    → listing ≡ s.listing ++ operates STOP_PROCESS ∷ []
-    → WritesChoices s (record s { listing = listing }) around end (all_of (map f xs))
-no_choices around end f [] s listing none stops = record { code = (stops, refl); known = refl; frame = refl }
-no_choices around end f (x ∷ xs) s listing none stops = absurd (omega (arith, none))
-
--- ---- the last choice
-
-pub writes_always : (around : calling.Surroundings) (end : ℕ) (is_open : Bool) (line : ℕ) (e : Expression) (p : Process)
-    {s t : ProcessWriter} → is_true e ≡ true → WritesChosen s t around (Chosen line e p)
-    → WritesPart s t around end true is_open (Chosen line e p)
-writes_always around end is_open line e p {s} {t} holds x =
+pub choices_written : (around : calling.Surroundings) (end : ℕ) (cs : Components Choices) (xs : List Choice)
+    (x : code_ending.IfEnding) {s t w : ProcessWriter} → AreEnded cs xs x
+    → WritesTested s t around end (all_choices xs) → WritesEnding t w around end x → WritesChoices s w around end cs
+choices_written around end cs xs x {s} {t} {w} are first rest =
     let here = surroundings_of around in
     let a = here.around in
     let z = site_of s in
+    let k = after_components a (Mark mark.If) (all_choices xs) z.known in
+    let tested = tested_at here end (all_choices xs) z in
+    let next : Frame → ℕ → Option Code = λ g label. ending_code end g (placed_ending here x k) label in
+    let code : Appends t.listing w.listing w.label (next (frame_seen t.frame) t.label) =
+    subst
+    (λ k. Appends t.listing w.listing w.label (ending_code end (frame_seen t.frame) (placed_ending here x k) t.label))
+    first.known
+    (subst (λ o. Appends t.listing w.listing w.label o) (ending_is here end x (site_of t) are.skips) rest.code) in
+    let whole : Writes s w (then_code tested (next z.frame)) (after_ending a x k) =
+    writes_then tested next first code (rest.known ∙ ap (after_ending a x) first.known) rest.frame in
+    subst (λ (v : EndedChoices × Known). Writes s w (choices_code end z.frame v.0 z.label) v.1)
+    (λ i. (sym (are.choices here z.known) i, sym (are.known a z.known) i)) whole
+
+-- ---- how choices end
+
+pub none_ended : (xs : List Choice) → length xs ≡ 0 → AreEnded (all_choices xs) xs if_ending.Stops
+none_ended [] none = record { choices = λ w k. refl; known = λ a k. refl; skips = tt }
+none_ended (x ∷ xs) none = absurd (omega (arith, none))
+
+-- the last choice is tested, if its condition is not TRUE
+tested_last : (w : Surroundings) (cs : Components Choices) (line : ℕ) (e : Expression) (p : Process) (k : Known)
+    → is_true e ≡ false → if_choices w (Further cs (Chosen line e p)) k
+    ≡ record { tested = placed_choices w (Further cs (Chosen line e p)) k; ending = Stops }
+tested_last w cs line e p k other =
+    let last = placed w (Chosen line e p) (after_components w.around (Mark mark.If) cs k) in
+    ap (λ holds. with_opening (cond holds (record { tested = placed_choices w cs k; ending = Always last })
+    (record { tested = ThenChoice (placed_choices w cs k) last; ending = Stops }))) other
+
+pub stops_ended : (xs before : List Choice) (x : Choice) → xs ≡ before ++ x ∷ []
+    → is_true (expression_of x.condition) ≡ false → AreEnded (all_choices xs) xs if_ending.Stops
+stops_ended xs before x is other =
+    let last = ap (Further (all_choices before)) (choice_seen x) ∙ sym (all_push choice_of before xs x is) in
     record {
-      code = subst (λ b. Appends s.listing t.listing t.label
-          (last_choice b (process_code here p (at_place (chosen e z.known) z.label z))
-          (tested_choice z e end (after_component a (Mark mark.If) (Chosen line e p) z.known)
-          (process_code here p (in_choice e z))))) (sym holds) x.code;
-      known = x.known;
-      frame = x.frame;
+      choices = λ w k. subst
+          (λ cs. if_choices w cs k ≡ record { tested = placed_choices w cs k; ending = Stops }) last
+          (tested_last w (all_choices before) x.line (expression_of x.condition) (process_of x.process) k other);
+      known = λ a k. refl;
+      skips = tt;
     }
 
--- so it is wherever that succeeds
-pub always_written : {U E : Type 0} (around : calling.Surroundings) (end : ℕ) (is_open : Bool) (line : ℕ)
-    (e : Expression) (p : Process) (c : Component Choices) (s t : ProcessWriter) (r : Result U E)
-    → Chosen line e p ≡ c → is_true e ≡ true → IfOk r (λ _. WritesChosen s t around c)
-    → IfOk r (λ _. WritesPart s t around end true is_open c)
-always_written around end is_open line e p c s t (Ok u) is holds x =
-    subst (λ y. WritesPart s t around end true is_open y) is
-    (writes_always around end is_open line e p holds (subst (λ y. WritesChosen s t around y) (sym is) x))
-always_written around end is_open line e p c s t (Err x) is holds h = tt
+-- the last choice has no test, if its condition is TRUE
+untested_last : (w : Surroundings) (cs : Components Choices) (line : ℕ) (e : Expression) (p : Process) (k : Known)
+    → is_true e ≡ true → if_choices w (Further cs (Chosen line e p)) k
+    ≡ opening (placed_choices w cs k)
+    (Always (placed w (Chosen line e p) (after_components w.around (Mark mark.If) cs k)))
+untested_last w cs line e p k holds =
+    let last = placed w (Chosen line e p) (after_components w.around (Mark mark.If) cs k) in
+    ap (λ holds. with_opening (cond holds (record { tested = placed_choices w cs k; ending = Always last })
+    (record { tested = ThenChoice (placed_choices w cs k) last; ending = Stops }))) holds
 
-pub writes_stopped : (around : calling.Surroundings) (end : ℕ) (is_open : Bool) (line : ℕ) (e : Expression)
-    (p : Process) {s t : ProcessWriter} (listing : List Piece) → is_true e ≡ false
-    → WritesChoice s t around end false (Chosen line e p) → listing ≡ t.listing ++ operates STOP_PROCESS ∷ []
-    → WritesPart s (record t { listing = listing }) around end true is_open (Chosen line e p)
-writes_stopped around end is_open line e p {s} {t} listing other x stops =
-    let here = surroundings_of around in
-    let a = here.around in
-    let z = site_of s in
+-- it is not open before a choice that does something
+opening_stays : (cs : PlacedChoices) (c : PlacedChoice) → c.is_skip ≡ false
+    → opening cs (Always c) ≡ record { tested = cs; ending = Always c }
+opening_stays NoChoice c h = refl
+opening_stays (ThenChoice cs opened) c h =
+    ap (λ skips. cond skips (record { tested = cs; ending = Opens opened })
+    (record { tested = ThenChoice cs opened; ending = Always c })) h
+
+-- and nothing is before the only one
+opening_alone : (w : Surroundings) (xs : List Choice) (k : Known) (c : PlacedChoice) → length xs ≡ 0
+    → opening (placed_choices w (all_choices xs) k) (Always c)
+    ≡ record { tested = placed_choices w (all_choices xs) k; ending = Always c }
+opening_alone w [] k c none = refl
+opening_alone w (x ∷ xs) k c none = absurd (omega (arith, none))
+
+-- the last choice without a test is apart
+always_last : (xs before : List Choice) (x : Bor Choice) → xs ≡ before ++ x.now ∷ []
+    → ((w : Surroundings) (k : Known) → (let c = Chosen x.now.line (expression_of x.now.condition)
+    (process_of x.now.process) in if_choices w (Further (all_choices before) c) k ≡ record {
+      tested = placed_choices w (all_choices before) k;
+      ending = Always (placed w c (after_components w.around (Mark mark.If) (all_choices before) k));
+    }))
+    → AreEnded (all_choices xs) before (if_ending.Always x)
+always_last xs before x is ends =
+    let whole = all_push choice_of before xs x.now is in
     record {
-      code = subst (λ b. Appends s.listing listing t.label
-          (last_choice b (process_code here p (at_place (chosen e z.known) z.label z))
-          (tested_choice z e end (after_component a (Mark mark.If) (Chosen line e p) z.known)
-          (process_code here p (in_choice e z))))) (sym other)
-          (appends_closed (choice_code here end false (Chosen line e p) z) s.listing t.listing listing
-          (operates STOP_PROCESS ∷ []) t.label x.code stops);
-      known = x.known;
-      frame = x.frame;
+      choices = λ w k. ap (λ cs. if_choices w cs k) whole
+          ∙ subst (λ c. if_choices w (Further (all_choices before) c) k ≡ record {
+            tested = placed_choices w (all_choices before) k;
+            ending = Always (placed w c (after_components w.around (Mark mark.If) (all_choices before) k));
+          }) (choice_seen x.now) (ends w k);
+      known = λ a k. ap (λ cs. after_components a (Mark mark.If) cs k) whole;
+      skips = tt;
+    }
+
+pub always_ended : (xs before : List Choice) (x : Bor Choice) → xs ≡ before ++ x.now ∷ []
+    → is_true (expression_of x.now.condition) ≡ true → is_skip (process_of x.now.process) ≡ false
+    → AreEnded (all_choices xs) before (if_ending.Always x)
+always_ended xs before x is holds does =
+    let c = x.now in
+    always_last xs before x is (λ w k.
+    untested_last w (all_choices before) c.line (expression_of c.condition) (process_of c.process) k holds
+    ∙ opening_stays (placed_choices w (all_choices before) k)
+    (placed w (Chosen c.line (expression_of c.condition) (process_of c.process))
+    (after_components w.around (Mark mark.If) (all_choices before) k)) does)
+
+pub alone_ended : (xs before : List Choice) (x : Bor Choice) → xs ≡ before ++ x.now ∷ []
+    → is_true (expression_of x.now.condition) ≡ true → length before ≡ 0
+    → AreEnded (all_choices xs) before (if_ending.Always x)
+alone_ended xs before x is holds none =
+    let c = x.now in
+    always_last xs before x is (λ w k.
+    untested_last w (all_choices before) c.line (expression_of c.condition) (process_of c.process) k holds
+    ∙ opening_alone w before k (placed w (Chosen c.line (expression_of c.condition) (process_of c.process))
+    (after_components w.around (Mark mark.If) (all_choices before) k)) none)
+
+pub opens_ended : (xs before first : List Choice) (opened last : Bor Choice) → xs ≡ before ++ last.now ∷ []
+    → before ≡ first ++ opened.now ∷ [] → is_true (expression_of last.now.condition) ≡ true
+    → is_skip (process_of last.now.process) ≡ true → AreEnded (all_choices xs) first (if_ending.Opens opened last)
+opens_ended xs before first opened last is split holds skips =
+    let c = last.now in
+    let seen = Chosen c.line (expression_of c.condition) (process_of c.process) in
+    let before_is = all_push choice_of first before opened.now split in
+    let whole = all_push choice_of before xs c is ∙ ap (λ cs. Further cs (choice_of c)) before_is in
+    record {
+      choices = λ w k.
+          let cs = Further (all_choices first) (choice_of opened.now) in
+          let b = placed w (choice_of opened.now) (after_components w.around (Mark mark.If) (all_choices first) k) in
+          ap (λ cs. if_choices w cs k) whole
+          ∙ ap (λ d. if_choices w (Further cs d) k) (sym (choice_seen c))
+          ∙ untested_last w cs c.line (expression_of c.condition) (process_of c.process) k holds
+          ∙ ap (λ skips. cond skips (record { tested = placed_choices w (all_choices first) k; ending = Opens b })
+          (record {
+            tested = ThenChoice (placed_choices w (all_choices first) k) b;
+            ending = Always (placed w seen (after_components w.around (Mark mark.If) cs k));
+          })) skips;
+      known = λ a k. ap (λ cs. after_components a (Mark mark.If) cs k) whole;
+      skips = skips;
     }
 
 -- ---- a choice
 
 -- without its test
-pub writes_chosen : (around : calling.Surroundings) (line : ℕ) (e : Expression) (p : Process) (s t : ProcessWriter)
+pub writes_taken : (around : calling.Surroundings) (line : ℕ) (e : Expression) (p : Process) (s t : ProcessWriter)
     (inner after : code_scope.Scope) → known_of inner ≡ chosen e (known_of s.scope)
     → WritesProcess (record s { scope = inner }) t around p → known_of after ≡ next (known_of t.scope)
-    → WritesChosen s (record t { scope = after }) around (Chosen line e p)
-writes_chosen around line e p s t inner after narrowed x ends =
+    → WritesAs s (record t { scope = after }) around taken_code (Chosen line e p)
+writes_taken around line e p s t inner after narrowed x ends =
     let here = surroundings_of around in
     let a = here.around in
     record {
@@ -192,21 +241,21 @@ writes_chosen around line e p s t inner after narrowed x ends =
     }
 
 -- What is behind the process of a choice that was tested.
-pub record ChosenLeft (around : calling.Surroundings) (line : ℕ) (e : Expression) (p : Process)
+pub record TakenLeft (around : calling.Surroundings) (line : ℕ) (e : Expression) (p : Process)
     (s tested within : ProcessWriter) : Type 0 where
   pub code : Appends tested.listing within.listing within.label
-      (process_code (surroundings_of around) p (in_choice e (site_of s)))
+      (choice_as taken_code (surroundings_of around) (Chosen line e p)
+      (at_place (known_of s.scope) (s.label + 1) (site_of s)))
   pub known : known_of within.scope
       ≡ after_component (surroundings_of around).around (Mark mark.If) (Chosen line e p) (known_of s.scope)
   pub frame : frame_seen within.frame ≡ frame_seen s.frame
 
-pub chosen_left : (around : calling.Surroundings) (line : ℕ) (e : Expression) (p : Process)
+pub taken_left : (around : calling.Surroundings) (line : ℕ) (e : Expression) (p : Process)
     (s tested within : ProcessWriter) → site_of tested ≡ at_place (known_of s.scope) (s.label + 1) (site_of s)
-    → WritesChosen tested within around (Chosen line e p) → ChosenLeft around line e p s tested within
-chosen_left around line e p s tested within place x = record {
-  code = subst (λ (y : Site).
-      Appends tested.listing within.listing within.label (chosen_code (surroundings_of around) (Chosen line e p) y))
-      place x.code;
+    → WritesAs tested within around taken_code (Chosen line e p) → TakenLeft around line e p s tested within
+taken_left around line e p s tested within place x = record {
+  code = subst (λ (y : Site). Appends tested.listing within.listing within.label
+      (choice_as taken_code (surroundings_of around) (Chosen line e p) y)) place x.code;
   known = x.known ∙ ap (λ (y : Site).
       after_component (surroundings_of around).around (Mark mark.If) (Chosen line e p) y.known) place;
   frame = x.frame ∙ ap (λ (y : Site). y.frame) place;
@@ -216,24 +265,24 @@ chosen_left around line e p s tested within place x = record {
 pub writes_tested : (around : calling.Surroundings) (end line : ℕ) (e : Expression) (p : Process)
     (s tested within after : ProcessWriter) (jumped : List Piece)
     → tested.listing ≡ s.listing ++ test_code (site_of s).frame.homes (site_of s).known.entries s.frame.top e s.label
-    → ChosenLeft around line e p s tested within → jumped ≡ within.listing ++ Jump end ∷ []
+    → TakenLeft around line e p s tested within → jumped ≡ within.listing ++ Jump end ∷ []
     → after.listing ≡ jumped ++ row_of s.label (frame_seen within.frame) (known_of within.scope) ∷ []
-    → site_of after ≡ site_of within → WritesChoice s after around end false (Chosen line e p)
+    → site_of after ≡ site_of within → WritesAs s after around (tested_code end) (Chosen line e p)
 writes_tested around end line e p s tested within after jumped test x jumps row still =
     let here = surroundings_of around in
     let z = site_of s in
-    let done = after_component here.around (Mark mark.If) (Chosen line e p) z.known in
-    let process = process_code here p (in_choice e z) in
-    let rest : after.listing ≡ within.listing ++ Jump end ∷ row_of s.label z.frame done ∷ [] =
+    let c = placed here (Chosen line e p) z.known in
+    let process = taken_code z.frame c (z.label + 1) in
+    let rest : after.listing ≡ within.listing ++ Jump end ∷ row_of s.label z.frame c.after ∷ [] =
     row ∙ (λ j. jumps j ++ row_of s.label (x.frame j) (x.known j) ∷ [])
-    ∙ append_assoc within.listing (Jump end ∷ []) (row_of s.label z.frame done ∷ []) in
+    ∙ append_assoc within.listing (Jump end ∷ []) (row_of s.label z.frame c.after ∷ []) in
     let labels : after.label ≡ within.label = ap (λ (y : Site). y.label) still in
     record {
-      code = subst (λ n. Appends s.listing after.listing n (tested_choice z e end done process)) (sym labels)
-          (appends_before (closed_by (Jump end ∷ row_of s.label z.frame done ∷ []) process) s.listing tested.listing
+      code = subst (λ n. Appends s.listing after.listing n (tested_code end z.frame c z.label)) (sym labels)
+          (appends_before (closed_by (Jump end ∷ row_of s.label z.frame c.after ∷ []) process) s.listing tested.listing
           after.listing (test_code z.frame.homes z.known.entries z.frame.top e z.label) within.label test
           (appends_closed process tested.listing within.listing after.listing
-          (Jump end ∷ row_of s.label z.frame done ∷ []) within.label x.code rest));
+          (Jump end ∷ row_of s.label z.frame c.after ∷ []) within.label x.code rest));
       known = ap (λ (y : Site). y.known) still ∙ x.known;
       frame = ap (λ (y : Site). y.frame) still ∙ x.frame;
     }
@@ -242,33 +291,44 @@ writes_tested around end line e p s tested within after jumped test x jumps row 
 pub writes_open : (around : calling.Surroundings) (end line : ℕ) (e : Expression) (p : Process)
     (s tested within : ProcessWriter)
     → tested.listing ≡ s.listing ++ test_code (site_of s).frame.homes (site_of s).known.entries s.frame.top e end
-    → site_of tested ≡ site_of s → WritesChosen tested within around (Chosen line e p)
-    → WritesChoice s within around end true (Chosen line e p)
+    → site_of tested ≡ site_of s → WritesAs tested within around taken_code (Chosen line e p)
+    → WritesAs s within around (open_code end) (Chosen line e p)
 writes_open around end line e p s tested within test place x =
     let here = surroundings_of around in
-    let a = here.around in
     let z = site_of s in
-    let process = process_code here p (at_place (chosen e z.known) z.label z) in
+    let process = choice_as taken_code here (Chosen line e p) z in
     let inner : Appends tested.listing within.listing within.label process =
-    subst
-    (λ (y : Site). Appends tested.listing within.listing within.label (chosen_code here (Chosen line e p) y)) place
-    x.code in
+    subst (λ (y : Site). Appends tested.listing within.listing within.label
+    (choice_as taken_code here (Chosen line e p) y)) place x.code in
     record {
       code = appends_before process s.listing tested.listing within.listing
           (test_code z.frame.homes z.known.entries z.frame.top e end) within.label test inner;
-      known = x.known ∙ ap (λ (y : Site). after_component a (Mark mark.If) (Chosen line e p) y.known) place;
+      known = x.known ∙ ap (λ (y : Site). after_component here.around (Mark mark.If) (Chosen line e p) y.known) place;
       frame = x.frame ∙ ap (λ (y : Site). y.frame) place;
     }
+
+-- an open choice, and the one after it
+pub writes_opens : (around : calling.Surroundings) (end : ℕ) (opened last : Bor Choice) {s t w : ProcessWriter}
+    → WritesAs s t around (open_code end) (choice_of opened.now) → WritesAs t w around taken_code (choice_of last.now)
+    → WritesEnding s w around end (if_ending.Opens opened last)
+writes_opens around end opened last {s} {t} {w} first rest =
+    let here = surroundings_of around in
+    let z = site_of s in
+    let k = after_component here.around (Mark mark.If) (choice_of opened.now) z.known in
+    writes_then (choice_as (open_code end) here (choice_of opened.now) z)
+    (λ g label. taken_code g (placed here (choice_of last.now) k) label) first
+    (subst (λ k. Appends t.listing w.listing w.label
+    (taken_code (frame_seen t.frame) (placed here (choice_of last.now) k) t.label)) first.known rest.code)
+    (rest.known ∙ ap (after_component here.around (Mark mark.If) (choice_of last.now)) first.known) rest.frame
 
 -- ---- an IF
 
 -- What is behind the choices of an IF, where their block has ended.
 pub record ChoicesLeft {part : Part} (around : calling.Surroundings) (cs : Components part) (s within : ProcessWriter)
     (ended : code_scope.Scope) : Type 0 where
-  pub code : Appends s.listing within.listing within.label (choices_code (surroundings_of around) s.label cs
+  pub code : Appends s.listing within.listing within.label (choices_at (surroundings_of around) s.label cs
       (at_place (begin (known_of s.scope)) (s.label + 1) (site_of s)))
-  pub known : known_of ended
-      ≡ end (after_components (surroundings_of around).around (Mark mark.If) cs (begin (known_of s.scope)))
+  pub known : known_of ended ≡ after_if (surroundings_of around).around cs (known_of s.scope)
   pub frame : frame_seen within.frame ≡ frame_seen s.frame
 
 pub choices_left : {part : Part} (around : calling.Surroundings) (cs : Components part)
@@ -278,7 +338,7 @@ pub choices_left : {part : Part} (around : calling.Surroundings) (cs : Component
     → ChoicesLeft around cs s within ended
 choices_left around cs s begun within ended same place x ends = record {
   code = subst (λ (v : List Piece × Site).
-      Appends v.0 within.listing within.label (choices_code (surroundings_of around) s.label cs v.1))
+      Appends v.0 within.listing within.label (choices_at (surroundings_of around) s.label cs v.1))
       (λ i. (same i, place i)) x.code;
   known = ends ∙ ap end (x.known
       ∙ ap (λ (y : Site). after_components (surroundings_of around).around (Mark mark.If) cs y.known) place);
@@ -292,15 +352,15 @@ pub writes_if : {part : Part} (around : calling.Surroundings) (cs : Components p
 writes_if around cs s within after ended x row still =
     let here = surroundings_of around in
     let z = site_of s in
-    let inner = at_place (begin z.known) (s.label + 1) z in
-    let done = end (after_components here.around (Mark mark.If) cs (begin z.known)) in
+    let choices = choices_at here s.label cs (at_place (begin z.known) (s.label + 1) z) in
+    let done = after_if here.around cs z.known in
     let rest : after.listing ≡ within.listing ++ row_of s.label z.frame done ∷ [] =
     row ∙ (λ j. within.listing ++ row_of s.label (x.frame j) (x.known j) ∷ []) in
     let labels : after.label ≡ within.label = ap (λ (y : Site). y.label) still in
     record {
-      code = subst (λ n. Appends s.listing after.listing n (if_code here cs z)) (sym labels)
-          (appends_closed (choices_code here s.label cs inner) s.listing within.listing after.listing
-          (row_of s.label z.frame done ∷ []) within.label x.code rest);
+      code = subst (λ n. Appends s.listing after.listing n (if_at here cs z)) (sym labels)
+          (appends_closed choices s.listing within.listing after.listing (row_of s.label z.frame done ∷ []) within.label
+          x.code rest);
       known = ap (λ (y : Site). y.known) still ∙ x.known;
       frame = ap (λ (y : Site). y.frame) still ∙ x.frame;
     }

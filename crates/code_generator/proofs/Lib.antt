@@ -2,7 +2,6 @@ pub mod ActsWritten
 pub mod BranchesFollowed
 pub mod BranchesWritten
 pub mod CallsFound
-pub mod ChoicesPassed
 pub mod ChoicesWritten
 pub mod DeclarationsWritten
 pub mod Exceeding
@@ -14,6 +13,7 @@ pub mod OutermostNames
 pub mod PartsExceed
 pub mod PartsWritten
 pub mod SequentialCode
+pub mod SkipsSeen
 pub mod TablesRead
 pub mod TurnsWritten
 pub mod WordsForgotten

@@ -21,10 +21,10 @@ use Rattle.code_generator.specs.declared.loops.Turning.{Turning}
 use Rattle.code_generator.specs.declared.processes.ProcessWriter.{ProcessWriter}
 use Rattle.code_generator.specs.CallViews.{surroundings_of}
 use Rattle.code_generator.specs.Processes.{Site, Surroundings, row_of, in_loop, loop_end, loop_code}
-use Rattle.code_generator.specs.Processes.{value_or_zero, times, before_turns, under_if, process_code}
+use Rattle.code_generator.specs.Processes.{value_or_zero, times, under_if, process_code}
 use Rattle.code_generator.specs.Processes.{construct_code, component_code, repeated_seq}
 use Rattle.code_generator.specs.Written.{site_of, IsTooMuch, Exceeds, after_loop, in_turning, entering_code}
-use Rattle.code_generator.specs.Written.{leaving_code, EntersLoop, looped_code, turns_written}
+use Rattle.code_generator.specs.Written.{leaving_code, EntersLoop, looped_code, before_turns, turns_at}
 use Rattle.code_generator.proofs.Exceeding.{exceeds_before, exceeds_more, exceeds_closed, exceeds_behind}
 use Rattle.code_generator.proofs.LoopsWritten.{loop_code_is, with_turns, BodyLeft}
 use Rattle.code_generator.proofs.TurnsWritten.{repeated_if_is, TurnsLeft}
@@ -117,7 +117,7 @@ pub exceeds_repeated : (l : Limits) (around : calling.Surroundings) (line : ℕ)
     (c : Component Choices) (repeats : Repeats) (s begun : ProcessWriter)
     → repeats ≡ repeats_of (is_before line (surroundings_of around).around.uncounted) (known_of s.scope).entries false r
     → begun.listing ≡ s.listing → site_of begun ≡ before_turns (site_of s) (begin (known_of s.scope))
-    → Exceeds l begun.listing (turns_written (surroundings_of around) s.label r.name c repeats (times repeats)
+    → Exceeds l begun.listing (turns_at (surroundings_of around) s.label r.name c repeats (times repeats)
     (site_of begun))
     → Exceeds l s.listing (construct_code (surroundings_of around) line (under_if r c) (site_of s))
 exceeds_repeated l around line r c repeats s begun is same place h =
@@ -126,11 +126,11 @@ exceeds_repeated l around line r c repeats s begun is same place h =
     let first = before_turns z (begin z.known) in
     let done = after_construct here.around line (under_if r c) z.known in
     let counted = repeats_of (is_before line here.around.uncounted) z.known.entries false r in
-    let turns = turns_written here z.label r.name c counted (times counted) first in
+    let turns = turns_at here z.label r.name c counted (times counted) first in
     subst (λ o. Exceeds l s.listing o) (sym (repeated_if_is here line r c z))
     (exceeds_closed l turns s.listing (row_of z.label z.frame done ∷ [])
     (subst (λ (v : List Piece × Repeats × Site).
-    Exceeds l v.0 (turns_written here z.label r.name c v.1 (times v.1) v.2)) (λ i. (same i, is i, place i)) h))
+    Exceeds l v.0 (turns_at here z.label r.name c v.1 (times v.1) v.2)) (λ i. (same i, is i, place i)) h))
 
 pub exceeds_repeated_end : (l : Limits) (around : calling.Surroundings) (line : ℕ) (r : Replicator)
     (c : Component Choices) (s within : ProcessWriter) (left : code_frame.Frame) (ended : code_scope.Scope)
@@ -142,7 +142,7 @@ exceeds_repeated_end l around line r c s within left ended x h =
     let z = site_of s in
     let done = after_construct here.around line (under_if r c) z.known in
     let counted = repeats_of (is_before line here.around.uncounted) z.known.entries false r in
-    let turns = turns_written here z.label r.name c counted (times counted) (before_turns z (begin z.known)) in
+    let turns = turns_at here z.label r.name c counted (times counted) (before_turns z (begin z.known)) in
     subst (λ o. Exceeds l s.listing o) (sym (repeated_if_is here line r c z))
     (exceeds_behind l turns s.listing within.listing (row_of z.label z.frame done ∷ []) within.label x.code
     (subst (λ (y : Frame × Known). IsTooMuch l within.listing (row_of z.label y.0 y.1 ∷ []))

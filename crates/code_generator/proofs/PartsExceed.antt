@@ -1,21 +1,19 @@
 -- If a part of a process is too much, so is the process: what `proofs/Exceeding` says, for each construct.
-use Rattle.std.proofs.Common.{◌≡◌, ℕ, suc, ◌+◌, ◌<◌, ◌&&◌, Bool, true, false, nat_eq, List, [], ◌∷◌, ◌++◌}
-use Rattle.std.proofs.Common.{length, map, take, get_or, Option, refl, sym, ap, subst, ◌∙◌, arith, add-one}
-use Rattle.std.proofs.lemmas.Bool.{eqb-true, eq-eqb}
+use Rattle.std.proofs.Common.{◌≡◌, ◌≢◌, ℕ, ◌+◌, ◌<◌, Bool, List, [], ◌∷◌, ◌++◌, length, map, take, get_or, Option}
+use Rattle.std.proofs.Common.{Bor, sym, ap, subst, ◌∙◌, arith, add-one}
 use Rattle.std.proofs.lemmas.List.{take_all, get_or_default}
-use Rattle.small_laws.proofs.Comparisons.{lt-eqb}
 use Rattle.occam_layout.specs.declared.mark.Mark.TheVariants as mark
+use Rattle.occam_parser.specs.declared.tree.Choice.{Choice}
 use Rattle.occam_parser.specs.Terminals.{Mark}
 use Rattle.occam_parser.specs.Expressions.{Expression}
 use Rattle.occam_parser.specs.Lines.{Declaration, Action}
-use Rattle.occam_parser.specs.Blocks.{Process, Does, Construct, Part, Choices, Components, Further, Component}
-use Rattle.occam_parser.specs.Blocks.{Chosen}
+use Rattle.occam_parser.specs.Blocks.{Process, Does, Construct, Part, Choices, Components, Component, Chosen}
 use Rattle.occam_parser.specs.BlockReading.{with_declarations}
-use Rattle.occam_parser.specs.BlockViews.{all_of}
+use Rattle.occam_parser.specs.BlockViews.{all_of, choice_of, all_choices}
 use Rattle.occam_parser.proofs.SeenBlocks.{all_push}
 use Rattle.scalar_ranges.specs.declared.scope.Scope as code_scope
 use Rattle.scalar_ranges.specs.Entries.{Meaning}
-use Rattle.scalar_ranges.specs.Moves.{Known, begin, end}
+use Rattle.scalar_ranges.specs.Moves.{Known, begin}
 use Rattle.scalar_ranges.specs.Scopes.{known_of}
 use Rattle.program_uses.specs.Declaring.{add}
 use Rattle.program_uses.specs.Indices.{Repeats, index_in}
@@ -24,31 +22,31 @@ use Rattle.program_uses.proofs.Adding.{taken_one}
 use Rattle.usage_checks.specs.AfterProcesses.{after_components, after_component, chosen}
 use Rattle.usage_checks.specs.Following.{after_action}
 use Rattle.usage_checks.specs.NameRules.{with_entries}
-use Rattle.code_pieces.specs.declared.operations.TheConstants.{STOP_PROCESS}
-use Rattle.code_pieces.specs.Pieces.{Piece, Jump, operates, Code, no_code, then_code, closed_by}
+use Rattle.code_pieces.specs.Pieces.{Piece, Jump, Code, no_code, then_code, closed_by}
 use Rattle.line_pieces.specs.Actions.{test_code}
 use Rattle.line_pieces.specs.Declarations.{Frame}
 use Rattle.line_pieces.specs.FrameViews.{frame_seen}
 use Rattle.code_generator.specs.declared.calling.Surroundings as calling
+use Rattle.code_generator.specs.declared.choices.IfEnding as code_ending
+use Rattle.code_generator.specs.declared.choices.IfEnding.TheVariants as if_ending
 use Rattle.code_generator.specs.declared.limits.Limits.{Limits}
 use Rattle.code_generator.specs.declared.processes.ProcessWriter.{ProcessWriter}
 use Rattle.code_generator.specs.CallViews.{surroundings_of}
 use Rattle.code_generator.specs.Instances.{is_finer}
-use Rattle.code_generator.specs.Processes.{Site, Surroundings, with_declaration, at_place, row_of, is_true, passes}
-use Rattle.code_generator.specs.Processes.{ends_passing, in_choice, tested_choice, last_choice}
-use Rattle.code_generator.specs.Processes.{turn_site, process_code, construct_code, components_code}
-use Rattle.code_generator.specs.Processes.{component_code, choices_code, choice_code, line_code, act_code, with_row}
-use Rattle.code_generator.specs.Written.{site_of, DeclaresAll, declarations_code, IsTooMuch, Exceeds}
-use Rattle.code_generator.specs.Written.{row_code, part_code, chosen_code, if_code, turns_written}
-use Rattle.code_generator.specs.Written.{WritesLine, WritesSeq}
+use Rattle.code_generator.specs.Processes.{Site, Surroundings, with_declaration, at_place, row_of, is_true}
+use Rattle.code_generator.specs.Processes.{taken_code, tested_code, open_code, all_tested, ending_code, choices_code}
+use Rattle.code_generator.specs.Processes.{turn_begun, process_code, construct_code, components_code, component_code}
+use Rattle.code_generator.specs.Processes.{placed, line_code, act_code, with_row}
+use Rattle.code_generator.specs.Written.{site_of, DeclaresAll, declarations_code, IsTooMuch, Exceeds, row_code, Writes}
+use Rattle.code_generator.specs.Written.{WritesLine, WritesSeq, choice_as, WritesAs, tested_at, WritesTested, ending_at}
+use Rattle.code_generator.specs.Written.{placed_ending, AreEnded, choices_at, after_if, if_at, placed_turns}
+use Rattle.code_generator.specs.Written.{turns_tested, WritesSomeTurns, turns_at}
 use Rattle.code_generator.proofs.ActsWritten.{with_row_is}
-use Rattle.code_generator.proofs.ChoicesPassed.{passes_last}
-use Rattle.code_generator.proofs.ChoicesWritten.{upto_code, WritesUpTo, both_where}
-use Rattle.code_generator.proofs.ChoicesWritten.{ChosenLeft, ChoicesLeft}
+use Rattle.code_generator.proofs.ChoicesWritten.{ending_is, TakenLeft, ChoicesLeft}
 use Rattle.code_generator.proofs.Exceeding.{OneMore, exceeds_before, exceeds_closed, exceeds_behind}
 use Rattle.code_generator.proofs.Exceeding.{exceeds_first, exceeds_second, exceeds_all, much_behind}
 use Rattle.code_generator.proofs.PartsWritten.{code_behind, site_after}
-use Rattle.code_generator.proofs.TurnsWritten.{upto_turns, WritesSome}
+use Rattle.code_generator.proofs.TurnsWritten.{turn_entered, ends_somehow, last_untested}
 
 -- ---- a process
 
@@ -139,101 +137,105 @@ exceeds_seq l around f xs i x {s} {t} h is first one =
 
 -- ---- choices of an IF
 
-abbrev choices_upto : {part : Part} {A : Type 0} → Surroundings → ℕ → (A → Component part) → List A → Site → ℕ
-    → Option Code
-choices_upto here end f xs z k =
-    upto_code here end (nat_eq k (length xs)) (nat_eq (k + 1) (length xs) && ends_passing (all_of (map f xs)))
-    (all_of (map f (take k xs))) z
+-- what comes after some code, in the same frame
+exceeds_then : (l : Limits) (code : Option Code) (next : Frame → ℕ → Option Code) {s t : ProcessWriter} {known : Known}
+    → Writes s t code known → Exceeds l t.listing (next (frame_seen t.frame) t.label)
+    → Exceeds l s.listing (then_code code (next (frame_seen s.frame)))
+exceeds_then l code next {s} {t} first h =
+    exceeds_second l code (next (frame_seen s.frame)) s.listing t.listing t.label first.code
+    (subst (λ f. Exceeds l t.listing (next f t.label)) first.frame h)
+
+abbrev choices_upto : {A : Type 0} → Surroundings → ℕ → (A → Component Choices) → List A → Site → ℕ → Option Code
+choices_upto here end f xs z k = tested_at here end (all_of (map f (take k xs))) z
 
 -- a choice comes after those before it
-last_split : {part : Part} (here : Surroundings) (end : ℕ) (is_last is_open : Bool) (cs : Components part)
-    (c : Component part) (z : Site) → upto_code here end is_last is_open (Further cs c) z
-    ≡ then_code (upto_code here end false (is_last && passes c) cs z)
-    (λ label. part_code here end is_last is_open c
-    (at_place (after_components here.around (Mark mark.If) cs z.known) label z))
-last_split here end true is_open cs c z = refl
-last_split here end false is_open cs c z = refl
-
-choices_split : {part : Part} {A : Type 0} (here : Surroundings) (end : ℕ) (f : A → Component part) (xs : List A)
-    (z : Site) (k : ℕ) (x : A) → k < length xs → x ≡ get_or xs k x
-    → choices_upto here end f xs z (k + 1) ≡ then_code (choices_upto here end f xs z k)
-    (λ label. part_code here end (nat_eq (k + 1) (length xs))
-    (nat_eq (k + 2) (length xs) && ends_passing (all_of (map f xs))) (f x)
-    (at_place (after_components here.around (Mark mark.If) (all_of (map f (take k xs))) z.known) label z))
+choices_split : {A : Type 0} (here : Surroundings) (end : ℕ) (f : A → Component Choices) (xs : List A) (z : Site)
+    (k : ℕ) (x : A) → k < length xs → x ≡ get_or xs k x → choices_upto here end f xs z (k + 1)
+    ≡ then_code (choices_upto here end f xs z k) (tested_code end z.frame
+    (placed here (f x) (after_components here.around (Mark mark.If) (all_of (map f (take k xs))) z.known)))
 choices_split here end f xs z k x h is =
-    let n = length xs in
-    let done = all_of (map f (take k xs)) in
-    let ends = ends_passing (all_of (map f xs)) in
-    let is_last = nat_eq (k + 1) n in
-    let is_open = nat_eq (k + 2) n && ends in
-    let number : k + 1 + 1 ≡ k + 2 = omega arith in
-    let same : (is_last && ends) ≡ (is_last && passes (f x)) =
-    both_where is_last ends (passes (f x)) (λ yes. passes_last f xs k x h is (eqb-true _ _ yes)) in
-    (λ i. upto_code here end is_last (nat_eq (number i) n && ends)
-    (all_push f (take k xs) (take (k + 1) xs) x (taken_one xs k x x h is) i) z)
-    ∙ last_split here end is_last is_open done (f x) z
-    ∙ (λ i. then_code (upto_code here end (sym (lt-eqb k n h) i) (sym same i) done z)
-    (λ label. part_code here end is_last is_open (f x)
-    (at_place (after_components here.around (Mark mark.If) done z.known) label z)))
+    ap (λ cs. tested_at here end cs z) (all_push f (take k xs) (take (k + 1) xs) x (taken_one xs k x x h is))
 
-pub exceeds_choices : {part : Part} {A : Type 0} (l : Limits) (around : calling.Surroundings) (end : ℕ)
-    (f : A → Component part) (xs : List A) (i : ℕ) (x : A) (is_last is_open : Bool) {s t : ProcessWriter}
-    → i < length xs → x ≡ get_or xs i x → is_last ≡ nat_eq (i + 1) (length xs)
-    → is_open ≡ (nat_eq (i + 2) (length xs) && ends_passing (all_of (map f xs)))
-    → WritesUpTo s t around end (nat_eq i (length xs))
-    (nat_eq (i + 1) (length xs) && ends_passing (all_of (map f xs))) (all_of (map f (take i xs)))
-    → Exceeds l t.listing (part_code (surroundings_of around) end is_last is_open (f x) (site_of t))
-    → Exceeds l s.listing (choices_code (surroundings_of around) end (all_of (map f xs)) (site_of s))
-exceeds_choices l around end f xs i x is_last is_open {s} {t} h is last opens first one =
+-- what is too much of the choices that are tested is so of all
+pub exceeds_tested_first : (l : Limits) (around : calling.Surroundings) (end : ℕ) (cs : Components Choices)
+    (xs : List Choice) (x : code_ending.IfEnding) (s : ProcessWriter) → AreEnded cs xs x
+    → Exceeds l s.listing (tested_at (surroundings_of around) end (all_choices xs) (site_of s))
+    → Exceeds l s.listing (choices_at (surroundings_of around) end cs (site_of s))
+exceeds_tested_first l around end cs xs x s are h =
     let here = surroundings_of around in
     let z = site_of s in
-    let n = length xs in
-    let ends = ends_passing (all_of (map f xs)) in
-    let upto = choices_upto here end f xs z in
-    let steps : (k : ℕ) → k < n → OneMore upto k =
-    λ k below. (_, choices_split here end f xs z k (get_or xs k x) below (itself xs k x below)) in
-    let here_one : Exceeds l t.listing (part_code here end (nat_eq (i + 1) n) (nat_eq (i + 2) n && ends) (f x)
-    (at_place (after_components here.around (Mark mark.If) (all_of (map f (take i xs))) z.known) t.label z)) =
-    subst (λ (y : Bool × Bool × Site). Exceeds l t.listing (part_code here end y.0 y.1 (f x) y.2))
-    (λ j. (last j, opens j, site_after first j)) one in
+    let k = after_components here.around (Mark mark.If) (all_choices xs) z.known in
+    subst (λ x. Exceeds l s.listing (choices_code end z.frame x z.label)) (sym (are.choices here z.known))
+    (exceeds_first l (tested_at here end (all_choices xs) z) (ending_code end z.frame (placed_ending here x k)) s.listing
+    h)
+
+pub exceeds_choices : (l : Limits) (around : calling.Surroundings) (end : ℕ) (cs : Components Choices)
+    (xs : List Choice) (y : code_ending.IfEnding) (i : ℕ) (x : Choice) {s t : ProcessWriter} → AreEnded cs xs y
+    → i < length xs → x ≡ get_or xs i x → WritesTested s t around end (all_choices (take i xs))
+    → Exceeds l t.listing (choice_as (tested_code end) (surroundings_of around) (choice_of x) (site_of t))
+    → Exceeds l s.listing (choices_at (surroundings_of around) end cs (site_of s))
+exceeds_choices l around end cs xs y i x {s} {t} are h is first one =
+    let here = surroundings_of around in
+    let z = site_of s in
+    let upto = choices_upto here end choice_of xs z in
+    let steps : (k : ℕ) → k < length xs → OneMore upto k =
+    λ k below. (_, choices_split here end choice_of xs z k (get_or xs k x) below (itself xs k x below)) in
+    let k = after_components here.around (Mark mark.If) (all_choices (take i xs)) z.known in
     let more : Exceeds l s.listing (upto (i + 1)) =
-    subst (λ o. Exceeds l s.listing o) (sym (choices_split here end f xs z i x h is))
-    (exceeds_second l (upto i) (λ label. part_code here end (nat_eq (i + 1) n) (nat_eq (i + 2) n && ends) (f x)
-    (at_place (after_components here.around (Mark mark.If) (all_of (map f (take i xs))) z.known) label z)) s.listing
-    t.listing t.label first.code here_one) in
-    subst (λ ys. Exceeds l s.listing (choices_code here end (all_of (map f ys)) z)) (take_all n xs (omega arith))
-    (subst (λ b. Exceeds l s.listing (upto_code here end b (nat_eq (n + 1) n && ends) (all_of (map f (take n xs))) z))
-    (eq-eqb n n refl) (exceeds_all l upto n (i + 1) s.listing steps (omega arith) more))
+    subst (λ o. Exceeds l s.listing o) (sym (choices_split here end choice_of xs z i x h is))
+    (exceeds_then l (upto i) (λ g label. tested_code end g (placed here (choice_of x) k) label) first
+    (subst (λ k. Exceeds l t.listing (tested_code end (frame_seen t.frame) (placed here (choice_of x) k) t.label))
+    first.known one)) in
+    exceeds_tested_first l around end cs xs y s are
+    (subst (λ ys. Exceeds l s.listing (tested_at here end (all_choices ys) z)) (take_all (length xs) xs (omega arith))
+    (exceeds_all l upto (length xs) (i + 1) s.listing steps (omega arith) more))
 
--- the last choice, where its condition is TRUE
-pub exceeds_always : (l : Limits) (s : ProcessWriter) (here : Surroundings) (end : ℕ) (is_open : Bool) (line : ℕ)
-    (e : Expression) (p : Process) → is_true e ≡ true
-    → Exceeds l s.listing (chosen_code here (Chosen line e p) (site_of s))
-    → Exceeds l s.listing (part_code here end true is_open (Chosen line e p) (site_of s))
-exceeds_always l s here end is_open line e p holds h =
+pub exceeds_ending : (l : Limits) (around : calling.Surroundings) (end : ℕ) (cs : Components Choices)
+    (xs : List Choice) (x : code_ending.IfEnding) {s t : ProcessWriter} → AreEnded cs xs x
+    → WritesTested s t around end (all_choices xs)
+    → Exceeds l t.listing (ending_at (surroundings_of around) end x (site_of t))
+    → Exceeds l s.listing (choices_at (surroundings_of around) end cs (site_of s))
+exceeds_ending l around end cs xs x {s} {t} are first h =
+    let here = surroundings_of around in
     let z = site_of s in
-    subst (λ b. Exceeds l s.listing (last_choice b (process_code here p (at_place (chosen e z.known) z.label z))
-    (tested_choice z e end (after_component here.around (Mark mark.If) (Chosen line e p) z.known)
-    (process_code here p (in_choice e z))))) (sym holds) h
+    let k = after_components here.around (Mark mark.If) (all_choices xs) z.known in
+    subst (λ x. Exceeds l s.listing (choices_code end z.frame x z.label)) (sym (are.choices here z.known))
+    (exceeds_then l (tested_at here end (all_choices xs) z)
+    (λ g label. ending_code end g (placed_ending here x k) label) first
+    (subst (λ k. Exceeds l t.listing (ending_code end (frame_seen t.frame) (placed_ending here x k) t.label)) first.known
+    (subst (λ o. Exceeds l t.listing o) (ending_is here end x (site_of t) are.skips) h)))
 
--- the last choice, where it is tested
-pub exceeds_stopped : (l : Limits) (s : ProcessWriter) (here : Surroundings) (end : ℕ) (is_open : Bool) (line : ℕ)
-    (e : Expression) (p : Process) → is_true e ≡ false
-    → Exceeds l s.listing (choice_code here end false (Chosen line e p) (site_of s))
-    → Exceeds l s.listing (part_code here end true is_open (Chosen line e p) (site_of s))
-exceeds_stopped l s here end is_open line e p other h =
+-- an open choice
+pub exceeds_opens : (l : Limits) (around : calling.Surroundings) (end : ℕ) (opened last : Bor Choice) (s : ProcessWriter)
+    → Exceeds l s.listing (choice_as (open_code end) (surroundings_of around) (choice_of opened.now) (site_of s))
+    → Exceeds l s.listing (ending_at (surroundings_of around) end (if_ending.Opens opened last) (site_of s))
+exceeds_opens l around end opened last s h =
+    let here = surroundings_of around in
     let z = site_of s in
-    subst (λ b. Exceeds l s.listing (last_choice b (process_code here p (at_place (chosen e z.known) z.label z))
-    (tested_choice z e end (after_component here.around (Mark mark.If) (Chosen line e p) z.known)
-    (process_code here p (in_choice e z))))) (sym other)
-    (exceeds_closed l (choice_code here end false (Chosen line e p) z) s.listing (operates STOP_PROCESS ∷ []) h)
+    exceeds_first l (choice_as (open_code end) here (choice_of opened.now) z)
+    (λ label. choice_as taken_code here (choice_of last.now)
+    (at_place (after_component here.around (Mark mark.If) (choice_of opened.now) z.known) label z)) s.listing h
+
+-- the one after it
+pub exceeds_passing : (l : Limits) (around : calling.Surroundings) (end : ℕ) (opened last : Bor Choice)
+    {s t : ProcessWriter} → WritesAs s t around (open_code end) (choice_of opened.now)
+    → Exceeds l t.listing (choice_as taken_code (surroundings_of around) (choice_of last.now) (site_of t))
+    → Exceeds l s.listing (ending_at (surroundings_of around) end (if_ending.Opens opened last) (site_of s))
+exceeds_passing l around end opened last {s} {t} first h =
+    let here = surroundings_of around in
+    let z = site_of s in
+    let k = after_component here.around (Mark mark.If) (choice_of opened.now) z.known in
+    exceeds_then l (choice_as (open_code end) here (choice_of opened.now) z)
+    (λ g label. taken_code g (placed here (choice_of last.now) k) label) first
+    (subst (λ k. Exceeds l t.listing (taken_code (frame_seen t.frame) (placed here (choice_of last.now) k) t.label))
+    first.known h)
 
 -- a choice without its test
-pub exceeds_chosen : (l : Limits) (s : ProcessWriter) (here : Surroundings) (line : ℕ) (e : Expression) (p : Process)
+pub exceeds_taken : (l : Limits) (s : ProcessWriter) (here : Surroundings) (line : ℕ) (e : Expression) (p : Process)
     (inner : code_scope.Scope) → known_of inner ≡ chosen e (known_of s.scope)
     → Exceeds l s.listing (process_code here p (site_of (record s { scope = inner })))
-    → Exceeds l s.listing (chosen_code here (Chosen line e p) (site_of s))
-exceeds_chosen l s here line e p inner narrowed h =
+    → Exceeds l s.listing (choice_as taken_code here (Chosen line e p) (site_of s))
+exceeds_taken l s here line e p inner narrowed h =
     subst (λ k. Exceeds l s.listing (process_code here p (at_place k s.label (site_of s)))) narrowed h
 
 -- the process of a choice with its test
@@ -241,35 +243,35 @@ pub exceeds_tested : (l : Limits) (here : Surroundings) (end line : ℕ) (e : Ex
     (s tested : ProcessWriter)
     → tested.listing ≡ s.listing ++ test_code (site_of s).frame.homes (site_of s).known.entries s.frame.top e s.label
     → site_of tested ≡ at_place (known_of s.scope) (s.label + 1) (site_of s)
-    → Exceeds l tested.listing (chosen_code here (Chosen line e p) (site_of tested))
-    → Exceeds l s.listing (choice_code here end false (Chosen line e p) (site_of s))
+    → Exceeds l tested.listing (choice_as taken_code here (Chosen line e p) (site_of tested))
+    → Exceeds l s.listing (choice_as (tested_code end) here (Chosen line e p) (site_of s))
 exceeds_tested l here end line e p s tested test place h =
     let z = site_of s in
-    let done = after_component here.around (Mark mark.If) (Chosen line e p) z.known in
-    let rest = Jump end ∷ row_of s.label z.frame done ∷ [] in
-    let process = process_code here p (in_choice e z) in
+    let c = placed here (Chosen line e p) z.known in
+    let rest = Jump end ∷ row_of s.label z.frame c.after ∷ [] in
+    let process = taken_code z.frame c (z.label + 1) in
     exceeds_before l (closed_by rest process) s.listing tested.listing
     (test_code z.frame.homes z.known.entries z.frame.top e z.label) test
     (exceeds_closed l process tested.listing rest
-    (subst (λ (y : Site). Exceeds l tested.listing (chosen_code here (Chosen line e p) y)) place h))
+    (subst (λ (y : Site). Exceeds l tested.listing (choice_as taken_code here (Chosen line e p) y)) place h))
 
 -- the row after it
 pub exceeds_other : (l : Limits) (around : calling.Surroundings) (end line : ℕ) (e : Expression) (p : Process)
     (s tested within : ProcessWriter) (jumped : List Piece)
     → tested.listing ≡ s.listing ++ test_code (site_of s).frame.homes (site_of s).known.entries s.frame.top e s.label
-    → ChosenLeft around line e p s tested within → jumped ≡ within.listing ++ Jump end ∷ []
+    → TakenLeft around line e p s tested within → jumped ≡ within.listing ++ Jump end ∷ []
     → IsTooMuch l jumped (row_of s.label (frame_seen within.frame) (known_of within.scope) ∷ [])
-    → Exceeds l s.listing (choice_code (surroundings_of around) end false (Chosen line e p) (site_of s))
+    → Exceeds l s.listing (choice_as (tested_code end) (surroundings_of around) (Chosen line e p) (site_of s))
 exceeds_other l around end line e p s tested within jumped test x jumps h =
     let here = surroundings_of around in
     let z = site_of s in
-    let done = after_component here.around (Mark mark.If) (Chosen line e p) z.known in
-    let process = process_code here p (in_choice e z) in
-    let rest = Jump end ∷ row_of s.label z.frame done ∷ [] in
+    let c = placed here (Chosen line e p) z.known in
+    let process = taken_code z.frame c (z.label + 1) in
+    let rest = Jump end ∷ row_of s.label z.frame c.after ∷ [] in
     exceeds_before l (closed_by rest process) s.listing tested.listing
     (test_code z.frame.homes z.known.entries z.frame.top e z.label) test
     (exceeds_behind l process tested.listing within.listing rest within.label x.code
-    (much_behind l within.listing jumped (Jump end ∷ []) (row_of s.label z.frame done ∷ []) jumps
+    (much_behind l within.listing jumped (Jump end ∷ []) (row_of s.label z.frame c.after ∷ []) jumps
     (subst (λ (y : Frame × Known). IsTooMuch l jumped (row_of s.label y.0 y.1 ∷ []))
     (λ i. (x.frame i, x.known i)) h)))
 
@@ -278,83 +280,94 @@ pub exceeds_open : (l : Limits) (here : Surroundings) (end line : ℕ) (e : Expr
     (s tested : ProcessWriter)
     → tested.listing ≡ s.listing ++ test_code (site_of s).frame.homes (site_of s).known.entries s.frame.top e end
     → site_of tested ≡ site_of s
-    → Exceeds l tested.listing (chosen_code here (Chosen line e p) (site_of tested))
-    → Exceeds l s.listing (choice_code here end true (Chosen line e p) (site_of s))
+    → Exceeds l tested.listing (choice_as taken_code here (Chosen line e p) (site_of tested))
+    → Exceeds l s.listing (choice_as (open_code end) here (Chosen line e p) (site_of s))
 exceeds_open l here end line e p s tested test place h =
     let z = site_of s in
-    let process = process_code here p (at_place (chosen e z.known) z.label z) in
-    exceeds_before l process s.listing tested.listing (test_code z.frame.homes z.known.entries z.frame.top e end) test
-    (subst (λ (y : Site). Exceeds l tested.listing (chosen_code here (Chosen line e p) y)) place h)
+    exceeds_before l (choice_as taken_code here (Chosen line e p) z) s.listing tested.listing
+    (test_code z.frame.homes z.known.entries z.frame.top e end) test
+    (subst (λ (y : Site). Exceeds l tested.listing (choice_as taken_code here (Chosen line e p) y)) place h)
 
 -- ---- an IF
 
 pub exceeds_if : {part : Part} (l : Limits) (here : Surroundings) (cs : Components part) (s begun : ProcessWriter)
     → begun.listing ≡ s.listing → site_of begun ≡ at_place (begin (known_of s.scope)) (s.label + 1) (site_of s)
-    → Exceeds l begun.listing (choices_code here s.label cs (site_of begun))
-    → Exceeds l s.listing (if_code here cs (site_of s))
+    → Exceeds l begun.listing (choices_at here s.label cs (site_of begun))
+    → Exceeds l s.listing (if_at here cs (site_of s))
 exceeds_if l here cs s begun same place h =
     let z = site_of s in
-    exceeds_closed l (choices_code here s.label cs (at_place (begin z.known) (s.label + 1) z)) s.listing
-    (row_of s.label z.frame (end (after_components here.around (Mark mark.If) cs (begin z.known))) ∷ [])
-    (subst (λ (v : List Piece × Site). Exceeds l v.0 (choices_code here s.label cs v.1)) (λ i. (same i, place i)) h)
+    exceeds_closed l (choices_at here s.label cs (at_place (begin z.known) (s.label + 1) z)) s.listing
+    (row_of s.label z.frame (after_if here.around cs z.known) ∷ [])
+    (subst (λ (v : List Piece × Site). Exceeds l v.0 (choices_at here s.label cs v.1)) (λ i. (same i, place i)) h)
 
 pub exceeds_if_end : {part : Part} (l : Limits) (around : calling.Surroundings) (cs : Components part)
     (s within : ProcessWriter) (ended : code_scope.Scope) → ChoicesLeft around cs s within ended
     → IsTooMuch l within.listing (row_of s.label (frame_seen within.frame) (known_of ended) ∷ [])
-    → Exceeds l s.listing (if_code (surroundings_of around) cs (site_of s))
+    → Exceeds l s.listing (if_at (surroundings_of around) cs (site_of s))
 exceeds_if_end l around cs s within ended x h =
     let here = surroundings_of around in
     let z = site_of s in
-    exceeds_behind l (choices_code here s.label cs (at_place (begin z.known) (s.label + 1) z)) s.listing within.listing
-    (row_of s.label z.frame (end (after_components here.around (Mark mark.If) cs (begin z.known))) ∷ []) within.label
-    x.code
+    exceeds_behind l (choices_at here s.label cs (at_place (begin z.known) (s.label + 1) z)) s.listing within.listing
+    (row_of s.label z.frame (after_if here.around cs z.known) ∷ []) within.label x.code
     (subst (λ (y : Frame × Known). IsTooMuch l within.listing (row_of s.label y.0 y.1 ∷ []))
     (λ i. (x.frame i, x.known i)) h)
 
 -- ---- choices under a replicator
 
-abbrev turns_upto : Surroundings → ℕ → List ℕ → Repeats → Component Choices → ℕ → Site → ℕ → Option Code
-turns_upto here end name repeats c count z k = upto_turns here end name repeats c (nat_eq k count) k z
+abbrev turns_upto : Surroundings → ℕ → List ℕ → Repeats → Component Choices → Site → ℕ → Option Code
+turns_upto here end name repeats c z k =
+    all_tested end z.frame (placed_turns here name c repeats z.known k) z.label
 
-turn_split : (here : Surroundings) (end : ℕ) (name : List ℕ) (repeats : Repeats) (c : Component Choices)
-    (is_last : Bool) (k : ℕ) (z : Site) → upto_turns here end name repeats c is_last (suc k) z
-    ≡ then_code (upto_turns here end name repeats c false k z)
-    (λ label. part_code here end is_last false c (turn_site here.around (Mark mark.If) name c repeats z k label))
-turn_split here end name repeats c true k z = refl
-turn_split here end name repeats c false k z = refl
+turns_split : (here : Surroundings) (end : ℕ) (name : List ℕ) (repeats : Repeats) (c : Component Choices) (z : Site)
+    (k : ℕ) → turns_upto here end name repeats c z (k + 1)
+    ≡ then_code (turns_upto here end name repeats c z k) (tested_code end z.frame
+    (placed here c (turn_begun here.around (Mark mark.If) name c repeats z.known k)))
+turns_split here end name repeats c z k = ap (turns_upto here end name repeats c z) (add-one k)
 
-turns_split : (here : Surroundings) (end : ℕ) (name : List ℕ) (repeats : Repeats) (c : Component Choices)
-    (count : ℕ) (z : Site) (k : ℕ) → k < count → turns_upto here end name repeats c count z (k + 1)
-    ≡ then_code (turns_upto here end name repeats c count z k)
-    (λ label. part_code here end (nat_eq (k + 1) count) false c
-    (turn_site here.around (Mark mark.If) name c repeats z k label))
-turns_split here end name repeats c count z k h =
-    ap (λ n. upto_turns here end name repeats c (nat_eq (k + 1) count) n z) (add-one k)
-    ∙ turn_split here end name repeats c (nat_eq (k + 1) count) k z
-    ∙ ap (λ b. then_code (upto_turns here end name repeats c b k z)
-    (λ label. part_code here end (nat_eq (k + 1) count) false c
-    (turn_site here.around (Mark mark.If) name c repeats z k label))) (sym (lt-eqb k count h))
-
+-- what is too much of the turns that are tested is so of all
 pub exceeds_turns : (l : Limits) (around : calling.Surroundings) (end : ℕ) (name : List ℕ) (repeats : Repeats)
-    (c : Component Choices) (count n : ℕ) (m : Meaning) {s t : ProcessWriter} (scope : code_scope.Scope) → n < count
-    → m ≡ index_in repeats n → known_of scope ≡ with_entries (add name m) (known_of t.scope)
-    → WritesSome s t around end name repeats c (nat_eq n count) n
-    → Exceeds l t.listing (part_code (surroundings_of around) end (nat_eq (n + 1) count) false c
+    (line : ℕ) (e : Expression) (p : Process) (c : Component Choices) (count tested n : ℕ) (m : Meaning)
+    {s t : ProcessWriter} (scope : code_scope.Scope) → Chosen line e p ≡ c
+    → tested ≡ turns_tested count (is_true e) → n < tested → m ≡ index_in repeats n
+    → known_of scope ≡ with_entries (add name m) (known_of t.scope) → WritesSomeTurns s t around end name repeats c n
+    → Exceeds l t.listing (choice_as (tested_code end) (surroundings_of around) c
     (site_of (record t { scope = scope })))
-    → Exceeds l s.listing (turns_written (surroundings_of around) end name c repeats count (site_of s))
-exceeds_turns l around end name repeats c count n m {s} {t} scope h means enters first one =
+    → Exceeds l s.listing (turns_at (surroundings_of around) end name c repeats count (site_of s))
+exceeds_turns l around end name repeats line e p c count tested n m {s} {t} scope is found h means enters first one =
     let here = surroundings_of around in
-    let a = here.around in
     let z = site_of s in
-    let upto = turns_upto here end name repeats c count z in
-    let known = enters ∙ (λ i. with_entries (add name (means i)) (first.known i)) in
-    let steps : (k : ℕ) → k < count → OneMore upto k =
-    λ k below. (_, turns_split here end name repeats c count z k below) in
+    let upto = turns_upto here end name repeats c z in
+    let begun = turn_entered here.around name repeats c n m z.known (known_of t.scope) (known_of scope) means enters
+    first.known in
+    let steps : (k : ℕ) → k < tested → OneMore upto k = λ k below. (_, turns_split here end name repeats c z k) in
     let more : Exceeds l s.listing (upto (n + 1)) =
-    subst (λ o. Exceeds l s.listing o) (sym (turns_split here end name repeats c count z n h))
-    (exceeds_second l (upto n) (λ label. part_code here end (nat_eq (n + 1) count) false c
-    (turn_site a (Mark mark.If) name c repeats z n label)) s.listing t.listing t.label first.code
-    (subst (λ (y : Site). Exceeds l t.listing (part_code here end (nat_eq (n + 1) count) false c y))
-    (λ i. record { frame = first.frame i; known = known i; label = t.label }) one)) in
-    subst (λ b. Exceeds l s.listing (upto_turns here end name repeats c b count z)) (eq-eqb count count refl)
-    (exceeds_all l upto count (n + 1) s.listing steps (omega arith) more)
+    subst (λ o. Exceeds l s.listing o) (sym (turns_split here end name repeats c z n))
+    (exceeds_then l (upto n)
+    (λ g label. tested_code end g
+    (placed here c (turn_begun here.around (Mark mark.If) name c repeats z.known n)) label) first
+    (subst (λ k. Exceeds l t.listing (tested_code end (frame_seen t.frame) (placed here c k) t.label)) begun one)) in
+    let ends = ends_somehow here name line e p c repeats z.known count tested is found in
+    subst (λ x. Exceeds l s.listing (choices_code end z.frame x z.label)) (sym ends.1)
+    (exceeds_first l (upto tested) (ending_code end z.frame ends.0) s.listing
+    (exceeds_all l upto tested (n + 1) s.listing steps (omega arith) more))
+
+-- the last turn, where it has no test
+pub exceeds_last_turn : (l : Limits) (around : calling.Surroundings) (end : ℕ) (name : List ℕ) (repeats : Repeats)
+    (line : ℕ) (e : Expression) (p : Process) (c : Component Choices) (count tested : ℕ) (m : Meaning)
+    {s t : ProcessWriter} (scope : code_scope.Scope) → Chosen line e p ≡ c
+    → tested ≡ turns_tested count (is_true e) → tested ≢ count → m ≡ index_in repeats tested
+    → known_of scope ≡ with_entries (add name m) (known_of t.scope)
+    → WritesSomeTurns s t around end name repeats c tested
+    → Exceeds l t.listing (choice_as taken_code (surroundings_of around) c (site_of (record t { scope = scope })))
+    → Exceeds l s.listing (turns_at (surroundings_of around) end name c repeats count (site_of s))
+exceeds_last_turn l around end name repeats line e p c count tested m {s} {t} scope is found some means enters first h =
+    let here = surroundings_of around in
+    let z = site_of s in
+    let begun = turn_entered here.around name repeats c tested m z.known (known_of t.scope) (known_of scope) means enters
+    first.known in
+    let last = turn_begun here.around (Mark mark.If) name c repeats z.known tested in
+    subst (λ x. Exceeds l s.listing (choices_code end z.frame x z.label))
+    (sym (last_untested here name line e p c repeats z.known count tested is found some))
+    (exceeds_then l (turns_upto here end name repeats c z tested) (λ g label. taken_code g (placed here c last) label)
+    first
+    (subst (λ k. Exceeds l t.listing (taken_code (frame_seen t.frame) (placed here c k) t.label)) begun h))

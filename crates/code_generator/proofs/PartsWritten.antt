@@ -27,6 +27,7 @@ use Rattle.code_generator.specs.declared.processes.ProcessWriter.{ProcessWriter}
 use Rattle.code_pieces.specs.declared.piece.RowEntry.{RowEntry}
 use Rattle.code_pieces.specs.Pieces.{Piece, Code, no_code, before, then_code, closed_by}
 use Rattle.line_pieces.specs.Homes.{Home, Word}
+use Rattle.line_pieces.specs.FrameViews.{frame_seen}
 use Rattle.line_pieces.specs.HomeViews.{homes_seen, home_seen}
 use Rattle.line_pieces.specs.Declarations.{Frame, with_words, with_names, declared, words_in, channels_in, home_for}
 use Rattle.line_pieces.specs.Declarations.{declaration_code}
@@ -57,6 +58,23 @@ appends_then (Some c) next old mid new n m a b =
 
 pub writes_none : (s : ProcessWriter) → Writes s s (no_code s.label) (known_of s.scope)
 writes_none s = record { code = (sym (append-nil s.listing), refl); known = refl; frame = refl }
+
+-- code that is followed by none
+pub then_none : (code : Option Code) → then_code code (λ label. no_code label) ≡ code
+then_none None = refl
+then_none (Some c) = ap (λ l. Some (record { pieces = l; labels = c.labels })) (append-nil c.pieces)
+
+-- What comes after some code depends on the frame alone, which is as before.
+pub writes_then : (code : Option Code) (next : Frame → ℕ → Option Code) {s t w : ProcessWriter} {known after : Known}
+    → Writes s t code known → Appends t.listing w.listing w.label (next (frame_seen t.frame) t.label)
+    → known_of w.scope ≡ after → frame_seen w.frame ≡ frame_seen t.frame
+    → Writes s w (then_code code (next (frame_seen s.frame))) after
+writes_then code next {s} {t} {w} first second known frame = record {
+  code = appends_then code (next (frame_seen s.frame)) s.listing t.listing w.listing t.label w.label first.code
+      (subst (λ f. Appends t.listing w.listing w.label (next f t.label)) first.frame second);
+  known = known;
+  frame = frame ∙ first.frame;
+}
 
 -- the place after some code
 pub site_after : {s t : ProcessWriter} {code : Option Code} {after : Known} → Writes s t code after

@@ -1,9 +1,8 @@
 -- Each sequential program has code: so has each process in it, wherever it is.
-use Rattle.std.proofs.Common.{◌≡◌, ℕ, zero, suc, ◌+◌, ℤ, pos, negsuc, Bool, true, false, List, [], ◌∷◌, ◌++◌, length}
-use Rattle.std.proofs.Common.{Option, Some, None, refl, subst}
+use Rattle.std.proofs.Common.{◌≡◌, ℕ, zero, suc, ◌+◌, ℤ, pos, negsuc, Bool, true, false, cond, List, [], ◌∷◌, ◌++◌}
+use Rattle.std.proofs.Common.{length, Option, Some, None, refl, subst}
 use Rattle.occam_layout.specs.declared.mark.Mark.TheVariants as mark
 use Rattle.occam_parser.specs.Terminals.{Terminal, Mark}
-use Rattle.occam_parser.specs.Expressions.{Expression}
 use Rattle.occam_parser.specs.Lines.{Replicator, Action, Skip, Stop, Assign, Input, Output, Instance, block_word}
 use Rattle.occam_parser.specs.Blocks.{Process, Declared, Does, Construct, Act, Block, Replicated, Body, One, Part}
 use Rattle.occam_parser.specs.Blocks.{Components, NoComponent, Further, Component, Plain, Chosen, Guarded}
@@ -15,24 +14,25 @@ use Rattle.program_uses.specs.Indices.{Repeats, repeats_of, index_in, is_seq}
 use Rattle.program_meaning.specs.Sequential.{IsSequential, IsSequentialAction, IsSequentialConstruct}
 use Rattle.program_meaning.specs.Sequential.{IsSequentialBody, AreSequential, IsSequentialComponent}
 use Rattle.program_meaning.specs.Sequential.{IsSequentialWord, IsSequentialProgram}
-use Rattle.usage_checks.specs.AfterProcesses.{begun, ended, begun_body, chosen, after_components, after_component}
-use Rattle.usage_checks.specs.AfterProcesses.{after_body}
+use Rattle.usage_checks.specs.AfterProcesses.{begun, ended, begun_body, after_components, after_body}
 use Rattle.usage_checks.specs.Following.{after_action}
 use Rattle.usage_checks.specs.ItemRules.{Outside, outermost, around_in, weighed, after_item}
 use Rattle.usage_checks.specs.NameRules.{with_entries}
 use Rattle.code_pieces.specs.declared.operations.TheConstants.{STOP_PROCESS}
 use Rattle.code_pieces.specs.Pieces.{Piece, Jump, operates, Code, written, before, then_code, closed_by}
 use Rattle.line_pieces.specs.Actions.{test_code}
-use Rattle.line_pieces.specs.Declarations.{Frame, declaration_code}
+use Rattle.line_pieces.specs.Homes.{Nowhere}
+use Rattle.line_pieces.specs.Declarations.{Frame, with_home, declaration_code}
 use Rattle.code_generator.specs.Calls.{Callee, where_called}
 use Rattle.code_generator.specs.Instances.{is_finer}
 use Rattle.code_generator.specs.Processes.{Site, Surroundings, row_of, with_declaration, at_place, line_code, with_row}
-use Rattle.code_generator.specs.Processes.{act_code, is_true, passes, in_choice, tested_choice, open_choice}
-use Rattle.code_generator.specs.Processes.{other_choice, last_choice, in_loop, value_or_zero, loop_start, loop_end}
-use Rattle.code_generator.specs.Processes.{loop_code, has_scalar, no_loop, repeated_seq, by_block, times, before_turns}
-use Rattle.code_generator.specs.Processes.{turn_site, tested_turns, turns_code, process_code, construct_code, body_code}
-use Rattle.code_generator.specs.Processes.{components_code, component_code, choices_code, tested_code, choice_code}
-use Rattle.code_generator.specs.Processes.{last_code}
+use Rattle.code_generator.specs.Processes.{act_code, is_true, PlacedChoice, PlacedChoices, NoChoice, ThenChoice}
+use Rattle.code_generator.specs.Processes.{IfEnding, Stops, Always, Opens, EndedChoices, taken_code, tested_code}
+use Rattle.code_generator.specs.Processes.{all_tested, ending_code, choices_code, with_ending, opening, with_opening}
+use Rattle.code_generator.specs.Processes.{if_code, in_loop, value_or_zero, loop_start, loop_end, loop_code}
+use Rattle.code_generator.specs.Processes.{has_scalar, no_loop, repeated_seq, by_block, times, turn_begun}
+use Rattle.code_generator.specs.Processes.{in_each_turn, process_code, construct_code, body_code, components_code}
+use Rattle.code_generator.specs.Processes.{component_code, placed_choices, placed}
 use Rattle.code_generator.specs.Programs.{in_main, callable, framed, last_item_code, items_code, no_frame}
 use Rattle.code_generator.specs.SequentialCode.{SequentialProgramsHaveCode}
 
@@ -109,82 +109,88 @@ components_have w (Further cs c) s h all =
     (components_have w cs s h.0 all.0)
     (λ label. component_has w c (at_place (after_components w.around (Mark mark.Seq) cs s.known) label s) h.1 all.1)
 
--- ---- choices of an IF
+-- ---- choices of an IF, whose processes have code at all sites
 
-tested_choice_has : (s : Site) (e : Expression) (end : ℕ) (after : Known) (process : Option Code) → HasCode process
-    → HasCode (tested_choice s e end after process)
-tested_choice_has s e end after process h =
-    let behind = Jump end ∷ row_of s.label s.frame after ∷ [] in
-    before_has (test_code s.frame.homes s.known.entries s.frame.top e s.label) (closed_by behind process)
-    (closed_has behind process h)
+abbrev HasProcess : PlacedChoice → Type 0
+HasProcess c = (s : Site) → HasCode (c.process s)
 
-other_has : (is_open : Bool) (falls tested : Option Code) → HasCode falls → HasCode tested
-    → HasCode (other_choice is_open falls tested)
-other_has true falls tested first second = first
-other_has false falls tested first second = second
+abbrev AllHave : PlacedChoices → Type 0
+AllHave NoChoice = Unit {0}
+AllHave (ThenChoice cs c) = AllHave cs × HasProcess c
 
-last_choice_has : (holds : Bool) (always tested : Option Code) → HasCode always → HasCode tested
-    → HasCode (last_choice holds always tested)
-last_choice_has true always tested first second = first
-last_choice_has false always tested first second = closed_has (operates STOP_PROCESS ∷ []) tested second
+abbrev EndingHas : IfEnding → Type 0
+EndingHas Stops = Unit {0}
+EndingHas (Always c) = HasProcess c
+EndingHas (Opens c) = HasProcess c
 
-choice_has : {part : Part} (w : Surroundings) (end : ℕ) (is_open : Bool) (c : Component part) (s : Site)
-    → IsSequentialComponent (Mark mark.If) c → IsWritten w c → HasCode (choice_code w end is_open c s)
-choice_has w end is_open (Plain p) s h all = absurd h
-choice_has w end is_open (Chosen line e p) s h all =
-    let falls = process_code w p (at_place (chosen e s.known) s.label s) in
-    let tested = process_code w p (in_choice e s) in
-    let after = after_component w.around (Mark mark.If) (Chosen line e p) s.known in
-    other_has is_open (open_choice s e end falls) (tested_choice s e end after tested)
-    (before_has (test_code s.frame.homes s.known.entries s.frame.top e end) falls
-    (all (at_place (chosen e s.known) s.label s)))
-    (tested_choice_has s e end after tested (all (in_choice e s)))
-choice_has w end is_open (Guarded line g p) s h all = absurd h
+abbrev ChoicesHave : EndedChoices → Type 0
+ChoicesHave x = AllHave x.tested × EndingHas x.ending
 
-last_has : {part : Part} (w : Surroundings) (end : ℕ) (c : Component part) (s : Site)
-    → IsSequentialComponent (Mark mark.If) c → IsWritten w c → HasCode (last_code w end c s)
-last_has w end (Plain p) s h all = absurd h
-last_has w end (Chosen line e p) s h all =
-    let always = process_code w p (at_place (chosen e s.known) s.label s) in
-    let tested = process_code w p (in_choice e s) in
-    let after = after_component w.around (Mark mark.If) (Chosen line e p) s.known in
-    last_choice_has (is_true e) always (tested_choice s e end after tested)
-    (all (at_place (chosen e s.known) s.label s))
-    (tested_choice_has s e end after tested (all (in_choice e s)))
-last_has w end (Guarded line g p) s h all = absurd h
+ending_has : (cs : PlacedChoices) → AllHave cs → ChoicesHave (with_ending cs)
+ending_has NoChoice all = (tt, tt)
+ending_has (ThenChoice cs c) all = by_truth (is_true c.condition)
+  where
+    by_truth : (holds : Bool) → ChoicesHave (cond holds (record { tested = cs; ending = Always c })
+        (record { tested = ThenChoice cs c; ending = Stops }))
+    by_truth true = (all.0, all.1)
+    by_truth false = (all, tt)
 
-tested_have : {part : Part} (w : Surroundings) (end : ℕ) (is_open : Bool) (cs : Components part) (s : Site)
-    → AreSequential (Mark mark.If) cs → AreWritten w cs → HasCode (tested_code w end is_open cs s)
-tested_have w end is_open NoComponent s h all = tt
-tested_have w end is_open (Further cs c) s h all =
-    then_has (tested_code w end false cs s)
-    (λ label. choice_code w end is_open c (at_place (after_components w.around (Mark mark.If) cs s.known) label s))
-    (tested_have w end false cs s h.0 all.0)
-    (λ label. choice_has w end is_open c (at_place (after_components w.around (Mark mark.If) cs s.known) label s) h.1
-    all.1)
+opening_has : (cs : PlacedChoices) (x : IfEnding) → AllHave cs → EndingHas x → ChoicesHave (opening cs x)
+opening_has (ThenChoice cs opened) (Always c) all last = by_skip c.is_skip
+  where
+    by_skip : (skips : Bool) → ChoicesHave (cond skips (record { tested = cs; ending = Opens opened })
+        (record { tested = ThenChoice cs opened; ending = Always c }))
+    by_skip true = (all.0, all.1)
+    by_skip false = (all, last)
+opening_has cs x all last = (all, last)
 
-choices_have : {part : Part} (w : Surroundings) (end : ℕ) (cs : Components part) (s : Site)
-    → AreSequential (Mark mark.If) cs → AreWritten w cs → HasCode (choices_code w end cs s)
-choices_have w end NoComponent s h all = tt
-choices_have w end (Further cs c) s h all =
-    then_has (tested_code w end (passes c) cs s)
-    (λ label. last_code w end c (at_place (after_components w.around (Mark mark.If) cs s.known) label s))
-    (tested_have w end (passes c) cs s h.0 all.0)
-    (λ label. last_has w end c (at_place (after_components w.around (Mark mark.If) cs s.known) label s) h.1 all.1)
+tested_has : (end : ℕ) (f : Frame) (c : PlacedChoice) (label : ℕ) → HasProcess c
+    → HasCode (tested_code end f c label)
+tested_has end f c label h =
+    let behind = Jump end ∷ row_of label f c.after ∷ [] in
+    let process = taken_code f c (label + 1) in
+    before_has (test_code f.homes c.known.entries f.top c.condition label) (closed_by behind process)
+    (closed_has behind process (h _))
 
--- ---- turns
+all_tested_have : (end : ℕ) (f : Frame) (cs : PlacedChoices) (label : ℕ) → AllHave cs
+    → HasCode (all_tested end f cs label)
+all_tested_have end f NoChoice label all = tt
+all_tested_have end f (ThenChoice cs c) label all =
+    then_has (all_tested end f cs label) (tested_code end f c) (all_tested_have end f cs label all.0)
+    (λ label. tested_has end f c label all.1)
 
-tested_turns_have : (count label : ℕ) (choice : ℕ → ℕ → Option Code)
-    → ((n label : ℕ) → HasCode (choice n label)) → HasCode (tested_turns count label choice)
-tested_turns_have zero label choice all = tt
-tested_turns_have (suc n) label choice all =
-    then_has (tested_turns n label choice) (choice n) (tested_turns_have n label choice all) (all n)
+what_ends_has : (end : ℕ) (f : Frame) (x : IfEnding) (label : ℕ) → EndingHas x → HasCode (ending_code end f x label)
+what_ends_has end f Stops label h = tt
+what_ends_has end f (Always c) label h = h _
+what_ends_has end f (Opens c) label h =
+    before_has (test_code f.homes c.known.entries f.top c.condition end) (taken_code f c label) (h _)
 
-turns_have : (count label : ℕ) (choice last : ℕ → ℕ → Option Code) → ((n label : ℕ) → HasCode (choice n label))
-    → ((n label : ℕ) → HasCode (last n label)) → HasCode (turns_code count label choice last)
-turns_have zero label choice last all all_last = tt
-turns_have (suc n) label choice last all all_last =
-    then_has (tested_turns n label choice) (last n) (tested_turns_have n label choice all) (all_last n)
+if_has : (s : Site) (f : Frame) (after : Known) (x : EndedChoices) → ChoicesHave x → HasCode (if_code s f after x)
+if_has s f after x all =
+    closed_has (row_of s.label s.frame after ∷ []) (choices_code s.label f x (s.label + 1))
+    (then_has (all_tested s.label f x.tested (s.label + 1)) (ending_code s.label f x.ending)
+    (all_tested_have s.label f x.tested (s.label + 1) all.0) (λ label. what_ends_has s.label f x.ending label all.1))
+
+placed_has : {part : Part} (w : Surroundings) (c : Component part) (k : Known)
+    → IsSequentialComponent (Mark mark.If) c → IsWritten w c → HasProcess (placed w c k)
+placed_has w (Plain p) k h all = absurd h
+placed_has w (Chosen line e p) k h all = all
+placed_has w (Guarded line g p) k h all = absurd h
+
+placed_all_have : {part : Part} (w : Surroundings) (cs : Components part) (k : Known)
+    → AreSequential (Mark mark.If) cs → AreWritten w cs → AllHave (placed_choices w cs k)
+placed_all_have w NoComponent k h all = tt
+placed_all_have w (Further cs c) k h all = (
+  placed_all_have w cs k h.0 all.0,
+  placed_has w c (after_components w.around (Mark mark.If) cs k) h.1 all.1,
+)
+
+turns_have : (choice : ℕ → PlacedChoice) (count : ℕ) → ((n : ℕ) → HasProcess (choice n))
+    → AllHave (in_each_turn choice count)
+turns_have choice zero all = tt
+turns_have choice (suc n) all = (turns_have choice n all, all n)
+
+-- ---- loops
 
 no_loop_has : (changes : Bool) (s : Site) (after : Known) → HasCode (no_loop changes s after)
 no_loop_has false s after = tt
@@ -218,40 +224,38 @@ component_word (Mark mark.Seq) (Plain p) h = tt
 component_word (Mark mark.If) (Chosen line e p) h = tt
 component_word word c h = absurd h
 
-block_has : {part : Part} (w : Surroundings) (word : Terminal) (cs : Components part) (s inner : Site)
-    (behind : List Piece) → IsSequentialWord word → AreSequential word cs → AreWritten w cs
-    → HasCode (by_block word (components_code w cs s) (closed_by behind (choices_code w s.label cs inner)))
-block_has w word cs s inner behind h each all =
-    let choices = choices_code w s.label cs inner in
-    in_block word (components_code w cs s) (closed_by behind choices) h
+block_has : {part : Part} (w : Surroundings) (word : Terminal) (cs : Components part) (s : Site) (start after : Known)
+    → IsSequentialWord word → AreSequential word cs → AreWritten w cs
+    → HasCode (by_block word (components_code w cs s)
+    (if_code s s.frame after (with_opening (with_ending (placed_choices w cs start)))))
+block_has w word cs s start after h each all =
+    let ended = with_ending (placed_choices w cs start) in
+    in_block word (components_code w cs s) (if_code s s.frame after (with_opening ended)) h
     (λ is. components_have w cs s (subst (λ t. AreSequential t cs) is each) all)
-    (λ is. closed_has behind choices (choices_have w s.label cs inner (subst (λ t. AreSequential t cs) is each) all))
+    (λ is.
+    let have = ending_has (placed_choices w cs start)
+    (placed_all_have w cs start (subst (λ t. AreSequential t cs) is each) all) in
+    if_has s s.frame after (with_opening ended) (opening_has ended.tested ended.ending have.0 have.1))
 
-repeated_block_has : {part : Part} (w : Surroundings) (word : Terminal) (c : Component part) (s inner turns : Site)
-    (r : Replicator) (changed : List ℕ) (repeats : Repeats) (after : Known) (base count : ℤ)
+repeated_block_has : {part : Part} (w : Surroundings) (word : Terminal) (c : Component part) (s inner : Site)
+    (r : Replicator) (changed : List ℕ) (repeats : Repeats) (start after : Known) (base count : ℤ)
     → IsSequentialComponent word c → IsWritten w c
     → HasCode (by_block word
     (repeated_seq s changed after base (loop_code s inner after base count (component_code w c inner)) count)
-    (closed_by (row_of s.label s.frame after ∷ []) (turns_code (times repeats) turns.label
-    (λ n label. choice_code w s.label false c (turn_site w.around word r.name c repeats turns n label))
-    (λ n label. last_code w s.label c (turn_site w.around word r.name c repeats turns n label)))))
-repeated_block_has w word c s inner turns r changed repeats after base count h all =
+    (if_code s (with_home Nowhere s.frame) after (with_ending (in_each_turn
+    (λ n. placed w c (turn_begun w.around word r.name c repeats start n)) (times repeats)))))
+repeated_block_has w word c s inner r changed repeats start after base count h all =
     let body = component_code w c inner in
     let loop = loop_code s inner after base count body in
-    let choice : ℕ → ℕ → Option Code =
-    λ n label. choice_code w s.label false c (turn_site w.around word r.name c repeats turns n label) in
-    let last : ℕ → ℕ → Option Code =
-    λ n label. last_code w s.label c (turn_site w.around word r.name c repeats turns n label) in
-    let code = turns_code (times repeats) turns.label choice last in
+    let choice : ℕ → PlacedChoice = λ n. placed w c (turn_begun w.around word r.name c repeats start n) in
+    let turns = in_each_turn choice (times repeats) in
     in_block word (repeated_seq s changed after base loop count)
-    (closed_by (row_of s.label s.frame after ∷ []) code) (component_word word c h)
+    (if_code s (with_home Nowhere s.frame) after (with_ending turns)) (component_word word c h)
     (λ is. repeated_has s changed after base loop count (loop_has s inner after base count body
     (component_has w c inner (subst (λ t. IsSequentialComponent t c) is h) all)))
-    (λ is. closed_has (row_of s.label s.frame after ∷ []) code (turns_have (times repeats) turns.label choice last
-    (λ n label. choice_has w s.label false c (turn_site w.around word r.name c repeats turns n label)
-    (subst (λ t. IsSequentialComponent t c) is h) all)
-    (λ n label. last_has w s.label c (turn_site w.around word r.name c repeats turns n label)
-    (subst (λ t. IsSequentialComponent t c) is h) all)))
+    (λ is. if_has s (with_home Nowhere s.frame) after (with_ending turns) (ending_has turns
+    (turns_have choice (times repeats) (λ n. placed_has w c (turn_begun w.around word r.name c repeats start n)
+    (subst (λ t. IsSequentialComponent t c) is h) all))))
 
 -- ---- processes
 
@@ -267,8 +271,8 @@ mutual
   construct_has w line (Act action) h s = act_has w action s h
   construct_has w line (Block kind cs) h s =
       let word = block_word kind in
-      block_has w word cs s (at_place (begun word s.known) (s.label + 1) s)
-      (row_of s.label s.frame (ended word (after_components w.around word cs (begun word s.known))) ∷ []) h.0 h.1
+      let start = begun word s.known in
+      block_has w word cs s start (ended word (after_components w.around word cs start)) h.0 h.1
       (components_written w word cs h.1)
   construct_has w line (Replicated r b) h s = body_has w line r b h s
 
@@ -279,8 +283,8 @@ mutual
       let changed = changed_by_body w.around.signatures s.known.entries r (One kind c) in
       let repeats = repeats_of (is_before line w.around.uncounted) s.known.entries (is_seq word) r in
       let start = begun_body word changed repeats.happens s.known in
-      repeated_block_has w word c s (in_loop s start r.name (index_in repeats 0)) (before_turns s start) r changed
-      repeats (after_body w.around line r (One kind c) s.known) (value_or_zero s.known.entries r.base)
+      repeated_block_has w word c s (in_loop s start r.name (index_in repeats 0)) r changed repeats start
+      (after_body w.around line r (One kind c) s.known) (value_or_zero s.known.entries r.base)
       (value_or_zero s.known.entries r.count) h (component_written w word c h)
 
   components_written : {part : Part} (w : Surroundings) (word : Terminal) (cs : Components part)

@@ -1,15 +1,14 @@
 -- A choice under a replicator is written turn by turn.
-use Rattle.std.proofs.Common.{◌≡◌, ℕ, suc, ◌+◌, ◌<◌, Bool, true, false, cond, nat_eq, List, [], ◌∷◌, ◌++◌}
-use Rattle.std.proofs.Common.{length, take, Option, None, refl, sym, ap, subst, ◌∙◌, add-one}
+use Rattle.std.proofs.Common.{◌≡◌, ◌≢◌, ℕ, zero, suc, ◌+◌, Bool, true, false, cond, List, [], ◌∷◌, ◌++◌, length, take}
+use Rattle.std.proofs.Common.{Option, None, refl, sym, ap, subst, ◌∙◌, add-one, arith}
 use Rattle.std.proofs.Math.Seq.{take-append_seam}
 use Rattle.std.proofs.lemmas.List.{length-map}
 use Rattle.std.specs.Global.{Vec}
-use Rattle.std.proofs.lemmas.Bool.{eq-eqb}
-use Rattle.small_laws.proofs.Comparisons.{lt-eqb}
 use Rattle.occam_layout.specs.declared.mark.Mark.TheVariants as mark
 use Rattle.occam_parser.specs.Terminals.{Mark}
+use Rattle.occam_parser.specs.Expressions.{Expression}
 use Rattle.occam_parser.specs.Lines.{Replicator}
-use Rattle.occam_parser.specs.Blocks.{Choices, Component}
+use Rattle.occam_parser.specs.Blocks.{Process, Choices, Component, Chosen}
 use Rattle.scalar_ranges.specs.declared.scope.Scope as code_scope
 use Rattle.scalar_ranges.specs.Entries.{Meaning}
 use Rattle.scalar_ranges.specs.Moves.{Known, begin, end}
@@ -23,96 +22,188 @@ use Rattle.program_uses.specs.Indices.{Repeats, repeats_of, index_in, index_mean
 use Rattle.usage_checks.specs.AfterProcesses.{begun_body, repeated, after_construct, after_component}
 use Rattle.usage_checks.specs.NameRules.{with_entries}
 use Rattle.usage_checks.proofs.RangesStay.{covers_itself, turns_turned, component_stays}
+use Rattle.code_pieces.specs.declared.operations.TheConstants.{STOP_PROCESS}
 use Rattle.code_pieces.specs.declared.piece.RowEntry.{RowEntry}
-use Rattle.code_pieces.specs.Pieces.{Piece, Code, closed_by}
+use Rattle.code_pieces.specs.Pieces.{Piece, operates, closed_by}
 use Rattle.line_pieces.specs.declared.frame.Frame as code_frame
 use Rattle.code_generator.specs.declared.processes.ProcessWriter.{ProcessWriter}
 use Rattle.line_pieces.specs.Homes.{Nowhere}
 use Rattle.line_pieces.specs.Declarations.{Frame}
 use Rattle.line_pieces.specs.HomeViews.{home_seen, homes_seen}
 use Rattle.line_pieces.specs.FrameViews.{frame_seen}
-use Rattle.code_generator.specs.Processes.{Site, Surroundings, row_of, times, before_turns, turned, turn_site}
-use Rattle.code_generator.specs.Processes.{tested_turns}
-use Rattle.code_generator.specs.Processes.{under_if, construct_code, choice_code, last_code}
-use Rattle.code_generator.specs.Written.{site_of, Appends, Writes, WritesConstruct, WritesPart, turns_written}
+use Rattle.code_generator.specs.Processes.{Site, Surroundings, row_of, times, turned, turn_begun, is_true, ThenChoice}
+use Rattle.code_generator.specs.Processes.{IfEnding, Stops, Always, EndedChoices, taken_code, tested_code, ending_code}
+use Rattle.code_generator.specs.Processes.{all_tested, choices_code, with_ending, under_if, construct_code, placed}
+use Rattle.code_generator.specs.Written.{site_of, Appends, Writes, WritesConstruct, WritesAs, before_turns}
+use Rattle.code_generator.specs.Written.{placed_turns, after_choice_turns, turns_tested, WritesSomeTurns, turns_at}
 use Rattle.code_generator.specs.Written.{WritesTurns}
-use Rattle.code_generator.proofs.PartsWritten.{appends_closed, appends_then, writes_none}
+use Rattle.code_generator.proofs.PartsWritten.{appends_closed, writes_then}
 use Rattle.code_generator.proofs.LoopsWritten.{ended_block}
 
 -- ---- one turn after the other
 
--- a choice in some turns, and whether they are all
-abbrev pub upto_turns : Surroundings → ℕ → List ℕ → Repeats → Component Choices → Bool → ℕ → Site → Option Code
-upto_turns here end name repeats c true n s = turns_written here end name c repeats n s
-upto_turns here end name repeats c false n s =
-    tested_turns n s.label
-    (λ m label. choice_code here end false c (turn_site here.around (Mark mark.If) name c repeats s m label))
-
-abbrev pub WritesSome : (s t : ProcessWriter) → calling.Surroundings → ℕ → List ℕ → Repeats → Component Choices → Bool
-    → ℕ → Type 0
-WritesSome s t a end name repeats c is_all n =
-    Writes s t (upto_turns (surroundings_of a) end name repeats c is_all n (site_of s))
-    (turn_by_turn (turned (surroundings_of a).around (Mark mark.If) name c repeats) n (known_of s.scope))
-
-turn_more : (is_last : Bool) (around : calling.Surroundings) (end : ℕ) (name : List ℕ) (repeats : Repeats)
-    (c : Component Choices) (n : ℕ) {s t w : ProcessWriter} (scope : code_scope.Scope)
-    → known_of scope ≡ with_entries (add name (index_in repeats n)) (known_of t.scope)
-    → WritesSome s t around end name repeats c false n
-    → WritesPart (record t { scope = scope }) w around end is_last false c
-    → WritesSome s w around end name repeats c is_last (suc n)
-turn_more true around end name repeats c n {s} {t} {w} scope enters first one =
-    let here = surroundings_of around in
-    let a = here.around in
-    let known = enters ∙ ap (with_entries (add name (index_in repeats n))) first.known in
-    record {
-      code = appends_then (tested_turns n s.label
-          (λ m label. choice_code here end false c (turn_site a (Mark mark.If) name c repeats (site_of s) m label)))
-          (λ label. last_code here end c (turn_site a (Mark mark.If) name c repeats (site_of s) n label)) s.listing
-          t.listing w.listing t.label w.label first.code
-          (subst (λ (z : Site). Appends t.listing w.listing w.label (last_code here end c z))
-          (λ i. record { frame = first.frame i; known = known i; label = t.label }) one.code);
-      known = one.known ∙ ap (after_component a (Mark mark.If) c) known;
-      frame = one.frame ∙ first.frame;
-    }
-turn_more false around end name repeats c n {s} {t} {w} scope enters first one =
-    let here = surroundings_of around in
-    let a = here.around in
-    let known = enters ∙ ap (with_entries (add name (index_in repeats n))) first.known in
-    record {
-      code = appends_then (tested_turns n s.label
-          (λ m label. choice_code here end false c (turn_site a (Mark mark.If) name c repeats (site_of s) m label)))
-          (λ label. choice_code here end false c (turn_site a (Mark mark.If) name c repeats (site_of s) n label))
-          s.listing t.listing w.listing t.label w.label first.code
-          (subst (λ (z : Site). Appends t.listing w.listing w.label (choice_code here end false c z))
-          (λ i. record { frame = first.frame i; known = known i; label = t.label }) one.code);
-      known = one.known ∙ ap (after_component a (Mark mark.If) c) known;
-      frame = one.frame ∙ first.frame;
-    }
-
--- nothing is written yet
-pub turns_start : (around : calling.Surroundings) (end : ℕ) (name : List ℕ) (repeats : Repeats) (c : Component Choices)
-    (count : ℕ) (s : ProcessWriter) → 0 < count → WritesSome s s around end name repeats c (nat_eq 0 count) 0
-turns_start around end name repeats c count s h =
-    subst (λ b. WritesSome s s around end name repeats c b 0) (sym (lt-eqb 0 count h)) (writes_none s)
+-- what is known where a turn begins, after those before it
+pub turn_entered : (a : Around) (name : List ℕ) (repeats : Repeats) (c : Component Choices) (n : ℕ) (m : Meaning)
+    (k before begun : Known) → m ≡ index_in repeats n → begun ≡ with_entries (add name m) before
+    → before ≡ after_choice_turns a name c repeats k n → begun ≡ turn_begun a (Mark mark.If) name c repeats k n
+turn_entered a name repeats c n m k before begun means enters first =
+    enters ∙ (λ i. with_entries (add name (means i)) (first i))
 
 pub turns_next : (around : calling.Surroundings) (end : ℕ) (name : List ℕ) (repeats : Repeats) (c : Component Choices)
-    (count n : ℕ) (m : Meaning) {s t w : ProcessWriter} (scope : code_scope.Scope) → n < count
-    → m ≡ index_in repeats n → known_of scope ≡ with_entries (add name m) (known_of t.scope)
-    → WritesSome s t around end name repeats c (nat_eq n count) n
-    → WritesPart (record t { scope = scope }) w around end (nat_eq (n + 1) count) false c
-    → WritesSome s w around end name repeats c (nat_eq (n + 1) count) (n + 1)
-turns_next around end name repeats c count n m {s} {t} {w} scope h means enters before one =
-    let first = subst (λ b. WritesSome s t around end name repeats c b n) (lt-eqb n count h) before in
-    let known = enters ∙ ap (λ m. with_entries (add name m) (known_of t.scope)) means in
-    let more = turn_more (nat_eq (n + 1) count) around end name repeats c n scope known first one in
-    subst (λ k. WritesSome s w around end name repeats c (nat_eq (n + 1) count) k) (sym (add-one n)) more
+    (n : ℕ) (m : Meaning) {s t w : ProcessWriter} (scope : code_scope.Scope) → m ≡ index_in repeats n
+    → known_of scope ≡ with_entries (add name m) (known_of t.scope)
+    → WritesSomeTurns s t around end name repeats c n
+    → WritesAs (record t { scope = scope }) w around (tested_code end) c
+    → WritesSomeTurns s w around end name repeats c (n + 1)
+turns_next around end name repeats c n m {s} {t} {w} scope means enters first one =
+    let here = surroundings_of around in
+    let a = here.around in
+    let k = known_of s.scope in
+    let begun = turn_entered a name repeats c n m k (known_of t.scope) (known_of scope) means enters first.known in
+    subst (λ n. WritesSomeTurns s w around end name repeats c n) (sym (add-one n))
+    (writes_then (all_tested end (frame_seen s.frame) (placed_turns here name c repeats k n) s.label)
+    (λ g label. tested_code end g (placed here c (turn_begun a (Mark mark.If) name c repeats k n)) label) first
+    (subst (λ k. Appends t.listing w.listing w.label (tested_code end (frame_seen t.frame) (placed here c k) t.label))
+    begun one.code)
+    (one.known ∙ ap (after_component a (Mark mark.If) c) begun) one.frame)
 
-pub turns_done : (around : calling.Surroundings) (end : ℕ) (name : List ℕ) (repeats : Repeats) (c : Component Choices)
-    (count n : ℕ) {s t : ProcessWriter} → n ≡ count
-    → WritesSome s t around end name repeats c (nat_eq n count) n → WritesTurns s t around end name repeats count c
-turns_done around end name repeats c count n {s} {t} h x =
-    let whole = subst (λ b. WritesSome s t around end name repeats c b n) (eq-eqb n count h) x in
-    subst (λ k. WritesTurns s t around end name repeats k c) h whole
+-- ---- how the turns end
+
+-- They end as those that are tested do, and with something after them.
+abbrev EndsSomehow : Surroundings → List ℕ → Component Choices → Repeats → Known → (count tested : ℕ) → Type 0
+EndsSomehow w name c repeats k count tested =
+    (x : IfEnding) × (with_ending (placed_turns w name c repeats k count)
+    ≡ record { tested = placed_turns w name c repeats k tested; ending = x })
+
+somehow : (w : Surroundings) (name : List ℕ) (line : ℕ) (e : Expression) (p : Process) (repeats : Repeats) (k : Known)
+    (count : ℕ) (holds : Bool) → is_true e ≡ holds
+    → EndsSomehow w name (Chosen line e p) repeats k count (turns_tested count holds)
+somehow w name line e p repeats k zero true is = (Stops, refl)
+somehow w name line e p repeats k zero false is = (Stops, refl)
+somehow w name line e p repeats k (suc n) holds is =
+    let c = Chosen line e p in
+    let cs = placed_turns w name c repeats k in
+    let last = placed w c (turn_begun w.around (Mark mark.If) name c repeats k n) in
+    by_truth holds (ap (λ holds. cond holds (record { tested = cs n; ending = Always last })
+    (record { tested = ThenChoice (cs n) last; ending = Stops })) is)
+  where
+    by_truth : (holds : Bool)
+        → with_ending (placed_turns w name (Chosen line e p) repeats k (suc n)) ≡ cond holds (record {
+          tested = placed_turns w name (Chosen line e p) repeats k n;
+          ending = Always (placed w (Chosen line e p)
+              (turn_begun w.around (Mark mark.If) name (Chosen line e p) repeats k n));
+        }) (record { tested = placed_turns w name (Chosen line e p) repeats k (suc n); ending = Stops })
+        → EndsSomehow w name (Chosen line e p) repeats k (suc n) (turns_tested (suc n) holds)
+    by_truth true h = (
+      Always (placed w (Chosen line e p) (turn_begun w.around (Mark mark.If) name (Chosen line e p) repeats k n)),
+      subst (λ m. with_ending (placed_turns w name (Chosen line e p) repeats k (suc n)) ≡ record {
+        tested = placed_turns w name (Chosen line e p) repeats k m;
+        ending = Always (placed w (Chosen line e p)
+            (turn_begun w.around (Mark mark.If) name (Chosen line e p) repeats k n));
+      }) (omega arith) h,
+    )
+    by_truth false h = (Stops, h)
+
+pub ends_somehow : (w : Surroundings) (name : List ℕ) (line : ℕ) (e : Expression) (p : Process)
+    (c : Component Choices) (repeats : Repeats) (k : Known) (count tested : ℕ) → Chosen line e p ≡ c
+    → tested ≡ turns_tested count (is_true e) → EndsSomehow w name c repeats k count tested
+ends_somehow w name line e p c repeats k count tested is found =
+    subst (λ (v : Component Choices × ℕ). EndsSomehow w name v.0 repeats k count v.1) (λ i. (is i, sym found i))
+    (somehow w name line e p repeats k count (is_true e) refl)
+
+-- where all are tested
+stops_after : (w : Surroundings) (name : List ℕ) (line : ℕ) (e : Expression) (p : Process) (repeats : Repeats)
+    (k : Known) (count : ℕ) (holds : Bool) → is_true e ≡ holds → turns_tested count holds ≡ count
+    → with_ending (placed_turns w name (Chosen line e p) repeats k count)
+    ≡ record { tested = placed_turns w name (Chosen line e p) repeats k count; ending = Stops }
+stops_after w name line e p repeats k zero holds is all = refl
+stops_after w name line e p repeats k (suc n) true is all = absurd (omega (arith, all))
+stops_after w name line e p repeats k (suc n) false is all =
+    let c = Chosen line e p in
+    let cs = placed_turns w name c repeats k n in
+    let last = placed w c (turn_begun w.around (Mark mark.If) name c repeats k n) in
+    ap (λ holds. cond holds (record { tested = cs; ending = Always last })
+    (record { tested = ThenChoice cs last; ending = Stops })) is
+
+pub turns_stopped : (around : calling.Surroundings) (end : ℕ) (name : List ℕ) (repeats : Repeats) (line : ℕ)
+    (e : Expression) (p : Process) (c : Component Choices) (count tested : ℕ) {s t : ProcessWriter}
+    (listing : List Piece) → Chosen line e p ≡ c → tested ≡ turns_tested count (is_true e) → tested ≡ count
+    → WritesSomeTurns s t around end name repeats c tested → listing ≡ t.listing ++ operates STOP_PROCESS ∷ []
+    → WritesTurns s (record t { listing = listing }) around end name repeats count c
+turns_stopped around end name repeats line e p c count tested {s} {t} listing is found all first stops =
+    let here = surroundings_of around in
+    let z = site_of s in
+    let final = record t { listing = listing } in
+    let k = after_choice_turns here.around name c repeats z.known count in
+    let before = subst (λ n. WritesSomeTurns s t around end name repeats c n) all first in
+    let ends = ap (λ c. with_ending (placed_turns here name c repeats z.known count)) (sym is)
+    ∙ stops_after here name line e p repeats z.known count (is_true e) refl (sym found ∙ all)
+    ∙ ap (λ c. record { tested = placed_turns here name c repeats z.known count; ending = Stops }) is in
+    subst (λ x. Writes s final (choices_code end z.frame x z.label) k) (sym ends)
+    (writes_then (all_tested end z.frame (placed_turns here name c repeats z.known count) z.label)
+    (λ g label. ending_code end g Stops label) before (stops, refl) before.known refl)
+
+-- where the last one has no test
+always_after : (w : Surroundings) (name : List ℕ) (line : ℕ) (e : Expression) (p : Process) (repeats : Repeats)
+    (k : Known) (count tested : ℕ) (holds : Bool) → is_true e ≡ holds → tested ≡ turns_tested count holds
+    → tested ≢ count → (let c = Chosen line e p in with_ending (placed_turns w name c repeats k count) ≡ record {
+      tested = placed_turns w name c repeats k tested;
+      ending = Always (placed w c (turn_begun w.around (Mark mark.If) name c repeats k tested));
+    })
+always_after w name line e p repeats k count tested false is found some = absurd (some found)
+always_after w name line e p repeats k zero tested true is found some = absurd (some (omega (arith, found)))
+always_after w name line e p repeats k (suc n) tested true is found some =
+    let c = Chosen line e p in
+    let same : n ≡ tested = omega (arith, found) in
+    let cs = placed_turns w name c repeats k in
+    let last = λ (m : ℕ). placed w c (turn_begun w.around (Mark mark.If) name c repeats k m) in
+    ap (λ holds. cond holds (record { tested = cs n; ending = Always (last n) })
+    (record { tested = ThenChoice (cs n) (last n); ending = Stops })) is
+    ∙ ap (λ m. record { tested = cs m; ending = Always (last m) }) same
+
+pub last_untested : (w : Surroundings) (name : List ℕ) (line : ℕ) (e : Expression) (p : Process)
+    (c : Component Choices) (repeats : Repeats) (k : Known) (count tested : ℕ) → Chosen line e p ≡ c
+    → tested ≡ turns_tested count (is_true e) → tested ≢ count
+    → with_ending (placed_turns w name c repeats k count) ≡ record {
+      tested = placed_turns w name c repeats k tested;
+      ending = Always (placed w c (turn_begun w.around (Mark mark.If) name c repeats k tested));
+    }
+last_untested w name line e p c repeats k count tested is found some =
+    subst (λ c. with_ending (placed_turns w name c repeats k count) ≡ record {
+      tested = placed_turns w name c repeats k tested;
+      ending = Always (placed w c (turn_begun w.around (Mark mark.If) name c repeats k tested));
+    }) is (always_after w name line e p repeats k count tested (is_true e) refl found some)
+
+-- then there is one more
+one_more : (count tested : ℕ) (holds : Bool) → tested ≡ turns_tested count holds → tested ≢ count → suc tested ≡ count
+one_more count tested false found some = absurd (some found)
+one_more zero tested true found some = absurd (some (omega (arith, found)))
+one_more (suc n) tested true found some = omega (arith, found)
+
+pub turns_taken : (around : calling.Surroundings) (end : ℕ) (name : List ℕ) (repeats : Repeats) (line : ℕ)
+    (e : Expression) (p : Process) (c : Component Choices) (count tested : ℕ) (m : Meaning) {s t w : ProcessWriter}
+    (scope : code_scope.Scope) → Chosen line e p ≡ c → tested ≡ turns_tested count (is_true e) → tested ≢ count
+    → m ≡ index_in repeats tested → known_of scope ≡ with_entries (add name m) (known_of t.scope)
+    → WritesSomeTurns s t around end name repeats c tested
+    → WritesAs (record t { scope = scope }) w around taken_code c → WritesTurns s w around end name repeats count c
+turns_taken around end name repeats line e p c count tested m {s} {t} {w} scope is found some means enters first one =
+    let here = surroundings_of around in
+    let a = here.around in
+    let z = site_of s in
+    let begun = turn_entered a name repeats c tested m z.known (known_of t.scope) (known_of scope) means enters
+    first.known in
+    let last = placed here c (turn_begun a (Mark mark.If) name c repeats z.known tested) in
+    let known = after_choice_turns a name c repeats z.known in
+    subst (λ (v : EndedChoices × Known). Writes s w (choices_code end z.frame v.0 z.label) v.1)
+    (λ i. (
+      sym (last_untested here name line e p c repeats z.known count tested is found some) i,
+      known (one_more count tested (is_true e) found some i),
+    ))
+    (writes_then (all_tested end z.frame (placed_turns here name c repeats z.known tested) z.label)
+    (λ g label. taken_code g last label) first
+    (subst (λ k. Appends t.listing w.listing w.label (taken_code (frame_seen t.frame) (placed here c k) t.label)) begun
+    one.code)
+    (one.known ∙ ap (after_component a (Mark mark.If) c) begun) one.frame)
 
 -- ---- what is known after the turns
 
@@ -151,7 +242,7 @@ pub repeated_if_is : (here : Surroundings) (line : ℕ) (r : Replicator) (c : Co
     → (let repeats = repeats_of (is_before line here.around.uncounted) s.known.entries false r in
     construct_code here line (under_if r c) s
     ≡ closed_by (row_of s.label s.frame (after_construct here.around line (under_if r c) s.known) ∷ [])
-    (turns_written here s.label r.name c repeats (times repeats) (before_turns s (begin s.known))))
+    (turns_at here s.label r.name c repeats (times repeats) (before_turns s (begin s.known))))
 repeated_if_is here line r c s =
     ap (closed_by (row_of s.label s.frame (after_construct here.around line (under_if r c) s.known) ∷ []))
     (by_happens (repeats_of (is_before line here.around.uncounted) s.known.entries false r).happens)
@@ -163,9 +254,9 @@ repeated_if_is here line r c s =
     changed = changed_by_construct here.around.signatures s.known.entries (under_if r c)
 
     by_happens : (happens : Bool)
-        → turns_written here s.label r.name c repeats (cond happens repeats.turns.count 0)
+        → turns_at here s.label r.name c repeats (cond happens repeats.turns.count 0)
         (before_turns s (begun_body (Mark mark.If) changed happens s.known))
-        ≡ turns_written here s.label r.name c repeats (cond happens repeats.turns.count 0)
+        ≡ turns_at here s.label r.name c repeats (cond happens repeats.turns.count 0)
         (before_turns s (begin s.known))
     by_happens true = refl
     by_happens false = refl
@@ -175,7 +266,7 @@ pub record TurnsLeft (around : calling.Surroundings) (line : ℕ) (r : Replicato
     (s within : ProcessWriter) (left : code_frame.Frame) (ended : code_scope.Scope) : Type 0 where
   pub code : (let z = site_of s in
       let repeats = repeats_of (is_before line (surroundings_of around).around.uncounted) z.known.entries false r in
-      Appends s.listing within.listing within.label (turns_written (surroundings_of around) z.label r.name c repeats
+      Appends s.listing within.listing within.label (turns_at (surroundings_of around) z.label r.name c repeats
       (times repeats) (before_turns z (begin z.known))))
   pub known : known_of ended ≡ after_construct (surroundings_of around).around line (under_if r c) (known_of s.scope)
   pub frame : frame_seen left ≡ frame_seen s.frame
@@ -203,7 +294,7 @@ turns_left around line names r c repeats s begun within left ended is same place
     ap (λ (v : Vec RowEntry). v.items) hidden ∙ ap (λ (f : Frame). f.outer) grown in
     record {
       code = subst (λ (v : List Piece × Repeats × Site).
-          Appends v.0 within.listing within.label (turns_written here z.label r.name c v.1 (times v.1) v.2))
+          Appends v.0 within.listing within.label (turns_at here z.label r.name c v.1 (times v.1) v.2))
           (λ i. (same i, is i, place i)) x.code;
       known = ends
           ∙ ap end (x.known
@@ -224,7 +315,7 @@ writes_repeated_if around line r c s within after left ended x row still =
     let first = before_turns z (begin z.known) in
     let done = after_construct here.around line (under_if r c) z.known in
     let counted = repeats_of (is_before line here.around.uncounted) z.known.entries false r in
-    let turns = turns_written here z.label r.name c counted (times counted) first in
+    let turns = turns_at here z.label r.name c counted (times counted) first in
     let rest : after.listing ≡ within.listing ++ row_of z.label z.frame done ∷ [] =
     row ∙ (λ i. within.listing ++ row_of z.label (x.frame i) (x.known i) ∷ []) in
     let labels : after.label ≡ within.label = ap (λ (y : Site). y.label) still in

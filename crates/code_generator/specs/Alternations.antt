@@ -32,7 +32,7 @@ use Rattle.line_pieces.specs.Actions.{input_code, test_code}
 use Rattle.code_generator.specs.Waiting.{condition_in, next_of, exits_of}
 use Rattle.code_generator.specs.CallViews.{surroundings_of}
 use Rattle.line_pieces.specs.FrameViews.{frame_seen}
-use Rattle.code_generator.specs.Processes.{Site, Surroundings, at_place, row_of, turned, turn_site, tested_turns}
+use Rattle.code_generator.specs.Processes.{Site, Surroundings, at_place, row_of, turned, turn_begun}
 use Rattle.code_generator.specs.Processes.{process_code}
 use Rattle.code_generator.specs.Written.{site_of, Writes}
 use Rattle.line_pieces.specs.Declarations.{Frame}
@@ -118,7 +118,7 @@ pub record Receives (s t : ProcessWriter) (channel target : Destination) : Type 
       ++ input_code (frame_seen s.frame).homes (known_of s.scope).entries s.frame.top channel target
   pub site : site_of t ≡ at_place (with_entries (after_input target) (known_of s.scope)) s.label (site_of s)
 
-pub record Stops (s t : ProcessWriter) (label : Option ℕ) : Type 0 where
+pub record WritesStop (s t : ProcessWriter) (label : Option ℕ) : Type 0 where
   pub code : t.listing ≡ s.listing ++ stopping label (frame_seen s.frame) (known_of s.scope)
   pub site : site_of t ≡ site_of s
 
@@ -166,10 +166,15 @@ WritesBranches s t a exits cs =
 abbrev pub after_some : Around → Replication → Component Branches → ℕ → Known → Known
 after_some a x c n k = turn_by_turn (turned a (Mark mark.Alt) x.name.now c (seen_repeats x.repeats)) n k
 
+-- where a branch begins in a turn, if the turns begin at this site
+abbrev pub turn_site : Around → Replication → Component Branches → Site → (turn label : ℕ) → Site
+turn_site a x c s n label =
+    at_place (turn_begun a (Mark mark.Alt) x.name.now c (seen_repeats x.repeats) s.known n) label s
+
 abbrev pub some_code : Surroundings → (ℕ → Exits) → Replication → Component Branches → ℕ → Site → Option Code
 some_code w exits x c n s =
-    tested_turns n s.label (λ m label. branch_code w (exits m) c
-    (turn_site w.around (Mark mark.Alt) x.name.now c (seen_repeats x.repeats) s m label))
+    turn_by_turn (λ m code. then_code code (λ label. branch_code w (exits m) c (turn_site w.around x c s m label)))
+    n (no_code s.label)
 
 abbrev pub WritesSome : (s t : ProcessWriter) → calling.Surroundings → (ℕ → Exits) → Replication → Component Branches
     → ℕ → Type 0

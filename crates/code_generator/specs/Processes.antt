@@ -95,7 +95,7 @@ is_true (Alone (Truth holds)) = holds
 is_true (Alone (Bracketed e)) = is_true e
 is_true e = false
 
--- a process that does nothing, and a choice of it that always may be taken
+-- a process that does nothing
 abbrev pub is_skip_action : Action → Bool
 is_skip_action Skip = true
 is_skip_action action = false
@@ -108,40 +108,86 @@ abbrev pub is_skip : Process → Bool
 is_skip (Does line c) = does_nothing c
 is_skip p = false
 
-abbrev pub passes : {part : Part} → Component part → Bool
-passes (Plain p) = false
-passes (Chosen line e p) = is_true e && is_skip p
-passes (Guarded line g p) = false
+-- A choice in its place: what is known where its test is and after it, whether its process does nothing, and the code of
+-- that, by where it begins.
+pub record PlacedChoice : Type 0 where
+  pub condition : Expression
+  pub known : Known
+  pub after : Known
+  pub is_skip : Bool
+  pub process : Site → Option Code
 
--- the last choice of an IF is so
-abbrev pub ends_passing : {part : Part} → Components part → Bool
-ends_passing NoComponent = false
-ends_passing (Further cs c) = passes c
+-- from the first one on
+pub data PlacedChoices : Type 0 where
+  NoChoice : PlacedChoices
+  ThenChoice : (choices : PlacedChoices) → (last : PlacedChoice) → PlacedChoices
 
--- where the process of a choice begins that has a test, which takes a label
-abbrev pub in_choice : Expression → Site → Site
-in_choice e s = at_place (chosen e s.known) (s.label + 1) s
+-- What comes after choices that are tested, each of which goes on at the end of its IF.
+pub data IfEnding : Type 0 where
+  -- The process stops.
+  Stops : IfEnding
+  -- the last choice, whose condition is TRUE
+  Always : (choice : PlacedChoice) → IfEnding
+  -- A choice after which only `TRUE` with `SKIP` comes: it goes on at the end of the IF, whether it is taken or not.
+  Opens : (choice : PlacedChoice) → IfEnding
 
--- A choice whose test jumps to the site's label if it does not hold, and the label at the end of its IF.
-abbrev pub tested_choice : Site → Expression → ℕ → Known → Option Code → Option Code
-tested_choice s e end after process =
-    before (test_code s.frame.homes s.known.entries s.frame.top e s.label)
-    (closed_by (Jump end ∷ row_of s.label s.frame after ∷ []) process)
+-- the choices of an IF
+pub record EndedChoices : Type 0 where
+  pub tested : PlacedChoices
+  pub ending : IfEnding
 
--- A choice after which only `TRUE` with `SKIP` comes: its test jumps to the end of the IF, and its process falls into
--- that.
-abbrev pub open_choice : Site → Expression → ℕ → Option Code → Option Code
-open_choice s e end process = before (test_code s.frame.homes s.known.entries s.frame.top e end) process
+-- a choice without its test
+abbrev pub taken_code : Frame → PlacedChoice → ℕ → Option Code
+taken_code f c label = c.process (record { frame = f; known = chosen c.condition c.known; label = label })
 
--- a choice that is not the last one
-abbrev pub other_choice : (is_open : Bool) → Option Code → Option Code → Option Code
-other_choice true falls tested = falls
-other_choice false falls tested = tested
+-- A choice whose test jumps to the label that is free if it does not hold, and the label at the end of its IF.
+abbrev pub tested_code : ℕ → Frame → PlacedChoice → ℕ → Option Code
+tested_code end f c label =
+    before (test_code f.homes c.known.entries f.top c.condition label)
+    (closed_by (Jump end ∷ row_of label f c.after ∷ []) (taken_code f c (label + 1)))
+
+-- A choice whose test jumps to the end of the IF, and whose process falls into that.
+abbrev pub open_code : ℕ → Frame → PlacedChoice → ℕ → Option Code
+open_code end f c label = before (test_code f.homes c.known.entries f.top c.condition end) (taken_code f c label)
+
+-- choices one after another, each at its own site
+abbrev pub all_tested : ℕ → Frame → PlacedChoices → ℕ → Option Code
+all_tested end f NoChoice label = no_code label
+all_tested end f (ThenChoice cs c) label = then_code (all_tested end f cs label) (tested_code end f c)
+
+abbrev pub ending_code : ℕ → Frame → IfEnding → ℕ → Option Code
+ending_code end f Stops label = written (operates STOP_PROCESS ∷ []) label
+ending_code end f (Always c) label = taken_code f c label
+ending_code end f (Opens c) label = open_code end f c label
+
+abbrev pub choices_code : ℕ → Frame → EndedChoices → ℕ → Option Code
+choices_code end f x label = then_code (all_tested end f x.tested label) (ending_code end f x.ending)
 
 -- The last choice needs no test if its condition is TRUE. If it is not, the process stops after it.
-abbrev pub last_choice : Bool → Option Code → Option Code → Option Code
-last_choice true always tested = always
-last_choice false always tested = closed_by (operates STOP_PROCESS ∷ []) tested
+abbrev pub with_ending : PlacedChoices → EndedChoices
+with_ending NoChoice = record { tested = NoChoice; ending = Stops }
+with_ending (ThenChoice cs c) =
+    if is_true c.condition then record { tested = cs; ending = Always c }
+    else record { tested = ThenChoice cs c; ending = Stops }
+
+-- The choice before one that may always be taken, and does nothing, is open.
+abbrev pub opening : PlacedChoices → IfEnding → EndedChoices
+opening (ThenChoice cs opened) (Always c) =
+    if c.is_skip then record { tested = cs; ending = Opens opened }
+    else record { tested = ThenChoice cs opened; ending = Always c }
+opening cs ending = record { tested = cs; ending = ending }
+
+abbrev pub with_opening : EndedChoices → EndedChoices
+with_opening x = opening x.tested x.ending
+
+-- An IF whose end is at the site's label, with its choices in this frame, and what is known after it.
+abbrev pub if_code : Site → Frame → Known → EndedChoices → Option Code
+if_code s f after x = closed_by (row_of s.label s.frame after ∷ []) (choices_code s.label f x (s.label + 1))
+
+-- What is no choice has no code.
+abbrev pub no_choice : Known → PlacedChoice
+no_choice k =
+    record { condition = Alone (Truth false); known = k; after = k; is_skip = false; process = λ s. None }
 
 -- ---- loops
 
@@ -197,39 +243,22 @@ by_block (Mark mark.Seq) all choices = all
 by_block (Mark mark.If) all choices = choices
 by_block word all choices = None
 
--- an IF without a choice stops
-abbrev pub stopped : ℕ → Option Code
-stopped label = written (operates STOP_PROCESS ∷ []) label
-
 -- how often a choice under a replicator happens
 abbrev pub times : Repeats → ℕ
 times repeats = if repeats.happens then repeats.turns.count else 0
-
--- The site of the turns of a choice under a replicator, whose index has no place. The IF ends at the site's label.
-abbrev pub before_turns : Site → Known → Site
-before_turns s start = record { frame = with_home Nowhere s.frame; known = start; label = s.label + 1 }
 
 -- what is known after a turn
 abbrev pub turned : {part : Part} → Around → Terminal → List ℕ → Component part → Repeats → ℕ → Known → Known
 turned a word name c repeats n k = after_component a word c (with_entries (add name (index_in repeats n)) k)
 
--- where a turn begins, if the turns begin at this site
-abbrev pub turn_site : {part : Part} → Around → Terminal → List ℕ → Component part → Repeats → Site
-    → (turn label : ℕ) → Site
-turn_site a word name c repeats s n label = record {
-  frame = s.frame;
-  known = with_entries (add name (index_in repeats n)) (turn_by_turn (turned a word name c repeats) n s.known);
-  label = label;
-}
+-- what is known where a turn begins, if this is where the first one does
+abbrev pub turn_begun : {part : Part} → Around → Terminal → List ℕ → Component part → Repeats → Known → ℕ → Known
+turn_begun a word name c repeats k n =
+    with_entries (add name (index_in repeats n)) (turn_by_turn (turned a word name c repeats) n k)
 
--- a choice in some turns, with others after them
-abbrev pub tested_turns : ℕ → ℕ → (choice : ℕ → ℕ → Option Code) → Option Code
-tested_turns count label choice = turn_by_turn (λ n code. then_code code (choice n)) count (no_code label)
-
--- a choice under a replicator, once for each turn, of which the last one is apart
-abbrev pub turns_code : ℕ → ℕ → (choice last : ℕ → ℕ → Option Code) → Option Code
-turns_code zero label choice last = stopped label
-turns_code (suc n) label choice last = then_code (tested_turns n label choice) (last n)
+-- a choice in this number of turns, by what it is in each
+abbrev pub in_each_turn : (ℕ → PlacedChoice) → ℕ → PlacedChoices
+in_each_turn choice count = turn_by_turn (λ n cs. ThenChoice cs (choice n)) count NoChoice
 
 -- IF and a replicator, over this choice. The kinds of blocks have no names here, so it takes that of an IF.
 abbrev pub repeated_block : Replicator → Construct → Construct
@@ -249,10 +278,10 @@ abbrev mutual
   construct_code w line (Act action) s = act_code w action s
   construct_code w line (Block kind cs) s =
       let word = block_word kind in
-      let inner = at_place (begun word s.known) (s.label + 1) s in
+      let start = begun word s.known in
       by_block word (components_code w cs s)
-      (closed_by (row_of s.label s.frame (ended word (after_components w.around word cs (begun word s.known))) ∷ [])
-      (choices_code w s.label cs inner))
+      (if_code s s.frame (ended word (after_components w.around word cs start))
+      (with_opening (with_ending (placed_choices w cs start))))
   construct_code w line (Replicated r b) s = body_code w line r b s
 
   pub body_code : Surroundings → ℕ → Replicator → Body → Site → Option Code
@@ -265,12 +294,10 @@ abbrev mutual
       let base = value_or_zero s.known.entries r.base in
       let count = value_or_zero s.known.entries r.count in
       let inner = in_loop s start r.name (index_in repeats 0) in
-      let turns = before_turns s start in
       by_block word
       (repeated_seq s changed after base (loop_code s inner after base count (component_code w c inner)) count)
-      (closed_by (row_of s.label s.frame after ∷ []) (turns_code (times repeats) turns.label
-      (λ n label. choice_code w s.label false c (turn_site w.around word r.name c repeats turns n label))
-      (λ n label. last_code w s.label c (turn_site w.around word r.name c repeats turns n label))))
+      (if_code s (with_home Nowhere s.frame) after (with_ending (in_each_turn
+      (λ n. placed w c (turn_begun w.around word r.name c repeats start n)) (times repeats))))
 
   -- one after the other
   pub components_code : {part : Part} → Surroundings → Components part → Site → Option Code
@@ -284,32 +311,20 @@ abbrev mutual
   component_code w (Chosen line e p) s = None
   component_code w (Guarded line g p) s = None
 
-  -- the choices of an IF that ends at a label, of which the last one is apart
-  pub choices_code : {part : Part} → Surroundings → ℕ → Components part → Site → Option Code
-  choices_code w end NoComponent s = stopped s.label
-  choices_code w end (Further cs c) s =
-      then_code (tested_code w end (passes c) cs s)
-      (λ label. last_code w end c (at_place (after_components w.around (Mark mark.If) cs s.known) label s))
+  -- choices in their places, where this is known before the first one
+  pub placed_choices : {part : Part} → Surroundings → Components part → Known → PlacedChoices
+  placed_choices w NoComponent k = NoChoice
+  placed_choices w (Further cs c) k =
+      ThenChoice (placed_choices w cs k) (placed w c (after_components w.around (Mark mark.If) cs k))
 
-  -- choices with others after them, and whether after the last of them only `TRUE` with `SKIP` comes
-  pub tested_code : {part : Part} → Surroundings → ℕ → (is_open : Bool) → Components part → Site → Option Code
-  tested_code w end is_open NoComponent s = no_code s.label
-  tested_code w end is_open (Further cs c) s =
-      then_code (tested_code w end false cs s)
-      (λ label. choice_code w end is_open c (at_place (after_components w.around (Mark mark.If) cs s.known) label s))
-
-  pub choice_code : {part : Part} → Surroundings → ℕ → (is_open : Bool) → Component part → Site → Option Code
-  choice_code w end is_open (Plain p) s = None
-  choice_code w end is_open (Chosen line e p) s =
-      other_choice is_open (open_choice s e end (process_code w p (at_place (chosen e s.known) s.label s)))
-      (tested_choice s e end (after_component w.around (Mark mark.If) (Chosen line e p) s.known)
-      (process_code w p (in_choice e s)))
-  choice_code w end is_open (Guarded line g p) s = None
-
-  pub last_code : {part : Part} → Surroundings → ℕ → Component part → Site → Option Code
-  last_code w end (Plain p) s = None
-  last_code w end (Chosen line e p) s =
-      last_choice (is_true e) (process_code w p (at_place (chosen e s.known) s.label s))
-      (tested_choice s e end (after_component w.around (Mark mark.If) (Chosen line e p) s.known)
-      (process_code w p (in_choice e s)))
-  last_code w end (Guarded line g p) s = None
+  -- a choice where this is known
+  pub placed : {part : Part} → Surroundings → Component part → Known → PlacedChoice
+  placed w (Plain p) k = no_choice k
+  placed w (Chosen line e p) k = record {
+    condition = e;
+    known = k;
+    after = after_component w.around (Mark mark.If) (Chosen line e p) k;
+    is_skip = is_skip p;
+    process = λ s. process_code w p s;
+  }
+  placed w (Guarded line g p) k = no_choice k

@@ -1,35 +1,43 @@
 -- What it is to write the code of a process or of a part of one.
-use Rattle.std.specs.Prelude.{◌≡◌, ⊤, ℕ, ◌+◌, Bool, true, false, List, [], ◌∷◌, ◌++◌, take, Option, Some, None}
+use Rattle.std.specs.Prelude.{◌≡◌, ⊤, ℕ, ◌+◌, ◌-◌, Bool, true, false, List, [], ◌∷◌, ◌++◌, take, Option, Some, None}
 use Rattle.occam_layout.specs.declared.mark.Mark.TheVariants as mark
+use Rattle.occam_parser.specs.declared.tree.Choice.{Choice}
 use Rattle.occam_parser.specs.Terminals.{Mark}
 use Rattle.occam_parser.specs.Expressions.{Expression}
 use Rattle.occam_parser.specs.Lines.{Declaration, Replicator, Action}
-use Rattle.occam_parser.specs.Blocks.{Process, Construct, Part, Choices, Components, Component, Plain, Chosen, Guarded}
+use Rattle.occam_parser.specs.Blocks.{Process, Construct, Part, Choices, Components, Component}
+use Rattle.occam_parser.specs.BlockViews.{process_of, choice_of, all_choices}
 use Rattle.scalar_ranges.specs.Moves.{Known, begin, end, begin_loop, widen}
 use Rattle.scalar_ranges.specs.Entries.{Meaning}
 use Rattle.scalar_ranges.specs.Scopes.{known_of, meaning_of}
 use Rattle.code_generator.specs.declared.calling.Surroundings as calling
 use Rattle.code_generator.specs.declared.limits.Limits.{Limits}
-use Rattle.program_uses.specs.Actions.{is_before}
+use Rattle.program_uses.specs.Actions.{Around, is_before}
 use Rattle.program_uses.specs.Indices.{Repeats, repeats_of, index_in, turn_by_turn}
 use Rattle.program_uses.specs.InTurn.{in_turn}
 use Rattle.program_uses.specs.Signatures.{Parameter, parameters_in}
-use Rattle.usage_checks.specs.AfterProcesses.{inside, after_construct, after_components, after_component, chosen}
+use Rattle.usage_checks.specs.AfterProcesses.{inside, after_construct, after_components, after_component}
 use Rattle.usage_checks.specs.NameRules.{with_entries}
+use Rattle.code_generator.specs.declared.choices.IfEnding as code_ending
+use Rattle.code_generator.specs.declared.choices.IfEnding.TheVariants as if_ending
 use Rattle.code_generator.specs.declared.loops.Turning.{Turning}
 use Rattle.code_generator.specs.declared.processes.ProcessWriter.{ProcessWriter}
-use Rattle.code_pieces.specs.Pieces.{Piece, Code, no_code, closed_by}
+use Rattle.code_pieces.specs.Pieces.{Piece, Code, no_code, then_code}
 use Rattle.line_pieces.specs.Limits.{is_too_much}
-use Rattle.line_pieces.specs.Declarations.{declaration_code}
+use Rattle.line_pieces.specs.Homes.{Nowhere}
+use Rattle.line_pieces.specs.Declarations.{Frame, with_home, declaration_code}
 use Rattle.code_generator.specs.Instances.{cleaning_code}
 use Rattle.code_generator.specs.Calls.{Callee, callee_start, in_callee, callee_code}
 use Rattle.code_generator.specs.declared.calling.Call.{Call}
 use Rattle.line_pieces.specs.FrameViews.{frame_seen}
 use Rattle.code_generator.specs.Processes.{Site, Surroundings, with_declaration, at_place, row_of, process_code}
 use Rattle.code_generator.specs.Processes.{construct_code, called, line_code, with_row}
-use Rattle.code_generator.specs.Processes.{components_code, component_code, choices_code, choice_code, last_code}
+use Rattle.code_generator.specs.Processes.{components_code, component_code, is_skip, PlacedChoice, PlacedChoices}
+use Rattle.code_generator.specs.Processes.{IfEnding, Stops, Always, Opens, EndedChoices, taken_code, open_code}
+use Rattle.code_generator.specs.Processes.{all_tested, ending_code, choices_code, with_ending, with_opening, if_code}
+use Rattle.code_generator.specs.Processes.{placed_choices, placed}
 use Rattle.code_generator.specs.Processes.{in_loop, value_or_zero, loop_start, loop_end, loop_code, repeated_seq}
-use Rattle.code_generator.specs.Processes.{no_loop, has_scalar, turned, turn_site, turns_code}
+use Rattle.code_generator.specs.Processes.{no_loop, has_scalar, turned, turn_begun, in_each_turn}
 use Rattle.code_generator.specs.Programs.{no_frame}
 use Rattle.code_generator.specs.CallViews.{surroundings_of, callee_of}
 use Rattle.usage_checks.specs.ItemRules.{outermost}
@@ -144,50 +152,94 @@ pub record EndsInstance (s t body : ProcessWriter) (qs : List Parameter) (actual
 
 -- ---- choices
 
--- an IF, whose end is at the label that is free
-abbrev pub if_code : {part : Part} → Surroundings → Components part → Site → Option Code
-if_code w cs s =
-    closed_by (row_of s.label s.frame (end (after_components w.around (Mark mark.If) cs (begin s.known))) ∷ [])
-    (choices_code w s.label cs (at_place (begin s.known) (s.label + 1) s))
+-- a choice at a site: tested, open or without its test
+abbrev pub choice_as : {part : Part} → (Frame → PlacedChoice → ℕ → Option Code) → Surroundings → Component part → Site
+    → Option Code
+choice_as code w c s = code s.frame (placed w c s.known) s.label
 
-abbrev pub WritesIf : {part : Part} → (s t : ProcessWriter) → calling.Surroundings → Components part → Type 0
-WritesIf s t a cs =
-    Writes s t (if_code (surroundings_of a) cs (site_of s))
-    (end (after_components (surroundings_of a).around (Mark mark.If) cs (begin (known_of s.scope))))
+abbrev pub WritesAs : {part : Part} → (s t : ProcessWriter) → calling.Surroundings
+    → (Frame → PlacedChoice → ℕ → Option Code) → Component part → Type 0
+WritesAs s t a code c =
+    Writes s t (choice_as code (surroundings_of a) c (site_of s))
+    (after_component (surroundings_of a).around (Mark mark.If) c (known_of s.scope))
 
--- the code of a choice, by what it is in its place
-abbrev pub WritesAs : {part : Part} → (s t : ProcessWriter) → calling.Surroundings → Option Code → Component part
-    → Type 0
-WritesAs s t a code c = Writes s t code (after_component (surroundings_of a).around (Mark mark.If) c (known_of s.scope))
+-- choices that are tested, the first one at this site
+abbrev pub tested_at : {part : Part} → Surroundings → ℕ → Components part → Site → Option Code
+tested_at w end cs s = all_tested end s.frame (placed_choices w cs s.known) s.label
+
+abbrev pub WritesTested : {part : Part} → (s t : ProcessWriter) → calling.Surroundings → ℕ → Components part → Type 0
+WritesTested s t a end cs =
+    Writes s t (tested_at (surroundings_of a) end cs (site_of s))
+    (after_components (surroundings_of a).around (Mark mark.If) cs (known_of s.scope))
+
+-- what comes after them, at this site
+abbrev pub ending_at : Surroundings → ℕ → code_ending.IfEnding → Site → Option Code
+ending_at w end if_ending.Stops s = ending_code end s.frame Stops s.label
+ending_at w end (if_ending.Always last) s = choice_as taken_code w (choice_of last.now) s
+ending_at w end (if_ending.Opens opened last) s =
+    then_code (choice_as (open_code end) w (choice_of opened.now) s)
+    (λ label. choice_as taken_code w (choice_of last.now)
+    (at_place (after_component w.around (Mark mark.If) (choice_of opened.now) s.known) label s))
+
+-- what is known then
+abbrev pub after_ending : Around → code_ending.IfEnding → Known → Known
+after_ending a if_ending.Stops k = k
+after_ending a (if_ending.Always last) k = after_component a (Mark mark.If) (choice_of last.now) k
+after_ending a (if_ending.Opens opened last) k =
+    after_component a (Mark mark.If) (choice_of last.now) (after_component a (Mark mark.If) (choice_of opened.now) k)
+
+abbrev pub WritesEnding : (s t : ProcessWriter) → calling.Surroundings → ℕ → code_ending.IfEnding → Type 0
+WritesEnding s t a end x =
+    Writes s t (ending_at (surroundings_of a) end x (site_of s))
+    (after_ending (surroundings_of a).around x (known_of s.scope))
+
+-- ---- an IF
+
+-- the choices of an IF, where this is known before the first one
+abbrev pub if_choices : {part : Part} → Surroundings → Components part → Known → EndedChoices
+if_choices w cs k = with_opening (with_ending (placed_choices w cs k))
+
+-- an ending in its place, where this is known
+abbrev pub placed_ending : Surroundings → code_ending.IfEnding → Known → IfEnding
+placed_ending w if_ending.Stops k = Stops
+placed_ending w (if_ending.Always last) k = Always (placed w (choice_of last.now) k)
+placed_ending w (if_ending.Opens opened last) k = Opens (placed w (choice_of opened.now) k)
+
+-- the last choice does nothing, if it isn't in the ending
+abbrev pub LeavesSkip : code_ending.IfEnding → Type 0
+LeavesSkip if_ending.Stops = ⊤
+LeavesSkip (if_ending.Always last) = ⊤
+LeavesSkip (if_ending.Opens opened last) = is_skip (process_of last.now.process) ≡ true
+
+-- The choices of an IF are these, which are tested, with this ending.
+pub record AreEnded (cs : Components Choices) (tested : List Choice) (ending : code_ending.IfEnding) : Type 0 where
+  pub choices : (w : Surroundings) (k : Known) → if_choices w cs k ≡ record {
+    tested = placed_choices w (all_choices tested) k;
+    ending = placed_ending w ending (after_components w.around (Mark mark.If) (all_choices tested) k);
+  }
+  pub known : (a : Around) (k : Known) → after_components a (Mark mark.If) cs k
+      ≡ after_ending a ending (after_components a (Mark mark.If) (all_choices tested) k)
+  pub skips : LeavesSkip ending
+
+-- all choices of an IF that ends at a label, at this site
+abbrev pub choices_at : {part : Part} → Surroundings → ℕ → Components part → Site → Option Code
+choices_at w end cs s = choices_code end s.frame (if_choices w cs s.known) s.label
 
 abbrev pub WritesChoices : {part : Part} → (s t : ProcessWriter) → calling.Surroundings → ℕ → Components part → Type 0
 WritesChoices s t a end cs =
-    Writes s t (choices_code (surroundings_of a) end cs (site_of s))
+    Writes s t (choices_at (surroundings_of a) end cs (site_of s))
     (after_components (surroundings_of a).around (Mark mark.If) cs (known_of s.scope))
 
-abbrev pub WritesChoice : {part : Part} → (s t : ProcessWriter) → calling.Surroundings → ℕ → (is_open : Bool)
-    → Component part → Type 0
-WritesChoice s t a end is_open c = WritesAs s t a (choice_code (surroundings_of a) end is_open c (site_of s)) c
+-- an IF at a site, with what is known after it
+abbrev pub after_if : {part : Part} → Around → Components part → Known → Known
+after_if a cs k = end (after_components a (Mark mark.If) cs (begin k))
 
--- one of several choices, the last one or another one
-abbrev pub part_code : {part : Part} → Surroundings → ℕ → (is_last is_open : Bool) → Component part → Site
-    → Option Code
-part_code w end true is_open c s = last_code w end c s
-part_code w end false is_open c s = choice_code w end is_open c s
+abbrev pub if_at : {part : Part} → Surroundings → Components part → Site → Option Code
+if_at w cs s = if_code s s.frame (after_if w.around cs s.known) (if_choices w cs (begin s.known))
 
-abbrev pub WritesPart : {part : Part} → (s t : ProcessWriter) → calling.Surroundings → ℕ → (is_last is_open : Bool)
-    → Component part → Type 0
-WritesPart s t a end is_last is_open c =
-    WritesAs s t a (part_code (surroundings_of a) end is_last is_open c (site_of s)) c
-
--- a choice without its test
-abbrev pub chosen_code : {part : Part} → Surroundings → Component part → Site → Option Code
-chosen_code w (Plain p) s = None
-chosen_code w (Chosen line e p) s = process_code w p (at_place (chosen e s.known) s.label s)
-chosen_code w (Guarded line g p) s = None
-
-abbrev pub WritesChosen : {part : Part} → (s t : ProcessWriter) → calling.Surroundings → Component part → Type 0
-WritesChosen s t a c = WritesAs s t a (chosen_code (surroundings_of a) c (site_of s)) c
+abbrev pub WritesIf : {part : Part} → (s t : ProcessWriter) → calling.Surroundings → Components part → Type 0
+WritesIf s t a cs =
+    Writes s t (if_at (surroundings_of a) cs (site_of s)) (after_if (surroundings_of a).around cs (known_of s.scope))
 
 -- ---- loops
 
@@ -252,15 +304,38 @@ WritesNoLoop s t changed = Writes s t (idle_code changed (site_of s)) (after_loo
 
 -- ---- choices under a replicator
 
--- a choice in this number of turns, of which the first one begins at this site
-abbrev pub turns_written : Surroundings → ℕ → List ℕ → Component Choices → Repeats → ℕ → Site → Option Code
-turns_written w end name c repeats count s =
-    turns_code count s.label
-    (λ n label. choice_code w end false c (turn_site w.around (Mark mark.If) name c repeats s n label))
-    (λ n label. last_code w end c (turn_site w.around (Mark mark.If) name c repeats s n label))
+-- where the turns of a choice begin, whose index has no place, if its IF ends at the site's label
+abbrev pub before_turns : Site → Known → Site
+before_turns s start = record { frame = with_home Nowhere s.frame; known = start; label = s.label + 1 }
+
+-- a choice in this number of turns, where this is known before the first one
+abbrev pub placed_turns : Surroundings → List ℕ → Component Choices → Repeats → Known → ℕ → PlacedChoices
+placed_turns w name c repeats k count =
+    in_each_turn (λ n. placed w c (turn_begun w.around (Mark mark.If) name c repeats k n)) count
+
+-- what is known after them
+abbrev pub after_choice_turns : Around → List ℕ → Component Choices → Repeats → Known → ℕ → Known
+after_choice_turns a name c repeats k count = turn_by_turn (turned a (Mark mark.If) name c repeats) count k
+
+-- How many turns of this number are tested: the last one is not, if the condition is TRUE.
+abbrev pub turns_tested : ℕ → (is_true : Bool) → ℕ
+turns_tested count true = count - 1
+turns_tested count false = count
+
+abbrev pub WritesSomeTurns : (s t : ProcessWriter) → calling.Surroundings → ℕ → List ℕ → Repeats → Component Choices → ℕ
+    → Type 0
+WritesSomeTurns s t a end name repeats c count =
+    Writes s t (all_tested end (frame_seen s.frame)
+    (placed_turns (surroundings_of a) name c repeats (known_of s.scope) count) s.label)
+    (after_choice_turns (surroundings_of a).around name c repeats (known_of s.scope) count)
+
+-- all turns, of an IF that ends at a label
+abbrev pub turns_at : Surroundings → ℕ → List ℕ → Component Choices → Repeats → ℕ → Site → Option Code
+turns_at w end name c repeats count s =
+    choices_code end s.frame (with_ending (placed_turns w name c repeats s.known count)) s.label
 
 abbrev pub WritesTurns : (s t : ProcessWriter) → calling.Surroundings → ℕ → List ℕ → Repeats → ℕ → Component Choices
     → Type 0
 WritesTurns s t a end name repeats count c =
-    Writes s t (turns_written (surroundings_of a) end name c repeats count (site_of s))
-    (turn_by_turn (turned (surroundings_of a).around (Mark mark.If) name c repeats) count (known_of s.scope))
+    Writes s t (turns_at (surroundings_of a) end name c repeats count (site_of s))
+    (after_choice_turns (surroundings_of a).around name c repeats (known_of s.scope) count)

@@ -5,14 +5,15 @@ ghost use Rattle.occam_parser.specs.Views.{expression_of};
 ghost use Rattle.occam_parser.specs.LineViews.{guard_of, place_of, replicator_of};
 ghost use Rattle.occam_parser.specs.BlockViews.{branch_of, all_branches};
 ghost use Rattle.scalar_ranges.specs.Scopes.{entries_of};
-ghost use Rattle.code_generator.specs.Alternations.{is_tested, StaysSo, Chooses, Receives, Narrows, Tests, Stops};
+ghost use Rattle.code_generator.specs.Alternations.{is_tested, StaysSo, Chooses, Receives, Narrows, Tests, WritesStop};
 ghost use Rattle.code_generator.specs.Alternations.{exits_in, WritesBranch, WritesBranches, WritesSome};
 ghost use Rattle.code_generator.specs.Alternations.{FollowsAlt, FollowsRepeatedAlt};
 
 use crate::calling::Surroundings;
+use crate::choices::times;
 use crate::guards::{Exits, Guards, Labels, condition_of, source_of, write_choosing, write_ready};
 use crate::limits::Limits;
-use crate::processes::{ProcessWriter, times};
+use crate::processes::ProcessWriter;
 use code_pieces::{Piece, operations};
 use line_pieces::{Home, Setting, label_after};
 use module_builder::GenFault;
@@ -308,7 +309,7 @@ impl<'a> ProcessWriter<'a> {
 
     /// The process stops at a label, if there is one.
     fn write_stop_at(&mut self, limits: Limits, label: Option<usize>) -> Result<(), GenFault>
-        ensures { IfOk result (λ _. Stops self.old self.new label) }
+        ensures { IfOk result (λ _. WritesStop self.old self.new label) }
     {
         if let Some(label) = label {
             self.write_row(limits, label)?;

@@ -3,6 +3,7 @@
 
 mod alternatives;
 mod calling;
+mod choices;
 mod context;
 mod finer;
 mod guards;

@@ -1,27 +1,20 @@
 //! Writing the code of processes. If a function fails, some pieces more may have come.
 
-ghost use Rattle.std.specs.Prelude.{◌≡◌, ◌++◌, ◌∷◌, [], IfOk, Err, map, ◌+◌, ◌<◌, ◌&&◌, nat_eq, length, false, true};
-ghost use Rattle.occam_parser.specs.Expressions.{Alone};
-ghost use Rattle.occam_parser.specs.Views.{expression_of, term_of};
+ghost use Rattle.std.specs.Prelude.{◌≡◌, ◌++◌, ◌∷◌, [], IfOk, Err, map, false};
+ghost use Rattle.occam_parser.specs.Views.{expression_of};
 ghost use Rattle.occam_parser.specs.Lines.{Constants, Variables, Channels, Stop, Instance};
 ghost use Rattle.occam_parser.specs.Blocks.{Act, Replicated};
 ghost use Rattle.occam_parser.specs.LineViews.{action_of, constant_of, declaration_of, names_of, replicator_of};
-ghost use Rattle.occam_parser.specs.BlockViews.{process_of, construct_of, choice_of, body_of, plain_component};
-ghost use Rattle.occam_parser.specs.BlockViews.{all_processes, all_choices};
+ghost use Rattle.occam_parser.specs.BlockViews.{process_of, construct_of, body_of, plain_component, all_processes};
 ghost use Rattle.scalar_ranges.specs.Scopes.{entries_of, known_of};
-ghost use Rattle.program_uses.specs.Indices.{seen_repeats};
 ghost use Rattle.line_pieces.specs.Actions.{action_code, test_code};
 ghost use Rattle.code_generator.specs.CallViews.{surroundings_of};
 ghost use Rattle.line_pieces.specs.FrameViews.{frame_seen};
-ghost use Rattle.code_generator.specs.Processes.{is_true, is_skip_action, does_nothing, is_skip, passes, ends_passing};
-ghost use Rattle.code_generator.specs.Processes.{row_of, times, under_if, act_code, line_code, process_code};
+ghost use Rattle.code_generator.specs.Processes.{row_of, act_code, line_code, process_code};
 ghost use Rattle.code_generator.specs.Processes.{construct_code, body_code, components_code, component_code};
-ghost use Rattle.code_generator.specs.Processes.{choices_code, choice_code};
 ghost use Rattle.code_generator.specs.Written.{site_of, Appends, Declares, DeclaresAll, WritesConstruct, WritesProcess};
-ghost use Rattle.code_generator.specs.Written.{WritesSeq, WritesOne, WritesIf, WritesChoices, WritesChoice};
-ghost use Rattle.code_generator.specs.Written.{WritesPart, WritesChosen, WritesLoop, WritesTurns};
-ghost use Rattle.code_generator.specs.Written.{first_site, WritesLine, WritesRow, IsTooMuch, Exceeds, row_code};
-ghost use Rattle.code_generator.specs.Written.{if_code, part_code, chosen_code, looped_code, turns_written};
+ghost use Rattle.code_generator.specs.Written.{WritesSeq, WritesOne, WritesLoop, first_site, WritesLine, WritesRow};
+ghost use Rattle.code_generator.specs.Written.{IsTooMuch, Exceeds, row_code, looped_code};
 ghost use Rattle.code_generator.specs.Instances.{is_finer};
 
 use crate::calling::Surroundings;
@@ -32,21 +25,19 @@ use crate::loops::{Turning, value_or_zero};
 use crate::passing::Passed;
 use code_pieces::{Piece, operations};
 use line_pieces::{
-    Frame, Home, Listing, Setting, channels_in, declare_names, facts_in, home_for, label_after,
-    words_in,
+    Frame, Listing, Setting, channels_in, declare_names, facts_in, home_for, label_after, words_in,
 };
 use module_builder::GenFault;
 use occam_parser::{
-    Action, Body, Choice, Constant, Construct, Declaration, Expr, Names, Operand, Operation,
-    Process, Replicator,
+    Action, Body, Constant, Construct, Declaration, Expr, Names, Process, Replicator,
 };
 use program_sizes::{size_of_action, size_of_condition, size_of_declaration};
 use program_uses::{
-    Repeats, add_name, channel_meaning, constant_meaning, is_before, repeats_of, variable_meaning,
+    add_name, channel_meaning, constant_meaning, is_before, repeats_of, variable_meaning,
     variables_changed_in,
 };
 use program_work::{reading_of_action, reading_of_condition};
-use scalar_ranges::{Scope, narrow_by};
+use scalar_ranges::Scope;
 use std::alloc::{AllocError, Global};
 use usage_checks::after_action;
 
@@ -61,109 +52,6 @@ pub struct ProcessWriter<'a> {
     pub(crate) label: usize,
     pub(crate) listing: Listing,
     pub(crate) spent: Spent,
-}
-
-/// How often a choice under a replicator happens.
-pub(crate) fn times(repeats: Repeats) -> u32
-    ensures { result ≡ times (seen_repeats repeats) }
-{
-    if repeats.happens {
-        repeats.turns.count
-    } else {
-        0
-    }
-}
-
-/// Whether a condition is the operand TRUE, in any brackets.
-#[cycle(truth)]
-fn is_true(condition: &Expr) -> bool
-    ensures { result ≡ is_true (expression_of condition.now) }
-{
-    match &*condition.operation {
-        Operation::Operand(operand) => is_true_operand(operand),
-        Operation::Prefix { .. } | Operation::Pair { .. } | Operation::Chain { .. } => false,
-    }
-}
-
-/// Whether an operand is TRUE, in any brackets.
-#[cycle(truth)]
-fn is_true_operand(operand: &Operand) -> bool
-    ensures { result ≡ is_true (Alone (term_of operand.now)) }
-{
-    match operand {
-        Operand::Truth(holds) => *holds,
-        Operand::Bracketed(inner) => is_true(inner),
-        Operand::Integer(_)
-        | Operand::Character(_)
-        | Operand::MostPos
-        | Operand::MostNeg
-        | Operand::Name(_)
-        | Operand::Element { .. }
-        | Operand::Converted { .. } => false,
-    }
-}
-
-/// Whether an action is `SKIP`.
-fn is_skip_action(action: &Action) -> bool
-    ensures { result ≡ is_skip_action (action_of action.now) }
-{
-    match action {
-        Action::Skip => true,
-        Action::Stop
-        | Action::Assign { .. }
-        | Action::Input { .. }
-        | Action::Output { .. }
-        | Action::Instance { .. } => false,
-    }
-}
-
-/// Whether a construct is `SKIP`.
-fn does_nothing(construct: &Construct) -> bool
-    ensures { result ≡ does_nothing (construct_of construct.now) }
-{
-    match construct {
-        Construct::Action(action) => is_skip_action(action),
-        Construct::Seq(_)
-        | Construct::If(_)
-        | Construct::Replicated { .. }
-        | Construct::Par(_)
-        | Construct::Alt(_) => false,
-    }
-}
-
-/// Whether a process is `SKIP`, with nothing declared before it.
-fn is_skip(process: &Process) -> bool
-    ensures { result ≡ is_skip (process_of process.now) }
-{
-    if !process.declarations.is_empty() {
-        return false;
-    }
-    does_nothing(&process.construct)
-}
-
-/// Whether a choice may always be taken, and does nothing.
-fn passes(choice: &Choice) -> bool
-    ensures { result ≡ passes (choice_of choice.now) }
-{
-    is_true(&choice.condition) && is_skip(&choice.process)
-}
-
-/// Whether the last choice of an `IF` is so.
-fn ends_passing(choices: &[Choice]) -> bool
-    ensures { result ≡ ends_passing (all_choices choices.now) }
-{
-    if choices.is_empty() {
-        return false;
-    }
-    passes(&choices[choices.len() - 1])
-}
-
-/// Whether only `TRUE` with `SKIP` comes after the choice at this place.
-fn is_open(place: usize, choices: &[Choice]) -> bool
-    requires { place < length choices.now }
-    ensures { result ≡ (nat_eq (place + 2) (length choices.now) && ends_passing (all_choices choices.now)) }
-{
-    place + 2 == choices.len() && ends_passing(choices)
 }
 
 /// The first word that a process has for its names: those before it are for the selection of an alternation and the
@@ -520,135 +408,6 @@ impl<'a> ProcessWriter<'a> {
         Ok(())
     }
 
-    /// An `IF`.
-    #[cycle(processes)]
-    fn write_if(
-        &mut self,
-        around: Surroundings<'_, 'a>,
-        choices: &[Choice<'a>],
-    ) -> Result<(), GenFault>
-        ensures ok { IfOk result (λ _. WritesIf self.old self.new around.entry (all_choices choices.now)) }
-        ensures limit { result ≡ Err GenFault.Limit → Exceeds around.entry.limits self.old.listing
-            (if_code (surroundings_of around.entry) (all_choices choices.now) (site_of self.old)) }
-    {
-        let end = self.label;
-        self.label = label_after(end)?;
-        self.scope.begin()?;
-        self.write_choices(around, end, choices)?;
-        self.scope.end();
-        self.write_row(around.limits, end)?;
-        Ok(())
-    }
-
-    /// The choices of an `IF` that ends at a label. One without a choice stops.
-    #[cycle(processes)]
-    fn write_choices(
-        &mut self,
-        around: Surroundings<'_, 'a>,
-        end: usize,
-        choices: &[Choice<'a>],
-    ) -> Result<(), GenFault>
-        ensures ok { IfOk result (λ _. WritesChoices self.old self.new around.entry end (all_choices choices.now)) }
-        ensures limit { result ≡ Err GenFault.Limit → Exceeds around.entry.limits self.old.listing
-            (choices_code (surroundings_of around.entry) end (all_choices choices.now) (site_of self.old)) }
-    {
-        if choices.is_empty() {
-            return Ok(self.listing.operate(operations::STOP_PROCESS)?);
-        }
-        for (place, choice) in choices.iter().enumerate() {
-            let is_last = place + 1 == choices.len();
-            self.write_part(around, end, is_last, is_open(place, choices), choice)?;
-        }
-        Ok(())
-    }
-
-    /// A choice of an `IF` that ends at a label, whether it is the last one, and whether only `TRUE` with `SKIP` comes
-    /// after it.
-    #[cycle(processes)]
-    fn write_part(
-        &mut self,
-        around: Surroundings<'_, 'a>,
-        end: usize,
-        is_last: bool,
-        is_open: bool,
-        choice: &Choice<'a>,
-    ) -> Result<(), GenFault>
-        ensures ok { IfOk result (λ _. WritesPart self.old self.new around.entry end is_last is_open
-            (choice_of choice.now)) }
-        ensures limit { result ≡ Err GenFault.Limit → Exceeds around.entry.limits self.old.listing
-            (part_code (surroundings_of around.entry) end is_last is_open (choice_of choice.now)
-            (site_of self.old)) }
-    {
-        if !is_last {
-            if is_open {
-                return self.write_open_choice(around, end, choice);
-            }
-            return self.write_choice(around, end, choice);
-        }
-        if is_true(&choice.condition) {
-            return self.write_chosen(around, choice);
-        }
-        self.write_choice(around, end, choice)?;
-        self.listing.operate(operations::STOP_PROCESS)?;
-        Ok(())
-    }
-
-    /// A choice with its test.
-    #[cycle(processes)]
-    fn write_choice(
-        &mut self,
-        around: Surroundings<'_, 'a>,
-        end: usize,
-        choice: &Choice<'a>,
-    ) -> Result<(), GenFault>
-        ensures ok { IfOk result (λ _. WritesChoice self.old self.new around.entry end false (choice_of choice.now)) }
-        ensures limit { result ≡ Err GenFault.Limit → Exceeds around.entry.limits self.old.listing
-            (choice_code (surroundings_of around.entry) end false (choice_of choice.now) (site_of self.old)) }
-    {
-        let other = self.label;
-        self.label = label_after(other)?;
-        self.write_test(around.limits, &choice.condition, other)?;
-        self.write_chosen(around, choice)?;
-        self.listing.push(Piece::Jump { to: end })?;
-        self.write_row(around.limits, other)?;
-        Ok(())
-    }
-
-    /// A choice with its test, which jumps to the end of the `IF`.
-    #[cycle(processes)]
-    fn write_open_choice(
-        &mut self,
-        around: Surroundings<'_, 'a>,
-        end: usize,
-        choice: &Choice<'a>,
-    ) -> Result<(), GenFault>
-        ensures ok { IfOk result (λ _. WritesChoice self.old self.new around.entry end true (choice_of choice.now)) }
-        ensures limit { result ≡ Err GenFault.Limit → Exceeds around.entry.limits self.old.listing
-            (choice_code (surroundings_of around.entry) end true (choice_of choice.now) (site_of self.old)) }
-    {
-        self.write_test(around.limits, &choice.condition, end)?;
-        self.write_chosen(around, choice)?;
-        Ok(())
-    }
-
-    /// A choice without its test.
-    #[cycle(processes)]
-    fn write_chosen(
-        &mut self,
-        around: Surroundings<'_, 'a>,
-        choice: &Choice<'a>,
-    ) -> Result<(), GenFault>
-        ensures ok { IfOk result (λ _. WritesChosen self.old self.new around.entry (choice_of choice.now)) }
-        ensures limit { result ≡ Err GenFault.Limit → Exceeds around.entry.limits self.old.listing
-            (chosen_code (surroundings_of around.entry) (choice_of choice.now) (site_of self.old)) }
-    {
-        self.scope.exclude(&choice.condition);
-        narrow_by(&mut self.scope, &choice.condition, true);
-        self.write(around, &choice.process)?;
-        self.scope.next();
-        Ok(())
-    }
-
     /// A construct under a replicator on this line.
     #[cycle(processes)]
     fn write_replicated(
@@ -717,70 +476,6 @@ impl<'a> ProcessWriter<'a> {
         self.enter_loop(around.limits, turning, changed)?;
         self.write_one(around, process)?;
         self.leave_loop(around.limits, names, word, head)?;
-        Ok(())
-    }
-
-    /// An `IF` of a choice under a replicator.
-    #[cycle(processes)]
-    fn write_repeated_if(
-        &mut self,
-        around: Surroundings<'_, 'a>,
-        line: u32,
-        replicator: &Replicator<'a>,
-        choice: &Choice<'a>,
-    ) -> Result<(), GenFault>
-        ensures ok { IfOk result (λ _. WritesConstruct self.old self.new around.entry line
-            (under_if (replicator_of replicator.now) (choice_of choice.now))) }
-        ensures limit { result ≡ Err GenFault.Limit → Exceeds around.entry.limits self.old.listing
-            (construct_code (surroundings_of around.entry) line
-            (under_if (replicator_of replicator.now) (choice_of choice.now)) (site_of self.old)) }
-    {
-        let end = self.label;
-        self.label = label_after(end)?;
-        let names = self.frame.homes.len();
-        let top = self.frame.top;
-        let counted = is_before(line, around.around.uncounted);
-        let repeats = repeats_of(counted, &self.scope, false, replicator);
-        self.scope.begin()?;
-        self.frame.add_home(Home::Nowhere)?;
-        self.write_turns(
-            around,
-            end,
-            replicator.name,
-            repeats,
-            times(repeats),
-            choice,
-        )?;
-        self.frame.leave(names, top);
-        self.scope.end();
-        self.write_row(around.limits, end)?;
-        Ok(())
-    }
-
-    /// A choice in `count` turns, of an `IF` that ends at a label. One without a turn stops.
-    #[cycle(processes)]
-    fn write_turns(
-        &mut self,
-        around: Surroundings<'_, 'a>,
-        end: usize,
-        name: &'a [u8],
-        repeats: Repeats,
-        count: u32,
-        choice: &Choice<'a>,
-    ) -> Result<(), GenFault>
-        ensures ok { IfOk result (λ _. WritesTurns self.old self.new around.entry end name.now (seen_repeats repeats)
-            count (choice_of choice.now)) }
-        ensures limit { result ≡ Err GenFault.Limit → Exceeds around.entry.limits self.old.listing
-            (turns_written (surroundings_of around.entry) end name.now (choice_of choice.now) (seen_repeats repeats)
-            count (site_of self.old)) }
-    {
-        if count == 0 {
-            return Ok(self.listing.operate(operations::STOP_PROCESS)?);
-        }
-        for turn in 0..count {
-            add_name(&mut self.scope, name, repeats.index_in(turn))?;
-            self.write_part(around, end, turn + 1 == count, false, choice)?;
-        }
         Ok(())
     }
 }

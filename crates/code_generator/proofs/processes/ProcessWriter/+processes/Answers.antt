@@ -1,13 +1,12 @@
-use Rattle.std.proofs.Common.{◌≡◌, ◌+◌, ◌<◌, ◌≤◌, length, map, IfOk, arith, refl, ap, sym, subst, ◌∙◌, rules, nat_eq}
-use Rattle.std.proofs.Common.{Bool, true, false, ◌&&◌, Some, Err, option_map, w32, of_z}
-use Rattle.std.proofs.lemmas.Bool.{eqb-true, eqb-false}
+use Rattle.std.proofs.Common.{◌≡◌, ◌+◌, ◌≤◌, length, map, IfOk, arith, refl, ap, sym, subst, ◌∙◌, rules, Some, Err}
+use Rattle.std.proofs.Common.{true, false, option_map, w32, of_z}
 use Rattle.std.proofs.lemmas.Int.{to_z-of_z}
 use Rattle.module_builder.specs.declared.fault.GenFault.TheVariants.{Limit}
 use Rattle.occam_parser.specs.declared.tree.Body.{the_lemmas}
 use Rattle.occam_parser.specs.Views.{expression_of}
 use Rattle.occam_parser.specs.LineViews.{action_of, declaration_of, replicator_of, guard_of}
 use Rattle.occam_parser.specs.Lines.{Instance}
-use Rattle.occam_parser.specs.Blocks.{Does, Choices, Component, Chosen, Guarded, Replicated}
+use Rattle.occam_parser.specs.Blocks.{Does, Guarded, Replicated}
 use Rattle.occam_parser.specs.BlockReading.{with_declarations}
 use Rattle.occam_parser.specs.BlockViews.{process_of, construct_of, choice_of, plain_component, all_processes}
 use Rattle.occam_parser.specs.BlockViews.{all_choices, all_branches, branch_of, body_of}
@@ -30,17 +29,17 @@ use Rattle.line_pieces.specs.FrameViews.{frame_seen}
 use Rattle.line_pieces.specs.Homes.{Nowhere}
 use Rattle.line_pieces.specs.Declarations.{with_home}
 use Rattle.code_generator.specs.Branches.{WritesPar}
-use Rattle.code_generator.specs.Processes.{Site, Surroundings, at_place, before_turns, process_code, act_code}
-use Rattle.code_generator.specs.Processes.{ends_passing, construct_code, components_code, choice_code}
-use Rattle.code_generator.specs.Written.{site_of, Writes, WritesConstruct, WritesSeq, WritesIf, WritesPart}
-use Rattle.code_generator.specs.Written.{WritesChoice}
-use Rattle.code_generator.specs.Written.{WritesChosen, WritesTurns, WritesLine, EntersLoop, IsTooMuch, Exceeds}
-use Rattle.code_generator.specs.Written.{entering_code, if_code, part_code, chosen_code, turns_written}
+use Rattle.code_generator.specs.Processes.{Site, Surroundings, at_place, taken_code, tested_code, open_code}
+use Rattle.code_generator.specs.Processes.{process_code, act_code, construct_code, components_code}
+use Rattle.code_generator.specs.Written.{site_of, Writes, WritesConstruct, WritesSeq, WritesLine, EntersLoop, IsTooMuch}
+use Rattle.code_generator.specs.Written.{Exceeds, entering_code, choice_as, WritesAs, if_at, WritesIf, before_turns}
+use Rattle.code_generator.specs.Written.{ending_at, WritesEnding, WritesSomeTurns, turns_at, WritesTurns}
 use Rattle.code_generator.proofs.ActsWritten.{writes_act, writes_from, writes_instance}
 use Rattle.code_generator.proofs.Exceeding.{exceeds_from, spent_place}
-use Rattle.code_generator.proofs.PartsExceed.{exceeds_process, exceeds_line, exceeds_row, exceeds_seq, exceeds_choices}
-use Rattle.code_generator.proofs.PartsExceed.{exceeds_always, exceeds_stopped, exceeds_chosen, exceeds_tested}
-use Rattle.code_generator.proofs.PartsExceed.{exceeds_other, exceeds_open, exceeds_if, exceeds_if_end, exceeds_turns}
+use Rattle.code_generator.proofs.PartsExceed.{exceeds_process, exceeds_line, exceeds_row, exceeds_seq}
+use Rattle.code_generator.proofs.PartsExceed.{exceeds_taken, exceeds_tested, exceeds_other, exceeds_open}
+use Rattle.code_generator.proofs.PartsExceed.{exceeds_choices, exceeds_ending, exceeds_opens, exceeds_passing}
+use Rattle.code_generator.proofs.PartsExceed.{exceeds_if, exceeds_if_end, exceeds_turns, exceeds_last_turn}
 use Rattle.code_generator.proofs.LoopsExceed.{exceeds_entering, exceeds_body, exceeds_leaving, exceeds_loop}
 use Rattle.code_generator.proofs.LoopsExceed.{exceeds_replicated, exceeds_repeated, exceeds_repeated_end}
 use Rattle.code_generator.proofs.BranchesFollowed.{goes_on, by_site, alt_follows, where_ok, writes_branch}
@@ -48,11 +47,11 @@ use Rattle.code_generator.proofs.BranchesFollowed.{branches_next, branches_done,
 use Rattle.code_generator.proofs.BranchesWritten.{par_next, par_done, par_turns_next, writes_component, writes_no_turns}
 use Rattle.code_generator.proofs.BranchesWritten.{writes_repeated_par}
 use Rattle.code_generator.proofs.PartsWritten.{writes_none, writes_moved, writes_behind, seq_next, seq_done}
-use Rattle.code_generator.proofs.ChoicesWritten.{choices_start, choices_next, choices_done, no_choices}
-use Rattle.code_generator.proofs.ChoicesWritten.{writes_if, writes_chosen, writes_tested, always_written}
-use Rattle.code_generator.proofs.ChoicesWritten.{writes_stopped, writes_open, chosen_left, choices_left}
+use Rattle.code_generator.proofs.ChoicesWritten.{choice_seen, writes_if, writes_taken, writes_tested, writes_open}
+use Rattle.code_generator.proofs.ChoicesWritten.{tested_next, tested_done, choices_written, writes_opens}
+use Rattle.code_generator.proofs.ChoicesWritten.{taken_left, choices_left}
 use Rattle.code_generator.proofs.LoopsWritten.{body_left, writes_turning, writes_loop, writes_replicated}
-use Rattle.code_generator.proofs.TurnsWritten.{turns_start, turns_next, turns_done, turns_left, writes_repeated_if}
+use Rattle.code_generator.proofs.TurnsWritten.{turns_next, turns_stopped, turns_taken, turns_left, writes_repeated_if}
 use Rattle.code_generator.proofs.processes.ProcessWriter.+processes.Goals as goal
 
 pub write-returns-clause-ok : goal.write-returns-clause-ok
@@ -157,109 +156,52 @@ write_if-returns-clause-ok t c =
     })
     c.in_ok-write_choices.ensures.ok c.end.ensures) c.in_ok-write_row.ensures.row c.in_ok-write_row.ensures.site
 
-pub write_choices-returns-then-is_empty-clause-ok : goal.write_choices-returns-then-is_empty-clause-ok
-write_choices-returns-then-is_empty-clause-ok t c =
-    no_choices c.args.around c.args.end choice_of c.args.choices.now c.args.self.now c.operate.new.self
-    (eqb-true _ _ (sym c.is_empty.ensures ∙ c.if-is_empty.true)) c.in_ok-operate.ensures
-
-pub write_choices-loop-place-init : goal.write_choices-loop-place-init
-write_choices-loop-place-init t c =
-    let differs = eqb-false _ _ (sym c.is_empty.ensures ∙ c.if-is_empty.false) in
-    let some : 0 < length c.args.choices.now = omega arith in
-    choices_start c.args.around c.args.end (length c.args.choices.now)
-    (nat_eq 1 (length c.args.choices.now) && ends_passing (all_choices c.args.choices.now)) _ c.args.self.now some
-
-pub write_choices-loop-place-preserved : goal.write_choices-loop-place-preserved
-write_choices-loop-place-preserved t c =
-    choices_next c.args.around c.args.end choice_of c.args.choices.now c.loop-place.place c.index-choices-place.result
-    (nat_eq (c.loop-place.place + 1) (length c.args.choices.now)) c.is_open.result (omega arith)
-    c.index-choices-place.is refl c.is_open.ensures c.loop-place.invariant c.in_ok-write_part.ensures.ok
-
-pub write_choices-returns-clause-ok : goal.write_choices-returns-clause-ok
-write_choices-returns-clause-ok t c =
-    let done : c.loop-place.place ≡ length c.args.choices.now = omega arith in
-    choices_done c.args.around c.args.end choice_of c.args.choices.now c.loop-place.place
-    (nat_eq (c.loop-place.place + 1) (length c.args.choices.now) && ends_passing (all_choices c.args.choices.now)) done
-    c.loop-place.invariant
-
-pub write_part-returns-then-is_true-clause-ok : goal.write_part-returns-then-is_true-clause-ok
-write_part-returns-then-is_true-clause-ok t c =
+pub write_taken-returns-clause-ok : goal.write_taken-returns-clause-ok
+write_taken-returns-clause-ok t c =
     let x = c.args.choice.now in
     let s = c.args.self.now in
-    let after = c.write_chosen.new.self in
-    let view : Chosen x.line (expression_of x.condition) (process_of x.process) ≡ choice_of x =
-    search (rules, the_lemmas) in
-    let last : c.args.is_last ≡ true = search rules in
-    subst (λ b. IfOk c.write_chosen.result
-    (λ _. WritesPart s after c.args.around c.args.end b c.args.is_open (choice_of x))) (sym last)
-    (always_written c.args.around c.args.end c.args.is_open x.line (expression_of x.condition) (process_of x.process)
-    (choice_of x) s after c.write_chosen.result view (sym c.is_true.ensures ∙ c.if-is_true.true)
-    c.write_chosen.ensures.ok)
-
-pub write_part-returns-clause-ok : goal.write_part-returns-clause-ok
-write_part-returns-clause-ok t c =
-    let x = c.args.choice.now in
-    let s = c.args.self.now in
-    let within = c.write_choice-2.new.self in
-    let view : Chosen x.line (expression_of x.condition) (process_of x.process) ≡ choice_of x =
-    search (rules, the_lemmas) in
-    let last : c.args.is_last ≡ true = search rules in
-    let tested = subst (λ y. WritesChoice s within c.args.around c.args.end false y) (sym view)
-    c.in_ok-write_choice.ensures.ok in
-    let stopped = writes_stopped c.args.around c.args.end c.args.is_open x.line (expression_of x.condition)
-    (process_of x.process) c.operate.new.self (sym c.is_true.ensures ∙ c.if-is_true.false) tested
-    c.in_ok-operate.ensures in
-    let final = record within { listing = c.operate.new.self } in
-    subst (λ b. WritesPart s final c.args.around c.args.end b c.args.is_open (choice_of x)) (sym last)
-    (subst (λ y. WritesPart s final c.args.around c.args.end true c.args.is_open y) view stopped)
-
-pub write_chosen-returns-clause-ok : goal.write_chosen-returns-clause-ok
-write_chosen-returns-clause-ok t c =
-    let x = c.args.choice.now in
-    let s = c.args.self.now in
-    let view : Chosen x.line (expression_of x.condition) (process_of x.process) ≡ choice_of x =
-    search (rules, the_lemmas) in
+    let view = choice_seen x in
     let narrowed = (λ i. record { entries = c.narrow_by.ensures.entries i; blocks = c.narrow_by.ensures.blocks i })
     ∙ ap (with_entries (where_holds (Some (expression_of x.condition)))) c.exclude.ensures in
-    subst (λ y. WritesChosen s (record c.write.new.self { scope = c.next.new.self }) c.args.around y) view
-    (writes_chosen c.args.around x.line (expression_of x.condition) (process_of x.process) s c.write.new.self
+    subst (λ y. WritesAs s (record c.write.new.self { scope = c.next.new.self }) c.args.around taken_code y) view
+    (writes_taken c.args.around x.line (expression_of x.condition) (process_of x.process) s c.write.new.self
     c.narrow_by.new.scope c.next.new.self narrowed c.in_ok-write.ensures.ok c.next.ensures)
 
-pub write_choice-returns-clause-ok : goal.write_choice-returns-clause-ok
-write_choice-returns-clause-ok t c =
+pub write_tested-returns-clause-ok : goal.write_tested-returns-clause-ok
+write_tested-returns-clause-ok t c =
     let x = c.args.choice.now in
     let s = c.args.self.now in
     let line = x.line in
     let e = expression_of x.condition in
     let p = process_of x.process in
     let after = c.write_row.new.self in
-    let view : Chosen line e p ≡ choice_of x = search (rules, the_lemmas) in
+    let view = choice_seen x in
     let place : site_of c.write_test.new.self ≡ at_place (known_of s.scope) (s.label + 1) (site_of s) =
     c.in_ok-write_test.ensures.site ∙ (λ i. record {
       frame = frame_seen s.frame;
       known = known_of s.scope;
       label = c.in_ok-self.ensures i;
     }) in
-    let chosen = subst (λ y. WritesChosen c.write_test.new.self c.write_chosen.new.self c.args.around y) (sym view)
-    c.in_ok-write_chosen.ensures.ok in
-    subst (λ y. WritesChoice s after c.args.around c.args.end false y) view
-    (writes_tested c.args.around c.args.end line e p s c.write_test.new.self c.write_chosen.new.self after
+    let chosen = subst (λ y. WritesAs c.write_test.new.self c.write_taken.new.self c.args.around taken_code y) (sym view)
+    c.in_ok-write_taken.ensures.ok in
+    subst (λ y. WritesAs s after c.args.around (tested_code c.args.end) y) view
+    (writes_tested c.args.around c.args.end line e p s c.write_test.new.self c.write_taken.new.self after
     c.push.new.self c.in_ok-write_test.ensures.code
-    (chosen_left c.args.around line e p s c.write_test.new.self c.write_chosen.new.self place chosen)
+    (taken_left c.args.around line e p s c.write_test.new.self c.write_taken.new.self place chosen)
     c.in_ok-push.ensures c.in_ok-write_row.ensures.row c.in_ok-write_row.ensures.site)
 
-pub write_open_choice-returns-clause-ok : goal.write_open_choice-returns-clause-ok
-write_open_choice-returns-clause-ok t c =
+pub write_open-returns-clause-ok : goal.write_open-returns-clause-ok
+write_open-returns-clause-ok t c =
     let x = c.args.choice.now in
     let s = c.args.self.now in
     let line = x.line in
     let e = expression_of x.condition in
     let p = process_of x.process in
-    let view : Chosen line e p ≡ choice_of x = search (rules, the_lemmas) in
-    let chosen = subst (λ y. WritesChosen c.write_test.new.self c.write_chosen.new.self c.args.around y) (sym view)
-    c.in_ok-write_chosen.ensures.ok in
-    subst (λ y. WritesChoice s c.write_chosen.new.self c.args.around c.args.end true y) view
-    (writes_open c.args.around c.args.end line e p s c.write_test.new.self c.write_chosen.new.self
+    let view = choice_seen x in
+    let chosen = subst (λ y. WritesAs c.write_test.new.self c.write_taken.new.self c.args.around taken_code y) (sym view)
+    c.in_ok-write_taken.ensures.ok in
+    subst (λ y. WritesAs s c.write_taken.new.self c.args.around (open_code c.args.end) y) view
+    (writes_open c.args.around c.args.end line e p s c.write_test.new.self c.write_taken.new.self
     c.in_ok-write_test.ensures.code c.in_ok-write_test.ensures.site chosen)
 
 -- ---- alternations
@@ -361,27 +303,6 @@ write_replicated-returns-in-Alt-clause-ok t c =
     c.write_repeated_alt.ensures)
 
 -- ---- replicators
-
-pub write_turns-loop-turn-init : goal.write_turns-loop-turn-init
-write_turns-loop-turn-init t c =
-    let differs = c.if-count-eq0.false in
-    let some : 0 < c.args.count = omega arith in
-    turns_start c.args.around c.args.end c.args.name.now (seen_repeats c.args.repeats) (choice_of c.args.choice.now)
-    c.args.count c.args.self.now some
-
-pub write_turns-loop-turn-preserved : goal.write_turns-loop-turn-preserved
-write_turns-loop-turn-preserved t c =
-    let named = c.in_ok-add_name.ensures in
-    turns_next c.args.around c.args.end c.args.name.now (seen_repeats c.args.repeats) (choice_of c.args.choice.now)
-    c.args.count c.loop-turn.turn (meaning_of c.index_in.result) c.add_name.new.scope (omega arith)
-    c.index_in.ensures (λ i. record { entries = named.ok i; blocks = named.extends.blocks i })
-    c.loop-turn.invariant c.in_ok-write_part.ensures.ok
-
-pub write_turns-returns-clause-ok : goal.write_turns-returns-clause-ok
-write_turns-returns-clause-ok t c =
-    let done : c.loop-turn.turn ≡ c.args.count = omega arith in
-    turns_done c.args.around c.args.end c.args.name.now (seen_repeats c.args.repeats) (choice_of c.args.choice.now)
-    c.args.count c.loop-turn.turn done c.loop-turn.invariant
 
 pub write_repeated_if-returns-clause-ok : goal.write_repeated_if-returns-clause-ok
 write_repeated_if-returns-clause-ok t c =
@@ -565,7 +486,7 @@ write_construct-returns-in-If-clause-limit t c = λ e.
     let here = surroundings_of c.args.around in
     subst (λ x. Exceeds c.args.around.limits s.listing (construct_code here c.args.line x (site_of s)))
     (sym (view-If v) ∙ ap construct_of (sym c.in-If.is))
-    (subst (λ cs. Exceeds c.args.around.limits s.listing (if_code here cs (site_of s)))
+    (subst (λ cs. Exceeds c.args.around.limits s.listing (if_at here cs (site_of s)))
     (ap all_choices c.deref-in-If.ensures.value) (c.write_if.ensures.limit e))
 
 pub act-returns-in_err-write_line-clause-limit : goal.act-returns-in_err-write_line-clause-limit
@@ -635,68 +556,25 @@ write_if-returns-in_err-write_row-clause-limit t c = λ e.
     })
     c.in_ok-write_choices.ensures.ok c.end.ensures) (c.in_err-write_row.ensures.limit (ap Err fault))
 
-pub write_choices-returns-in_err-write_part-clause-limit : goal.write_choices-returns-in_err-write_part-clause-limit
-write_choices-returns-in_err-write_part-clause-limit t c = λ e.
-    let fault = handed_on c.from_residual-in_err-write_part.result c.in_err-write_part.field-0.0 Limit
-    c.from_residual-in_err-write_part.ensures.1 e in
-    exceeds_choices c.args.around.limits c.args.around c.args.end choice_of c.args.choices.now c.loop-place.place
-    c.index-choices-place.result (nat_eq (c.loop-place.place + 1) (length c.args.choices.now)) c.is_open.result
-    (omega arith) c.index-choices-place.is refl c.is_open.ensures c.loop-place.invariant
-    (c.in_err-write_part.ensures.limit (ap Err fault))
-
-pub write_part-returns-then-is_true-clause-limit : goal.write_part-returns-then-is_true-clause-limit
-write_part-returns-then-is_true-clause-limit t c = λ e.
+pub write_taken-returns-in_err-write-clause-limit : goal.write_taken-returns-in_err-write-clause-limit
+write_taken-returns-in_err-write-clause-limit t c = λ e.
     let x = c.args.choice.now in
     let s = c.args.self.now in
     let here = surroundings_of c.args.around in
-    let view : Chosen x.line (expression_of x.condition) (process_of x.process) ≡ choice_of x =
-    search (rules, the_lemmas) in
-    let last : c.args.is_last ≡ true = search rules in
-    subst (λ (y : Bool × Component Choices). Exceeds c.args.around.limits s.listing
-    (part_code here c.args.end y.0 c.args.is_open y.1 (site_of s))) (λ i. (sym last i, view i))
-    (exceeds_always c.args.around.limits s here c.args.end c.args.is_open x.line (expression_of x.condition)
-    (process_of x.process) (sym c.is_true.ensures ∙ c.if-is_true.true)
-    (subst (λ y. Exceeds c.args.around.limits s.listing (chosen_code here y (site_of s))) (sym view)
-    (c.write_chosen.ensures.limit e)))
-
-pub write_part-returns-in_err-write_choice-clause-limit : goal.write_part-returns-in_err-write_choice-clause-limit
-write_part-returns-in_err-write_choice-clause-limit t c = λ e.
-    let x = c.args.choice.now in
-    let s = c.args.self.now in
-    let here = surroundings_of c.args.around in
-    let view : Chosen x.line (expression_of x.condition) (process_of x.process) ≡ choice_of x =
-    search (rules, the_lemmas) in
-    let last : c.args.is_last ≡ true = search rules in
-    let fault = handed_on c.from_residual.result c.in_err-write_choice.field-0.0 Limit
-    c.from_residual.ensures.1 e in
-    subst (λ (y : Bool × Component Choices). Exceeds c.args.around.limits s.listing
-    (part_code here c.args.end y.0 c.args.is_open y.1 (site_of s))) (λ i. (sym last i, view i))
-    (exceeds_stopped c.args.around.limits s here c.args.end c.args.is_open x.line (expression_of x.condition)
-    (process_of x.process) (sym c.is_true.ensures ∙ c.if-is_true.false)
-    (subst (λ y. Exceeds c.args.around.limits s.listing (choice_code here c.args.end false y (site_of s))) (sym view)
-    (c.in_err-write_choice.ensures.limit (ap Err fault))))
-
-pub write_chosen-returns-in_err-write-clause-limit : goal.write_chosen-returns-in_err-write-clause-limit
-write_chosen-returns-in_err-write-clause-limit t c = λ e.
-    let x = c.args.choice.now in
-    let s = c.args.self.now in
-    let here = surroundings_of c.args.around in
-    let view : Chosen x.line (expression_of x.condition) (process_of x.process) ≡ choice_of x =
-    search (rules, the_lemmas) in
+    let view = choice_seen x in
     let narrowed = (λ i. record { entries = c.narrow_by.ensures.entries i; blocks = c.narrow_by.ensures.blocks i })
     ∙ ap (with_entries (where_holds (Some (expression_of x.condition)))) c.exclude.ensures in
     let fault = handed_on c.from_residual.result c.in_err-write.field-0.0 Limit c.from_residual.ensures.1 e in
-    subst (λ y. Exceeds c.args.around.limits s.listing (chosen_code here y (site_of s))) view
-    (exceeds_chosen c.args.around.limits s here x.line (expression_of x.condition) (process_of x.process)
+    subst (λ y. Exceeds c.args.around.limits s.listing (choice_as taken_code here y (site_of s))) view
+    (exceeds_taken c.args.around.limits s here x.line (expression_of x.condition) (process_of x.process)
     c.narrow_by.new.scope narrowed (c.in_err-write.ensures.limit (ap Err fault)))
 
-pub write_choice-returns-in_err-write_chosen-clause-limit : goal.write_choice-returns-in_err-write_chosen-clause-limit
-write_choice-returns-in_err-write_chosen-clause-limit t c = λ e.
+pub write_tested-returns-in_err-write_taken-clause-limit : goal.write_tested-returns-in_err-write_taken-clause-limit
+write_tested-returns-in_err-write_taken-clause-limit t c = λ e.
     let x = c.args.choice.now in
     let s = c.args.self.now in
     let here = surroundings_of c.args.around in
-    let view : Chosen x.line (expression_of x.condition) (process_of x.process) ≡ choice_of x =
-    search (rules, the_lemmas) in
+    let view = choice_seen x in
     let tested = c.write_test.new.self in
     let place : site_of tested ≡ at_place (known_of s.scope) (s.label + 1) (site_of s) =
     c.in_ok-write_test.ensures.site ∙ (λ i. record {
@@ -704,64 +582,52 @@ write_choice-returns-in_err-write_chosen-clause-limit t c = λ e.
       known = known_of s.scope;
       label = c.in_ok-self.ensures i;
     }) in
-    let fault = handed_on c.from_residual-in_err-write_chosen.result c.in_err-write_chosen.field-0.0 Limit
-    c.from_residual-in_err-write_chosen.ensures.1 e in
-    subst (λ y. Exceeds c.args.around.limits s.listing (choice_code here c.args.end false y (site_of s))) view
+    let fault = handed_on c.from_residual-in_err-write_taken.result c.in_err-write_taken.field-0.0 Limit
+    c.from_residual-in_err-write_taken.ensures.1 e in
+    subst (λ y. Exceeds c.args.around.limits s.listing (choice_as (tested_code c.args.end) here y (site_of s))) view
     (exceeds_tested c.args.around.limits here c.args.end x.line (expression_of x.condition) (process_of x.process) s
     tested c.in_ok-write_test.ensures.code place
-    (subst (λ y. Exceeds c.args.around.limits tested.listing (chosen_code here y (site_of tested))) (sym view)
-    (c.in_err-write_chosen.ensures.limit (ap Err fault))))
+    (subst (λ y. Exceeds c.args.around.limits tested.listing (choice_as taken_code here y (site_of tested))) (sym view)
+    (c.in_err-write_taken.ensures.limit (ap Err fault))))
 
-pub write_choice-returns-in_err-write_row-clause-limit : goal.write_choice-returns-in_err-write_row-clause-limit
-write_choice-returns-in_err-write_row-clause-limit t c = λ e.
+pub write_tested-returns-in_err-write_row-clause-limit : goal.write_tested-returns-in_err-write_row-clause-limit
+write_tested-returns-in_err-write_row-clause-limit t c = λ e.
     let x = c.args.choice.now in
     let s = c.args.self.now in
     let here = surroundings_of c.args.around in
-    let view : Chosen x.line (expression_of x.condition) (process_of x.process) ≡ choice_of x =
-    search (rules, the_lemmas) in
+    let view = choice_seen x in
     let place : site_of c.write_test.new.self ≡ at_place (known_of s.scope) (s.label + 1) (site_of s) =
     c.in_ok-write_test.ensures.site ∙ (λ i. record {
       frame = frame_seen s.frame;
       known = known_of s.scope;
       label = c.in_ok-self.ensures i;
     }) in
-    let chosen = subst (λ y. WritesChosen c.write_test.new.self c.write_chosen.new.self c.args.around y) (sym view)
-    c.in_ok-write_chosen.ensures.ok in
+    let chosen = subst (λ y. WritesAs c.write_test.new.self c.write_taken.new.self c.args.around taken_code y) (sym view)
+    c.in_ok-write_taken.ensures.ok in
     let fault = handed_on c.from_residual-in_err-write_row.result c.in_err-write_row.field-0.0 Limit
     c.from_residual-in_err-write_row.ensures.1 e in
-    subst (λ y. Exceeds c.args.around.limits s.listing (choice_code here c.args.end false y (site_of s))) view
+    subst (λ y. Exceeds c.args.around.limits s.listing (choice_as (tested_code c.args.end) here y (site_of s))) view
     (exceeds_other c.args.around.limits c.args.around c.args.end x.line (expression_of x.condition)
-    (process_of x.process) s c.write_test.new.self c.write_chosen.new.self c.push.new.self
+    (process_of x.process) s c.write_test.new.self c.write_taken.new.self c.push.new.self
     c.in_ok-write_test.ensures.code
-    (chosen_left c.args.around x.line (expression_of x.condition) (process_of x.process) s c.write_test.new.self
-    c.write_chosen.new.self place chosen) c.in_ok-push.ensures (c.in_err-write_row.ensures.limit (ap Err fault)))
+    (taken_left c.args.around x.line (expression_of x.condition) (process_of x.process) s c.write_test.new.self
+    c.write_taken.new.self place chosen) c.in_ok-push.ensures (c.in_err-write_row.ensures.limit (ap Err fault)))
 
-pub write_open_choice-returns-in_err-write_chosen-clause-limit :
-    goal.write_open_choice-returns-in_err-write_chosen-clause-limit
-write_open_choice-returns-in_err-write_chosen-clause-limit t c = λ e.
+pub write_open-returns-in_err-write_taken-clause-limit :
+    goal.write_open-returns-in_err-write_taken-clause-limit
+write_open-returns-in_err-write_taken-clause-limit t c = λ e.
     let x = c.args.choice.now in
     let s = c.args.self.now in
     let here = surroundings_of c.args.around in
-    let view : Chosen x.line (expression_of x.condition) (process_of x.process) ≡ choice_of x =
-    search (rules, the_lemmas) in
+    let view = choice_seen x in
     let tested = c.write_test.new.self in
-    let fault = handed_on c.from_residual-in_err-write_chosen.result c.in_err-write_chosen.field-0.0 Limit
-    c.from_residual-in_err-write_chosen.ensures.1 e in
-    subst (λ y. Exceeds c.args.around.limits s.listing (choice_code here c.args.end true y (site_of s))) view
+    let fault = handed_on c.from_residual-in_err-write_taken.result c.in_err-write_taken.field-0.0 Limit
+    c.from_residual-in_err-write_taken.ensures.1 e in
+    subst (λ y. Exceeds c.args.around.limits s.listing (choice_as (open_code c.args.end) here y (site_of s))) view
     (exceeds_open c.args.around.limits here c.args.end x.line (expression_of x.condition) (process_of x.process) s
     tested c.in_ok-write_test.ensures.code c.in_ok-write_test.ensures.site
-    (subst (λ y. Exceeds c.args.around.limits tested.listing (chosen_code here y (site_of tested))) (sym view)
-    (c.in_err-write_chosen.ensures.limit (ap Err fault))))
-
-pub write_turns-returns-in_err-write_part-clause-limit : goal.write_turns-returns-in_err-write_part-clause-limit
-write_turns-returns-in_err-write_part-clause-limit t c = λ e.
-    let named = c.in_ok-add_name.ensures in
-    let fault = handed_on c.from_residual-in_err-write_part.result c.in_err-write_part.field-0.0 Limit
-    c.from_residual-in_err-write_part.ensures.1 e in
-    exceeds_turns c.args.around.limits c.args.around c.args.end c.args.name.now (seen_repeats c.args.repeats)
-    (choice_of c.args.choice.now) c.args.count c.loop-turn.turn (meaning_of c.index_in.result) c.add_name.new.scope
-    (omega arith) c.index_in.ensures (λ i. record { entries = named.ok i; blocks = named.extends.blocks i })
-    c.loop-turn.invariant (c.in_err-write_part.ensures.limit (ap Err fault))
+    (subst (λ y. Exceeds c.args.around.limits tested.listing (choice_as taken_code here y (site_of tested))) (sym view)
+    (c.in_err-write_taken.ensures.limit (ap Err fault))))
 
 pub write_repeated_if-returns-in_err-write_turns-clause-limit :
     goal.write_repeated_if-returns-in_err-write_turns-clause-limit
@@ -786,7 +652,7 @@ write_repeated_if-returns-in_err-write_turns-clause-limit t c = λ e.
     c.from_residual-in_err-write_turns.ensures.1 e in
     exceeds_repeated c.args.around.limits c.args.around c.args.line r (choice_of c.args.choice.now) repeats s begun
     counted refl place
-    (subst (λ n. Exceeds c.args.around.limits s.listing (turns_written here s.label r.name (choice_of c.args.choice.now)
+    (subst (λ n. Exceeds c.args.around.limits s.listing (turns_at here s.label r.name (choice_of c.args.choice.now)
     repeats n (site_of begun))) c.times.ensures (c.in_err-write_turns.ensures.limit (ap Err fault)))
 
 pub write_repeated_if-returns-in_err-write_row-clause-limit :
@@ -922,3 +788,136 @@ write_replicated-returns-in_err-write_loop-in-Seq-clause-limit t c = λ e.
     (c.deref.ensures.value ∙ c.in_ok-changed-in-Seq.ensures.numbers
     ∙ (λ i. changed_by_construct here.around.signatures (known_of (spent.scope i)).entries whole))
     (c.in_err-write_loop-in-Seq.ensures.limit (ap Err fault))
+
+-- ---- choices
+
+pub write_choices-loop-choice-preserved : goal.write_choices-loop-choice-preserved
+write_choices-loop-choice-preserved t c =
+    tested_next c.args.around c.args.end choice_of c.of-ended.result.tested.now c.loop-choice.choice-index
+    c.choice-item.result (omega arith) c.choice-item.is c.loop-choice.invariant c.in_ok-write_tested.ensures.ok
+
+pub write_choices-returns-clause-ok : goal.write_choices-returns-clause-ok
+write_choices-returns-clause-ok t c =
+    let ended = c.of-ended.result in
+    let done : length ended.tested.now ≤ c.loop-choice.choice-index = omega arith in
+    choices_written c.args.around c.args.end (all_choices c.args.choices.now) ended.tested.now ended.ending
+    c.of-ended.ensures
+    (tested_done c.args.around c.args.end choice_of ended.tested.now c.loop-choice.choice-index done
+    c.loop-choice.invariant) c.in_ok-write_ending.ensures.ok
+
+pub write_choices-returns-in_err-write_tested-clause-limit :
+    goal.write_choices-returns-in_err-write_tested-clause-limit
+write_choices-returns-in_err-write_tested-clause-limit t c = λ e.
+    let ended = c.of-ended.result in
+    let fault = handed_on c.from_residual.result c.in_err-write_tested.field-0.0 Limit c.from_residual.ensures.1 e in
+    exceeds_choices c.args.around.limits c.args.around c.args.end (all_choices c.args.choices.now) ended.tested.now
+    ended.ending c.loop-choice.choice-index c.choice-item.result c.of-ended.ensures (omega arith) c.choice-item.is
+    c.loop-choice.invariant (c.in_err-write_tested.ensures.limit (ap Err fault))
+
+pub write_choices-returns-in_err-write_ending-clause-limit :
+    goal.write_choices-returns-in_err-write_ending-clause-limit
+write_choices-returns-in_err-write_ending-clause-limit t c = λ e.
+    let ended = c.of-ended.result in
+    let done : length ended.tested.now ≤ c.loop-choice.choice-index = omega arith in
+    let fault = handed_on c.from_residual-in_err-write_ending.result c.in_err-write_ending.field-0.0 Limit
+    c.from_residual-in_err-write_ending.ensures.1 e in
+    exceeds_ending c.args.around.limits c.args.around c.args.end (all_choices c.args.choices.now) ended.tested.now
+    ended.ending c.of-ended.ensures
+    (tested_done c.args.around c.args.end choice_of ended.tested.now c.loop-choice.choice-index done
+    c.loop-choice.invariant) (c.in_err-write_ending.ensures.limit (ap Err fault))
+
+pub write_ending-returns-in_ok-write_open-in-Opens-clause-ok :
+    goal.write_ending-returns-in_ok-write_open-in-Opens-clause-ok
+write_ending-returns-in_ok-write_open-in-Opens-clause-ok t c =
+    subst (λ x. IfOk c.write_taken-in-Opens.result
+    (λ _. WritesEnding c.args.self.now c.write_taken-in-Opens.new.self c.args.around c.args.end x)) (sym c.in-Opens.is)
+    (where_ok c.write_taken-in-Opens.result
+    (λ _ x. writes_opens c.args.around c.args.end c.in-Opens.opened c.in-Opens.last
+    c.in_ok-write_open-in-Opens.ensures.ok x) c.write_taken-in-Opens.ensures.ok)
+
+pub write_ending-returns-in_ok-write_open-in-Opens-clause-limit :
+    goal.write_ending-returns-in_ok-write_open-in-Opens-clause-limit
+write_ending-returns-in_ok-write_open-in-Opens-clause-limit t c = λ e.
+    let s = c.args.self.now in
+    subst (λ x. Exceeds c.args.around.limits s.listing
+    (ending_at (surroundings_of c.args.around) c.args.end x (site_of s))) (sym c.in-Opens.is)
+    (exceeds_passing c.args.around.limits c.args.around c.args.end c.in-Opens.opened c.in-Opens.last
+    c.in_ok-write_open-in-Opens.ensures.ok (c.write_taken-in-Opens.ensures.limit e))
+
+pub write_ending-returns-in_err-write_open-in-Opens-clause-limit :
+    goal.write_ending-returns-in_err-write_open-in-Opens-clause-limit
+write_ending-returns-in_err-write_open-in-Opens-clause-limit t c = λ e.
+    let s = c.args.self.now in
+    let fault = handed_on c.from_residual-in_err-write_open-in-Opens.result
+    c.in_err-write_open-in-Opens.field-0.0 Limit c.from_residual-in_err-write_open-in-Opens.ensures.1 e in
+    subst (λ x. Exceeds c.args.around.limits s.listing
+    (ending_at (surroundings_of c.args.around) c.args.end x (site_of s))) (sym c.in-Opens.is)
+    (exceeds_opens c.args.around.limits c.args.around c.args.end c.in-Opens.opened c.in-Opens.last s
+    (c.in_err-write_open-in-Opens.ensures.limit (ap Err fault)))
+
+-- ---- a choice in turns
+
+pub write_turns-loop-turn-preserved : goal.write_turns-loop-turn-preserved
+write_turns-loop-turn-preserved t c =
+    let named = c.in_ok-add_name.ensures in
+    turns_next c.args.around c.args.end c.args.name.now (seen_repeats c.args.repeats) (choice_of c.args.choice.now)
+    c.loop-turn.turn (meaning_of c.index_in.result) c.add_name.new.scope c.index_in.ensures
+    (λ i. record { entries = named.ok i; blocks = named.extends.blocks i }) c.loop-turn.invariant
+    c.in_ok-write_tested.ensures.ok
+
+pub write_turns-returns-then-tested-count-clause-ok : goal.write_turns-returns-then-tested-count-clause-ok
+write_turns-returns-then-tested-count-clause-ok t c =
+    let x = c.args.choice.now in
+    let repeats = seen_repeats c.args.repeats in
+    let tested = c.turns_tested-tested.result in
+    let done : c.loop-turn.turn ≡ tested = omega arith in
+    let all : tested ≡ c.args.count = omega arith in
+    let written = subst (λ n. WritesSomeTurns c.args.self.now c.loop-turn.self c.args.around c.args.end c.args.name.now
+    repeats (choice_of x) n) done c.loop-turn.invariant in
+    turns_stopped c.args.around c.args.end c.args.name.now repeats x.line (expression_of x.condition)
+    (process_of x.process) (choice_of x) c.args.count tested c.operate.new.self (choice_seen x)
+    c.turns_tested-tested.ensures all written c.in_ok-operate.ensures
+
+pub write_turns-returns-clause-ok : goal.write_turns-returns-clause-ok
+write_turns-returns-clause-ok t c =
+    let x = c.args.choice.now in
+    let repeats = seen_repeats c.args.repeats in
+    let tested = c.turns_tested-tested.result in
+    let done : c.loop-turn.turn ≡ tested = omega arith in
+    let written = subst (λ n. WritesSomeTurns c.args.self.now c.loop-turn.self c.args.around c.args.end c.args.name.now
+    repeats (choice_of x) n) done c.loop-turn.invariant in
+    let named = c.in_ok-add_name-2.ensures in
+    turns_taken c.args.around c.args.end c.args.name.now repeats x.line (expression_of x.condition)
+    (process_of x.process) (choice_of x) c.args.count tested (meaning_of c.index_in-2.result) c.add_name-2.new.scope
+    (choice_seen x) c.turns_tested-tested.ensures c.if-tested-count.false c.index_in-2.ensures
+    (λ i. record { entries = named.ok i; blocks = named.extends.blocks i }) written c.in_ok-write_taken.ensures.ok
+
+pub write_turns-returns-in_err-write_tested-clause-limit : goal.write_turns-returns-in_err-write_tested-clause-limit
+write_turns-returns-in_err-write_tested-clause-limit t c = λ e.
+    let x = c.args.choice.now in
+    let named = c.in_ok-add_name.ensures in
+    let fault = handed_on c.from_residual-in_err-write_tested.result c.in_err-write_tested.field-0.0 Limit
+    c.from_residual-in_err-write_tested.ensures.1 e in
+    exceeds_turns c.args.around.limits c.args.around c.args.end c.args.name.now (seen_repeats c.args.repeats) x.line
+    (expression_of x.condition) (process_of x.process) (choice_of x) c.args.count c.turns_tested-tested.result
+    c.loop-turn.turn (meaning_of c.index_in.result) c.add_name.new.scope (choice_seen x) c.turns_tested-tested.ensures
+    (omega arith) c.index_in.ensures (λ i. record { entries = named.ok i; blocks = named.extends.blocks i })
+    c.loop-turn.invariant (c.in_err-write_tested.ensures.limit (ap Err fault))
+
+pub write_turns-returns-in_err-write_taken-clause-limit : goal.write_turns-returns-in_err-write_taken-clause-limit
+write_turns-returns-in_err-write_taken-clause-limit t c = λ e.
+    let x = c.args.choice.now in
+    let repeats = seen_repeats c.args.repeats in
+    let tested = c.turns_tested-tested.result in
+    let done : c.loop-turn.turn ≡ tested = omega arith in
+    let written = subst (λ n. WritesSomeTurns c.args.self.now c.loop-turn.self c.args.around c.args.end c.args.name.now
+    repeats (choice_of x) n) done c.loop-turn.invariant in
+    let named = c.in_ok-add_name-2.ensures in
+    let fault = handed_on c.from_residual-in_err-write_taken.result c.in_err-write_taken.field-0.0 Limit
+    c.from_residual-in_err-write_taken.ensures.1 e in
+    exceeds_last_turn c.args.around.limits c.args.around c.args.end c.args.name.now repeats x.line
+    (expression_of x.condition) (process_of x.process) (choice_of x) c.args.count tested
+    (meaning_of c.index_in-2.result) c.add_name-2.new.scope (choice_seen x) c.turns_tested-tested.ensures
+    c.if-tested-count.false c.index_in-2.ensures
+    (λ i. record { entries = named.ok i; blocks = named.extends.blocks i }) written
+    (c.in_err-write_taken.ensures.limit (ap Err fault))

@@ -1,14 +1,11 @@
-use Rattle.std.proofs.Common.{◌*◌, ◌+◌, ◌&&◌, take, length, nat_eq}
+use Rattle.std.proofs.Common.{◌*◌, ◌+◌, take}
 use Rattle.occam_parser.specs.BlockViews.{choice_of, branch_of, plain_component, all_processes, all_choices}
 use Rattle.occam_parser.specs.BlockViews.{all_branches}
 use Rattle.program_uses.specs.Indices.{seen_repeats}
 use Rattle.code_generator.specs.Alternations.{exits_in, WritesBranches}
 use Rattle.code_generator.specs.Alternations as alternations
-use Rattle.code_generator.specs.Processes.{ends_passing}
-use Rattle.code_generator.specs.Written.{WritesSeq}
+use Rattle.code_generator.specs.Written.{WritesSeq, WritesTested, WritesSomeTurns}
 use Rattle.code_generator.specs.Branches as Branches
-use Rattle.code_generator.proofs.ChoicesWritten.{WritesUpTo}
-use Rattle.code_generator.proofs.TurnsWritten.{WritesSome}
 use Rattle.code_generator.proofs.processes.ProcessWriter.+processes.Given as goal
 
 -- Each process has one less that may be in it, and what is called between two processes goes down by its rank.
@@ -34,14 +31,14 @@ decreases-write_repeated_alt l = 16 * l.around.deeper + 13
 abbrev pub decreases-write : goal.decreases-write
 decreases-write l = 16 * l.around.deeper
 
-abbrev pub decreases-write_choice : goal.decreases-write_choice
-decreases-write_choice l = 16 * l.around.deeper + 10
+abbrev pub decreases-write_tested : goal.decreases-write_tested
+decreases-write_tested l = 16 * l.around.deeper + 10
 
 abbrev pub decreases-write_choices : goal.decreases-write_choices
 decreases-write_choices l = 16 * l.around.deeper + 12
 
-abbrev pub decreases-write_chosen : goal.decreases-write_chosen
-decreases-write_chosen l = 16 * l.around.deeper + 9
+abbrev pub decreases-write_taken : goal.decreases-write_taken
+decreases-write_taken l = 16 * l.around.deeper + 9
 
 abbrev pub decreases-write_construct : goal.decreases-write_construct
 decreases-write_construct l = 16 * l.around.deeper + 15
@@ -67,11 +64,11 @@ decreases-write_loop l = 16 * l.around.deeper + 3
 abbrev pub decreases-write_one : goal.decreases-write_one
 decreases-write_one l = 16 * l.around.deeper + 2
 
-abbrev pub decreases-write_open_choice : goal.decreases-write_open_choice
-decreases-write_open_choice l = 16 * l.around.deeper + 10
+abbrev pub decreases-write_open : goal.decreases-write_open
+decreases-write_open l = 16 * l.around.deeper + 10
 
-abbrev pub decreases-write_part : goal.decreases-write_part
-decreases-write_part l = 16 * l.around.deeper + 11
+abbrev pub decreases-write_ending : goal.decreases-write_ending
+decreases-write_ending l = 16 * l.around.deeper + 11
 
 abbrev pub decreases-write_par : goal.decreases-write_par
 decreases-write_par l = 16 * l.around.deeper + 3
@@ -95,11 +92,9 @@ abbrev pub invariant-write_seq-loop-process : goal.invariant-write_seq-loop-proc
 invariant-write_seq-loop-process l =
     WritesSeq l.initial.self l.self l.around (all_processes (take l.process-index l.processes))
 
-abbrev pub invariant-write_choices-loop-place : goal.invariant-write_choices-loop-place
-invariant-write_choices-loop-place l =
-    WritesUpTo l.initial.self l.self l.around l.end (nat_eq l.place (length l.choices))
-    (nat_eq (l.place + 1) (length l.choices) && ends_passing (all_choices l.choices))
-    (all_choices (take l.place l.choices))
+abbrev pub invariant-write_choices-loop-choice : goal.invariant-write_choices-loop-choice
+invariant-write_choices-loop-choice l =
+    WritesTested l.initial.self l.self l.around l.end (all_choices (take l.choice-index l.ended.tested.now))
 
 abbrev pub invariant-write_par-loop-process : goal.invariant-write_par-loop-process
 invariant-write_par-loop-process l =
@@ -112,8 +107,7 @@ invariant-write_components-loop-turn l =
 
 abbrev pub invariant-write_turns-loop-turn : goal.invariant-write_turns-loop-turn
 invariant-write_turns-loop-turn l =
-    WritesSome l.initial.self l.self l.around l.end l.name (seen_repeats l.repeats) (choice_of l.choice)
-    (nat_eq l.turn l.count) l.turn
+    WritesSomeTurns l.initial.self l.self l.around l.end l.name (seen_repeats l.repeats) (choice_of l.choice) l.turn
 
 abbrev pub invariant-write_branches-loop-number : goal.invariant-write_branches-loop-number
 invariant-write_branches-loop-number l =

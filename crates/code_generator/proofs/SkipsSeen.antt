@@ -1,17 +1,15 @@
--- What does nothing is seen as SKIP.
-use Rattle.std.proofs.Common.{◌≡◌, ℕ, ◌+◌, ◌<◌, false, List, [], ◌∷◌, length, map, take, get_or, refl, sym, ap, ◌∙◌}
-use Rattle.std.proofs.Common.{arith, rules}
-use Rattle.std.proofs.lemmas.List.{take_all}
+-- What does nothing is seen as SKIP, and has no code.
+use Rattle.std.proofs.Common.{◌≡◌, ◌<◌, true, false, List, [], ◌∷◌, length, map, refl, sym, ap, ◌∙◌, arith, rules}
 use Rattle.occam_parser.specs.declared.tree.Body.{the_lemmas}
 use Rattle.occam_parser.specs.declared.tree.Declaration.{Declaration as CodeDeclaration}
 use Rattle.occam_parser.specs.declared.tree.Process.{Process as CodeProcess}
 use Rattle.occam_parser.specs.BlockReading.{with_declarations}
-use Rattle.occam_parser.specs.BlockViews.{all_of, process_of, construct_of}
-use Rattle.occam_parser.specs.Blocks.{Process, Does, Part, Component}
+use Rattle.occam_parser.specs.BlockViews.{process_of, construct_of}
+use Rattle.occam_parser.specs.Blocks.{Process, Does, Act}
 use Rattle.occam_parser.specs.LineViews.{declaration_of}
-use Rattle.occam_parser.proofs.SeenBlocks.{all_push}
-use Rattle.program_uses.proofs.Adding.{taken_one}
-use Rattle.code_generator.specs.Processes.{does_nothing, is_skip, passes, ends_passing}
+use Rattle.occam_parser.specs.Lines.{Skip}
+use Rattle.code_pieces.specs.Pieces.{no_code}
+use Rattle.code_generator.specs.Processes.{Site, Surroundings, does_nothing, is_skip, process_code}
 
 -- ---- a process
 
@@ -41,11 +39,9 @@ pub declaring_seen : (p : CodeProcess) → 0 < length p.declarations.items → f
 declaring_seen p some =
     some_first p.declarations.items (Does p.line (construct_of p.construct.value)) some ∙ ap is_skip (process_seen p)
 
--- ---- choices
+-- ---- its code
 
--- what the last one is
-pub passes_last : {part : Part} {A : Type 0} (f : A → Component part) (xs : List A) (i : ℕ) (x : A) → i < length xs
-    → x ≡ get_or xs i x → i + 1 ≡ length xs → ends_passing (all_of (map f xs)) ≡ passes (f x)
-passes_last f xs i x h is last =
-    ap (λ ys. ends_passing (all_of (map f ys))) (sym (take_all (i + 1) xs (omega arith)))
-    ∙ ap ends_passing (all_push f (take i xs) (take (i + 1) xs) x (taken_one xs i x x h is))
+-- what does nothing has no code
+pub skip_code : (w : Surroundings) (p : Process) (s : Site) → is_skip p ≡ true → process_code w p s ≡ no_code s.label
+skip_code w (Does line (Act Skip)) s h = refl
+skip_code w p s h = absurd (cc h)

@@ -2,8 +2,8 @@ use Rattle.std.proofs.Common.{◌≡◌, ◌<◌, length, arith, ap, sym, ◌∙
 use Rattle.std.proofs.lemmas.Bool.{eqb-true, eqb-false}
 use Rattle.occam_parser.specs.BlockViews.{construct_of}
 use Rattle.code_generator.specs.Processes.{does_nothing}
-use Rattle.code_generator.proofs.ChoicesPassed.{bare_seen, declaring_seen}
-use Rattle.code_generator.proofs.processes.is_skip.Goals as goal
+use Rattle.code_generator.proofs.SkipsSeen.{bare_seen, declaring_seen}
+use Rattle.code_generator.proofs.choices.is_skip.Goals as goal
 
 pub returns-then-not-is_empty : goal.returns-then-not-is_empty
 returns-then-not-is_empty c =
