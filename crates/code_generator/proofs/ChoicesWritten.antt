@@ -49,7 +49,8 @@ pub tested_next : {A : Type 0} (around : calling.Surroundings) (end : ℕ) (f : 
 tested_next around end f xs i x {s} {t} {w} h is first one =
     let here = surroundings_of around in
     let cs = all_of (map f (take i xs)) in
-    subst (λ cs. WritesTested s w around end cs) (sym (all_push f (take i xs) (take (i + 1) xs) x (taken_one xs i x x h is)))
+    subst (λ cs. WritesTested s w around end cs)
+    (sym (all_push f (take i xs) (take (i + 1) xs) x (taken_one xs i x x h is)))
     (writes_then (tested_at here end cs (site_of s))
     (λ g label. tested_code end g
     (placed here (f x) (after_components here.around (Mark mark.If) cs (known_of s.scope))) label) first

@@ -166,8 +166,8 @@ exceeds_tested_first l around end cs xs x s are h =
     let z = site_of s in
     let k = after_components here.around (Mark mark.If) (all_choices xs) z.known in
     subst (λ x. Exceeds l s.listing (choices_code end z.frame x z.label)) (sym (are.choices here z.known))
-    (exceeds_first l (tested_at here end (all_choices xs) z) (ending_code end z.frame (placed_ending here x k)) s.listing
-    h)
+    (exceeds_first l (tested_at here end (all_choices xs) z) (ending_code end z.frame (placed_ending here x k))
+    s.listing h)
 
 pub exceeds_choices : (l : Limits) (around : calling.Surroundings) (end : ℕ) (cs : Components Choices)
     (xs : List Choice) (y : code_ending.IfEnding) (i : ℕ) (x : Choice) {s t : ProcessWriter} → AreEnded cs xs y
@@ -202,11 +202,12 @@ exceeds_ending l around end cs xs x {s} {t} are first h =
     subst (λ x. Exceeds l s.listing (choices_code end z.frame x z.label)) (sym (are.choices here z.known))
     (exceeds_then l (tested_at here end (all_choices xs) z)
     (λ g label. ending_code end g (placed_ending here x k) label) first
-    (subst (λ k. Exceeds l t.listing (ending_code end (frame_seen t.frame) (placed_ending here x k) t.label)) first.known
-    (subst (λ o. Exceeds l t.listing o) (ending_is here end x (site_of t) are.skips) h)))
+    (subst (λ k. Exceeds l t.listing (ending_code end (frame_seen t.frame) (placed_ending here x k) t.label))
+    first.known (subst (λ o. Exceeds l t.listing o) (ending_is here end x (site_of t) are.skips) h)))
 
 -- an open choice
-pub exceeds_opens : (l : Limits) (around : calling.Surroundings) (end : ℕ) (opened last : Bor Choice) (s : ProcessWriter)
+pub exceeds_opens : (l : Limits) (around : calling.Surroundings) (end : ℕ) (opened last : Bor Choice)
+    (s : ProcessWriter)
     → Exceeds l s.listing (choice_as (open_code end) (surroundings_of around) (choice_of opened.now) (site_of s))
     → Exceeds l s.listing (ending_at (surroundings_of around) end (if_ending.Opens opened last) (site_of s))
 exceeds_opens l around end opened last s h =
@@ -363,8 +364,8 @@ pub exceeds_last_turn : (l : Limits) (around : calling.Surroundings) (end : ℕ)
 exceeds_last_turn l around end name repeats line e p c count tested m {s} {t} scope is found some means enters first h =
     let here = surroundings_of around in
     let z = site_of s in
-    let begun = turn_entered here.around name repeats c tested m z.known (known_of t.scope) (known_of scope) means enters
-    first.known in
+    let begun = turn_entered here.around name repeats c tested m z.known (known_of t.scope) (known_of scope) means
+    enters first.known in
     let last = turn_begun here.around (Mark mark.If) name c repeats z.known tested in
     subst (λ x. Exceeds l s.listing (choices_code end z.frame x z.label))
     (sym (last_untested here name line e p c repeats z.known count tested is found some))

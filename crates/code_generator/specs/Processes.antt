@@ -1,5 +1,5 @@
 -- The code of processes: a definition over the tree, with what is known at each place. A PAR and an ALT have none here.
-use Rattle.std.specs.Prelude.{ℕ, zero, suc, ◌+◌, ℤ, pos, Bool, true, false, ◌&&◌, List, [], ◌∷◌, ◌++◌}
+use Rattle.std.specs.Prelude.{ℕ, zero, ◌+◌, ℤ, pos, Bool, true, false, List, [], ◌∷◌, ◌++◌}
 use Rattle.std.specs.Prelude.{if◌then◌else◌, Option, Some, None, unwrap_or, option_map}
 use Rattle.std.specs.List.{list_any}
 use Rattle.occam_layout.specs.declared.mark.Mark.TheVariants as mark
@@ -108,8 +108,8 @@ abbrev pub is_skip : Process → Bool
 is_skip (Does line c) = does_nothing c
 is_skip p = false
 
--- A choice in its place: what is known where its test is and after it, whether its process does nothing, and the code of
--- that, by where it begins.
+-- A choice in its place: what is known where its test is and after it, whether its process does nothing, and the code
+-- of that, by where it begins.
 pub record PlacedChoice : Type 0 where
   pub condition : Expression
   pub known : Known
