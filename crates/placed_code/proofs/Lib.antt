@@ -16,3 +16,4 @@ pub mod Sending
 pub mod Receiving
 pub mod Closes
 pub mod RunsBegin
+pub mod Finishing

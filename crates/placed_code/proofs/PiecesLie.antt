@@ -101,7 +101,7 @@ address_fetched code at to lengths end n all =
 -- ---- lists from an item on
 
 -- the first item from a place on is the one at that place
-get_from_drop : {A : Type 0} (xs : List A) (n : ℕ) (x : A) (ys : List A) → drop n xs ≡ x ∷ ys
+pub get_from_drop : {A : Type 0} (xs : List A) (n : ℕ) (x : A) (ys : List A) → drop n xs ≡ x ∷ ys
     → slice_get xs n ≡ Some x
 get_from_drop [] zero x ys is = absurd (cc)
 get_from_drop [] (suc n) x ys is = absurd (cc)
@@ -111,7 +111,7 @@ get_from_drop (y ∷ xs) zero x ys is =
 get_from_drop (y ∷ xs) (suc n) x ys is = get_from_drop xs n x ys is
 
 -- what is after it
-drop_next : {A : Type 0} (xs : List A) (n : ℕ) (x : A) (ys : List A) → drop n xs ≡ x ∷ ys → drop (suc n) xs ≡ ys
+pub drop_next : {A : Type 0} (xs : List A) (n : ℕ) (x : A) (ys : List A) → drop n xs ≡ x ∷ ys → drop (suc n) xs ≡ ys
 drop_next [] zero x ys is = absurd (cc)
 drop_next [] (suc n) x ys is = absurd (cc)
 drop_next (y ∷ xs) zero x ys is = cc
@@ -266,7 +266,7 @@ placed_after l k (q ∷ done) p later is once =
     ap (λ (ns : List Numbered). number_at l ns) (placed_cons k q all)
     ∙ number_other l k (placed_from (k + size) all) (label_in q) other ∙ rest ∙ sum_is
 
-length-places : (n : ℕ) (placed : List Numbered) → length (places_of n placed) ≡ n
+pub length-places : (n : ℕ) (placed : List Numbered) → length (places_of n placed) ≡ n
 length-places zero placed = refl
 length-places (suc n) placed =
     let before = length-places n placed in

@@ -188,13 +188,20 @@ BehavioursClose = (m : Contents) (writers : ByLink Bool) (labels : ℕ → ℕ) 
     → Behaves c (Passes end) p t → At m c p l s
     → Closed m writers c (Passes end) (over_links (in_order writers) t l) s
 
--- ---- where a run begins
+-- ---- modules of pieces
 
 -- the code of pieces is that of the module that says them
 abbrev pub LaidCodeIsOfItsModule : Type 0
 LaidCodeIsOfItsModule = (ps : List Piece) (labels : ℕ) (links bytes : List ℕ) (says : Says ps labels links bytes)
     (depth : ℕ) → let c = laid_code ps labels says.arrangement.lengths depth in
     c ≡ code_of (laid_module ps labels links says.arrangement) c.labels c.footing
+
+-- that module finishes at the end of its code
+abbrev pub LaidModulesFinish : Type 0
+LaidModulesFinish = (ps : List Piece) (labels : ℕ) (links bytes : List ℕ) (says : Says ps labels links bytes)
+    → let m = laid_module ps labels links says.arrangement in m.finish ≡ length m.code
+
+-- ---- where a run begins
 
 -- at the first byte of a module, with nothing in its registers
 abbrev pub first_point : Contents → Point

@@ -2,6 +2,7 @@
 ghost use Rattle.placed_code.specs.Behaves.{BehavioursCompose};
 ghost use Rattle.placed_code.specs.Closing.{RunsGoOn, PointsComeToBe, StopsComeToBe, SendsComeToBe};
 ghost use Rattle.placed_code.specs.Closing.{ReceivesComeToBe, BehavioursClose, LaidCodeIsOfItsModule, RunsBegin};
+ghost use Rattle.placed_code.specs.Closing.{LaidModulesFinish};
 ghost use Rattle.placed_code.specs.Instructions.{ItemsAreFetched};
 ghost use Rattle.placed_code.specs.LaidCode.{PiecesLie};
 ghost use Rattle.placed_code.specs.Points.{PiecesGo, PointsAreComeTo};
@@ -73,4 +74,9 @@ pub fn behaviours_close()
 pub fn runs_begin()
     ensures code { LaidCodeIsOfItsModule }
     ensures begins { RunsBegin }
+{}
+
+/// The module that says pieces finishes at the end of its code, as the laws on where a run stops ask.
+pub fn modules_finish()
+    ensures { LaidModulesFinish }
 {}
