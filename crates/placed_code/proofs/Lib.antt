@@ -17,3 +17,4 @@ pub mod Receiving
 pub mod Closes
 pub mod RunsBegin
 pub mod Finishing
+pub mod TablesInMemory

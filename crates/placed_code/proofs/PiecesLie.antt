@@ -294,7 +294,7 @@ places_at (suc n) placed others l less =
 -- ---- tables
 
 -- a table has four bytes for each value
-length-table : (t : List ℤ) → length (table_bytes t) ≡ 4 * length t
+pub length-table : (t : List ℤ) → length (table_bytes t) ≡ 4 * length t
 length-table [] = refl
 length-table (v ∷ t) =
     let rest = length-table t in

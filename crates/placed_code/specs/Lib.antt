@@ -4,3 +4,4 @@ pub mod LaidCode
 pub mod Points
 pub mod Behaves
 pub mod Closing
+pub mod TablesInMemory

@@ -7,6 +7,7 @@ ghost use Rattle.placed_code.specs.Instructions.{ItemsAreFetched};
 ghost use Rattle.placed_code.specs.LaidCode.{PiecesLie};
 ghost use Rattle.placed_code.specs.Points.{PiecesGo, PointsAreComeTo};
 ghost use Rattle.placed_code.specs.StraightPieces.{StraightPiecesFollow};
+ghost use Rattle.placed_code.specs.TablesInMemory.{TablesAreLoaded, TablesStay};
 
 /// The instructions of each item of a draft are fetched where the item begins, one after the other.
 pub fn items_are_fetched()
@@ -79,4 +80,11 @@ pub fn runs_begin()
 /// The module that says pieces finishes at the end of its code, as the laws on where a run stops ask.
 pub fn modules_finish()
     ensures { LaidModulesFinish }
+{}
+
+/// The memory of a loaded module has each table that its pieces read, at the address that they make, behind the frame. So
+/// it stays there while only the frame changes.
+pub fn tables_are_loaded()
+    ensures loaded { TablesAreLoaded }
+    ensures stay { TablesStay }
 {}
