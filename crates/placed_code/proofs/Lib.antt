@@ -18,3 +18,4 @@ pub mod Closes
 pub mod RunsBegin
 pub mod Finishing
 pub mod TablesInMemory
+pub mod RowsFound

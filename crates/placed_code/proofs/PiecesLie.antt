@@ -459,7 +459,7 @@ module _ (ps : List Piece) (labels : ℕ) (lengths : List ℕ) (depth : ℕ) (fi
 
   module _ (once : LabelsArePlacedOnce ps labels) where
     -- a label is where the piece is that places it
-    label_is : (done : List Piece) (p : Piece) (later : List Piece) (l : ℕ) → ps ≡ done ++ p ∷ later
+    pub label_is : (done : List Piece) (p : Piece) (later : List Piece) (l : ℕ) → ps ≡ done ++ p ∷ later
         → label_in p ≡ Some l → c.labels l ≡ offset lengths (item_count done)
     label_is done p later l whole is =
         let placed = placed_from 0 ps in

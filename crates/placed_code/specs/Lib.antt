@@ -5,3 +5,4 @@ pub mod Points
 pub mod Behaves
 pub mod Closing
 pub mod TablesInMemory
+pub mod RowsFound

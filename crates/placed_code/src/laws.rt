@@ -6,6 +6,7 @@ ghost use Rattle.placed_code.specs.Closing.{LaidModulesFinish};
 ghost use Rattle.placed_code.specs.Instructions.{ItemsAreFetched};
 ghost use Rattle.placed_code.specs.LaidCode.{PiecesLie};
 ghost use Rattle.placed_code.specs.Points.{PiecesGo, PointsAreComeTo};
+ghost use Rattle.placed_code.specs.RowsFound.{RowsKeepTheirOrder, RowsAreFound, NoRowIsElsewhere};
 ghost use Rattle.placed_code.specs.StraightPieces.{StraightPiecesFollow};
 ghost use Rattle.placed_code.specs.TablesInMemory.{TablesAreLoaded, TablesStay};
 
@@ -82,9 +83,17 @@ pub fn modules_finish()
     ensures { LaidModulesFinish }
 {}
 
-/// The memory of a loaded module has each table that its pieces read, at the address that they make, behind the frame. So
-/// it stays there while only the frame changes.
+/// The memory of a loaded module has each table that its pieces read, at the address that they make and behind the
+/// frame. So it stays there while only the frame changes.
 pub fn tables_are_loaded()
     ensures loaded { TablesAreLoaded }
     ensures stay { TablesStay }
+{}
+
+/// The label rows of a module of pieces are in the order of the pieces that say them. Each is found at its label, and
+/// none elsewhere.
+pub fn rows_are_found()
+    ensures order { RowsKeepTheirOrder }
+    ensures found { RowsAreFound }
+    ensures elsewhere { NoRowIsElsewhere }
 {}
