@@ -145,6 +145,16 @@ item_count-append (p ∷ ps) qs =
     let rest = item_count-append ps qs in
     omega (arith, rest)
 
+-- pieces have as many items as are counted
+pub length-items : (ts : List (List ℤ)) (workspace : Workspace) (ps : List Piece)
+    → length (items_from workspace ts ps) ≡ item_count ps
+length-items ts workspace [] = refl
+length-items ts workspace (p ∷ ps) =
+    let here = count_is ts workspace.depth p in
+    let rest = length-items ts (workspace_behind p workspace) ps in
+    let both = length-append (items_in ts workspace.depth p) (items_from (workspace_behind p workspace) ts ps) in
+    omega (arith, here, rest, both)
+
 -- the items after pieces
 items_after : (ts : List (List ℤ)) (workspace : Workspace) (before later : List Piece)
     → drop (item_count before) (items_from workspace ts (before ++ later))

@@ -6,7 +6,7 @@ use Rattle.std.specs.Prelude.{⊤, slice_get, ◌==◌, map, option_map, unwrap_
 use Rattle.std.specs.Ordering.{ordering_then, is_lt, nat_cmp}
 use Rattle.std.specs.List.{AllByRecursion, find, filter_map, cons_option}
 use Rattle.std.proofs.Math.ListN.{get_or-map}
-use Rattle.std.proofs.lemmas.Bool.{eq-eqb, ne_eqb, le-ltb}
+use Rattle.std.proofs.lemmas.Bool.{cases_lt, eq-eqb, ne_eqb, le-ltb}
 use Rattle.std.proofs.lemmas.List.{map-append, length-map}
 use Rattle.std.proofs.lemmas.List.Sorted.{IsPermutation-refl}
 use Rattle.module_format.specs.Contents.{Contents, Label, label_at, Procedure}
@@ -20,7 +20,7 @@ use Rattle.module_builder.specs.Placing.{label_offset}
 use Rattle.module_builder.proofs.NumberLaws.{numbered_at}
 use Rattle.module_builder.proofs.RowLaws.{length-numbered}
 use Rattle.module_builder.proofs.OrderLaws.{one_order}
-use Rattle.module_builder.proofs.Growing.{offset_rises}
+use Rattle.module_builder.proofs.Growing.{IsPositive, offset_rises, offset-cons, bytes_positive, length-bytes_from}
 use Rattle.code_pieces.specs.declared.piece.RowEntry.{RowEntry}
 use Rattle.code_pieces.specs.declared.piece.Workspace.{Workspace}
 use Rattle.code_pieces.specs.Numbers.{Needs}
@@ -31,9 +31,11 @@ use Rattle.code_pieces.specs.DraftedRows.{said_row}
 use Rattle.code_pieces.specs.Laid.{needs_in}
 use Rattle.code_pieces.specs.LaidModule.{Arrangement, IsArrangement, laid_module}
 use Rattle.code_pieces.specs.Laying.{SaidRow, said_rows, said_rows_from, workspace_behind, label, draft_code}
+use Rattle.code_pieces.specs.Laying.{tables_before}
 use Rattle.placed_code.specs.LaidCode.{item_count, workspace_after, LabelsArePlacedOnce}
 use Rattle.placed_code.specs.RowsFound.{row_of, SaysRow, RowsKeepTheirOrder, RowsAreFound, NoRowIsElsewhere}
-use Rattle.placed_code.proofs.PiecesLie.{label_is, item_count-append}
+use Rattle.placed_code.specs.RowsFound.{NoRowIsBeforeOthers, NoRowIsInside}
+use Rattle.placed_code.proofs.PiecesLie.{label_is, item_count-append, length-items}
 
 -- ---- rows whose keys never fall stay in their order
 
@@ -209,6 +211,15 @@ offset_is code lengths l =
     ap (λ (o : Option ℕ). unwrap_or o 0) (get_or-map (option_map (offset lengths)) code.labels l None)
     ∙ unwrapped lengths (get_or code.labels l None)
 
+-- items that have bytes begin one after the other
+offsets_rise : (xs : List ℕ) (i j : ℕ) → IsPositive xs → i < j → j ≤ length xs → offset xs i < offset xs j
+offsets_rise [] i j positive less within = absurd (omega arith)
+offsets_rise (x ∷ xs) i zero positive less within = absurd (omega arith)
+offsets_rise (x ∷ xs) zero (suc j) positive less within = omega (arith, offset-cons x xs j, positive.0)
+offsets_rise (x ∷ xs) (suc i) (suc j) positive less within =
+    let rest = offsets_rise xs i j positive.1 (omega arith) (omega arith) in
+    omega (arith, offset-cons x xs i, offset-cons x xs j, rest)
+
 -- ---- the rows of a module
 
 module _ (ps : List Piece) (labels : ℕ) (links : List ℕ) (a : Arrangement) (arranged : IsArrangement ps labels a)
@@ -315,6 +326,65 @@ module _ (ps : List Piece) (labels : ℕ) (links : List ℕ) (a : Arrangement) (
       ap (λ (rows : List Label). find (λ (r : Label). r.offset == at) rows) rows_keep
       ∙ none_found (row_of ps labels a) at (said_rows n ps) (none_there at none [] ps in_root refl)
 
+  -- as every item has bytes, later items begin further on
+  items_rise : (i j : ℕ) → i < j → j ≤ item_count ps → offset a.lengths i < offset a.lengths j
+  items_rise i j less within =
+      let code = draft_code ps labels in
+      let exact = arranged.least.fits.exact in
+      let size = ap (λ (xs : List ℕ). length xs) exact ∙ length-bytes_from code a.lengths 0 code.items
+      ∙ length-items (tables_before [] ps) in_root ps in
+      offsets_rise a.lengths i j (subst IsPositive (sym exact) (bytes_positive code a.lengths 0 code.items)) less
+      (omega (arith, within, size))
+
+  -- a piece that says a row is where its label is
+  row_place : (before : List Piece) (l : ℕ) (entries : List RowEntry) → SaysRow ps before l entries
+      → place (draft_code ps labels) a.lengths (label l) ≡ offset a.lengths (item_count before)
+  row_place before l entries row =
+      sym (offset_is (draft_code ps labels) a.lengths l) ∙ key_is before l entries row.rest row.whole
+
+  -- the items before a piece are among all
+  items_before : (before : List Piece) (l : ℕ) (entries : List RowEntry) → SaysRow ps before l entries
+      → item_count before ≤ item_count ps
+  items_before before l entries row =
+      let all = ap item_count row.whole in
+      let both = item_count-append before (Row l entries ∷ row.rest) in
+      omega (arith, all, both)
+
+  -- none is found where an item begins and no piece says a row
+  none_before_others : (number : ℕ) → number ≤ item_count ps
+      → ((before : List Piece) (l : ℕ) (entries : List RowEntry) → SaysRow ps before l entries
+      → item_count before ≡ number → ⊥)
+      → label_at m (offset a.lengths number) ≡ None
+  none_before_others number within none =
+      none_elsewhere (offset a.lengths number) (λ before l entries row same.
+      let here = row_place before l entries row in
+      elim (cases_lt (item_count before) number) [
+        | inl less ↦
+            let up = items_rise (item_count before) number less within in
+            absurd (omega (arith, here, same, up))
+        | inr no_less ↦ elim (cases_lt number (item_count before)) [
+          | inl more ↦
+              let up = items_rise number (item_count before) more (items_before before l entries row) in
+              absurd (omega (arith, here, same, up))
+          | inr no_more ↦ none before l entries row (omega (arith, no_less, no_more))
+        ]
+      ])
+
+  -- and none inside an item
+  none_inside : (number at : ℕ) → offset a.lengths number < at → at < offset a.lengths (suc number)
+      → label_at m at ≡ None
+  none_inside number at above below =
+      none_elsewhere at (λ before l entries row same.
+      let here = row_place before l entries row in
+      elim (cases_lt number (item_count before)) [
+        | inl later ↦
+            let up = offset_rises a.lengths (suc number) (item_count before) (omega (arith, later)) in
+            absurd (omega (arith, here, same, up, below))
+        | inr earlier ↦
+            let up = offset_rises a.lengths (item_count before) number earlier in
+            absurd (omega (arith, here, same, up, above))
+      ])
+
 pub rows_keep_their_order : RowsKeepTheirOrder
 rows_keep_their_order ps labels links bytes says once =
     rows_keep ps labels links says.arrangement says.arranged says.format.keeps once
@@ -326,3 +396,11 @@ rows_are_found ps labels links bytes says depth before l entries once row =
 pub no_row_is_elsewhere : NoRowIsElsewhere
 no_row_is_elsewhere ps labels links bytes says depth at once none =
     none_elsewhere ps labels links says.arrangement says.arranged says.format.keeps once at none
+
+pub no_row_is_before_others : NoRowIsBeforeOthers
+no_row_is_before_others ps labels links bytes says number once within none =
+    none_before_others ps labels links says.arrangement says.arranged says.format.keeps once number within none
+
+pub no_row_is_inside : NoRowIsInside
+no_row_is_inside ps labels links bytes says number at once above below =
+    none_inside ps labels links says.arrangement says.arranged says.format.keeps once number at above below

@@ -1,7 +1,7 @@
 -- The label rows of a module of pieces: in the order of the pieces that say them, and found at their labels.
-use Rattle.std.specs.Prelude.{◌≡◌, ℕ, List, ◌∷◌, ◌++◌, map, Some, None}
+use Rattle.std.specs.Prelude.{◌≡◌, ℕ, suc, ◌<◌, ◌≤◌, List, ◌∷◌, ◌++◌, map, Some, None}
 use Rattle.module_format.specs.Contents.{Label, label_at}
-use Rattle.module_builder.specs.Layouts.{places}
+use Rattle.module_builder.specs.Layouts.{offset, places}
 use Rattle.code_pieces.specs.declared.piece.RowEntry.{RowEntry}
 use Rattle.code_pieces.specs.Pars.{in_root}
 use Rattle.code_pieces.specs.Pieces.{Piece, Row}
@@ -9,7 +9,7 @@ use Rattle.code_pieces.specs.DraftedRows.{said_row}
 use Rattle.code_pieces.specs.Laid.{needs_in}
 use Rattle.code_pieces.specs.LaidModule.{Arrangement, Says, context_number, laid_row, laid_module}
 use Rattle.code_pieces.specs.Laying.{SaidRow, said_rows, pars_of, draft_code}
-use Rattle.placed_code.specs.LaidCode.{laid_code, workspace_after, LabelsArePlacedOnce}
+use Rattle.placed_code.specs.LaidCode.{laid_code, item_count, workspace_after, LabelsArePlacedOnce}
 
 -- the row of the module that says a row of the pieces
 abbrev pub row_of : List Piece → ℕ → Arrangement → SaidRow → Label
@@ -44,4 +44,19 @@ NoRowIsElsewhere = (ps : List Piece) (labels : ℕ) (links bytes : List ℕ) (sa
     (depth at : ℕ) → LabelsArePlacedOnce ps labels
     → ((before : List Piece) (l : ℕ) (entries : List RowEntry) → SaysRow ps before l entries
     → (laid_code ps labels says.arrangement.lengths depth).labels l ≡ at → ⊥)
+    → label_at (laid_module ps labels links says.arrangement) at ≡ None
+
+-- So none is found where an item begins and no such piece is right before it.
+abbrev pub NoRowIsBeforeOthers : Type 0
+NoRowIsBeforeOthers = (ps : List Piece) (labels : ℕ) (links bytes : List ℕ) (says : Says ps labels links bytes)
+    (number : ℕ) → LabelsArePlacedOnce ps labels → number ≤ item_count ps
+    → ((before : List Piece) (l : ℕ) (entries : List RowEntry) → SaysRow ps before l entries
+    → item_count before ≡ number → ⊥)
+    → label_at (laid_module ps labels links says.arrangement) (offset says.arrangement.lengths number) ≡ None
+
+-- And none is found inside an item.
+abbrev pub NoRowIsInside : Type 0
+NoRowIsInside = (ps : List Piece) (labels : ℕ) (links bytes : List ℕ) (says : Says ps labels links bytes)
+    (number at : ℕ) → LabelsArePlacedOnce ps labels → offset says.arrangement.lengths number < at
+    → at < offset says.arrangement.lengths (suc number)
     → label_at (laid_module ps labels links says.arrangement) at ≡ None

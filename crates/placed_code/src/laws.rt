@@ -7,6 +7,7 @@ ghost use Rattle.placed_code.specs.Instructions.{ItemsAreFetched};
 ghost use Rattle.placed_code.specs.LaidCode.{PiecesLie};
 ghost use Rattle.placed_code.specs.Points.{PiecesGo, PointsAreComeTo};
 ghost use Rattle.placed_code.specs.RowsFound.{RowsKeepTheirOrder, RowsAreFound, NoRowIsElsewhere};
+ghost use Rattle.placed_code.specs.RowsFound.{NoRowIsBeforeOthers, NoRowIsInside};
 ghost use Rattle.placed_code.specs.StraightPieces.{StraightPiecesFollow};
 ghost use Rattle.placed_code.specs.TablesInMemory.{TablesAreLoaded, TablesStay};
 
@@ -91,9 +92,11 @@ pub fn tables_are_loaded()
 {}
 
 /// The label rows of a module of pieces are in the order of the pieces that say them. Each is found at its label, and
-/// none elsewhere.
+/// none elsewhere: not where an item begins that no such piece is right before, and not inside an item.
 pub fn rows_are_found()
     ensures order { RowsKeepTheirOrder }
     ensures found { RowsAreFound }
     ensures elsewhere { NoRowIsElsewhere }
+    ensures between { NoRowIsBeforeOthers }
+    ensures inside { NoRowIsInside }
 {}
