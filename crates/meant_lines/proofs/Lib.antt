@@ -1,2 +1,4 @@
 pub mod Words
 pub mod Instructions
+pub mod Carrying
+pub mod Storing

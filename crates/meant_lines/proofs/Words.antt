@@ -14,7 +14,7 @@ use Rattle.code_pieces.specs.Pieces.{counted}
 use Rattle.placed_code.specs.StraightPieces.{word_address, word_place}
 use Rattle.meant_lines.specs.Words.{OperandsNameWords, WordsHavePlaces, BytesHavePlaces, AddressesMoveTwice}
 use Rattle.meant_lines.specs.Words.{ElementsHaveAddresses, AddressesReadBack}
-use Rattle.meant_lines.specs.Words.{WordsAreCounted, StaysBelow, WordsBelowStay, FrameWordsReadBack}
+use Rattle.meant_lines.specs.Words.{WordsAreCounted, ChangesWithin, OtherWordsStay, FrameWordsReadBack}
 use Rattle.meant_lines.specs.Words.{IsInFrame, with_frame_word}
 
 -- ---- where words are
@@ -59,36 +59,72 @@ words_are_counted word few = omega arith
 
 -- ---- what is kept
 
-pub same_all : (word : ℕ) (m : Memory) → StaysBelow word m m
-same_all word m = record { bytes = λ place low. refl; size = refl }
+pub all_alike : (first end : ℕ) (m : Memory) → ChangesWithin first end m m
+all_alike first end m = record { bytes = λ place apart. refl; size = refl }
 
-pub same_both : {word : ℕ} {a b c : Memory} → StaysBelow word a b → StaysBelow word b c → StaysBelow word a c
-same_both x y = record {
-  bytes = λ place low. y.bytes place low ∙ x.bytes place low;
+pub changes_both : {first end : ℕ} {a b c : Memory} → ChangesWithin first end a b → ChangesWithin first end b c
+    → ChangesWithin first end a c
+changes_both x y = record {
+  bytes = λ place apart. y.bytes place apart ∙ x.bytes place apart;
   size = y.size ∙ x.size;
 }
 
-pub same_less : {less more : ℕ} {a b : Memory} → less ≤ more → StaysBelow more a b → StaysBelow less a b
-same_less fewer x = record { bytes = λ place low. x.bytes place (omega (arith, fewer, low)); size = x.size }
+apart_more : {less first end more place : ℕ} → less ≤ first → end ≤ more
+    → (place < word_place less) ⊎ (word_place more ≤ place) → (place < word_place first) ⊎ (word_place end ≤ place)
+apart_more low high (inl below) = inl (omega (arith, low, below))
+apart_more low high (inr above) = inr (omega (arith, high, above))
 
-pub same_word : {word : ℕ} {a b : Memory} (below : ℕ) → below < word → StaysBelow word a b
-    → word_at b (word_place below) ≡ word_at a (word_place below)
-same_word {a = a} {b = b} below less x =
-    word_at_same b a (word_place below) (x.bytes (word_place below) (omega (arith, less)))
-    (x.bytes (word_place below + 1) (omega (arith, less))) (x.bytes (word_place below + 2) (omega (arith, less)))
-    (x.bytes (word_place below + 3) (omega (arith, less)))
+pub changes_wider : {less first end more : ℕ} {a b : Memory} → less ≤ first → end ≤ more
+    → ChangesWithin first end a b → ChangesWithin less more a b
+changes_wider low high x = record {
+  bytes = λ place apart. x.bytes place (apart_more low high apart);
+  size = x.size;
+}
 
-pub same_written : (word written : ℕ) (m : Memory) (v : ℤ) → word ≤ written
-    → StaysBelow word m (with_frame_word written v m)
-same_written word written m v less = record {
-  bytes = λ place low. byte_at-with_word_other m (word_place written) place (Some v) (inl (omega (arith, less, low)));
+-- each of its bytes is before or behind what changes
+byte_apart : (first end other n : ℕ) → n < 4 → (other < first) ⊎ (end ≤ other)
+    → (word_place other + n < word_place first) ⊎ (word_place end ≤ word_place other + n)
+byte_apart first end other n few (inl below) = inl (omega (arith, few, below))
+byte_apart first end other n few (inr above) = inr (omega (arith, above))
+
+first_apart : (first end other : ℕ) → (other < first) ⊎ (end ≤ other)
+    → (word_place other < word_place first) ⊎ (word_place end ≤ word_place other)
+first_apart first end other (inl below) = inl (omega (arith, below))
+first_apart first end other (inr above) = inr (omega (arith, above))
+
+pub other_word : {first end : ℕ} {a b : Memory} (other : ℕ) → (other < first) ⊎ (end ≤ other)
+    → ChangesWithin first end a b → word_at b (word_place other) ≡ word_at a (word_place other)
+other_word {first = first} {end = end} {a = a} {b = b} other apart x =
+    word_at_same b a (word_place other) (x.bytes (word_place other) (first_apart first end other apart))
+    (x.bytes (word_place other + 1) (byte_apart first end other 1 (omega arith) apart))
+    (x.bytes (word_place other + 2) (byte_apart first end other 2 (omega arith) apart))
+    (x.bytes (word_place other + 3) (byte_apart first end other 3 (omega arith) apart))
+
+word_written_apart : (first end written place : ℕ) → first ≤ written → written < end
+    → (place < word_place first) ⊎ (word_place end ≤ place)
+    → (place < word_place written) ⊎ (word_place written + 4 ≤ place)
+word_written_apart first end written place low high (inl below) = inl (omega (arith, low, below))
+word_written_apart first end written place low high (inr above) = inr (omega (arith, high, above))
+
+pub changes_writing : (first end written : ℕ) (m : Memory) (v : ℤ) → first ≤ written → written < end
+    → ChangesWithin first end m (with_frame_word written v m)
+changes_writing first end written m v low high = record {
+  bytes = λ place apart.
+      byte_at-with_word_other m (word_place written) place (Some v)
+      (word_written_apart first end written place low high apart);
   size = length-with_word m (word_place written) (Some v);
 }
 
-pub same_with_byte : (word place : ℕ) (m : Memory) (b : Option ℕ) → word_place word ≤ place
-    → StaysBelow word m (with_byte m place b)
-same_with_byte word place m b less = record {
-  bytes = λ other low. byte_at-with_byte_other m place other b (omega (arith, less, low));
+byte_written_apart : (first end place other : ℕ) → word_place first ≤ place → place < word_place end
+    → (other < word_place first) ⊎ (word_place end ≤ other) → other ≢ place
+byte_written_apart first end place other low high (inl below) = omega (arith, low, below)
+byte_written_apart first end place other low high (inr above) = omega (arith, high, above)
+
+pub changes_with_byte : (first end place : ℕ) (m : Memory) (b : Option ℕ) → word_place first ≤ place
+    → place < word_place end → ChangesWithin first end m (with_byte m place b)
+changes_with_byte first end place m b low high = record {
+  bytes = λ other apart.
+      byte_at-with_byte_other m place other b (byte_written_apart first end place other low high apart);
   size = length-with_byte m place b;
 }
 
@@ -99,22 +135,28 @@ copied_size from source to (suc n) m =
     copied_size from (source + 1) (to + 1) n (with_byte m to (byte_at from source))
     ∙ length-with_byte m to (byte_at from source)
 
-pub same_copied : (word source to count : ℕ) (m : Memory) → word_place word ≤ to
-    → StaysBelow word m (copied m source to count m)
-same_copied word source to count m less = record {
-  bytes = λ place low. copied-beside m source to count m place (inl (omega (arith, less, low)));
+copied_apart : (first end to count place : ℕ) → word_place first ≤ to → to + count ≤ word_place end
+    → (place < word_place first) ⊎ (word_place end ≤ place) → (place < to) ⊎ (to + count ≤ place)
+copied_apart first end to count place low high (inl below) = inl (omega (arith, low, below))
+copied_apart first end to count place low high (inr above) = inr (omega (arith, high, above))
+
+pub changes_copied : (first end source to count : ℕ) (m : Memory) → word_place first ≤ to
+    → to + count ≤ word_place end → ChangesWithin first end m (copied m source to count m)
+changes_copied first end source to count m low high = record {
+  bytes = λ place apart.
+      copied-beside m source to count m place (copied_apart first end to count place low high apart);
   size = copied_size m source to count m;
 }
 
-pub words_below_stay : WordsBelowStay
-words_below_stay = record {
-  alike = same_all;
-  following = λ word a b c x y. same_both x y;
-  fewer = λ less more a b within x. same_less within x;
-  word = λ word below a b less x. same_word below less x;
-  writing = same_written;
-  byte = same_with_byte;
-  copying = same_copied;
+pub other_words_stay : OtherWordsStay
+other_words_stay = record {
+  alike = all_alike;
+  following = λ first end a b c x y. changes_both x y;
+  wider = λ less first end more a b low high x. changes_wider low high x;
+  word = λ first end other a b apart x. other_word other apart x;
+  writing = changes_writing;
+  byte = changes_with_byte;
+  copying = changes_copied;
 }
 
 -- another word lies before or after it
@@ -142,6 +184,6 @@ pub ruleset frame_words = (
   addresses_read_back,
   addresses_move_twice,
   words_are_counted,
-  words_below_stay,
+  other_words_stay,
   frame_words_read_back,
 )

@@ -1,5 +1,6 @@
 -- The words of the frame in memory, those that code may change and those that it leaves.
-use Rattle.std.specs.Prelude.{◌≡◌, ◌≢◌, ℕ, ◌+◌, ◌*◌, ◌<◌, ◌≤◌, ℤ, pos, ◌-ℤ◌, ◌+ℤ◌, FitsSigned, length, Option, Some}
+use Rattle.std.specs.Prelude.{◌≡◌, ◌≢◌, ℕ, ◌+◌, ◌*◌, ◌<◌, ◌≤◌, ◌⊎◌, ℤ, pos, ◌-ℤ◌, ◌+ℤ◌, FitsSigned, length, Some}
+use Rattle.std.specs.Prelude.{Option}
 use Rattle.std.specs.Int.{w32}
 use Rattle.module_format.specs.declared.limits.TheConstants.{MAX_DATA_WORDS}
 use Rattle.machine_state.specs.Memory.{Memory, place_of, local_address, byte_at, word_at, with_word}
@@ -24,9 +25,10 @@ Holds m word v = word_at m (word_place word) ≡ Some v
 abbrev pub with_frame_word : ℕ → ℤ → Memory → Memory
 with_frame_word word v m = with_word m (word_place word) (Some v)
 
--- The bytes before a word of the frame are as they were, and memory has as many bytes.
-pub record StaysBelow (word : ℕ) (old new : Memory) : Type 0 where
-  pub bytes : (place : ℕ) → place < word_place word → byte_at new place ≡ byte_at old place
+-- Of memory only words of the frame from the one to before the other may have changed, and it has as many bytes.
+pub record ChangesWithin (first end : ℕ) (old new : Memory) : Type 0 where
+  pub bytes : (place : ℕ) → (place < word_place first) ⊎ (word_place end ≤ place)
+      → byte_at new place ≡ byte_at old place
   pub size : length new ≡ length old
 
 -- ---- where words are
@@ -67,25 +69,27 @@ WordsAreCounted = (word : ℕ) → IsInFrame word → counted word ≡ word
 
 -- ---- what is kept
 
-pub record WordsBelowStay : Type 0 where
+pub record OtherWordsStay : Type 0 where
   -- nothing was written
-  pub alike : (word : ℕ) (m : Memory) → StaysBelow word m m
+  pub alike : (first end : ℕ) (m : Memory) → ChangesWithin first end m m
   -- one after the other
-  pub following : (word : ℕ) (a b c : Memory) → StaysBelow word a b → StaysBelow word b c → StaysBelow word a c
-  -- fewer words
-  pub fewer : (less more : ℕ) (a b : Memory) → less ≤ more → StaysBelow more a b → StaysBelow less a b
-  -- a word below
-  pub word : (word below : ℕ) (a b : Memory) → below < word → StaysBelow word a b
-      → word_at b (word_place below) ≡ word_at a (word_place below)
-  -- a word from there on was written
-  pub writing : (word written : ℕ) (m : Memory) (v : ℤ) → word ≤ written
-      → StaysBelow word m (with_frame_word written v m)
-  -- a byte from there on was written
-  pub byte : (word place : ℕ) (m : Memory) (b : Option ℕ) → word_place word ≤ place
-      → StaysBelow word m (with_byte m place b)
-  -- bytes were copied there
-  pub copying : (word source to count : ℕ) (m : Memory) → word_place word ≤ to
-      → StaysBelow word m (copied m source to count m)
+  pub following : (first end : ℕ) (a b c : Memory) → ChangesWithin first end a b → ChangesWithin first end b c
+      → ChangesWithin first end a c
+  -- among more words
+  pub wider : (less first end more : ℕ) (a b : Memory) → less ≤ first → end ≤ more → ChangesWithin first end a b
+      → ChangesWithin less more a b
+  -- another word
+  pub word : (first end other : ℕ) (a b : Memory) → (other < first) ⊎ (end ≤ other) → ChangesWithin first end a b
+      → word_at b (word_place other) ≡ word_at a (word_place other)
+  -- a word was written
+  pub writing : (first end written : ℕ) (m : Memory) (v : ℤ) → first ≤ written → written < end
+      → ChangesWithin first end m (with_frame_word written v m)
+  -- a byte was written
+  pub byte : (first end place : ℕ) (m : Memory) (b : Option ℕ) → word_place first ≤ place → place < word_place end
+      → ChangesWithin first end m (with_byte m place b)
+  -- bytes were copied
+  pub copying : (first end source to count : ℕ) (m : Memory) → word_place first ≤ to → to + count ≤ word_place end
+      → ChangesWithin first end m (copied m source to count m)
 
 pub record FrameWordsReadBack : Type 0 where
   -- what was written is there

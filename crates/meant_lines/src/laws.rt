@@ -2,7 +2,7 @@
 
 ghost use Rattle.meant_lines.specs.Words.{OperandsNameWords, WordsHavePlaces, BytesHavePlaces, AddressesMoveTwice};
 ghost use Rattle.meant_lines.specs.Words.{ElementsHaveAddresses, AddressesReadBack};
-ghost use Rattle.meant_lines.specs.Words.{WordsAreCounted, WordsBelowStay, FrameWordsReadBack};
+ghost use Rattle.meant_lines.specs.Words.{WordsAreCounted, OtherWordsStay, FrameWordsReadBack};
 ghost use Rattle.meant_lines.specs.Instructions.{LeastWordIsPushed, ConstantsArePushed, WordsAreLoaded};
 ghost use Rattle.meant_lines.specs.Instructions.{WordsAreStored, AddressesArePushed, TablesArePushed};
 ghost use Rattle.meant_lines.specs.Instructions.{AddressesMoveOn, DistantWordsAreLoaded, DistantWordsAreStored};
@@ -11,10 +11,11 @@ ghost use Rattle.meant_lines.specs.Instructions.{BytesAreSelected, BytesAreMoved
 ghost use Rattle.meant_lines.specs.Instructions.{ConstantsAreAdded, ConstantsAreCompared, BitsAreTurned};
 ghost use Rattle.meant_lines.specs.Instructions.{OperationsAreComputed, WordsAreShifted, OperandsNameOperations};
 ghost use Rattle.meant_lines.specs.Instructions.{WaitingIsPushedBelow, WordsAreMoved};
+ghost use Rattle.meant_lines.specs.CarryingLaws.{NamesAreKept, HomesEndBefore, OuterWordsStay, OneNameChanges};
+ghost use Rattle.meant_lines.specs.CarryingLaws.{ScalarsAreCarried, ElementsAreCarried, BytesAreCarried};
 
 /// Each word of the frame has its own place in memory, and the operand that names it at any workspace of the frame
-/// leads there. What is written in a word is read there, and other words stay. What code leaves of the words below one
-/// composes.
+/// leads there. What is written in a word is read there, and other words stay.
 #[tactic(auto, using(crate::proofs::Words::frame_words))]
 pub fn frame_words_stay()
     ensures operands { OperandsNameWords }
@@ -24,7 +25,7 @@ pub fn frame_words_stay()
     ensures registers { AddressesReadBack }
     ensures twice { AddressesMoveTwice }
     ensures counted { WordsAreCounted }
-    ensures below { WordsBelowStay }
+    ensures kept { OtherWordsStay }
     ensures back { FrameWordsReadBack }
 {}
 
@@ -70,4 +71,23 @@ pub fn operators_are_computed()
 pub fn instructions_follow()
     ensures below { WaitingIsPushedBelow }
     ensures moved { WordsAreMoved }
+{}
+
+/// Where memory carries the environment of a scope, what a name holds is in the home that code finds for it. It stays
+/// there while code changes words from the first one on that is free. Where words of one home change, memory carries
+/// the environment in which its name holds what is there.
+#[tactic(auto, using(crate::proofs::Carrying::carrying))]
+pub fn names_are_carried()
+    ensures kept { NamesAreKept }
+    ensures before { HomesEndBefore }
+    ensures stays { OuterWordsStay }
+    ensures changes { OneNameChanges }
+{}
+
+/// A number that is stored in a scalar's word, in the word of an INT or in the byte of a BYTE of an array leaves memory
+/// that carries the environment after the store.
+pub fn stores_are_carried()
+    ensures scalars { ScalarsAreCarried }
+    ensures elements { ElementsAreCarried }
+    ensures bytes { BytesAreCarried }
 {}
