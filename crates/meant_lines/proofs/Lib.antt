@@ -2,3 +2,4 @@ pub mod Words
 pub mod Instructions
 pub mod Carrying
 pub mod Storing
+pub mod Pushing

@@ -10,7 +10,7 @@ use Rattle.scalar_ranges.specs.Environments.{Held, One, Many, Environment, item_
 use Rattle.line_pieces.specs.Homes as home
 use Rattle.line_pieces.specs.Homes.{Home, Word, Block, words_for}
 use Rattle.placed_code.specs.StraightPieces.{Footing, word_place}
-use Rattle.meant_lines.specs.Words.{Holds}
+use Rattle.meant_lines.specs.Words.{IsInFrame, Holds}
 
 -- Where a process runs: its workspace and the tables, how many words the frame has, the homes of its names from the
 -- outermost one on, and how many turns are left of the loop with its block there.
@@ -103,8 +103,9 @@ Rise hs (e ∷ es) top =
 
 -- ---- memory and a scope
 
--- The words of the frame lie in memory.
+-- The words of the frame lie in memory, and the workspace is one of a frame.
 pub record HasFrame (g : Ground) (m : Memory) : Type 0 where
+  pub workspace : IsInFrame g.footing.depth
   pub few : g.words ≤ MAX_DATA_WORDS
   pub inside : word_place g.words ≤ length m
 

@@ -2,3 +2,5 @@ pub mod Words
 pub mod Instructions
 pub mod Carrying
 pub mod CarryingLaws
+pub mod Pushing
+pub mod PushingLaws

@@ -13,6 +13,8 @@ ghost use Rattle.meant_lines.specs.Instructions.{OperationsAreComputed, WordsAre
 ghost use Rattle.meant_lines.specs.Instructions.{WaitingIsPushedBelow, WordsAreMoved};
 ghost use Rattle.meant_lines.specs.CarryingLaws.{NamesAreKept, HomesEndBefore, OuterWordsStay, OneNameChanges};
 ghost use Rattle.meant_lines.specs.CarryingLaws.{ScalarsAreCarried, ElementsAreCarried, BytesAreCarried};
+ghost use Rattle.meant_lines.specs.PushingLaws.{ConstantsPush, ScalarsPush, KnownWordsPush, WordsPush};
+ghost use Rattle.meant_lines.specs.PushingLaws.{KnownBytesPush, BytesPush, KnownItemsPush, ItemsPush};
 
 /// Each word of the frame has its own place in memory, and the operand that names it at any workspace of the frame
 /// leads there. What is written in a word is read there, and other words stay.
@@ -90,4 +92,17 @@ pub fn stores_are_carried()
     ensures scalars { ScalarsAreCarried }
     ensures elements { ElementsAreCarried }
     ensures bytes { BytesAreCarried }
+{}
+
+/// Where memory carries the environment of a scope, the code of a constant, of a scalar and of an element pushes what
+/// the name holds. Of an element whose subscript has no single value, the code of the subscript pushes that.
+pub fn leaves_and_elements_are_pushed()
+    ensures constants { ConstantsPush }
+    ensures scalars { ScalarsPush }
+    ensures known_words { KnownWordsPush }
+    ensures words { WordsPush }
+    ensures known_bytes { KnownBytesPush }
+    ensures bytes { BytesPush }
+    ensures known_items { KnownItemsPush }
+    ensures items { ItemsPush }
 {}
