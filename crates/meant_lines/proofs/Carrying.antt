@@ -254,7 +254,11 @@ module _ {first end : ℕ} {old new : Memory} (changes : ChangesWithin first end
         )
 
     pub frame_stays : HasFrame g old → HasFrame g new
-    frame_stays frame = record { workspace = frame.workspace; few = frame.few; inside = omega (arith, frame.inside, changes.size) }
+    frame_stays frame = record {
+      workspace = frame.workspace;
+      few = frame.few;
+      inside = omega (arith, frame.inside, changes.size);
+    }
 
     -- where words of one home change
     module _ (n : ℕ) (k : Meaning) (held : Held) (part : IsPartOf (slice_get g.homes n) k first end)

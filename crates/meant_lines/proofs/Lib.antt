@@ -3,3 +3,4 @@ pub mod Instructions
 pub mod Carrying
 pub mod Storing
 pub mod Pushing
+pub mod Operators

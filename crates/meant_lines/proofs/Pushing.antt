@@ -17,7 +17,8 @@ use Rattle.scalar_ranges.specs.Entries.{Meaning, Scalar, Array, Entry, meaning_i
 use Rattle.scalar_ranges.specs.Environments.{Held, One, Many, Environment, held_in, item_at, item_of, IsHeld, Meets}
 use Rattle.scalar_ranges.proofs.Lookups.{found_held}
 use Rattle.code_pieces.specs.declared.operations.TheConstants.{LOAD_BYTE, BYTE_SUBSCRIPT, WORD_SUBSCRIPT}
-use Rattle.code_pieces.specs.Pieces.{Piece, Direct, TableAddress, operates, loads, points, constant, counted, word_after}
+use Rattle.code_pieces.specs.Pieces.{Piece, Direct, TableAddress, operates, loads, points, constant}
+use Rattle.code_pieces.specs.Pieces.{counted, word_after}
 use Rattle.line_pieces.specs.Homes as home
 use Rattle.line_pieces.specs.Homes.{Home, Nowhere, Word, Block, Link, Passed, home_of, words_for}
 use Rattle.line_pieces.specs.Expressions.{Subscript, scalar_code, or_zero, before_offset, subscript_code, loads_at}
@@ -124,7 +125,7 @@ array_ends g top w es env name type vs m array carries =
         (subst (λ (o : Option Home). end_of o (Array array.kind type (Some size) array.range) ≤ top) array.at
         (homes_end_before g.homes es top name (Array array.kind type (Some size) array.range) carries.rise means))
 
-word_is : (word count : ℕ) → IsInFrame (word + count) → word_after word count ≡ word + count
+pub word_is : (word count : ℕ) → IsInFrame (word + count) → word_after word count ≡ word + count
 unfolding word_after counted
 word_is word count few = omega (arith, few)
 
@@ -139,7 +140,7 @@ known_words_push g top t w es env name vs s leaf small (pos i) v array is h carr
     (array_kept g top es env name value_type.Int (Word w) vs h.memory array carries i v is))
 
 -- memory after the code of a subscript
-carries_after : (g : Ground) (top t : ℕ) (es : List Entry) (env : Environment) (ps : List Piece) (leaf small : Bool)
+pub carries_after : (g : Ground) (top t : ℕ) (es : List Entry) (env : Environment) (ps : List Piece) (leaf small : Bool)
     (v : ℤ) (h : pieces.Held) → Meets env es → top ≤ t → (first : Pushed g ps t leaf small v h)
     → Carries g top es env h.memory → Carries g top es env first.after.memory
 carries_after g top t es env ps leaf small v h meets low first carries =

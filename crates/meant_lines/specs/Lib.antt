@@ -4,3 +4,4 @@ pub mod Carrying
 pub mod CarryingLaws
 pub mod Pushing
 pub mod PushingLaws
+pub mod OperatorLaws

@@ -1,12 +1,17 @@
 -- What it is that the code of an expression pushes a value.
-use Rattle.std.specs.Prelude.{◌≡◌, ⊤, ℕ, ◌<◌, ℤ, pos, Bool, true, List}
+use Rattle.std.specs.Prelude.{◌≡◌, ⊤, ℕ, ◌<◌, ◌≤◌, ◌⊎◌, ℤ, pos, Bool, true, false, ◌&&◌, ◌||◌, List}
 use Rattle.std.specs.List.{AllByRecursion}
 use Rattle.prefix_decoder.specs.declared.function.Fun.TheVariants as fun
 use Rattle.machine_state.specs.Memory.{Memory}
-use Rattle.code_pieces.specs.Pieces.{Piece, Direct}
+use Rattle.module_format.specs.declared.stack.Stack.{Stack}
+use Rattle.scalar_ranges.specs.Entries.{Entry}
+use Rattle.scalar_ranges.specs.Environments.{Environment}
+use Rattle.code_pieces.specs.declared.words.TheConstants.{GREATEST_WORD}
+use Rattle.code_pieces.specs.Pieces.{Piece, Direct, word_after}
+use Rattle.line_pieces.specs.Expressions.{Operand}
 use Rattle.placed_code.specs.StraightPieces.{Held, LeadOn, with_pushed}
 use Rattle.meant_lines.specs.Words.{ChangesWithin}
-use Rattle.meant_lines.specs.Carrying.{Ground}
+use Rattle.meant_lines.specs.Carrying.{Ground, Carries}
 
 -- From what is held before, pieces lead to where the value is in A. Of memory only words from t on have changed. Where
 -- they are small, B is what A was, and where they are one push, nothing else has changed.
@@ -22,10 +27,6 @@ pub record Pushed (g : Ground) (ps : List Piece) (t : ℕ) (leaf small : Bool) (
 abbrev pub PushesValue : Ground → (Memory → Type 0) → List Piece → (t : ℕ) → (leaf small : Bool) → ℤ → Type 0
 PushesValue g P ps t leaf small v = (h : Held) → P h.memory → Pushed g ps t leaf small v h
 
--- what is known of memory is not of the words from t on
-abbrev pub IsOfOthers : Ground → (Memory → Type 0) → ℕ → Type 0
-IsOfOthers g P t = (old new : Memory) → ChangesWithin t g.words old new → P old → P new
-
 -- A word that a piece stores is one of the frame.
 abbrev pub StoresWithin : ℕ → Piece → Type 0
 StoresWithin words (Direct fun.StoreLocal (pos word)) = word < words
@@ -33,3 +34,38 @@ StoresWithin words p = ⊤
 
 abbrev pub AllStoreWithin : ℕ → List Piece → Type 0
 AllStoreWithin words ps = AllByRecursion (StoresWithin words) ps
+
+-- where memory carries the environment of a scope
+abbrev pub Pushes : Ground → (top : ℕ) → List Entry → Environment → List Piece → (t : ℕ) → (leaf small : Bool) → ℤ
+    → Type 0
+Pushes g top es env ps t leaf small v =
+    AllStoreWithin g.words ps → PushesValue g (Carries g top es env) ps t leaf small v
+
+-- The first word that is free is counted.
+abbrev pub IsCounted : ℕ → Type 0
+IsCounted t = t ≤ GREATEST_WORD
+
+-- ---- two operands
+
+-- an operand beside another one, where a temporary is free and where the next one is
+pub record OperandPushes (g : Ground) (top : ℕ) (es : List Entry) (env : Environment) (t : ℕ) (o : Operand) (v : ℤ)
+    : Type 0 where
+  pub first : Pushes g top es env o.first t o.leaf o.small v
+  pub second : Pushes g top es env o.second (word_after t 1) o.leaf o.small v
+
+-- the first one in B and the second one in A, or in any order
+abbrev pub AreOperands : (in_order : Bool) → (x y : ℤ) → Stack ℤ → Type 0
+AreOperands true x y s = (s.b ≡ x) × (s.a ≡ y)
+AreOperands false x y s = ((s.b ≡ x) × (s.a ≡ y)) ⊎ ((s.b ≡ y) × (s.a ≡ x))
+
+-- what was in A is kept below both of these operands
+abbrev pub keeps : (first second : Operand) → Bool
+keeps x y = (x.small || x.leaf) && y.leaf
+
+pub record PushedBoth (g : Ground) (ps : List Piece) (t : ℕ) (in_order kept : Bool) (x y : ℤ) (before : Held)
+    : Type 0 where
+  pub after : Held
+  pub leads : LeadOn g.footing ps before after
+  pub operands : AreOperands in_order x y after.stack
+  pub changes : ChangesWithin t g.words before.memory after.memory
+  pub below : kept ≡ true → after.stack.c ≡ before.stack.a

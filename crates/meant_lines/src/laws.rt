@@ -15,6 +15,7 @@ ghost use Rattle.meant_lines.specs.CarryingLaws.{NamesAreKept, HomesEndBefore, O
 ghost use Rattle.meant_lines.specs.CarryingLaws.{ScalarsAreCarried, ElementsAreCarried, BytesAreCarried};
 ghost use Rattle.meant_lines.specs.PushingLaws.{ConstantsPush, ScalarsPush, KnownWordsPush, WordsPush};
 ghost use Rattle.meant_lines.specs.PushingLaws.{KnownBytesPush, BytesPush, KnownItemsPush, ItemsPush};
+ghost use Rattle.meant_lines.specs.OperatorLaws.{BothPush, OperationsPush};
 
 /// Each word of the frame has its own place in memory, and the operand that names it at any workspace of the frame
 /// leads there. What is written in a word is read there, and other words stay.
@@ -105,4 +106,11 @@ pub fn leaves_and_elements_are_pushed()
     ensures bytes { BytesPush }
     ensures known_items { KnownItemsPush }
     ensures items { ItemsPush }
+{}
+
+/// The code of two operands pushes both, where the code of each pushes its value, and with an operation behind it their
+/// result. Where the first one waits in a temporary, it is still there behind the second one.
+pub fn operands_are_pushed()
+    ensures both { BothPush }
+    ensures operations { OperationsPush }
 {}

@@ -1,0 +1,31 @@
+-- What the code of operators pushes, where the code of each operand pushes its value.
+use Rattle.std.specs.Prelude.{◌≡◌, ℕ, ◌≤◌, ℤ, Bool, false, List, [], ◌∷◌, ◌++◌, FitsSigned, Some}
+use Rattle.std.specs.Int.{w32}
+use Rattle.scalar_ranges.specs.Entries.{Entry}
+use Rattle.scalar_ranges.specs.Environments.{Environment, Meets}
+use Rattle.word_arithmetic.specs.Binary.{computed}
+use Rattle.word_arithmetic.specs.declared.binary.Binary.{Binary}
+use Rattle.code_pieces.specs.Pieces.{operates}
+use Rattle.placed_code.specs.StraightPieces as pieces
+use Rattle.line_pieces.specs.Expressions.{Operand, both, comes_last}
+use Rattle.meant_lines.specs.Instructions.{IsBinary}
+use Rattle.meant_lines.specs.Carrying.{Ground, Carries}
+use Rattle.meant_lines.specs.Pushing.{AllStoreWithin, IsCounted, OperandPushes, Pushed, PushedBoth, keeps}
+
+-- two operands, in order or in any order
+abbrev pub BothPush : Type 0
+BothPush = (g : Ground) (top t : ℕ) (es : List Entry) (env : Environment) (in_order : Bool) (a b : Operand) (x y : ℤ)
+    (h : pieces.Held) → Meets env es → top ≤ t → IsCounted t → FitsSigned w32 x → OperandPushes g top es env t a x
+    → OperandPushes g top es env t b y → AllStoreWithin g.words (both in_order (comes_last a.leaf b.small) t a b)
+    → Carries g top es env h.memory
+    → PushedBoth g (both in_order (comes_last a.leaf b.small) t a b) t in_order (keeps a b) x y h
+
+-- and the operation of both, which has the same result in either order where their order does not matter
+abbrev pub OperationsPush : Type 0
+OperationsPush = (g : Ground) (top t : ℕ) (es : List Entry) (env : Environment) (in_order : Bool) (a b : Operand)
+    (operation : ℤ) (op : Binary) (x y v : ℤ) (h : pieces.Held) → Meets env es → top ≤ t → IsCounted t
+    → FitsSigned w32 x → OperandPushes g top es env t a x → OperandPushes g top es env t b y → IsBinary operation op
+    → computed op x y ≡ Some v → (in_order ≡ false → computed op y x ≡ Some v)
+    → AllStoreWithin g.words (both in_order (comes_last a.leaf b.small) t a b ++ operates operation ∷ [])
+    → Carries g top es env h.memory
+    → Pushed g (both in_order (comes_last a.leaf b.small) t a b ++ operates operation ∷ []) t false (keeps a b) v h
