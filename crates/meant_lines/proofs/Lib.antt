@@ -4,3 +4,4 @@ pub mod Carrying
 pub mod Storing
 pub mod Pushing
 pub mod Operators
+pub mod Housing

@@ -9,6 +9,7 @@ use Rattle.scalar_ranges.specs.Entries.{Meaning, Scalar, Array, Channel, Channel
 use Rattle.scalar_ranges.specs.Environments.{Held, One, Many, Environment, item_at}
 use Rattle.line_pieces.specs.Homes as home
 use Rattle.line_pieces.specs.Homes.{Home, Word, Block, words_for}
+use Rattle.line_pieces.specs.Declarations.{Frame}
 use Rattle.placed_code.specs.StraightPieces.{Footing, word_place}
 use Rattle.meant_lines.specs.Words.{IsInFrame, Holds}
 
@@ -100,6 +101,11 @@ abbrev pub Rise : List Home → List Entry → ℕ → Type 0
 Rise hs [] top = Unit {0}
 Rise hs (e ∷ es) top =
     (end_of (slice_get hs (length es)) e.meaning ≤ top) × Rise hs es (start_of (slice_get hs (length es)) top)
+
+-- Each name of a scope has a home in the frame, and they rise to its top.
+pub record HomesRise (f : Frame) (es : List Entry) : Type 0 where
+  pub long : length f.homes ≡ length es
+  pub rise : Rise f.homes es f.top
 
 -- ---- memory and a scope
 

@@ -5,3 +5,4 @@ pub mod CarryingLaws
 pub mod Pushing
 pub mod PushingLaws
 pub mod OperatorLaws
+pub mod Housing

@@ -16,6 +16,7 @@ ghost use Rattle.meant_lines.specs.CarryingLaws.{ScalarsAreCarried, ElementsAreC
 ghost use Rattle.meant_lines.specs.PushingLaws.{ConstantsPush, ScalarsPush, KnownWordsPush, WordsPush};
 ghost use Rattle.meant_lines.specs.PushingLaws.{KnownBytesPush, BytesPush, KnownItemsPush, ItemsPush};
 ghost use Rattle.meant_lines.specs.OperatorLaws.{BothPush, OperationsPush};
+ghost use Rattle.meant_lines.specs.Housing.{DeclaredHomesRise, BlocksRise, MoreWordsRise};
 
 /// Each word of the frame has its own place in memory, and the operand that names it at any workspace of the frame
 /// leads there. What is written in a word is read there, and other words stay.
@@ -113,4 +114,12 @@ pub fn leaves_and_elements_are_pushed()
 pub fn operands_are_pushed()
     ensures both { BothPush }
     ensures operations { OperationsPush }
+{}
+
+/// The homes of a scope rise and do not overlap: with those of the names that a declaration declares, with the block of a
+/// loop, and with more words that are free.
+pub fn homes_do_not_overlap()
+    ensures declared { DeclaredHomesRise }
+    ensures blocks { BlocksRise }
+    ensures more { MoreWordsRise }
 {}
