@@ -138,7 +138,8 @@ channels_within es type (Some size) = omega arith
 
 constant_rises : (es : List Entry) (type : ValueType) (value : Value) (f : Frame) (name : List ℕ) (k : Meaning)
     → HomesRise f es → HomesRise (with_home (home_for es type value) f) (add name k es)
-constant_rises es type (lines.Scalar e) f name k homes = one_more f es name k Nowhere f.top homes (omega arith) (omega arith)
+constant_rises es type (lines.Scalar e) f name k homes =
+    one_more f es name k Nowhere f.top homes (omega arith) (omega arith)
 constant_rises es type (lines.Table size items) f name k homes =
     one_more f es name k (home_for es type (lines.Table size items)) f.top homes (omega arith) (omega arith)
 constant_rises es type (lines.Bytes size bytes) f name k homes =

@@ -5,3 +5,4 @@ pub mod Storing
 pub mod Pushing
 pub mod Operators
 pub mod Housing
+pub mod Zeroing

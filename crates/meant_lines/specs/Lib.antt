@@ -6,3 +6,4 @@ pub mod Pushing
 pub mod PushingLaws
 pub mod OperatorLaws
 pub mod Housing
+pub mod Zeroing

@@ -17,6 +17,7 @@ ghost use Rattle.meant_lines.specs.PushingLaws.{ConstantsPush, ScalarsPush, Know
 ghost use Rattle.meant_lines.specs.PushingLaws.{KnownBytesPush, BytesPush, KnownItemsPush, ItemsPush};
 ghost use Rattle.meant_lines.specs.OperatorLaws.{BothPush, OperationsPush};
 ghost use Rattle.meant_lines.specs.Housing.{DeclaredHomesRise, BlocksRise, MoreWordsRise};
+ghost use Rattle.meant_lines.specs.Zeroing.{ScalarsAreZeroed, ArraysAreZeroed};
 
 /// Each word of the frame has its own place in memory, and the operand that names it at any workspace of the frame
 /// leads there. What is written in a word is read there, and other words stay.
@@ -116,10 +117,16 @@ pub fn operands_are_pushed()
     ensures operations { OperationsPush }
 {}
 
-/// The homes of a scope rise and do not overlap: with those of the names that a declaration declares, with the block of a
-/// loop, and with more words that are free.
+/// The homes of a scope rise and do not overlap: with those of the names that a declaration declares, with the block of
+/// a loop, and with more words that are free.
 pub fn homes_do_not_overlap()
     ensures declared { DeclaredHomesRise }
     ensures blocks { BlocksRise }
     ensures more { MoreWordsRise }
+{}
+
+/// The code of a declaration sets the words of a scalar and of an array to 0, and leaves the words before them.
+pub fn words_are_zeroed()
+    ensures scalars { ScalarsAreZeroed }
+    ensures arrays { ArraysAreZeroed }
 {}
