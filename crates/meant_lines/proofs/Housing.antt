@@ -40,12 +40,12 @@ more_words_rise hs (e ∷ es) top more low rise =
       more_words_rise hs es (start_of h top) (start_of h more) (start_more h top more low) rise.1,
     )
 
-get_before : (hs : List Home) (h : Home) (i : ℕ) → i < length hs → slice_get (hs ++ h ∷ []) i ≡ slice_get hs i
+pub get_before : (hs : List Home) (h : Home) (i : ℕ) → i < length hs → slice_get (hs ++ h ∷ []) i ≡ slice_get hs i
 get_before [] h i less = absurd (omega (arith, less))
 get_before (x ∷ hs) h zero less = refl
 get_before (x ∷ hs) h (suc i) less = get_before hs h i (omega (arith, less))
 
-get_last : (hs : List Home) (h : Home) (i : ℕ) → length hs ≡ i → slice_get (hs ++ h ∷ []) i ≡ Some h
+pub get_last : (hs : List Home) (h : Home) (i : ℕ) → length hs ≡ i → slice_get (hs ++ h ∷ []) i ≡ Some h
 get_last [] h zero same = refl
 get_last [] h (suc i) same = absurd (omega (arith, same))
 get_last (x ∷ hs) h zero same = absurd (omega (arith, same))
@@ -67,7 +67,7 @@ rise_before hs h (e ∷ es) top less rise =
     )
 
 -- a name more, whose home ends before the new top, and begins at the old one or later
-one_more : (f : Frame) (es : List Entry) (name : List ℕ) (k : Meaning) (h : Home) (top : ℕ) → HomesRise f es
+pub one_more : (f : Frame) (es : List Entry) (name : List ℕ) (k : Meaning) (h : Home) (top : ℕ) → HomesRise f es
     → end_of (Some h) k ≤ top → f.top ≤ start_of (Some h) top
     → HomesRise (record f { homes = f.homes ++ h ∷ []; top = top }) (add name k es)
 one_more f es name k h top homes ends starts =

@@ -6,3 +6,4 @@ pub mod Pushing
 pub mod Operators
 pub mod Housing
 pub mod Zeroing
+pub mod Declaring

@@ -7,3 +7,4 @@ pub mod PushingLaws
 pub mod OperatorLaws
 pub mod Housing
 pub mod Zeroing
+pub mod Declaring

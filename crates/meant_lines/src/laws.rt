@@ -18,6 +18,7 @@ ghost use Rattle.meant_lines.specs.PushingLaws.{KnownBytesPush, BytesPush, Known
 ghost use Rattle.meant_lines.specs.OperatorLaws.{BothPush, OperationsPush};
 ghost use Rattle.meant_lines.specs.Housing.{DeclaredHomesRise, BlocksRise, MoreWordsRise};
 ghost use Rattle.meant_lines.specs.Zeroing.{ScalarsAreZeroed, ArraysAreZeroed};
+ghost use Rattle.meant_lines.specs.Declaring.{NewNamesAreCarried, ZeroScalarsAreKept, ZeroArraysAreKept};
 
 /// Each word of the frame has its own place in memory, and the operand that names it at any workspace of the frame
 /// leads there. What is written in a word is read there, and other words stay.
@@ -129,4 +130,12 @@ pub fn homes_do_not_overlap()
 pub fn words_are_zeroed()
     ensures scalars { ScalarsAreZeroed }
     ensures arrays { ArraysAreZeroed }
+{}
+
+/// Memory carries an environment with one name more, whose home is behind the others and has what the name holds. Words
+/// that are 0 have what a declared scalar or array holds.
+pub fn new_names_are_carried()
+    ensures names { NewNamesAreCarried }
+    ensures scalars { ZeroScalarsAreKept }
+    ensures arrays { ZeroArraysAreKept }
 {}
