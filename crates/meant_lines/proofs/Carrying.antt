@@ -1,10 +1,10 @@
 -- What names hold is found in their homes, stays where other words change, and is there after a store.
-use Rattle.std.proofs.Common.{◌≡◌, ℕ, zero, suc, ◌+◌, ◌*◌, ◌/◌, ◌<◌, ◌≤◌, ◌⊎◌, inl, inr, ℤ, pos, Bool, true, false}
-use Rattle.std.proofs.Common.{cond, List, [], ◌∷◌, length, Option, Some, None, refl, sym, ap, subst, ◌∙◌, arith, nat_eq}
+use Rattle.std.proofs.Common.{◌≡◌, ℕ, zero, suc, ◌+◌, ◌/◌, ◌<◌, ◌≤◌, ◌⊎◌, inl, inr, ℤ, Bool, true, false}
+use Rattle.std.proofs.Common.{cond, List, [], ◌∷◌, length, Option, Some, None, refl, sym, subst, ◌∙◌, arith, nat_eq}
 use Rattle.std.proofs.Common.{bytes_eq}
 use Rattle.std.specs.Prelude.{slice_get, option_and_then}
 use Rattle.std.proofs.lemmas.Bool.{eqb-true}
-use Rattle.machine_state.specs.Memory.{Memory, word_at, byte_at}
+use Rattle.machine_state.specs.Memory.{Memory, word_at}
 use Rattle.machine_state.proofs.Reading.{word_at_same}
 use Rattle.occam_parser.specs.declared.tree.ValueType.{ValueType}
 use Rattle.occam_parser.specs.declared.tree.ValueType.TheVariants as value_type
@@ -22,9 +22,9 @@ use Rattle.line_pieces.specs.Homes as home
 use Rattle.line_pieces.specs.Homes.{Home, Nowhere, Word, Block, Link, Passed, home_of, words_for}
 use Rattle.placed_code.specs.StraightPieces.{word_place}
 use Rattle.meant_lines.specs.Words.{Holds, ChangesWithin}
-use Rattle.meant_lines.specs.Carrying.{Ground, HoldsByte, HoldsElement, HoldsArray, HoldsTable, item_place}
-use Rattle.meant_lines.specs.Carrying.{IsScalarKept, IsArrayKept, IsKept, IsKeptThere, AreKept, words_of, start_of}
-use Rattle.meant_lines.specs.Carrying.{end_of, Rise, HasFrame, Carries}
+use Rattle.meant_lines.specs.Carrying.{Ground, HoldsByte, HoldsArray, HoldsTable, item_place}
+use Rattle.meant_lines.specs.Carrying.{IsScalarKept, IsArrayKept, IsKeptThere, AreKept, words_of, start_of}
+use Rattle.meant_lines.specs.Carrying.{end_of, Rise, HasFrame}
 use Rattle.meant_lines.specs.CarryingLaws.{NamesAreKept, HomesEndBefore, OuterWordsStay, IsPartOf, OneNameChanges}
 use Rattle.meant_lines.proofs.Words.{other_word}
 

@@ -1,22 +1,20 @@
 -- Memory carries an environment with one name more.
-use Rattle.std.proofs.Common.{◌≡◌, ℕ, zero, suc, ◌+◌, ◌*◌, ◌/◌, ◌<◌, ◌≤◌, ℤ, pos, List, [], ◌∷◌, ◌++◌, length}
-use Rattle.std.proofs.Common.{Option, Some, None, refl, sym, ap, subst, ◌∙◌, arith}
+use Rattle.std.proofs.Common.{◌≡◌, ℕ, zero, suc, ◌+◌, ◌<◌, ◌≤◌, ℤ, pos, List, [], ◌∷◌, ◌++◌, length}
+use Rattle.std.proofs.Common.{Option, Some, None, refl, sym, subst, arith}
 use Rattle.std.specs.Prelude.{slice_get, replicate}
-use Rattle.word_arithmetic.specs.Range.{Ends}
 use Rattle.machine_state.specs.Memory.{Memory, byte_at, word_at}
 use Rattle.occam_parser.specs.declared.tree.ValueType.{ValueType}
 use Rattle.occam_parser.specs.declared.tree.ValueType.TheVariants as value_type
-use Rattle.scalar_ranges.specs.declared.scope.ArrayKind.{ArrayKind}
 use Rattle.scalar_ranges.specs.Entries.{Meaning, Constant, Scalar, Array, Channel, Channels, Procedure, Entry}
-use Rattle.scalar_ranges.specs.Environments.{Held, Nothing, One, Many, Environment, item_at, Meets}
+use Rattle.scalar_ranges.specs.Environments.{Held, Nothing, One, Many, Environment, item_at}
 use Rattle.line_pieces.specs.Homes as home
 use Rattle.line_pieces.specs.Homes.{Home, Nowhere, Word, Block, Link, Passed, words_for}
 use Rattle.placed_code.specs.StraightPieces.{word_place}
-use Rattle.meant_lines.specs.Words.{Holds, ChangesWithin}
+use Rattle.meant_lines.specs.Words.{Holds}
 use Rattle.meant_lines.specs.Carrying.{Ground, HoldsArray, IsScalarKept, IsArrayKept, IsKept, IsKeptThere, AreKept}
 use Rattle.meant_lines.specs.Zeroing.{AreZero}
 use Rattle.meant_lines.specs.Declaring.{with_home_there, NewNamesAreCarried, ZeroScalarsAreKept, ZeroArraysAreKept}
-use Rattle.meant_lines.proofs.Carrying.{item_below, outer_words_stay}
+use Rattle.meant_lines.proofs.Carrying.{outer_words_stay}
 use Rattle.meant_lines.proofs.Housing.{get_before, get_last, one_more}
 
 -- ---- other homes
@@ -68,11 +66,12 @@ kept_before : (g : Ground) (h : Home) (m : Memory) (es : List Entry) (env : Envi
 kept_before g h m [] [] less kept = tt
 kept_before g h m [] (b ∷ bs) less kept = absurd kept
 kept_before g h m (e ∷ es) [] less kept = absurd kept
-kept_before g h m (e ∷ es) (b ∷ bs) less kept =
-    (subst (λ (o : Option Home). IsKeptThere (with_home_there h g) m o e.meaning b.held)
-    (sym (get_before g.homes h (length es) (omega (arith, less))))
-    (option_there g (g.homes ++ h ∷ []) m (slice_get g.homes (length es)) e.meaning b.held kept.0),
-    kept_before g h m es bs (omega (arith, less)) kept.1)
+kept_before g h m (e ∷ es) (b ∷ bs) less kept = (
+  subst (λ (o : Option Home). IsKeptThere (with_home_there h g) m o e.meaning b.held)
+      (sym (get_before g.homes h (length es) (omega (arith, less))))
+      (option_there g (g.homes ++ h ∷ []) m (slice_get g.homes (length es)) e.meaning b.held kept.0),
+  kept_before g h m es bs (omega (arith, less)) kept.1,
+)
 
 pub new_names_are_carried : NewNamesAreCarried
 new_names_are_carried g top more es env name k held h old new meets long ends starts room changes there carries =
@@ -81,9 +80,11 @@ new_names_are_carried g top more es env name k held h old new meets long ends st
     (record { long = long; rise = carries.rise }) ends starts in
     record {
       frame = record { workspace = stays.frame.workspace; few = stays.frame.few; inside = stays.frame.inside };
-      kept = (subst (λ (o : Option Home). IsKeptThere (with_home_there h g) new o k held)
-          (sym (get_last g.homes h (length es) long)) (kept_there g (g.homes ++ h ∷ []) new h k held there),
-          kept_before g h new es env (omega (arith, long)) stays.kept);
+      kept = (
+        subst (λ (o : Option Home). IsKeptThere (with_home_there h g) new o k held)
+            (sym (get_last g.homes h (length es) long)) (kept_there g (g.homes ++ h ∷ []) new h k held there),
+        kept_before g h new es env (omega (arith, long)) stays.kept,
+      );
       rise = homes.rise;
       room = room;
     }

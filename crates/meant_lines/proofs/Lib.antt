@@ -7,3 +7,4 @@ pub mod Operators
 pub mod Housing
 pub mod Zeroing
 pub mod Declaring
+pub mod Shapes

@@ -1,6 +1,6 @@
 -- What the code of operators pushes.
-use Rattle.std.proofs.Common.{◌≡◌, ℕ, ◌+◌, ◌*◌, ◌<◌, ◌≤◌, ◌⊎◌, inl, inr, ℤ, pos, Bool, true, false, ◌&&◌, ◌||◌, List}
-use Rattle.std.proofs.Common.{[], ◌∷◌, ◌++◌, length, Some, FitsSigned, refl, sym, ap, subst, ◌∙◌, arith}
+use Rattle.std.proofs.Common.{◌≡◌, ℕ, ◌+◌, ◌<◌, ◌≤◌, inl, inr, ℤ, Bool, true, false, ◌&&◌, ◌||◌, List}
+use Rattle.std.proofs.Common.{[], ◌∷◌, ◌++◌, Some, FitsSigned, refl, sym, ap, subst, ◌∙◌, arith}
 use Rattle.std.specs.Int.{w32}
 use Rattle.machine_state.specs.Memory.{Memory}
 use Rattle.machine_state.proofs.Reading.{word_at-with_word}
@@ -10,19 +10,18 @@ use Rattle.word_arithmetic.specs.Binary.{computed}
 use Rattle.word_arithmetic.specs.declared.binary.Binary.{Binary}
 use Rattle.scalar_ranges.specs.Entries.{Entry}
 use Rattle.scalar_ranges.specs.Environments.{Environment, Meets}
-use Rattle.code_pieces.specs.declared.operations.TheConstants.{REVERSE}
-use Rattle.code_pieces.specs.Pieces.{Piece, operates, loads, stores, counted, word_after}
-use Rattle.line_pieces.specs.Expressions.{Operand, both, comes_last, onto, back, exchanged}
+use Rattle.code_pieces.specs.Pieces.{Piece, operates, stores, counted, word_after}
+use Rattle.line_pieces.specs.Expressions.{both, comes_last, back, exchanged}
 use Rattle.placed_code.specs.StraightPieces as pieces
 use Rattle.placed_code.specs.StraightPieces.{LeadOn, done, with_pushed, word_place}
 use Rattle.placed_code.proofs.StraightPieces.{lead_both}
 use Rattle.meant_lines.specs.Words.{IsInFrame, Holds, ChangesWithin, with_frame_word}
 use Rattle.meant_lines.specs.Instructions.{with_memory, without_a, with_result}
 use Rattle.meant_lines.specs.Carrying.{Ground, Carries}
-use Rattle.meant_lines.specs.Pushing.{Pushed, AllStoreWithin, Pushes, IsCounted, OperandPushes, AreOperands}
-use Rattle.meant_lines.specs.Pushing.{PushedBoth, keeps}
+use Rattle.meant_lines.specs.Pushing.{Pushed, AllStoreWithin, Pushes, IsCounted, AreOperands}
+use Rattle.meant_lines.specs.Pushing.{PushedBoth}
 use Rattle.meant_lines.specs.OperatorLaws.{BothPush, OperationsPush}
-use Rattle.meant_lines.proofs.Words.{all_alike, changes_both, changes_wider, changes_writing, other_word}
+use Rattle.meant_lines.proofs.Words.{changes_both, changes_wider, changes_writing, other_word}
 use Rattle.meant_lines.proofs.Carrying.{outer_words_stay}
 use Rattle.meant_lines.proofs.Instructions.{words_are_loaded, words_are_stored, registers_are_reversed}
 use Rattle.meant_lines.proofs.Instructions.{operations_are_computed}

@@ -1,8 +1,8 @@
 -- What the code of constants, of scalars and of elements pushes.
-use Rattle.std.proofs.Common.{◌≡◌, ℕ, zero, suc, ◌+◌, ◌*◌, ◌/◌, ◌%◌, ◌^◌, ◌<◌, ◌≤◌, ◌⊎◌, inl, inr, ℤ, pos, negsuc}
+use Rattle.std.proofs.Common.{◌≡◌, ℕ, ◌+◌, ◌*◌, ◌/◌, ◌%◌, ◌<◌, ◌≤◌, ℤ, pos, negsuc}
 use Rattle.std.proofs.Common.{Bool, true, false, cond, nat_eq, List, [], ◌∷◌, ◌++◌, length, Option, Some, None}
 use Rattle.std.proofs.Common.{FitsSigned, refl, sym, ap, subst, ◌∙◌, arith, append_assoc}
-use Rattle.std.specs.Prelude.{◌+ℤ◌, unsigned_abs}
+use Rattle.std.specs.Prelude.{◌+ℤ◌}
 use Rattle.std.specs.Int.{w32}
 use Rattle.std.proofs.lemmas.Int.{ints, of_z-to_z}
 use Rattle.std.proofs.lemmas.Bool.{eqb-true}
@@ -17,22 +17,22 @@ use Rattle.scalar_ranges.specs.Entries.{Meaning, Scalar, Array, Entry, meaning_i
 use Rattle.scalar_ranges.specs.Environments.{Held, One, Many, Environment, held_in, item_at, item_of, IsHeld, Meets}
 use Rattle.scalar_ranges.proofs.Lookups.{found_held}
 use Rattle.code_pieces.specs.declared.operations.TheConstants.{LOAD_BYTE, BYTE_SUBSCRIPT, WORD_SUBSCRIPT}
-use Rattle.code_pieces.specs.Pieces.{Piece, Direct, TableAddress, operates, loads, points, constant}
+use Rattle.code_pieces.specs.Pieces.{Piece, operates, loads, points, constant}
 use Rattle.code_pieces.specs.Pieces.{counted, word_after}
 use Rattle.line_pieces.specs.Homes as home
 use Rattle.line_pieces.specs.Homes.{Home, Nowhere, Word, Block, Link, Passed, home_of, words_for}
-use Rattle.line_pieces.specs.Expressions.{Subscript, scalar_code, or_zero, before_offset, subscript_code, loads_at}
-use Rattle.line_pieces.specs.Expressions.{element_of_words, element_of_table}
+use Rattle.line_pieces.specs.Expressions.{scalar_code, or_zero, before_offset, loads_at}
+use Rattle.line_pieces.specs.Expressions.{element_of_words}
 use Rattle.placed_code.specs.StraightPieces as pieces
 use Rattle.placed_code.specs.StraightPieces.{Footing, LeadOn, done, with_pushed, word_address, word_place}
 use Rattle.placed_code.proofs.StraightPieces.{lead_both}
-use Rattle.meant_lines.specs.Words.{IsInFrame, Holds, ChangesWithin}
-use Rattle.meant_lines.specs.Instructions.{PieceLeads, with_a, with_result}
-use Rattle.meant_lines.specs.Carrying.{Ground, HoldsByte, HoldsArray, HoldsTable, IsKeptThere, end_of, Carries}
-use Rattle.meant_lines.specs.Pushing.{Pushed, PushesValue}
-use Rattle.meant_lines.specs.PushingLaws.{ConstantsPush, ScalarsPush, IsArray, AreSubscripts, KnownWordsPush, WordsPush}
+use Rattle.meant_lines.specs.Words.{IsInFrame, Holds}
+use Rattle.meant_lines.specs.Instructions.{with_a, with_result}
+use Rattle.meant_lines.specs.Carrying.{Ground, HoldsArray, HoldsTable, IsKeptThere, end_of, Carries}
+use Rattle.meant_lines.specs.Pushing.{Pushed}
+use Rattle.meant_lines.specs.PushingLaws.{ConstantsPush, ScalarsPush, IsArray, KnownWordsPush, WordsPush}
 use Rattle.meant_lines.specs.PushingLaws.{KnownBytesPush, BytesPush, KnownItemsPush, ItemsPush}
-use Rattle.meant_lines.proofs.Words.{all_alike, changes_both, words_have_places, bytes_have_places}
+use Rattle.meant_lines.proofs.Words.{all_alike, words_have_places, bytes_have_places}
 use Rattle.meant_lines.proofs.Words.{elements_have_addresses, addresses_read_back, addresses_move_twice}
 use Rattle.meant_lines.proofs.Carrying.{names_are_kept, homes_end_before, outer_words_stay, item_below}
 use Rattle.meant_lines.proofs.Instructions.{constants_are_pushed, words_are_loaded, addresses_are_pushed}

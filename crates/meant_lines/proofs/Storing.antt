@@ -1,9 +1,9 @@
 -- What is stored in a scalar or in an element is there, and memory carries the environment that the store leaves.
-use Rattle.std.proofs.Common.{◌≡◌, ◌≢◌, ℕ, zero, suc, ◌+◌, ◌*◌, ◌/◌, ◌<◌, ◌≤◌, ◌⊎◌, inl, inr, ℤ, pos, List, []}
+use Rattle.std.proofs.Common.{◌≡◌, ◌≢◌, ℕ, zero, suc, ◌+◌, ◌/◌, ◌<◌, ◌≤◌, ◌⊎◌, inl, inr, ℤ, pos, List, []}
 use Rattle.std.proofs.Common.{◌∷◌, length, Option, Some, None, FitsSigned, refl, sym, ap, subst, ◌∙◌, arith}
 use Rattle.std.specs.Prelude.{slice_get, option_and_then, option_map}
 use Rattle.std.specs.Int.{w32}
-use Rattle.machine_state.specs.Memory.{Memory, byte_at, with_byte, word_at}
+use Rattle.machine_state.specs.Memory.{Memory, byte_at, with_byte}
 use Rattle.machine_state.proofs.Reading.{word_at-with_word, byte_at-with_byte, byte_at-with_byte_other}
 use Rattle.occam_parser.specs.declared.tree.ValueType.{ValueType}
 use Rattle.occam_parser.specs.declared.tree.ValueType.TheVariants as value_type
@@ -15,13 +15,13 @@ use Rattle.scalar_ranges.specs.MoveLaws.{put, meaning_at}
 use Rattle.scalar_ranges.proofs.Lookups.{found_held}
 use Rattle.scalar_ranges.proofs.Named.{meaning_found}
 use Rattle.program_meaning.specs.Storing.{item_set}
-use Rattle.line_pieces.specs.Homes.{Home, Word, home_of, words_for}
+use Rattle.line_pieces.specs.Homes.{Home, Word, home_of}
 use Rattle.placed_code.specs.StraightPieces.{word_place}
 use Rattle.meant_lines.specs.Words.{Holds, ChangesWithin, with_frame_word}
-use Rattle.meant_lines.specs.Carrying.{Ground, HoldsByte, HoldsArray, IsKeptThere, Rise, end_of, Carries}
+use Rattle.meant_lines.specs.Carrying.{Ground, HoldsByte, HoldsArray, IsKeptThere, end_of, Carries}
 use Rattle.meant_lines.specs.CarryingLaws.{IsPartOf, ScalarsAreCarried, ElementsAreCarried, BytesAreCarried}
 use Rattle.meant_lines.proofs.Words.{changes_writing, changes_with_byte, frame_words_read_back}
-use Rattle.meant_lines.proofs.Carrying.{names_are_kept, ends_before, item_below, one_name_changes}
+use Rattle.meant_lines.proofs.Carrying.{names_are_kept, ends_before, one_name_changes}
 
 -- ---- where a name is
 

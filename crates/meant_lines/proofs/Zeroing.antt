@@ -1,18 +1,17 @@
 -- The words of declared variables are set to 0.
-use Rattle.std.proofs.Common.{◌≡◌, ◌≢◌, ℕ, zero, suc, ◌+◌, ◌-◌, ◌*◌, ◌<◌, ◌≤◌, ◌⊎◌, inl, inr, min, nat_lt, ℤ, pos}
-use Rattle.std.proofs.Common.{Bool, true, false, cond, List, [], ◌∷◌, ◌++◌, length, Some, Option, refl, sym, ap, subst}
+use Rattle.std.proofs.Common.{◌≡◌, ℕ, zero, suc, ◌+◌, ◌-◌, ◌*◌, ◌<◌, ◌≤◌, ◌⊎◌, inl, inr, min, nat_lt, pos}
+use Rattle.std.proofs.Common.{Bool, true, false, cond, List, [], ◌∷◌, ◌++◌, length, Some, refl, sym, ap, subst}
 use Rattle.std.proofs.Common.{◌∙◌, arith}
 use Rattle.std.proofs.lemmas.Bool.{cases_lt, ltb-true, ltb-false}
-use Rattle.module_format.specs.declared.limits.TheConstants.{MAX_DATA_WORDS}
 use Rattle.machine_state.specs.LocalStep.{copied}
 use Rattle.machine_state.specs.Memory.{Memory, byte_at, with_byte, with_word}
-use Rattle.machine_state.proofs.Reading.{byte_at-with_byte, byte_at-with_byte_other, length-with_byte, length-with_word}
+use Rattle.machine_state.proofs.Reading.{byte_at-with_byte, byte_at-with_byte_other, length-with_byte}
 use Rattle.machine_state.proofs.Copying.{copied-beside}
 use Rattle.code_pieces.specs.Pieces.{Piece, constant, stores, moves, word_after}
-use Rattle.line_pieces.specs.Declarations.{spread, zero_scalar, zero_array}
-use Rattle.placed_code.specs.StraightPieces.{Held, LeadOn, done, with_pushed, word_address, word_place}
+use Rattle.line_pieces.specs.Declarations.{spread}
+use Rattle.placed_code.specs.StraightPieces.{Held, done, with_pushed, word_place}
 use Rattle.placed_code.proofs.StraightPieces.{lead_both}
-use Rattle.meant_lines.specs.Words.{IsInFrame, ChangesWithin, with_frame_word}
+use Rattle.meant_lines.specs.Words.{IsInFrame, with_frame_word}
 use Rattle.meant_lines.specs.Instructions.{with_memory, without_a}
 use Rattle.meant_lines.specs.Carrying.{Ground, HasFrame}
 use Rattle.meant_lines.specs.Zeroing.{AreZero, Zeroed, ScalarsAreZeroed, ArraysAreZeroed}
@@ -111,7 +110,8 @@ scalars_are_zeroed g word h frame less =
 more_zero : (m : Memory) (word count more : ℕ) → more ≤ count → word_place (word + count + more) ≤ length m
     → AreZero m word count
     → AreZero (copied m (word_place word) (word_place (word + count)) (4 * more) m) word (count + more)
-more_zero m word count more fewer inside blank = λ place low high. by place low high (cases_lt place (word_place (word + count)))
+more_zero m word count more fewer inside blank =
+    λ place low high. by place low high (cases_lt place (word_place (word + count)))
   where
     by : (place : ℕ) → word_place word ≤ place → place < word_place (word + (count + more))
         → (place < word_place (word + count)) ⊎ (word_place (word + count) ≤ place)
@@ -181,8 +181,8 @@ spread_by false more g word count have h test frame room some fewer enough blank
 spread_by true more g word count have h test frame room some fewer enough blank further =
     let less = ltb-true have count test in
     let next : ℕ = min have (count - have) in
-    let first = moved g word have next h frame (omega arith) (omega (arith, room, less)) (omega (arith, some, less)) blank
-    in
+    let first = moved g word have next h frame (omega arith) (omega (arith, room, less)) (omega (arith, some, less))
+    blank in
     zeroed_both g (moves next word (word_after word have)) (spread more word count (have + next)) word (have + next)
     count h first
     (further (have + next) first.after (frame_stays first.changes g (omega arith) frame) (omega (arith, some))
@@ -229,8 +229,8 @@ first_zeroed g word count h frame some room =
 pub arrays_are_zeroed : ArraysAreZeroed
 arrays_are_zeroed g word count h frame some room =
     let whole : word_after word count ≡ word + count = word_is word count (omega (arith, room, frame.few)) in
-    let first : Zeroed g (constant (pos 0) ∷ stores (word_after word count) ∷ moves 1 (word_after word count) word) word 1
-    h = subst (λ (w : ℕ). Zeroed g (constant (pos 0) ∷ stores w ∷ moves 1 w word) word 1 h) (sym whole)
+    let first : Zeroed g (constant (pos 0) ∷ stores (word_after word count) ∷ moves 1 (word_after word count) word)
+    word 1 h = subst (λ (w : ℕ). Zeroed g (constant (pos 0) ∷ stores w ∷ moves 1 w word) word 1 h) (sym whole)
     (first_zeroed g word count h frame some room) in
     zeroed_both g (constant (pos 0) ∷ stores (word_after word count) ∷ moves 1 (word_after word count) word)
     (spread (count - 1) word count 1) word 1 count h first

@@ -1,5 +1,5 @@
 -- What names hold is found in their homes, and memory carries the environment that a store leaves.
-use Rattle.std.specs.Prelude.{◌≡◌, ℕ, ◌+◌, ◌≤◌, ℤ, pos, FitsSigned, List, Option, Some, None, slice_get}
+use Rattle.std.specs.Prelude.{◌≡◌, ℕ, ◌+◌, ◌≤◌, ℤ, pos, FitsSigned, List, Option, Some, slice_get}
 use Rattle.std.specs.Int.{w32}
 use Rattle.machine_state.specs.Memory.{Memory, with_byte}
 use Rattle.occam_parser.specs.declared.tree.ValueType.{ValueType}
@@ -9,7 +9,7 @@ use Rattle.scalar_ranges.specs.declared.scope.ArrayKind.{ArrayKind}
 use Rattle.word_arithmetic.specs.Range.{Ends}
 use Rattle.scalar_ranges.specs.Entries.{Meaning, Scalar, Array, Entry, meaning_in, number_in}
 use Rattle.scalar_ranges.specs.Environments.{Held, One, Many, Environment, held_in, Meets}
-use Rattle.scalar_ranges.specs.MoveLaws.{put, meaning_at}
+use Rattle.scalar_ranges.specs.MoveLaws.{put, meaning_at, shape}
 use Rattle.program_meaning.specs.Storing.{element_set}
 use Rattle.line_pieces.specs.Homes.{Home, Word, Block, home_of}
 use Rattle.placed_code.specs.StraightPieces.{word_place}
@@ -70,3 +70,8 @@ BytesAreCarried = (g : Ground) (top n w i b : ℕ) (es : List Entry) (env : Envi
     → home_of g.homes es name ≡ Some (Word w) → held_in name env ≡ Many vs → element_set (pos i) (pos b) vs ≡ Some ws
     → Carries g top es env m
     → Carries g top es (put n (Many ws) env) (with_byte m (word_place w + i) (Some b))
+
+-- what is known of ranges does not matter
+abbrev pub SameShapesCarry : Type 0
+SameShapesCarry = (g : Ground) (top : ℕ) (es ds : List Entry) (env : Environment) (m : Memory) → shape es ≡ shape ds
+    → Carries g top es env m → Carries g top ds env m

@@ -1,9 +1,8 @@
 -- Declarations and loops give names homes that do not overlap.
-use Rattle.std.specs.Prelude.{◌≡◌, ℕ, ◌≤◌, List}
+use Rattle.std.specs.Prelude.{ℕ, ◌≤◌, List}
 use Rattle.module_format.specs.declared.limits.TheConstants.{MAX_DATA_WORDS}
 use Rattle.occam_parser.specs.Lines.{Declaration}
 use Rattle.scalar_ranges.specs.Entries.{Meaning, Entry}
-use Rattle.scalar_ranges.specs.MoveLaws.{shape}
 use Rattle.program_uses.specs.Declaring.{add, add_declaration}
 use Rattle.line_pieces.specs.Homes.{Home}
 use Rattle.line_pieces.specs.Declarations.{Frame, declared, with_block}

@@ -12,6 +12,7 @@ ghost use Rattle.meant_lines.specs.Instructions.{ConstantsAreAdded, ConstantsAre
 ghost use Rattle.meant_lines.specs.Instructions.{OperationsAreComputed, WordsAreShifted, OperandsNameOperations};
 ghost use Rattle.meant_lines.specs.Instructions.{WaitingIsPushedBelow, WordsAreMoved};
 ghost use Rattle.meant_lines.specs.CarryingLaws.{NamesAreKept, HomesEndBefore, OuterWordsStay, OneNameChanges};
+ghost use Rattle.meant_lines.specs.CarryingLaws.{SameShapesCarry};
 ghost use Rattle.meant_lines.specs.CarryingLaws.{ScalarsAreCarried, ElementsAreCarried, BytesAreCarried};
 ghost use Rattle.meant_lines.specs.PushingLaws.{ConstantsPush, ScalarsPush, KnownWordsPush, WordsPush};
 ghost use Rattle.meant_lines.specs.PushingLaws.{KnownBytesPush, BytesPush, KnownItemsPush, ItemsPush};
@@ -81,13 +82,14 @@ pub fn instructions_follow()
 
 /// Where memory carries the environment of a scope, what a name holds is in the home that code finds for it. It stays
 /// there while code changes words from the first one on that is free. Where words of one home change, memory carries
-/// the environment in which its name holds what is there.
+/// the environment in which its name holds what is there. What is known of ranges does not matter.
 #[tactic(auto, using(crate::proofs::Carrying::carrying))]
 pub fn names_are_carried()
     ensures kept { NamesAreKept }
     ensures before { HomesEndBefore }
     ensures stays { OuterWordsStay }
     ensures changes { OneNameChanges }
+    ensures shapes { SameShapesCarry }
 {}
 
 /// A number that is stored in a scalar's word, in the word of an INT or in the byte of a BYTE of an array leaves memory

@@ -1,5 +1,9 @@
 use Rattle.meant_lines.proofs.Carrying.{outer_words_stay}
+use Rattle.meant_lines.proofs.Shapes.{same_shapes_carry}
 use Rattle.meant_lines.proofs.laws.names_are_carried.Goals as goal
 
 pub returns-clause-stays : goal.returns-clause-stays
 returns-clause-stays c = outer_words_stay
+
+pub returns-clause-shapes : goal.returns-clause-shapes
+returns-clause-shapes c = same_shapes_carry

@@ -1,0 +1,115 @@
+-- Memory carries an environment whatever is known of ranges.
+use Rattle.std.proofs.Common.{◌≡◌, ℕ, ◌+◌, ◌≤◌, suc, List, [], ◌∷◌, length, Option, Some, None, refl, sym, ap}
+use Rattle.std.proofs.Common.{subst, ◌∙◌}
+use Rattle.std.specs.Prelude.{slice_get}
+use Rattle.word_arithmetic.specs.Range.{full}
+use Rattle.machine_state.specs.Memory.{Memory}
+use Rattle.scalar_ranges.specs.Entries.{Meaning, Constant, Scalar, Array, Channel, Channels, Procedure, Entry}
+use Rattle.scalar_ranges.specs.Environments.{Held, Environment}
+use Rattle.scalar_ranges.specs.Narrowing.{with_range}
+use Rattle.scalar_ranges.specs.MoveLaws.{shape}
+use Rattle.line_pieces.specs.Homes as home
+use Rattle.line_pieces.specs.Homes.{Home, Nowhere, Word, Block, Link, Passed}
+use Rattle.meant_lines.specs.Carrying.{Ground, IsKeptThere, AreKept, words_of, start_of, end_of, Rise}
+use Rattle.meant_lines.specs.CarryingLaws.{SameShapesCarry}
+
+-- a meaning whose range is not known
+abbrev bare : Meaning → Meaning
+bare k = with_range (λ r. full) k
+
+to_bare : (g : Ground) (m : Memory) (o : Option Home) (k : Meaning) (held : Held) → IsKeptThere g m o k held
+    → IsKeptThere g m o (bare k) held
+to_bare g m None k held is = absurd is
+to_bare g m (Some h) (Scalar kind type range) held is = is
+to_bare g m (Some h) (Array kind type size range) held is = is
+to_bare g m (Some h) (Constant type value) held is = is
+to_bare g m (Some h) (Channel type) held is = is
+to_bare g m (Some h) (Channels type size) held is = is
+to_bare g m (Some h) (Procedure number) held is = is
+
+from_bare : (g : Ground) (m : Memory) (o : Option Home) (k : Meaning) (held : Held) → IsKeptThere g m o (bare k) held
+    → IsKeptThere g m o k held
+from_bare g m None k held is = absurd is
+from_bare g m (Some h) (Scalar kind type range) held is = is
+from_bare g m (Some h) (Array kind type size range) held is = is
+from_bare g m (Some h) (Constant type value) held is = is
+from_bare g m (Some h) (Channel type) held is = is
+from_bare g m (Some h) (Channels type size) held is = is
+from_bare g m (Some h) (Procedure number) held is = is
+
+words_bare : (k : Meaning) → words_of (bare k) ≡ words_of k
+words_bare (Scalar kind type range) = refl
+words_bare (Array kind type size range) = refl
+words_bare (Constant type value) = refl
+words_bare (Channel type) = refl
+words_bare (Channels type size) = refl
+words_bare (Procedure number) = refl
+
+end_bare : (o : Option Home) (j k : Meaning) → bare j ≡ bare k → end_of o j ≡ end_of o k
+end_bare None j k same = refl
+end_bare (Some Nowhere) j k same = refl
+end_bare (Some (Word w)) j k same = λ i. w + (sym (words_bare j) ∙ ap words_of same ∙ words_bare k) i
+end_bare (Some (Block w head)) j k same = refl
+end_bare (Some (Link number)) j k same = refl
+end_bare (Some (home.Table values)) j k same = refl
+end_bare (Some (Passed w)) j k same = refl
+
+heads : {A : Type 0} (x y : A) (xs ys : List A) → x ∷ xs ≡ y ∷ ys → x ≡ y
+heads x y xs ys same = cc
+
+tails : {A : Type 0} (x y : A) (xs ys : List A) → x ∷ xs ≡ y ∷ ys → xs ≡ ys
+tails x y xs ys same = cc
+
+shape_long : (es : List Entry) → length (shape es) ≡ length es
+shape_long [] = refl
+shape_long (e ∷ es) = ap suc (shape_long es)
+
+-- the meanings of both first entries, and what is behind them
+first_same : (e d : Entry) (es ds : List Entry) → shape (e ∷ es) ≡ shape (d ∷ ds) → bare e.meaning ≡ bare d.meaning
+first_same e d es ds same =
+    ap (λ (x : Entry). x.meaning) (heads (record { name = e.name; meaning = bare e.meaning })
+    (record { name = d.name; meaning = bare d.meaning }) (shape es) (shape ds) same)
+
+rest_same : (e d : Entry) (es ds : List Entry) → shape (e ∷ es) ≡ shape (d ∷ ds) → shape es ≡ shape ds
+rest_same e d es ds same =
+    tails (record { name = e.name; meaning = bare e.meaning }) (record { name = d.name; meaning = bare d.meaning })
+    (shape es) (shape ds) same
+
+as_many : (es ds : List Entry) → shape es ≡ shape ds → length es ≡ length ds
+as_many es ds same = sym (shape_long es) ∙ ap length same ∙ shape_long ds
+
+same_kept : (g : Ground) (m : Memory) (es ds : List Entry) (env : Environment) → shape es ≡ shape ds
+    → AreKept g m es env → AreKept g m ds env
+same_kept g m [] [] env same kept = kept
+same_kept g m [] (d ∷ ds) env same kept = absurd (cc)
+same_kept g m (e ∷ es) [] env same kept = absurd (cc)
+same_kept g m (e ∷ es) (d ∷ ds) [] same kept = absurd kept
+same_kept g m (e ∷ es) (d ∷ ds) (b ∷ bs) same kept =
+    let rest = rest_same e d es ds same in (
+      from_bare g m (slice_get g.homes (length ds)) d.meaning b.held
+          (subst (λ (k : Meaning). IsKeptThere g m (slice_get g.homes (length ds)) k b.held) (first_same e d es ds same)
+          (subst (λ (n : ℕ). IsKeptThere g m (slice_get g.homes n) (bare e.meaning) b.held) (as_many es ds rest)
+          (to_bare g m (slice_get g.homes (length es)) e.meaning b.held kept.0))),
+      same_kept g m es ds bs rest kept.1,
+    )
+
+same_rise : (hs : List Home) (es ds : List Entry) (top : ℕ) → shape es ≡ shape ds → Rise hs es top → Rise hs ds top
+same_rise hs [] [] top same rise = rise
+same_rise hs [] (d ∷ ds) top same rise = absurd (cc)
+same_rise hs (e ∷ es) [] top same rise = absurd (cc)
+same_rise hs (e ∷ es) (d ∷ ds) top same rise =
+    let rest = rest_same e d es ds same in
+    let long = as_many es ds rest in (
+      subst (λ (n : ℕ). n ≤ top) (end_bare (slice_get hs (length ds)) e.meaning d.meaning (first_same e d es ds same))
+          (subst (λ (n : ℕ). end_of (slice_get hs n) e.meaning ≤ top) long rise.0),
+      subst (λ (n : ℕ). Rise hs ds (start_of (slice_get hs n) top)) long
+          (same_rise hs es ds (start_of (slice_get hs (length es)) top) rest rise.1),
+    )
+
+pub same_shapes_carry : SameShapesCarry
+same_shapes_carry g top es ds env m same carries = record {
+  frame = carries.frame;
+  kept = same_kept g m es ds env same carries.kept;
+  rise = same_rise g.homes es ds top same carries.rise;
+  room = carries.room;
+}
