@@ -8,6 +8,7 @@ use Rattle.std.specs.Cmp.Rules.{signed_items}
 use Rattle.std.proofs.lemmas.Int.{ints, to_z-of_z}
 use Rattle.std.proofs.lemmas.List.{drop_at, drop-drop, get_or-drop, length-drop, length-replicate}
 use Rattle.module_format.specs.declared.limits.TheConstants.{MAX_DATA_WORDS}
+use Rattle.scalar_ranges.specs.Environments.{item_at}
 use Rattle.module_format.specs.Contents.{Contents}
 use Rattle.module_format.specs.Keeping.{SizesKeep}
 use Rattle.machine_state.specs.Memory.{Memory, place_of, local_address, byte_at, word_at, byte_worth, data_start}
@@ -150,6 +151,12 @@ table_begins values [] there = absurd (cc)
 table_begins values (t ∷ ts) there =
     table_by (are_same t values) values t ts refl (table_begins values ts) there
 
+-- the item of a list with a number
+item_is : (values : List ℤ) (i : ℕ) (v : ℤ) → item_at i values ≡ Some v → slice_get values i ≡ Some v
+item_is [] i v is = absurd (cc)
+item_is (x ∷ values) zero v is = is
+item_is (x ∷ values) (suc i) v is = item_is values i v is
+
 -- an item has the bytes after those of the items before it
 item_begins : (values : List ℤ) (i : ℕ) (v : ℤ) → slice_get values i ≡ Some v → (others : List ℕ)
     → Begins (table_bytes values ++ others) (4 * i) (value_bytes v)
@@ -276,7 +283,8 @@ module _ (ps : List Piece) (labels : ℕ) (links : List ℕ) (a : Arrangement) (
 pub tables_are_loaded : TablesAreLoaded
 tables_are_loaded ps labels links bytes says depth values reads words = record {
   address = omega arith;
-  items = λ i v is.
+  items = λ i v at.
+      let is = item_is values i v at in
       item_loaded ps labels links says.arrangement says.arranged says.format.keeps.sizes depth values i v
       (ap (λ (qs : List Piece). has_table (tables_before [] qs) values) reads.whole
       ∙ read_there [] reads.before reads.rest values) is (all_get (FitsSigned w32) values i v is words);

@@ -1,8 +1,9 @@
 -- Where the items of tables are in the memory of a module of pieces.
-use Rattle.std.specs.Prelude.{◌≡◌, ℕ, ◌^◌, ◌<◌, ◌≤◌, ℤ, pos, List, ◌∷◌, ◌++◌, slice_get, FitsSigned, Some}
+use Rattle.std.specs.Prelude.{◌≡◌, ℕ, ◌^◌, ◌<◌, ◌≤◌, ℤ, pos, List, ◌∷◌, ◌++◌, FitsSigned, Some}
 use Rattle.std.specs.Int.{w32}
 use Rattle.std.specs.List.{AllByRecursion}
 use Rattle.machine_state.specs.Memory.{Memory, place_of, local_address, byte_at, word_at, byte_worth}
+use Rattle.scalar_ranges.specs.Environments.{item_at}
 use Rattle.code_pieces.specs.Pieces.{Piece, TableAddress}
 use Rattle.code_pieces.specs.Laying.{words_taken}
 use Rattle.code_pieces.specs.LaidModule.{Says, laid_module}
@@ -23,7 +24,7 @@ pub record HasItem (w : Footing) (words : ℕ) (m : Memory) (values : List ℤ) 
 -- memory has all items of a table
 pub record HasTable (w : Footing) (words : ℕ) (m : Memory) (values : List ℤ) : Type 0 where
   pub address : w.tables values < 2 ^ 32
-  pub items : (i : ℕ) (v : ℤ) → slice_get values i ≡ Some v → HasItem w words m values i v
+  pub items : (i : ℕ) (v : ℤ) → item_at i values ≡ Some v → HasItem w words m values i v
 
 -- one of the pieces makes the address of this table
 pub record ReadsTable (ps : List Piece) (values : List ℤ) : Type 0 where
