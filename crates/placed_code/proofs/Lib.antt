@@ -19,3 +19,4 @@ pub mod RunsBegin
 pub mod Finishing
 pub mod TablesInMemory
 pub mod RowsFound
+pub mod SaidWords

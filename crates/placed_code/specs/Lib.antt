@@ -6,3 +6,4 @@ pub mod Behaves
 pub mod Closing
 pub mod TablesInMemory
 pub mod RowsFound
+pub mod SaidWords

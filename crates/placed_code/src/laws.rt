@@ -8,6 +8,7 @@ ghost use Rattle.placed_code.specs.LaidCode.{PiecesLie};
 ghost use Rattle.placed_code.specs.Points.{PiecesGo, PointsAreComeTo};
 ghost use Rattle.placed_code.specs.RowsFound.{RowsKeepTheirOrder, RowsAreFound, NoRowIsElsewhere};
 ghost use Rattle.placed_code.specs.RowsFound.{NoRowIsBeforeOthers, NoRowIsInside};
+ghost use Rattle.placed_code.specs.SaidWords.{WordsAreSaid};
 ghost use Rattle.placed_code.specs.StraightPieces.{StraightPiecesFollow};
 ghost use Rattle.placed_code.specs.TablesInMemory.{TablesAreLoaded, TablesStay};
 
@@ -99,4 +100,9 @@ pub fn rows_are_found()
     ensures elsewhere { NoRowIsElsewhere }
     ensures between { NoRowIsBeforeOthers }
     ensures inside { NoRowIsInside }
+{}
+
+/// A label row says of words what its piece says, though neighbours with one range share an entry.
+pub fn words_are_said()
+    ensures { WordsAreSaid }
 {}
