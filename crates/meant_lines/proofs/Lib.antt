@@ -8,3 +8,4 @@ pub mod Housing
 pub mod Zeroing
 pub mod Declaring
 pub mod Shapes
+pub mod Arithmetic

@@ -1,13 +1,16 @@
 -- What the code of operators pushes, where the code of each operand pushes its value.
-use Rattle.std.specs.Prelude.{◌≡◌, ℕ, ◌≤◌, ℤ, Bool, false, List, [], ◌∷◌, ◌++◌, FitsSigned, Some}
+use Rattle.std.specs.Prelude.{◌≡◌, ⊤, ℕ, ◌≤◌, ℤ, Bool, false, List, [], ◌∷◌, ◌++◌, ◌&&◌, FitsSigned, Option, Some, None}
 use Rattle.std.specs.Int.{w32}
+use Rattle.occam_parser.specs.declared.tree.PairOperator.TheVariants as pair
+use Rattle.occam_parser.specs.declared.tree.ArithmeticPair.{ArithmeticPair}
+use Rattle.scalar_ranges.specs.Values.{pair_value}
 use Rattle.scalar_ranges.specs.Entries.{Entry}
 use Rattle.scalar_ranges.specs.Environments.{Environment, Meets}
 use Rattle.word_arithmetic.specs.Binary.{computed}
 use Rattle.word_arithmetic.specs.declared.binary.Binary.{Binary}
 use Rattle.code_pieces.specs.Pieces.{operates}
 use Rattle.placed_code.specs.StraightPieces as pieces
-use Rattle.line_pieces.specs.Expressions.{Operand, both, comes_last}
+use Rattle.line_pieces.specs.Expressions.{Operand, both, comes_last, pushed, pushes_of, pair_code}
 use Rattle.meant_lines.specs.Instructions.{IsBinary}
 use Rattle.meant_lines.specs.Carrying.{Ground, Carries}
 use Rattle.meant_lines.specs.Pushing.{AllStoreWithin, IsCounted, OperandPushes, Pushed, PushedBoth, keeps}
@@ -29,3 +32,20 @@ OperationsPush = (g : Ground) (top t : ℕ) (es : List Entry) (env : Environment
     → AllStoreWithin g.words (both in_order (comes_last a.leaf b.small) t a b ++ operates operation ∷ [])
     → Carries g top es env h.memory
     → Pushed g (both in_order (comes_last a.leaf b.small) t a b ++ operates operation ∷ []) t false (keeps a b) v h
+
+-- a constant is the value of an operand
+abbrev pub IsValue : Option ℤ → ℤ → Type 0
+IsValue None v = ⊤
+IsValue (Some c) v = c ≡ v
+
+-- An operator between two numbers, where the second one may be a constant.
+abbrev pub ArithmeticPushes : Type 0
+ArithmeticPushes = (g : Ground) (top t : ℕ) (es : List Entry) (env : Environment) (op : ArithmeticPair) (a b : Operand)
+    (known constant : Option ℤ) (x y v : ℤ) (h : pieces.Held) → Meets env es → top ≤ t → IsCounted t
+    → FitsSigned w32 x → FitsSigned w32 y → OperandPushes g top es env t a x → OperandPushes g top es env t b y
+    → IsValue constant y → pair_value op x y ≡ Some v
+    → AllStoreWithin g.words (pushed (pushes_of (pair.Arithmetic op) known constant) t a b
+    ++ pair_code (pair.Arithmetic op) known constant)
+    → Carries g top es env h.memory
+    → Pushed g (pushed (pushes_of (pair.Arithmetic op) known constant) t a b
+    ++ pair_code (pair.Arithmetic op) known constant) t false (a.small && b.leaf) v h

@@ -16,7 +16,7 @@ ghost use Rattle.meant_lines.specs.CarryingLaws.{SameShapesCarry};
 ghost use Rattle.meant_lines.specs.CarryingLaws.{ScalarsAreCarried, ElementsAreCarried, BytesAreCarried};
 ghost use Rattle.meant_lines.specs.PushingLaws.{ConstantsPush, ScalarsPush, KnownWordsPush, WordsPush};
 ghost use Rattle.meant_lines.specs.PushingLaws.{KnownBytesPush, BytesPush, KnownItemsPush, ItemsPush};
-ghost use Rattle.meant_lines.specs.OperatorLaws.{BothPush, OperationsPush};
+ghost use Rattle.meant_lines.specs.OperatorLaws.{BothPush, OperationsPush, ArithmeticPushes};
 ghost use Rattle.meant_lines.specs.Housing.{DeclaredHomesRise, BlocksRise, MoreWordsRise};
 ghost use Rattle.meant_lines.specs.Zeroing.{ScalarsAreZeroed, ArraysAreZeroed};
 ghost use Rattle.meant_lines.specs.Declaring.{NewNamesAreCarried, ZeroScalarsAreKept, ZeroArraysAreKept};
@@ -114,10 +114,13 @@ pub fn leaves_and_elements_are_pushed()
 {}
 
 /// The code of two operands pushes both, where the code of each pushes its value, and with an operation behind it their
-/// result. Where the first one waits in a temporary, it is still there behind the second one.
+/// result. Where the first one waits in a temporary, it is still there behind the second one. So the code of an
+/// operator between two numbers pushes its value, also where a constant is added in place of the one that is
+/// subtracted.
 pub fn operands_are_pushed()
     ensures both { BothPush }
     ensures operations { OperationsPush }
+    ensures arithmetic { ArithmeticPushes }
 {}
 
 /// The homes of a scope rise and do not overlap: with those of the names that a declaration declares, with the block of
