@@ -1,5 +1,5 @@
 -- A process whose next instruction asks something of others: a run comes to the last byte of it.
-use Rattle.std.proofs.Common.{◌≡◌, ℕ, ◌+◌, ◌≤◌, true, length, Option, Some, is_some, refl, sym}
+use Rattle.std.proofs.Common.{◌≡◌, ℕ, ◌+◌, ◌≤◌, pos, true, length, Option, Some, is_some, refl, sym}
 use Rattle.std.proofs.Common.{ap, ◌∙◌, arith}
 use Rattle.module_format.specs.Contents.{Contents}
 use Rattle.machine_state.specs.declared.instruction.Instruction.{Instruction}
@@ -11,6 +11,7 @@ use Rattle.plain_machine.specs.Decoded.{instruction_in, decoded_operation, decod
 use Rattle.plain_machine.specs.PlainByte.{function_step}
 use Rattle.plain_machine.specs.PlainStep.{PlainState, leaves, plain_step}
 use Rattle.plain_machine.proofs.DecodedOperations.{decodes}
+use Rattle.placed_code.proofs.PointsComeTo.{is_something}
 use Rattle.plain_machine.proofs.WholeInstructions.{next_in}
 use Rattle.agreement.specs.Agrees.{PlainMachine}
 use Rattle.agreement.specs.TurnsAgree.{byte_stepped}
@@ -49,11 +50,16 @@ module _ (m : Contents) (labels : ℕ → ℕ) (footing : Footing) where
       let e = x.operand in
       let fn = x.function in
       let len = x.fetches.len in
-      let d : DecodedInstruction = record { operation = decoded_operation fn e; length = len; operand = e } in
+      let d : DecodedInstruction = record {
+        operation = decoded_operation fn e;
+        length = len;
+        operand = e;
+        second = pos 0;
+      } in
       let of : instruction_in (decoded_operation fn e) ≡ Some i = decodes fn e ∙ x.is in
       let some : is_some (instruction_in (decoded_operation fn e)) ≡ true =
       ap (λ (o : Option Instruction). is_some o) of in
-      let is : d ≡ decoded_at c.code p.at = sym (ap decoded_fetched x.fetches.there ∙ rw some refl) in
+      let is : d ≡ decoded_at c.code p.at = sym (ap decoded_fetched x.fetches.there ∙ rw (is_something (decoded_operation fn e) some) refl) in
       let after : ℕ → PlainState = λ at. state_at (word_address footing.depth) at p.held in
       let start = starts_here m labels footing machine w on running p here in
       let whole = (next_in c.start c.code machine.counters.executed (point_on machine)
