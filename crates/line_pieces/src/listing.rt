@@ -1,11 +1,12 @@
 //! Code that grows piece by piece.
 
-ghost use Rattle.std.specs.Prelude.{◌≡◌, ◌++◌, ◌∷◌, [], IfOk, ℤ, pos};
+ghost use Rattle.std.specs.Prelude.{◌≡◌, ◌++◌, ◌∷◌, [], IfOk, ℤ, pos, true, length, nat_lt};
 ghost use Rattle.prefix_decoder.specs.declared.function.Fun.TheVariants as fun;
 ghost use Rattle.code_pieces.specs.Pieces.{Direct, TableAddress, operates, loads, stores, points, constant, below};
 ghost use Rattle.code_pieces.specs.Pieces.{counted};
 ghost use Rattle.code_pieces.specs.PieceViews.{pieces_of, piece_of};
 ghost use Rattle.line_pieces.specs.Expressions.{back, exchanged};
+ghost use Rattle.line_pieces.specs.declared.pieces.TheConstants.{GREATEST_COUNT};
 ghost use Rattle.line_pieces.specs.Limits.{is_too_much};
 
 use crate::noting::Notes;
@@ -79,8 +80,10 @@ impl Listing {
         self.code.into_vec()
     }
 
-    /// Whether the pieces are too many for a module, those of other listings too.
-    pub fn is_full(&self) -> bool {
+    /// Whether the pieces are too many for a module, those of other listings too. How many these are no clause says.
+    pub fn is_full(&self) -> bool
+        ensures own { nat_lt GREATEST_COUNT (length self.now) ≡ true → result ≡ true }
+    {
         self.others.saturating_add(self.code.len()) > GREATEST_COUNT
     }
 
