@@ -1,0 +1,4 @@
+pub mod CodeTogether
+pub mod OuterNames
+pub mod ProcessesWritten
+pub mod CalledCode
