@@ -2,3 +2,4 @@ pub mod CodeTogether
 pub mod OuterNames
 pub mod ProcessesWritten
 pub mod CalledCode
+pub mod SmallCalls

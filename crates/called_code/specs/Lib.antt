@@ -1,1 +1,2 @@
 pub mod CalledCode
+pub mod SmallCalls

@@ -3,4 +3,6 @@
 
 mod laws;
 
-pub use laws::{called_procedures_have_code, programs_without_par_have_code};
+pub use laws::{
+    called_procedures_have_code, laws_apply_to_instances, programs_without_par_have_code,
+};
