@@ -94,6 +94,7 @@ further_in all cs (suc n) m g h qss rss less outer front x =
       x.1,
     )
 
+-- a callee is where it was when there is one more behind it
 got_before : (cs : List Callee) (n : ℕ) (c d : Callee) → slice_get cs n ≡ Some c → slice_get (cs ++ d ∷ []) n ≡ Some c
 got_before [] n c d is = absurd (cc is)
 got_before (x ∷ cs) zero c d is = is
@@ -103,6 +104,7 @@ got_last : (cs : List Callee) (d : Callee) → slice_get (cs ++ d ∷ []) (lengt
 got_last [] d = refl
 got_last (x ∷ cs) d = got_last cs d
 
+-- a procedure more changes nothing of those before it
 one_more : (all : List ProgramItem) (cs : List Callee) (d : Callee) (n : ℕ) (g : List Entry)
     (qss : List (List Parameter)) → AreCallees all cs n g qss → AreCallees all (cs ++ d ∷ []) n g qss
 one_more all cs d zero g qss x = tt
@@ -126,6 +128,7 @@ one_more all cs d (suc n) g qss x =
 
 -- ---- instances
 
+-- The instance of a procedure has code, if those in its body have.
 callee_has : (all : List ProgramItem) (cs : List Callee) (n : ℕ) (g : List Entry) (a : Around) → BreaksNoRule all
     → CalledHaveNoPar all → a.uncounted ≡ None → (x : CalleeIs all g a.signatures cs n)
     → CallsHave all (where_called cs (around_before n a) n) x.outside.known.entries → IsCalled all n
@@ -171,6 +174,7 @@ callee_has all cs n g a unbroken plain counted x calls called qs actuals s keeps
 is_below : (m n : ℕ) → nat_eq n m ≡ false → m < suc n → m < n
 is_below m n other h = grind (arith, nat_tests)
 
+-- Instances of the first procedures have code, by the number of these.
 calls_have : (all : List ProgramItem) (cs : List Callee) (count : ℕ) (g : List Entry) (a : Around)
     → BreaksNoRule all → CalledHaveNoPar all → a.uncounted ≡ None → AreCallees all cs count g a.signatures
     → (number : ℕ) → number < count → IsCalled all number → (qs : List Parameter) (actuals : List Expression)
@@ -229,6 +233,7 @@ pub record Stands (all : List ProgramItem) (cs : List Callee) (f : Frame) (k : K
   pub count : length cs ≡ length qss
   pub callees : AreCallees all cs (length cs) k.entries qss
 
+-- To weigh an item changes nothing of this.
 weighed_stands : (all : List ProgramItem) (cs : List Callee) (f : Frame) (item : ProgramItem) (o : Outside)
     → Stands all cs f o.known o.signatures → Stands all cs f (weighed item o).known (weighed item o).signatures
 weighed_stands all cs f item o h =
@@ -244,6 +249,7 @@ named_callees all cs e es qss count x =
     further_in all cs (length cs) (length cs) es (e ∷ es) qss qss (omega arith) (all_but_one (length es) e es refl)
     (ap (λ n. take n qss) count ∙ take-length qss) x
 
+-- after an item
 walked_stands : (all : List ProgramItem) (cs : List Callee) (f : Frame) (item : ProgramItem) (o : Outside)
     → Comes o item all item_rules.outermost → o.uncounted ≡ None → Stands all cs f o.known o.signatures
     → Stands all (callable item (length f.homes) cs) (framed item o f) (after_walk item o).known
@@ -301,6 +307,7 @@ walked_stands all cs f (GlobalProcedure p) o comes counted h =
 
 -- ---- the whole
 
+-- main is the last procedure, and each of the others may be called in it
 main_has : (all : List ProgramItem) (p : Procedure) (cs : List Callee) (o : Outside) (f : Frame) → BreaksNoRule all
     → CalledHaveNoPar all → Comes o (GlobalProcedure p) all item_rules.outermost → o.uncounted ≡ None
     → length o.signatures + 1 ≡ length (after_items all).signatures → Stands all cs f o.known o.signatures
@@ -324,6 +331,7 @@ walk_counts : (item : ProgramItem) (o : Outside) → (after_walk item o).uncount
 walk_counts (GlobalConstant c) o = refl
 walk_counts (GlobalProcedure p) o = refl
 
+-- The last item is no constant, or a rule is broken.
 last_has : (all : List ProgramItem) (item : ProgramItem) (cs : List Callee) (o : Outside) (f : Frame)
     → BreaksNoRule all → CalledHaveNoPar all → Comes o item all item_rules.outermost → o.uncounted ≡ None
     → (after_walk item o).signatures ≡ (after_items all).signatures
@@ -381,6 +389,7 @@ called_procedures_have_code items unbroken plain = found (code_of items) (has_co
 
 -- ---- programs in which there is none
 
+-- what holds of all items holds of each
 comes_plain : (items : List ProgramItem) (o before : Outside) (item : ProgramItem) → Comes o item items before
     → AllByRecursion ItemHasNoPar items → ItemHasNoPar item
 comes_plain [] o before item comes all = absurd comes

@@ -56,6 +56,7 @@ constant_still es type (lines.Table size items) = table_still type (size_in es s
 constant_still es type (lines.Bytes size bytes) =
     table_still type (size_in es size) (length bytes) (range_of_bytes type bytes)
 
+-- what is no scalar is the same where it is within
 still_within : (free : Bool) (m n : Meaning) → IsStill n → MeaningWithin free m n → m ≡ n
 still_within free m n still (inl same) = same
 still_within free (Scalar kind type r) (Scalar k t s) still (inr within) = absurd still
@@ -83,6 +84,7 @@ outer_long g es outer =
     let short = outermost_short (length g) es in
     omega (arith, same, short)
 
+-- Entries that are within others have the same outermost ones.
 keeps_within : (all : List ℕ) (g es ds : List Entry) → AreStill g → outermost (length g) ds ≡ g
     → EntriesWithin all es ds → outermost (length g) es ≡ g
 keeps_within all g es ds still outer within =
@@ -121,6 +123,7 @@ turned_keeps all g k l still turned h =
     subst (Keeps g) (sym turned.is)
     (record { low = omega arith; outer = keeps_within all g turned.start k.entries still h.outer turned.starts })
 
+-- blocks begin as long as before
 excluded_begun : (e : Expression) (es : List Entry) (bs : List Block)
     → begun_with (exclude_from e es bs) ≡ begun_with bs
 excluded_begun e es [] = refl
@@ -144,7 +147,7 @@ loop_keeps g ns k still h = record {
 
 -- ---- procedures
 
--- no block is around
+-- where the body of a procedure begins, outside of all blocks
 pub body_keeps : (p : Procedure) (k : Known) → k.blocks ≡ [] → Keeps k.entries (in_body p k)
 body_keeps p k none =
     let more = formals_inner k.entries p.head.formals k.entries in

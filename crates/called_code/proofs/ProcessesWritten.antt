@@ -65,11 +65,13 @@ standing_at w p = record { around = w.around; position = p }
 
 -- ---- actions
 
+-- an item that is found is one of the list
 found_below : {A : Type 0} (n : ℕ) (xs : List A) (x : A) → item_at n xs ≡ Some x → n < length xs
 found_below n [] x is = absurd (cc is)
 found_below zero (y ∷ ys) x is = omega arith
 found_below (suc n) (y ∷ ys) x is = let less = found_below n ys x is in omega (arith, less)
 
+-- Only an instance may have no code, and what it names is called, so it has.
 line_has : {items : List ProgramItem} {w : Surroundings} {g : List Entry} → Ground items w g → (pos : Position)
     (first line : ℕ) (action : Action) (s : Site)
     → Reaches items (standing_at w pos) (AProcess first (Does line (Act action))) s.known → Keeps g s.known

@@ -40,6 +40,7 @@ abbrev mutual
   ComponentHasNoPar (Chosen line e p) = HasNoPar p
   ComponentHasNoPar (Guarded line g p) = HasNoPar p
 
+-- a procedure whose body has neither, or a constant
 abbrev pub ItemHasNoPar : ProgramItem → Type 0
 ItemHasNoPar (GlobalConstant c) = Unit {0}
 ItemHasNoPar (GlobalProcedure p) = HasNoPar p.body
@@ -58,7 +59,8 @@ pub record Calls (items : List ProgramItem) (caller number : ℕ) : Type 0 where
   pub in_caller : length standing.around.signatures ≡ caller
   pub denotes : meaning_in name known.entries ≡ Some (entries.Procedure number)
 
--- The last procedure is main. It is called, and so is what a procedure calls that is.
+-- The procedures are numbered in their order, and main is the last one. It is called, and so is what a procedure
+-- calls that is.
 pub data IsCalled (items : List ProgramItem) : ℕ → Type 0 where
   main_is : (number : ℕ) → number + 1 ≡ length (after_items items).signatures → IsCalled items number
   called_is : (caller number : ℕ) → IsCalled items caller → Calls items caller number → IsCalled items number
@@ -70,10 +72,12 @@ CalledHaveNoPar items = (o : Outside) (p : Procedure) → Comes o (GlobalProcedu
 
 -- ---- laws
 
+-- A program that breaks no rule has code, if what is called has neither a PAR nor an ALT.
 abbrev pub CalledProceduresHaveCode : Type 0
 CalledProceduresHaveCode = (items : List ProgramItem) → BreaksNoRule items → CalledHaveNoPar items
     → (c : Code) × (code_of items ≡ Some c)
 
+-- So has one in which no procedure has either, whether it is called or not.
 abbrev pub ProgramsWithoutParHaveCode : Type 0
 ProgramsWithoutParHaveCode = (items : List ProgramItem) → BreaksNoRule items → AllByRecursion ItemHasNoPar items
     → (c : Code) × (code_of items ≡ Some c)
