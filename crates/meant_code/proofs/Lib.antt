@@ -1,0 +1,5 @@
+pub mod StraightLines
+pub mod LabelLists
+pub mod OwnPieces
+pub mod OwnCode
+pub mod OwnPrograms
