@@ -3,3 +3,4 @@ pub mod LabelLists
 pub mod OwnPieces
 pub mod OwnCode
 pub mod OwnPrograms
+pub mod AmongOthers

@@ -1,56 +1,53 @@
 -- The code of each process has labels of its own: one induction over processes.
-use Rattle.std.proofs.Common.{◌≡◌, ◌≤◌, ℕ, zero, suc, ◌+◌, ℤ, pos, negsuc, Bool, true, false, cond, List, [], ◌∷◌, ◌++◌}
-use Rattle.std.proofs.Common.{Option, Some, None, refl, sym, ap, ◌∙◌, subst, arith}
-use Rattle.std.specs.Prelude.{⊤}
-use Rattle.line_pieces.specs.Actions.{stop_code, may_show}
-use Rattle.code_generator.specs.Calls.{Callee, around_before, callee_code, callee_code_if, callee_start, calls_below}
-use Rattle.code_generator.specs.Calls.{in_callee, outside_frame, where_called}
-use Rattle.code_generator.specs.Instances.{bindings_code, cleaning_code, is_finer}
-use Rattle.code_generator.specs.Processes.{Always, EndedChoices, IfEnding, NoChoice, Opens, PlacedChoice}
-use Rattle.code_generator.specs.Processes.{PlacedChoices, Site, Stops, Surroundings, ThenChoice, act_code}
-use Rattle.code_generator.specs.Processes.{all_tested, at_place, body_code, by_block, called}
-use Rattle.code_generator.specs.Processes.{choices_code, component_code, components_code, construct_code}
-use Rattle.code_generator.specs.Processes.{ending_code, has_scalar, if_code, in_each_turn, in_loop, is_true}
-use Rattle.code_generator.specs.Processes.{line_code, loop_code, loop_start, no_loop, opening, placed}
-use Rattle.code_generator.specs.Processes.{placed_choices, process_code, repeated_seq, row_of, taken_code}
-use Rattle.code_generator.specs.Processes.{tested_code, times, turn_begun, value_or_zero, with_declaration}
-use Rattle.code_generator.specs.Processes.{with_ending, with_opening, with_row}
-use Rattle.code_generator.specs.Programs.{callable, code_of, framed, in_main, items_code, last_item_code, no_frame}
-use Rattle.code_pieces.specs.Pieces.{Code, Jump, JumpUnless, Piece, Row, before, closed_by, operates, then_code}
-use Rattle.code_pieces.specs.Pieces.{written}
-use Rattle.code_pieces.specs.declared.operations.TheConstants.{STOP_PROCESS}
-use Rattle.code_pieces.specs.declared.piece.RowEntry.{RowEntry}
-use Rattle.line_pieces.specs.Actions.{assign_code, forgets, input_code, output_code, test_code}
-use Rattle.line_pieces.specs.Declarations.{Frame, declaration_code, facts_in, with_home}
-use Rattle.line_pieces.specs.Expressions.{expression_code}
-use Rattle.line_pieces.specs.Homes.{Nowhere}
-use Rattle.meant_code.proofs.LabelLists.{one_once}
-use Rattle.meant_code.proofs.OwnPieces.{own_anywhere, own_both, own_closed, own_jump, own_loop, own_row, own_straight}
-use Rattle.meant_code.proofs.OwnPieces.{own_test}
-use Rattle.meant_code.proofs.StraightLines.{assign_is, bindings_are, cleaning_is, declaration_is, expression_is}
-use Rattle.meant_code.proofs.StraightLines.{forgets_is, input_is, loop_start_is, output_is, straight_both}
-use Rattle.meant_code.specs.Labels.{AreStraight, times_in}
-use Rattle.meant_code.specs.OwnCode.{AreOwn, ProcessesAreOwn}
+use Rattle.std.proofs.Common.{◌≡◌, ◌≤◌, ℕ, zero, suc, ◌+◌, ℤ, pos, negsuc, Bool, true, false, cond, List, [], ◌∷◌}
+use Rattle.std.proofs.Common.{◌++◌, Option, Some, None, ap, ◌∙◌, subst, arith}
+use Rattle.std.specs.Prelude.{⊤, length, nat_eq, slice_get}
+use Rattle.std.proofs.lemmas.List.{append_assoc}
+use Rattle.occam_layout.specs.declared.mark.Mark.TheVariants as mark
 use Rattle.occam_parser.specs.Blocks.{Act, Block, Body, Chosen, Component, Components, Construct, Declared, Does}
 use Rattle.occam_parser.specs.Blocks.{Further, GlobalConstant, GlobalProcedure, Guarded, NoComponent, One, Part}
 use Rattle.occam_parser.specs.Blocks.{Plain, Process, ProgramItem, Replicated}
 use Rattle.occam_parser.specs.Expressions.{Expression}
 use Rattle.occam_parser.specs.Lines.{Action, Assign, Input, Instance, Output, Replicator, Skip, Stop, block_word}
 use Rattle.occam_parser.specs.Terminals.{Mark, Terminal}
+use Rattle.scalar_ranges.specs.Entries.{Entry, Meaning, Procedure, meaning_in}
+use Rattle.scalar_ranges.specs.Moves.{Known}
+use Rattle.scalar_ranges.specs.Narrowing.{test_of}
 use Rattle.program_uses.specs.Actions.{Around, is_before}
 use Rattle.program_uses.specs.Changes.{changed_by_body}
 use Rattle.program_uses.specs.Indices.{index_in, is_seq, repeats_of}
 use Rattle.program_uses.specs.Signatures.{Parameter, parameters_in}
-use Rattle.scalar_ranges.specs.Entries.{Entry, Meaning, Procedure, meaning_in}
-use Rattle.scalar_ranges.specs.Moves.{Known}
-use Rattle.scalar_ranges.specs.Narrowing.{test_of}
-use Rattle.std.proofs.lemmas.List.{append_assoc}
-use Rattle.std.specs.Prelude.{length, nat_eq, slice_get}
 use Rattle.usage_checks.specs.AfterProcesses.{after_body, after_components, begun, begun_body, ended}
 use Rattle.usage_checks.specs.Following.{after_action}
 use Rattle.usage_checks.specs.ItemRules.{Outside, after_item, around_in, weighed, outermost}
 use Rattle.usage_checks.specs.NameRules.{with_entries}
-use Rattle.occam_layout.specs.declared.mark.Mark.TheVariants as mark
+use Rattle.code_pieces.specs.Pieces.{Code, Jump, JumpUnless, Piece, Row, before, closed_by, operates, then_code}
+use Rattle.code_pieces.specs.Pieces.{written}
+use Rattle.code_pieces.specs.declared.operations.TheConstants.{STOP_PROCESS}
+use Rattle.code_pieces.specs.declared.piece.RowEntry.{RowEntry}
+use Rattle.line_pieces.specs.Actions.{stop_code, may_show, assign_code, forgets, input_code, output_code, test_code}
+use Rattle.line_pieces.specs.Declarations.{Frame, declaration_code, facts_in, with_home}
+use Rattle.line_pieces.specs.Expressions.{expression_code}
+use Rattle.line_pieces.specs.Homes.{Nowhere}
+use Rattle.code_generator.specs.Calls.{Callee, around_before, callee_code, callee_code_if, callee_start, calls_below}
+use Rattle.code_generator.specs.Calls.{in_callee, outside_frame, where_called}
+use Rattle.code_generator.specs.Instances.{bindings_code, cleaning_code, is_finer}
+use Rattle.code_generator.specs.Processes.{Always, EndedChoices, IfEnding, NoChoice, Opens, PlacedChoice}
+use Rattle.code_generator.specs.Processes.{PlacedChoices, Site, Stops, Surroundings, ThenChoice, act_code, all_tested}
+use Rattle.code_generator.specs.Processes.{at_place, body_code, by_block, called, choices_code, component_code}
+use Rattle.code_generator.specs.Processes.{components_code, construct_code, ending_code, has_scalar, if_code}
+use Rattle.code_generator.specs.Processes.{in_each_turn, in_loop, is_true, line_code, loop_code, loop_start, no_loop}
+use Rattle.code_generator.specs.Processes.{opening, placed, placed_choices, process_code, repeated_seq, row_of}
+use Rattle.code_generator.specs.Processes.{taken_code, tested_code, times, turn_begun, value_or_zero}
+use Rattle.code_generator.specs.Processes.{with_declaration, with_ending, with_opening, with_row}
+use Rattle.code_generator.specs.Programs.{callable, code_of, framed, in_main, items_code, last_item_code, no_frame}
+use Rattle.meant_code.specs.Labels.{AreStraight, times_in}
+use Rattle.meant_code.specs.OwnCode.{AreOwn, ProcessesAreOwn}
+use Rattle.meant_code.proofs.LabelLists.{one_once}
+use Rattle.meant_code.proofs.OwnPieces.{own_anywhere, own_both, own_closed, own_jump, own_loop, own_row, own_straight}
+use Rattle.meant_code.proofs.OwnPieces.{own_test}
+use Rattle.meant_code.proofs.StraightLines.{assign_is, bindings_are, cleaning_is, declaration_is, expression_is}
+use Rattle.meant_code.proofs.StraightLines.{forgets_is, input_is, loop_start_is, output_is, straight_both}
 
 -- What is asked of code from a label on, if there is any.
 abbrev IsOwn : ℕ → List ℕ → Option Code → Type 0

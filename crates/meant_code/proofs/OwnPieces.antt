@@ -1,10 +1,9 @@
 -- Pieces with labels of their own, put together.
-use Rattle.std.proofs.Common.{◌≡◌, ◌<◌, ◌≤◌, ℕ, ◌+◌, List, [], ◌∷◌, ◌++◌, refl, sym, ap, ◌∙◌, arith, subst}
-use Rattle.std.proofs.lemmas.List.{append_assoc}
+use Rattle.std.proofs.Common.{◌≡◌, ◌≤◌, ℕ, ◌+◌, List, [], ◌∷◌, ◌++◌, sym, arith, subst}
 use Rattle.code_pieces.specs.declared.piece.RowEntry.{RowEntry}
-use Rattle.code_pieces.specs.Pieces.{Piece, Direct, Jump, JumpUnless, LoopBack, Row, points}
+use Rattle.code_pieces.specs.Pieces.{Piece, Jump, JumpUnless, LoopBack, Row, points}
 use Rattle.placed_code.specs.LaidCode.{labels_in}
-use Rattle.meant_code.specs.Labels.{times_in, EachOnce, AreStraight, ArePlain, AllLead}
+use Rattle.meant_code.specs.Labels.{times_in, EachOnce, AreStraight, ArePlain}
 use Rattle.meant_code.specs.OwnCode.{AreOwn}
 use Rattle.meant_code.proofs.LabelLists.{times_both, labels_both, times_in_both, none_once, one_once, both_once}
 use Rattle.meant_code.proofs.LabelLists.{ordered_once, Among, lead_more, lead_both, no_labels, straight_are_plain}
@@ -50,7 +49,8 @@ own_both a b c after ps qs first second = record {
       (both_once a b c (labels_in ps) (labels_in qs) first.once second.once);
   plain = plain_both ps qs first.plain second.plain;
   lead = lead_both [] after ps qs
-      (lead_more [] after [] (labels_in qs ++ after) ps (λ l there. there) (among_both after (labels_in qs)) first.lead)
+      (lead_more [] after [] (labels_in qs ++ after) ps (λ l there. there) (among_both after (labels_in qs))
+      first.lead)
       (lead_more [] after (labels_in ps ++ []) after qs (nothing (labels_in ps ++ [])) (λ l there. there) second.lead);
 }
 
@@ -92,7 +92,8 @@ own_loop n to word after start body head behind are own =
     both_once n (n + 1) (n + 2) (labels_in first) ((n + 1) ∷ []) begins.once
     (subst (λ (m : ℕ). EachOnce (n + 1) m ((n + 1) ∷ [])) next (one_once (n + 1))) in
     record {
-      once = ordered_once n to ((labels_in first ++ ((n + 1) ∷ [])) ++ labels_in body) (labels_in (first ++ (body ++ end)))
+      once = ordered_once n to ((labels_in first ++ ((n + 1) ∷ [])) ++ labels_in body)
+          (labels_in (first ++ (body ++ end)))
           (λ l.
           let a = times_both l (labels_in first ++ ((n + 1) ∷ [])) (labels_in body) in
           let b = times_both l (labels_in first) ((n + 1) ∷ []) in

@@ -1,5 +1,5 @@
 -- Programs place labels of their own, also where their rows are kept apart, and have parts at the root.
-use Rattle.std.proofs.Common.{◌≡◌, ℕ, ◌+◌, ℤ, pos, Bool, true, false, cond, List, [], ◌∷◌, ◌++◌, Option, refl, sym, ap}
+use Rattle.std.proofs.Common.{◌≡◌, ℕ, ℤ, pos, Bool, true, false, cond, List, [], ◌∷◌, ◌++◌, Option, refl, sym, ap}
 use Rattle.std.proofs.Common.{◌∙◌, FitsSigned, subst, arith}
 use Rattle.std.specs.Prelude.{◌&&◌, ◌-ℤ◌}
 use Rattle.std.specs.Int.{w32}
@@ -8,15 +8,12 @@ use Rattle.std.specs.Option.{option_to_list}
 use Rattle.std.proofs.lemmas.Int.{ints}
 use Rattle.prefix_decoder.specs.declared.function.Fun.{Fun}
 use Rattle.prefix_decoder.specs.declared.function.Fun.TheVariants as fun
-use Rattle.occam_parser.specs.Blocks.{ProgramItem}
 use Rattle.code_pieces.specs.declared.piece.Workspace.{Workspace}
 use Rattle.code_pieces.specs.Pars.{in_root}
-use Rattle.code_pieces.specs.Pieces.{Piece, Direct, Jump, JumpUnless, LoopBack, TableAddress, Row, constant, Code}
+use Rattle.code_pieces.specs.Pieces.{Piece, Direct, Jump, JumpUnless, LoopBack, TableAddress, Row, constant}
 use Rattle.code_pieces.specs.Placing.{label_in}
 use Rattle.code_pieces.specs.Laying.{is_row, at_row_behind, apart_from, apart, operand_at}
-use Rattle.placed_code.specs.LaidCode.{labels_in, workspace_after, StaysAt, LabelsArePlacedOnce, IsPart}
-use Rattle.placed_code.proofs.Distances.{number_fits}
-use Rattle.code_generator.specs.Programs.{code_of}
+use Rattle.placed_code.specs.LaidCode.{labels_in, workspace_after, StaysAt}
 use Rattle.meant_code.specs.Labels.{EachOnce, IsCounted, NamesCounted, IsPlain, ArePlain, Leads, AllLead}
 use Rattle.meant_code.specs.OwnCode.{AreOwn, ProgramsAreOwn, LabelsStayOnce, FitsUnlessNamed}
 use Rattle.meant_code.specs.OwnCode.{OperandFits, ProgramsHaveParts}

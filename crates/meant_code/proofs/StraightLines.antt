@@ -1,15 +1,31 @@
 -- The code of expressions, actions and declarations is straight: it places no label and jumps nowhere.
-use Rattle.std.proofs.Common.{◌≡◌, ℕ, zero, suc, ◌+◌, ℤ, pos, Bool, true, false, cond, List, [], ◌∷◌, ◌++◌, Option}
-use Rattle.std.proofs.Common.{Some, None, refl, arith}
-use Rattle.std.specs.Prelude.{⊤, ◌≤◌, ◌/◌, ◌%◌, ◌*◌, ◌-◌, nat_lt, nat_eq}
+use Rattle.std.proofs.Common.{ℕ, zero, suc, ◌+◌, ℤ, pos, Bool, true, false, cond, List, [], ◌∷◌, ◌++◌, Option, Some}
+use Rattle.std.proofs.Common.{None, refl}
+use Rattle.std.specs.Prelude.{⊤, ◌/◌, ◌%◌, ◌*◌, ◌-◌, nat_lt, nat_eq, min, unsigned_abs}
 use Rattle.std.specs.Ordering.{int_eq}
 use Rattle.std.proofs.Math.Nat.{min-le_right}
-use Rattle.code_pieces.specs.Pieces.{counted}
+use Rattle.prefix_decoder.specs.declared.function.Fun.TheVariants as fun
+use Rattle.word_arithmetic.specs.Word.{greatest_word, least_word}
+use Rattle.word_arithmetic.specs.declared.compare.Comparison.{Comparison}
+use Rattle.word_arithmetic.specs.declared.compare.Comparison.TheVariants as comparison
+use Rattle.occam_parser.specs.Expressions.{Alone, Bracketed, Byte, Chained, Converted, Element, Expression, MostNeg}
+use Rattle.occam_parser.specs.Expressions.{MostPos, Named, Number, Paired, Prefixed, Term, Terms, Then, Truth, Two}
+use Rattle.occam_parser.specs.Lines.{Constants, Declaration, Place, Variables, Channels}
+use Rattle.occam_parser.specs.OneOrMore.{as_list}
+use Rattle.occam_parser.specs.declared.tree.ChainOperator.{ChainOperator}
+use Rattle.occam_parser.specs.declared.tree.PairOperator.{PairOperator}
+use Rattle.occam_parser.specs.declared.tree.PrefixOperator.{PrefixOperator}
+use Rattle.occam_parser.specs.declared.tree.ValueType.{ValueType}
+use Rattle.occam_parser.specs.declared.tree.PairOperator.TheVariants as pair
+use Rattle.occam_parser.specs.declared.tree.PrefixOperator.TheVariants as prefix
+use Rattle.occam_parser.specs.declared.tree.ValueType.TheVariants as value_type
+use Rattle.scalar_ranges.specs.Bounds.{bound_of, bound_of_term, exact_value, range_found}
+use Rattle.scalar_ranges.specs.Entries.{Array, Entry, Meaning, Scalar, meaning_in}
+use Rattle.scalar_ranges.specs.Fronts.{Front, count_of, front_in}
+use Rattle.scalar_ranges.specs.Narrowing.{Tested}
+use Rattle.scalar_ranges.specs.declared.scope.ScalarKind.TheVariants as kinds
 use Rattle.program_uses.specs.Signatures.{Parameter}
-use Rattle.code_generator.specs.Instances.{bindings_code}
-use Rattle.code_generator.specs.Instances.{binding_code, bound, cleaning_code, meaning_at, passed_target}
-use Rattle.code_generator.specs.Processes.{loop_start}
-use Rattle.code_pieces.specs.Pieces.{Direct, Piece, TableAddress, constant, moves, operates, points, stores}
+use Rattle.code_pieces.specs.Pieces.{counted, Direct, Piece, TableAddress, constant, moves, operates, points, stores}
 use Rattle.code_pieces.specs.Pieces.{word_after}
 use Rattle.code_pieces.specs.declared.operations.TheConstants.{BYTE_SUBSCRIPT, INPUT, LOAD_BYTE, MINIMUM_INTEGER}
 use Rattle.code_pieces.specs.declared.operations.TheConstants.{OUTPUT, REVERSE, WORD_SUBSCRIPT}
@@ -26,35 +42,16 @@ use Rattle.line_pieces.specs.Expressions.{byte_address, chain_operation, comes_l
 use Rattle.line_pieces.specs.Expressions.{covered, element_code, element_of_words, equality_code, exchanged}
 use Rattle.line_pieces.specs.Expressions.{expression_code, first_code, first_of_terms, first_two, is_byte_reference}
 use Rattle.line_pieces.specs.Expressions.{is_known, is_small, is_small_term, known_address, loads_at, negated_unless}
-use Rattle.line_pieces.specs.Expressions.{negates, next_above, next_below, offset_of, onto, or_zero}
-use Rattle.line_pieces.specs.Expressions.{pair_code, pair_operation, prefix_code, pushed, pushes_of, scalar_code}
-use Rattle.line_pieces.specs.Expressions.{single, subscript_code, subscript_of, table_element, term_code}
-use Rattle.line_pieces.specs.Expressions.{terms_code, truth, unless, unless_added, without}
-use Rattle.line_pieces.specs.Expressions.{comparison_pushes, on_constant, below_constant, equality_pushes}
+use Rattle.line_pieces.specs.Expressions.{negates, next_above, next_below, offset_of, onto, or_zero, pair_code}
+use Rattle.line_pieces.specs.Expressions.{pair_operation, prefix_code, pushed, pushes_of, scalar_code, single}
+use Rattle.line_pieces.specs.Expressions.{subscript_code, subscript_of, table_element, term_code, terms_code, truth}
+use Rattle.line_pieces.specs.Expressions.{unless, unless_added, without, comparison_pushes, on_constant}
+use Rattle.line_pieces.specs.Expressions.{below_constant, equality_pushes}
 use Rattle.line_pieces.specs.Homes.{Block, Home, Link, Passed, Table, Word, home_of}
+use Rattle.code_generator.specs.Instances.{bindings_code, binding_code, bound, cleaning_code, meaning_at}
+use Rattle.code_generator.specs.Instances.{passed_target}
+use Rattle.code_generator.specs.Processes.{loop_start}
 use Rattle.meant_code.specs.Labels.{AreStraight, IsCounted, IsStraight}
-use Rattle.occam_parser.specs.Expressions.{Alone, Bracketed, Byte, Chained, Converted, Element, Expression, MostNeg}
-use Rattle.occam_parser.specs.Expressions.{MostPos, Named, Number, Paired, Prefixed, Term, Terms, Then, Truth, Two}
-use Rattle.occam_parser.specs.Lines.{Constants, Declaration, Place, Variables, Channels}
-use Rattle.occam_parser.specs.OneOrMore.{as_list}
-use Rattle.occam_parser.specs.declared.tree.ChainOperator.{ChainOperator}
-use Rattle.occam_parser.specs.declared.tree.PairOperator.{PairOperator}
-use Rattle.occam_parser.specs.declared.tree.PrefixOperator.{PrefixOperator}
-use Rattle.occam_parser.specs.declared.tree.ValueType.{ValueType}
-use Rattle.program_uses.specs.Signatures.{Parameter}
-use Rattle.scalar_ranges.specs.Bounds.{bound_of, bound_of_term, exact_value, range_found}
-use Rattle.scalar_ranges.specs.Entries.{Array, Entry, Meaning, Scalar, meaning_in}
-use Rattle.scalar_ranges.specs.Fronts.{Front, count_of, front_in}
-use Rattle.scalar_ranges.specs.Narrowing.{Tested}
-use Rattle.std.specs.Prelude.{min, unsigned_abs}
-use Rattle.word_arithmetic.specs.Word.{greatest_word, least_word}
-use Rattle.word_arithmetic.specs.declared.compare.Comparison.{Comparison}
-use Rattle.word_arithmetic.specs.declared.compare.Comparison.TheVariants as comparison
-use Rattle.prefix_decoder.specs.declared.function.Fun.TheVariants as fun
-use Rattle.scalar_ranges.specs.declared.scope.ScalarKind.TheVariants as kinds
-use Rattle.occam_parser.specs.declared.tree.PairOperator.TheVariants as pair
-use Rattle.occam_parser.specs.declared.tree.PrefixOperator.TheVariants as prefix
-use Rattle.occam_parser.specs.declared.tree.ValueType.TheVariants as value_type
 
 -- ---- pieces
 

@@ -65,7 +65,7 @@ ArePlain ps = AllByRecursion IsPlain ps
 
 -- ---- where labels are
 
--- between these labels before a piece and these after it: it jumps forward, and the end of a turn goes to a head before
+-- Between these labels before a piece and these after it, it jumps forward, or goes back to a head at a turn's end.
 abbrev pub Leads : List ℕ → List ℕ → Piece → Type 0
 Leads before after (Jump to) = 1 ≤ times_in to after
 Leads before after (JumpUnless to) = 1 ≤ times_in to after

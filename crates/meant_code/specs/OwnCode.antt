@@ -1,5 +1,5 @@
 -- The code of processes and programs places labels of its own, once each, and stays at the workspace of the root.
-use Rattle.std.specs.Prelude.{◌≡◌, ⊤, ℕ, ℤ, List, [], ◌++◌, Option, Some, FitsSigned}
+use Rattle.std.specs.Prelude.{◌≡◌, ⊤, ℕ, ℤ, List, [], ◌++◌, Some, FitsSigned}
 use Rattle.std.specs.Int.{w32}
 use Rattle.std.specs.List.{AllByRecursion}
 use Rattle.prefix_decoder.specs.declared.function.Fun.{Fun}

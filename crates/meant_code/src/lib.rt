@@ -3,4 +3,4 @@
 
 mod laws;
 
-pub use laws::{labels_are_placed, programs_have_parts};
+pub use laws::{labels_are_placed, pieces_lead, programs_have_parts, words_are_taken};
