@@ -17,7 +17,7 @@ use Rattle.meant_code.specs.Labels.{Leads, AllLead}
 
 -- ---- how often
 
-same_is : (l m : ℕ) → l ≡ m → same l m ≡ 1
+pub same_is : (l m : ℕ) → l ≡ m → same l m ≡ 1
 same_is l m is = elim (eqb_tells l m) [
   | inl there ↦ ap (λ (b : Bool). if b then 1 else 0) there.0
   | inr other ↦ absurd (other.1 is)
@@ -130,7 +130,7 @@ all_below to (m ∷ ls) none = (
   all_below to ls (λ l more. let all = none l more in omega (arith, all)),
 )
 
-most_once : (a b : ℕ) (ls : List ℕ) → EachOnce a b ls → (l : ℕ) → times_in l ls ≤ 1
+pub most_once : (a b : ℕ) (ls : List ℕ) → EachOnce a b ls → (l : ℕ) → times_in l ls ≤ 1
 most_once a b ls once l = elim (cases_lt l a) [
   | inl less ↦ let none = once.below l less in omega (arith, none)
   | inr from ↦ elim (cases_lt l b) [

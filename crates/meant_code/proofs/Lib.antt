@@ -4,3 +4,4 @@ pub mod OwnPieces
 pub mod OwnCode
 pub mod OwnPrograms
 pub mod AmongOthers
+pub mod NumbersStay

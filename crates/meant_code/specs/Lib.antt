@@ -1,3 +1,4 @@
 pub mod Labels
 pub mod OwnCode
 pub mod AmongOthers
+pub mod NumbersStay

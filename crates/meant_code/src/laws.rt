@@ -2,6 +2,7 @@
 
 ghost use Rattle.meant_code.specs.AmongOthers.{PiecesLead, WordsAreTaken, ApartTakesNoMore, PartsAreApart};
 ghost use Rattle.meant_code.specs.AmongOthers.{PartsStayParts};
+ghost use Rattle.meant_code.specs.NumbersStay.{NumbersStay};
 ghost use Rattle.meant_code.specs.OwnCode.{ProcessesAreOwn, ProgramsAreOwn, LabelsStayOnce, ProgramsHaveParts};
 
 /// The labels from the one at which a process begins up to those that it leaves free are each placed once in its
@@ -15,6 +16,11 @@ pub fn labels_are_placed()
 /// What a piece of a program jumps to is after it, and the end of a turn goes back to a head before it.
 pub fn pieces_lead()
     ensures { PiecesLead }
+{}
+
+/// The number of a label of a program is the same from any piece before it on.
+pub fn numbers_stay()
+    ensures { NumbersStay }
 {}
 
 /// Pieces of a program whose constants are words are a part of it, at the workspace of the root. They are so if rows

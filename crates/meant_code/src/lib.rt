@@ -3,4 +3,6 @@
 
 mod laws;
 
-pub use laws::{labels_are_placed, pieces_lead, programs_have_parts, words_are_taken};
+pub use laws::{
+    labels_are_placed, numbers_stay, pieces_lead, programs_have_parts, words_are_taken,
+};
