@@ -1,0 +1,2 @@
+pub mod StraightRules
+pub mod Instructions
