@@ -40,7 +40,7 @@ use Rattle.certified_lines.specs.Instructions.{ComparedConstantsAreKnown, Turned
 use Rattle.certified_lines.specs.Instructions.{ShiftedWordsAreKnown}
 
 -- an instruction whose rule leaves this, wherever it is
-falls_by : {g : Setting} {f : Fun} {e : ℤ} {s t : Told}
+pub falls_by : {g : Setting} {f : Fun} {e : ℤ} {s t : Told}
     → ((at size number : ℕ) → size ≤ number
     → rule (record { contents = g.contents; at = at; length = size }) f (operand_at (pos g.depth) f e)
     (state_of g s number) ≡ falls (state_of g t (number - size)))
@@ -59,7 +59,7 @@ told_by (Loop base count weight) rest told = refl
 told_by ReturnAddress rest told = refl
 
 -- a register of which something is known may be used
-uses_told : (k : Known) (rest : Fact → Ruling) → is_told k.fact ≡ true → uses k rest ≡ rest k.fact
+pub uses_told : (k : Known) (rest : Fact → Ruling) → is_told k.fact ≡ true → uses k rest ≡ rest k.fact
 unfolding uses
 uses_told k rest told = told_by k.fact (rest k.fact) told
 
@@ -116,8 +116,13 @@ pub addresses_are_known : AddressesAreKnown
 unfolding rule rule_of instruction_rule local_rule instruction_of near goes_on pays
 addresses_are_known g word s counts small =
     let at_word : pos 4 *ℤ pos word ≡ pos (4 * word) = refl in
-    falls_by (λ at size number pays. rw (counts, word_named, at_word, le-leb (4 * word) 16777216 small,
-    le-ltb number size pays) refl)
+    falls_by (λ at size number pays. rw (
+      counts,
+      word_named,
+      at_word,
+      le-leb (4 * word) 16777216 small,
+      le-ltb number size pays,
+    ) refl)
 
 pub tables_are_known : TablesAreKnown
 tables_are_known g values s = table done

@@ -1,2 +1,3 @@
 pub mod StraightRules
 pub mod Instructions
+pub mod Addresses

@@ -6,6 +6,9 @@ ghost use Rattle.certified_lines.specs.Instructions.{StoredWordsAreKnown, Addres
 ghost use Rattle.certified_lines.specs.Instructions.{RegistersAreReversed, SumsWithConstantsAreKnown};
 ghost use Rattle.certified_lines.specs.Instructions.{ComparedConstantsAreKnown, TurnedBitsAreKnown};
 ghost use Rattle.certified_lines.specs.Instructions.{ResultsAreKnown, ShiftedWordsAreKnown};
+ghost use Rattle.certified_lines.specs.Addresses.{FurtherAddressesAreKnown, SelectedWordsAreKnown};
+ghost use Rattle.certified_lines.specs.Addresses.{SelectedBytesAreKnown, DistantWordsAreKnown};
+ghost use Rattle.certified_lines.specs.Addresses.{DistantStoresAreKnown, LoadedBytesAreKnown, StoredBytesAreKnown};
 
 /// What is known after straight pieces, and after others from there, is what is known after both.
 #[tactic(auto, using(crate::proofs::StraightRules::straight_rules_follow))]
@@ -33,4 +36,17 @@ pub fn operators_are_told()
     ensures turned { TurnedBitsAreKnown }
     ensures results { ResultsAreKnown }
     ensures shifted { ShiftedWordsAreKnown }
+{}
+
+/// What is read and left at an address that may lead to several words or bytes is known, and so is another address that
+/// is made of it.
+#[tactic(auto, using(crate::proofs::Addresses::addresses))]
+pub fn addresses_are_told()
+    ensures further { FurtherAddressesAreKnown }
+    ensures words { SelectedWordsAreKnown }
+    ensures bytes { SelectedBytesAreKnown }
+    ensures loaded { DistantWordsAreKnown }
+    ensures stored { DistantStoresAreKnown }
+    ensures bytes_loaded { LoadedBytesAreKnown }
+    ensures bytes_stored { StoredBytesAreKnown }
 {}

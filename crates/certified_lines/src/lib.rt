@@ -3,6 +3,4 @@
 
 mod laws;
 
-pub use laws::{
-    operators_are_told, rules_fall_together, words_are_told,
-};
+pub use laws::{addresses_are_told, operators_are_told, rules_fall_together, words_are_told};
