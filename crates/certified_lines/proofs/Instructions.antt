@@ -25,6 +25,9 @@ use Rattle.states.specs.State.{State, written}
 use Rattle.rulings.specs.Rulings.{Ruling, Site, falls, breaks, outside_alternation, outside_starts, uses, reads_word}
 use Rattle.rulings.specs.Rulings.{writes_word, pays, goes_on}
 use Rattle.local_rules.specs.LocalRules.{local_operation_rule, local_rule}
+use Rattle.local_rules.specs.WordRules.{word_as_known}
+use Rattle.certified_lines.specs.Instructions.{WaitingIsKnownBelow}
+use Rattle.certified_lines.proofs.StraightRules.{fall_both}
 use Rattle.local_rules.specs.WordRules.{known_constant, becomes, range_of, number_in, fact_of_two, unary_result_fact}
 use Rattle.local_rules.specs.WordRules.{shift_range}
 use Rattle.rulings.specs.Pointers.{near}
@@ -219,3 +222,10 @@ pub ruleset operators = (
   results_are_known,
   shifted_words_are_known,
 )
+
+-- ---- several
+
+pub waiting_is_known_below : WaitingIsKnownBelow
+waiting_is_known_below g word s counts may =
+    fall_both (loaded_words_are_known g word s counts may)
+    (registers_are_reversed g (with_pushed (word_as_known (pos word) (s.frame (pos word))) s))

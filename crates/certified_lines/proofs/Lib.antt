@@ -1,3 +1,4 @@
 pub mod StraightRules
 pub mod Instructions
 pub mod Addresses
+pub mod Moving

@@ -20,6 +20,7 @@ use Rattle.states.specs.State.{unknown, known, with_fact, forgets, is_at}
 use Rattle.local_rules.specs.WordRules.{known_constant, word_as_known, result_fact, unary_result_fact, shift_range}
 use Rattle.local_rules.specs.WordRules.{fact_of_two, result_source, constant_source}
 use Rattle.code_pieces.specs.declared.operations.TheConstants.{REVERSE, NOT, MINIMUM_INTEGER}
+use Rattle.code_pieces.specs.Pieces.{below}
 use Rattle.code_pieces.specs.Pieces.{Piece, Direct, TableAddress, operates, loads, stores, points, constant, counted}
 use Rattle.certified_lines.specs.StraightRules.{Setting, Told, FallOn, with_pushed, table_known}
 
@@ -133,3 +134,16 @@ ShiftedWordsAreKnown = (g : Setting) (operation : ℤ) (op : Shift) (fact : Fact
     → op_of operation ≡ Some (ops.Shift op)
     → fact_of_two (shift_range op) s.stack.b.fact s.stack.a.fact ≡ Some fact
     → PieceFalls g (operates operation) s (with_result (known fact) s)
+
+-- ---- several
+
+-- what waited in a word of the frame is known below what is in A
+abbrev pub WaitingIsKnownBelow : Type 0
+WaitingIsKnownBelow = (g : Setting) (word : ℕ) (s : Told) → IsCounted word → MayRead g word
+    → FallOn g (below word) s (record s {
+      stack = record {
+        a = s.stack.a;
+        b = word_as_known (pos word) (s.frame (pos word));
+        c = s.stack.b;
+      };
+    })

@@ -9,6 +9,8 @@ ghost use Rattle.certified_lines.specs.Instructions.{ResultsAreKnown, ShiftedWor
 ghost use Rattle.certified_lines.specs.Addresses.{FurtherAddressesAreKnown, SelectedWordsAreKnown};
 ghost use Rattle.certified_lines.specs.Addresses.{SelectedBytesAreKnown, DistantWordsAreKnown};
 ghost use Rattle.certified_lines.specs.Addresses.{DistantStoresAreKnown, LoadedBytesAreKnown, StoredBytesAreKnown};
+ghost use Rattle.certified_lines.specs.Instructions.{WaitingIsKnownBelow};
+ghost use Rattle.certified_lines.specs.Moving.{MovedBytesAreKnown};
 
 /// What is known after straight pieces, and after others from there, is what is known after both.
 #[tactic(auto, using(crate::proofs::StraightRules::straight_rules_follow))]
@@ -49,4 +51,16 @@ pub fn addresses_are_told()
     ensures stored { DistantStoresAreKnown }
     ensures bytes_loaded { LoadedBytesAreKnown }
     ensures bytes_stored { StoredBytesAreKnown }
+{}
+
+/// What waited in a word is known below what is in A.
+#[tactic(auto, using(crate::proofs::Instructions::waiting_is_known_below))]
+pub fn waiting_is_told()
+    ensures { WaitingIsKnownBelow }
+{}
+
+/// What bytes leave that are moved is known.
+#[tactic(auto, using(crate::proofs::Moving::moved_bytes_are_known))]
+pub fn moved_bytes_are_told()
+    ensures { MovedBytesAreKnown }
 {}

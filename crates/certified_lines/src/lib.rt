@@ -3,4 +3,7 @@
 
 mod laws;
 
-pub use laws::{addresses_are_told, operators_are_told, rules_fall_together, words_are_told};
+pub use laws::{
+    addresses_are_told, moved_bytes_are_told, operators_are_told, rules_fall_together,
+    words_are_told,
+};
