@@ -2,3 +2,4 @@ pub mod StraightRules
 pub mod Instructions
 pub mod Addresses
 pub mod Moving
+pub mod Numbers

@@ -11,6 +11,10 @@ ghost use Rattle.certified_lines.specs.Addresses.{SelectedBytesAreKnown, Distant
 ghost use Rattle.certified_lines.specs.Addresses.{DistantStoresAreKnown, LoadedBytesAreKnown, StoredBytesAreKnown};
 ghost use Rattle.certified_lines.specs.Instructions.{WaitingIsKnownBelow};
 ghost use Rattle.certified_lines.specs.Moving.{MovedBytesAreKnown};
+ghost use Rattle.certified_lines.specs.Numbers.{ResultsLieInRanges, SumsLieInRanges, ComparisonsAreTruths};
+ghost use Rattle.certified_lines.specs.Numbers.{TurnedBitsLieInRanges, ShiftsLieInRanges, GreaterWordsAreTold};
+ghost use Rattle.certified_lines.specs.Numbers.{LesserWordsAreTold, EqualWordsAreTold, OppositesAreTold};
+ghost use Rattle.certified_lines.specs.Numbers.{NothingIsToldFromNowhere};
 
 /// What is known after straight pieces, and after others from there, is what is known after both.
 #[tactic(auto, using(crate::proofs::StraightRules::straight_rules_follow))]
@@ -63,4 +67,23 @@ pub fn waiting_is_told()
 #[tactic(auto, using(crate::proofs::Moving::moved_bytes_are_known))]
 pub fn moved_bytes_are_told()
     ensures { MovedBytesAreKnown }
+{}
+
+/// The results of operators of numbers in ranges lie in the range of the operation.
+#[tactic(auto, using(crate::proofs::Numbers::results))]
+pub fn results_lie_in_ranges()
+    ensures results { ResultsLieInRanges }
+    ensures sums { SumsLieInRanges }
+    ensures compared { ComparisonsAreTruths }
+    ensures turned { TurnedBitsLieInRanges }
+    ensures shifted { ShiftsLieInRanges }
+{}
+
+/// A comparison of a word with a constant tells of the word, and so does its opposite.
+pub fn comparisons_tell_of_words()
+    ensures greater { GreaterWordsAreTold }
+    ensures lesser { LesserWordsAreTold }
+    ensures equal { EqualWordsAreTold }
+    ensures opposite { OppositesAreTold }
+    ensures nowhere { NothingIsToldFromNowhere }
 {}

@@ -4,6 +4,6 @@
 mod laws;
 
 pub use laws::{
-    addresses_are_told, moved_bytes_are_told, operators_are_told, rules_fall_together,
-    words_are_told,
+    addresses_are_told, comparisons_tell_of_words, moved_bytes_are_told, operators_are_told,
+    results_lie_in_ranges, rules_fall_together, words_are_told,
 };
