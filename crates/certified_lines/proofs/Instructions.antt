@@ -87,7 +87,7 @@ unfolding rule rule_of instruction_rule operation_rule local_operation_rule inst
     pays
 least_word_is_known g s = falls_by (λ at size number pays. rw (le-ltb number size pays) refl)
 
-constants_are_loaded : (g : Setting) (v : ℤ) (s : Told)
+pub constants_are_loaded : (g : Setting) (v : ℤ) (s : Told)
     → PieceFalls g (Direct fun.LoadConstant v) s (with_pushed (known_constant v) s)
 unfolding rule rule_of instruction_rule local_rule instruction_of goes_on pays
 constants_are_loaded g v s = falls_by (λ at size number pays. rw (le-ltb number size pays) refl)

@@ -3,3 +3,4 @@ pub mod Instructions
 pub mod Addresses
 pub mod Moving
 pub mod Numbers
+pub mod Walking

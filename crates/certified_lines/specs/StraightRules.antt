@@ -2,6 +2,7 @@
 -- however long, for whoever can pay. Straight pieces are instructions and the addresses of tables.
 use Rattle.std.specs.Prelude.{◌≡◌, ℕ, ◌-◌, ◌≤◌, ℤ, pos, List, [], ◌∷◌, ◌++◌}
 use Rattle.prefix_decoder.specs.declared.function.Fun.{Fun}
+use Rattle.module_format.specs.Rows.{Fact}
 use Rattle.module_format.specs.declared.stack.Stack.{Stack}
 use Rattle.module_format.specs.Stack.{pushed}
 use Rattle.module_format.specs.declared.fact.Fact.TheVariants.{Pointer}
@@ -49,9 +50,11 @@ abbrev pub with_pushed : Known → Told → Told
 with_pushed v t = record t { stack = pushed v t.stack }
 
 -- the address of a table is that of a word of the constants
+abbrev pub table_fact : Setting → List ℤ → Fact
+table_fact g values = Pointer regions.Constants (pos (g.tables values)) (pos (g.tables values)) Word
+
 abbrev pub table_known : Setting → List ℤ → Known
-table_known g values =
-    known (Pointer regions.Constants (pos (g.tables values)) (pos (g.tables values)) Word)
+table_known g values = known (table_fact g values)
 
 -- ---- what pieces leave
 

@@ -15,6 +15,7 @@ ghost use Rattle.certified_lines.specs.Numbers.{ResultsLieInRanges, SumsLieInRan
 ghost use Rattle.certified_lines.specs.Numbers.{TurnedBitsLieInRanges, ShiftsLieInRanges, GreaterWordsAreTold};
 ghost use Rattle.certified_lines.specs.Numbers.{LesserWordsAreTold, EqualWordsAreTold, OppositesAreTold};
 ghost use Rattle.certified_lines.specs.Numbers.{NothingIsToldFromNowhere};
+ghost use Rattle.certified_lines.specs.Walking.{WalksReach, StraightPiecesWalk};
 
 /// What is known after straight pieces, and after others from there, is what is known after both.
 #[tactic(auto, using(crate::proofs::StraightRules::straight_rules_follow))]
@@ -86,4 +87,12 @@ pub fn comparisons_tell_of_words()
     ensures equal { EqualWordsAreTold }
     ensures opposite { OppositesAreTold }
     ensures nowhere { NothingIsToldFromNowhere }
+{}
+
+/// Where straight pieces lie in the code of a module, what reaches their beginning reaches their end, and is known there
+/// to be what their rules leave.
+#[tactic(auto, using(crate::proofs::Walking::walking))]
+pub fn straight_pieces_walk()
+    ensures reach { WalksReach }
+    ensures walk { StraightPiecesWalk }
 {}
