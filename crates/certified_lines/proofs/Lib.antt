@@ -4,3 +4,4 @@ pub mod Addresses
 pub mod Moving
 pub mod Numbers
 pub mod Walking
+pub mod Arrays

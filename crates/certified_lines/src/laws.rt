@@ -16,6 +16,7 @@ ghost use Rattle.certified_lines.specs.Numbers.{TurnedBitsLieInRanges, ShiftsLie
 ghost use Rattle.certified_lines.specs.Numbers.{LesserWordsAreTold, EqualWordsAreTold, OppositesAreTold};
 ghost use Rattle.certified_lines.specs.Numbers.{NothingIsToldFromNowhere};
 ghost use Rattle.certified_lines.specs.Walking.{WalksReach, StraightPiecesWalk};
+ghost use Rattle.certified_lines.specs.Arrays.{AnyOfNumbersIsOne, FullWordsStayFull, OtherWordsStay};
 
 /// What is known after straight pieces, and after others from there, is what is known after both.
 #[tactic(auto, using(crate::proofs::StraightRules::straight_rules_follow))]
@@ -95,4 +96,13 @@ pub fn comparisons_tell_of_words()
 pub fn straight_pieces_walk()
     ensures reach { WalksReach }
     ensures walk { StraightPiecesWalk }
+{}
+
+/// Any of some words that are numbers in a range is one. Where a number may have been stored, a word that may be any
+/// number stays so, and other words are known as before.
+#[tactic(auto, using(crate::proofs::Arrays::arrays))]
+pub fn words_stay_known()
+    ensures any { AnyOfNumbersIsOne }
+    ensures full { FullWordsStayFull }
+    ensures others { OtherWordsStay }
 {}

@@ -5,5 +5,6 @@ mod laws;
 
 pub use laws::{
     addresses_are_told, comparisons_tell_of_words, moved_bytes_are_told, operators_are_told,
-    results_lie_in_ranges, rules_fall_together, straight_pieces_walk, words_are_told,
+    results_lie_in_ranges, rules_fall_together, straight_pieces_walk, waiting_is_told,
+    words_are_told, words_stay_known,
 };
