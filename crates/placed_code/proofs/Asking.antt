@@ -59,7 +59,8 @@ module _ (m : Contents) (labels : ℕ → ℕ) (footing : Footing) where
       let of : instruction_in (decoded_operation fn e) ≡ Some i = decodes fn e ∙ x.is in
       let some : is_some (instruction_in (decoded_operation fn e)) ≡ true =
       ap (λ (o : Option Instruction). is_some o) of in
-      let is : d ≡ decoded_at c.code p.at = sym (ap decoded_fetched x.fetches.there ∙ rw (is_something (decoded_operation fn e) some) refl) in
+      let is : d ≡ decoded_at c.code p.at =
+      sym (ap decoded_fetched x.fetches.there ∙ rw (is_something (decoded_operation fn e) some) refl) in
       let after : ℕ → PlainState = λ at. state_at (word_address footing.depth) at p.held in
       let start = starts_here m labels footing machine w on running p here in
       let whole = (next_in c.start c.code machine.counters.executed (point_on machine)

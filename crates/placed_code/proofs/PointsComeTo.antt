@@ -37,7 +37,8 @@ module _ (c : LaidCode) (executed : ℕ) (from : PlainPoint) (can : CanRun c.sta
       let of : instruction_in (decoded_operation f e) ≡ Some x.instruction = decodes f e ∙ x.executes.is in
       let here : is_some (instruction_in (decoded_operation f e)) ≡ true =
       ap (λ (o : Option Instruction). is_some o) of in
-      let is : d ≡ decoded_at c.code p.at = sym (ap decoded_fetched x.executes.fetches.there ∙ rw (is_something (decoded_operation f e) here) refl) in
+      let is : d ≡ decoded_at c.code p.at =
+      sym (ap decoded_fetched x.executes.fetches.there ∙ rw (is_something (decoded_operation f e) here) refl) in
       let after : ℕ → PlainState = λ at. state_at (word_address c.footing.depth) at p.held in
       let does : leaves x.flow (state_in c q) ≡ function_step c.start (instruction_in (decoded_operation f e)) e
       (after (p.at + len)) =
