@@ -20,3 +20,4 @@ pub mod Finishing
 pub mod TablesInMemory
 pub mod RowsFound
 pub mod SaidWords
+pub mod NumbersCover

@@ -188,7 +188,7 @@ depth_stays depth (Par par) workspace is stays = is
 -- ---- labels
 
 -- where a piece that places a label is counted
-abbrev with_label : Option ℕ → ℕ → List Numbered → List Numbered
+abbrev pub with_label : Option ℕ → ℕ → List Numbered → List Numbered
 with_label None n ns = ns
 with_label (Some l) n ns = with_number l n ns
 
@@ -208,7 +208,7 @@ placed_cons k (Within workspace) ps = refl
 placed_cons k (Par par) ps = refl
 
 -- the label of another piece says nothing of this one
-number_other : (l k : ℕ) (ns : List Numbered) (o : Option ℕ) → (o ≡ Some l → ⊥)
+pub number_other : (l k : ℕ) (ns : List Numbered) (o : Option ℕ) → (o ≡ Some l → ⊥)
     → number_at l (with_label o k ns) ≡ number_at l ns
 number_other l k ns None other = refl
 number_other l k ns (Some m) other =
@@ -218,17 +218,17 @@ number_other l k ns (Some m) other =
     ]
 
 -- and its own is where it is counted
-number_here : (l k : ℕ) (ns : List Numbered) (o : Option ℕ) → o ≡ Some l → number_at l (with_label o k ns) ≡ k
+pub number_here : (l k : ℕ) (ns : List Numbered) (o : Option ℕ) → o ≡ Some l → number_at l (with_label o k ns) ≡ k
 number_here l k ns o is =
     ap (λ (p : Option ℕ). number_at l (with_label p k ns)) is
     ∙ ap (λ (b : Bool). if b then k else number_at l ns) (eq-eqb l l refl)
 
 -- what holds of all labels holds of those of later pieces
-differ_rest : (o : Option ℕ) (ls : List ℕ) → AllDiffer (option_to_list o ++ ls) → AllDiffer ls
+pub differ_rest : (o : Option ℕ) (ls : List ℕ) → AllDiffer (option_to_list o ++ ls) → AllDiffer ls
 differ_rest None ls all = all
 differ_rest (Some l) ls all = all.1
 
-absent_rest : (l : ℕ) (o : Option ℕ) (ls : List ℕ) → IsAbsent l (option_to_list o ++ ls) → IsAbsent l ls
+pub absent_rest : (l : ℕ) (o : Option ℕ) (ls : List ℕ) → IsAbsent l (option_to_list o ++ ls) → IsAbsent l ls
 absent_rest l None ls absent = absent
 absent_rest l (Some m) ls absent = absent.1
 
@@ -238,7 +238,7 @@ made_rest labels None ls made = made
 made_rest labels (Some l) ls made = made.1
 
 -- a label that a piece places is among those of pieces that have it
-is_among : (l : ℕ) (done : List Piece) (p : Piece) (later : List Piece) → label_in p ≡ Some l
+pub is_among : (l : ℕ) (done : List Piece) (p : Piece) (later : List Piece) → label_in p ≡ Some l
     → IsAbsent l (labels_in (done ++ p ∷ later)) → ⊥
 is_among l [] p later is absent =
     let here : IsAbsent l (option_to_list (Some l) ++ labels_in later) =

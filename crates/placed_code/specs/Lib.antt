@@ -7,3 +7,4 @@ pub mod Closing
 pub mod TablesInMemory
 pub mod RowsFound
 pub mod SaidWords
+pub mod NumbersCover

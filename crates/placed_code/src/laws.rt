@@ -5,6 +5,7 @@ ghost use Rattle.placed_code.specs.Closing.{ReceivesComeToBe, BehavioursClose, L
 ghost use Rattle.placed_code.specs.Closing.{LaidModulesFinish};
 ghost use Rattle.placed_code.specs.Instructions.{ItemsAreFetched};
 ghost use Rattle.placed_code.specs.LaidCode.{PiecesLie};
+ghost use Rattle.placed_code.specs.NumbersCover.{PiecesTakeTheirBytes, LabelsKeepTheirNumbers, NumbersCover};
 ghost use Rattle.placed_code.specs.Points.{PiecesGo, PointsAreComeTo};
 ghost use Rattle.placed_code.specs.RowsFound.{RowsKeepTheirOrder, RowsAreFound, NoRowIsElsewhere};
 ghost use Rattle.placed_code.specs.RowsFound.{NoRowIsBeforeOthers, NoRowIsInside};
@@ -22,8 +23,8 @@ pub fn straight_pieces_follow()
     ensures { StraightPiecesFollow }
 {}
 
-/// Where a module says its pieces, they lie in its code: their instructions are fetched one after the other, and lead to
-/// where labels and tables are.
+/// Where a module says its pieces, they lie in its code: their instructions are fetched one after the other, and lead
+/// to where labels and tables are.
 pub fn pieces_lie()
     ensures { PiecesLie }
 {}
@@ -68,8 +69,8 @@ pub fn receives_come_to_be()
     ensures { ReceivesComeToBe }
 {}
 
-/// What code makes the only process do comes to be over links: the run comes to where the code leaves an environment, or
-/// is over where the tree of what it does waits.
+/// What code makes the only process do comes to be over links: the run comes to where the code leaves an environment,
+/// or is over where the tree of what it does waits.
 pub fn behaviours_close()
     ensures { BehavioursClose }
 {}
@@ -105,4 +106,17 @@ pub fn rows_are_found()
 /// A label row says of words what its piece says, though neighbours with one range share an entry.
 pub fn words_are_said()
     ensures { WordsAreSaid }
+{}
+
+/// A piece takes the bytes between where its items begin and end, and a label has the number that is needed after its
+/// row: by all pieces the same as by those from any before the row on.
+pub fn labels_keep_their_numbers()
+    ensures bytes { PiecesTakeTheirBytes }
+    ensures labels { LabelsKeepTheirNumbers }
+{}
+
+/// A number that is at least what is needed from a piece on pays for it, and covers what is needed after it and the row
+/// of a label to which it leads; at the head of a loop its turns too, and at the end of a turn the next one.
+pub fn numbers_cover()
+    ensures { NumbersCover }
 {}
