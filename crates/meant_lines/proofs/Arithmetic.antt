@@ -33,7 +33,7 @@ use Rattle.meant_lines.proofs.Operators.{both_push, operations_push, stores_firs
 
 -- ---- values
 
-checked_by : (t : Bool) (z v : ℤ) → cond t (Some z) None ≡ Some v → z ≡ v
+pub checked_by : (t : Bool) (z v : ℤ) → cond t (Some z) None ≡ Some v → z ≡ v
 checked_by true z v is = cc
 checked_by false z v is = absurd (cc)
 
@@ -56,12 +56,12 @@ count_by : (t : Bool) (shift : ℤ → ℕ → ℤ) (x : ℤ) (n : ℕ) (v : ℤ
 count_by true shift x n v is = cc
 count_by false shift x n v is = absurd (cc)
 
-kept_of : (small leaf second : Bool) → (small && second) ≡ true → ((small || leaf) && second) ≡ true
+pub kept_of : (small leaf second : Bool) → (small && second) ≡ true → ((small || leaf) && second) ≡ true
 kept_of true leaf true is = refl
 kept_of true leaf false is = absurd (cc is)
 kept_of false leaf second is = absurd (cc is)
 
-fewer_kept : (g : Ground) (ps : List Piece) (t : ℕ) (small kept : Bool) (v : ℤ) (h : pieces.Held)
+pub fewer_kept : (g : Ground) (ps : List Piece) (t : ℕ) (small kept : Bool) (v : ℤ) (h : pieces.Held)
     → (small ≡ true → kept ≡ true) → Pushed g ps t false kept v h → Pushed g ps t false small v h
 fewer_kept g ps t small kept v h further p = record {
   after = p.after;

@@ -9,3 +9,4 @@ pub mod Zeroing
 pub mod Declaring
 pub mod Shapes
 pub mod Arithmetic
+pub mod Comparisons

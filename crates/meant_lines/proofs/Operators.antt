@@ -57,13 +57,13 @@ in_either true x y s first second = (first, second)
 in_either false x y s first second = inl (first, second)
 
 -- what was in A is below a value
-keeps_a : (g : Ground) (ps : List Piece) (t : ℕ) (leaf small : Bool) (v : ℤ) (h : pieces.Held)
+pub keeps_a : (g : Ground) (ps : List Piece) (t : ℕ) (leaf small : Bool) (v : ℤ) (h : pieces.Held)
     → (p : Pushed g ps t leaf small v h) → (small || leaf) ≡ true → p.after.stack.b ≡ h.stack.a
 keeps_a g ps t leaf true v h p is = p.below refl
 keeps_a g ps t true false v h p is = ap (λ (k : pieces.Held). k.stack.b) (p.alone refl)
 keeps_a g ps t false false v h p is = absurd (cc is)
 
-both_true : (a b : Bool) → (a && b) ≡ true → (a ≡ true) × (b ≡ true)
+pub both_true : (a b : Bool) → (a && b) ≡ true → (a ≡ true) × (b ≡ true)
 both_true true true is = (refl, refl)
 both_true true false is = absurd (cc is)
 both_true false b is = absurd (cc is)

@@ -1,16 +1,21 @@
 -- What the code of operators pushes, where the code of each operand pushes its value.
 use Rattle.std.specs.Prelude.{◌≡◌, ⊤, ℕ, ◌≤◌, ℤ, Bool, false, List, [], ◌∷◌, ◌++◌, ◌&&◌, FitsSigned, Option, Some, None}
+use Rattle.std.specs.Prelude.{if◌then◌else◌}
 use Rattle.std.specs.Int.{w32}
+use Rattle.occam_parser.specs.declared.tree.PairOperator.{PairOperator}
 use Rattle.occam_parser.specs.declared.tree.PairOperator.TheVariants as pair
 use Rattle.occam_parser.specs.declared.tree.ArithmeticPair.{ArithmeticPair}
 use Rattle.scalar_ranges.specs.Values.{pair_value}
 use Rattle.scalar_ranges.specs.Entries.{Entry}
 use Rattle.scalar_ranges.specs.Environments.{Environment, Meets}
+use Rattle.word_arithmetic.specs.Word.{truth}
+use Rattle.word_arithmetic.specs.Comparison.{compares}
+use Rattle.word_arithmetic.specs.declared.compare.Comparison.{Comparison}
 use Rattle.word_arithmetic.specs.Binary.{computed}
 use Rattle.word_arithmetic.specs.declared.binary.Binary.{Binary}
 use Rattle.code_pieces.specs.Pieces.{operates}
 use Rattle.placed_code.specs.StraightPieces as pieces
-use Rattle.line_pieces.specs.Expressions.{Operand, both, comes_last, pushed, pushes_of, pair_code}
+use Rattle.line_pieces.specs.Expressions.{Operand, both, comes_last, pushed, pushes_of, pair_code, is_left_first}
 use Rattle.meant_lines.specs.Instructions.{IsBinary}
 use Rattle.meant_lines.specs.Carrying.{Ground, Carries}
 use Rattle.meant_lines.specs.Pushing.{AllStoreWithin, IsCounted, OperandPushes, Pushed, PushedBoth, keeps}
@@ -49,3 +54,20 @@ ArithmeticPushes = (g : Ground) (top t : ℕ) (es : List Entry) (env : Environme
     → Carries g top es env h.memory
     → Pushed g (pushed (pushes_of (pair.Arithmetic op) known constant) t a b
     ++ pair_code (pair.Arithmetic op) known constant) t false (a.small && b.leaf) v h
+
+-- Whether what was in A is below the result of an operator between two operands.
+abbrev pub leaves_below : PairOperator → (a b : Operand) → Bool
+leaves_below op a b = if is_left_first op then a.small && b.leaf else a.leaf && b.leaf
+
+-- A comparison of two numbers, where each of them may be a constant, pushes 1 where it holds and 0 where it does not.
+abbrev pub ComparisonsPush : Type 0
+ComparisonsPush = (g : Ground) (top t : ℕ) (es : List Entry) (env : Environment) (op : Comparison) (a b : Operand)
+    (first second : Option ℤ) (x y : ℤ) (h : pieces.Held) → Meets env es → top ≤ t → IsCounted t
+    → FitsSigned w32 x → FitsSigned w32 y → OperandPushes g top es env t a x → OperandPushes g top es env t b y
+    → IsValue first x → IsValue second y
+    → AllStoreWithin g.words (pushed (pushes_of (pair.Comparison op) first second) t a b
+    ++ pair_code (pair.Comparison op) first second)
+    → Carries g top es env h.memory
+    → Pushed g (pushed (pushes_of (pair.Comparison op) first second) t a b
+    ++ pair_code (pair.Comparison op) first second) t false (leaves_below (pair.Comparison op) a b)
+    (truth (compares op x y)) h

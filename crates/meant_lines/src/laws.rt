@@ -16,7 +16,7 @@ ghost use Rattle.meant_lines.specs.CarryingLaws.{SameShapesCarry};
 ghost use Rattle.meant_lines.specs.CarryingLaws.{ScalarsAreCarried, ElementsAreCarried, BytesAreCarried};
 ghost use Rattle.meant_lines.specs.PushingLaws.{ConstantsPush, ScalarsPush, KnownWordsPush, WordsPush};
 ghost use Rattle.meant_lines.specs.PushingLaws.{KnownBytesPush, BytesPush, KnownItemsPush, ItemsPush};
-ghost use Rattle.meant_lines.specs.OperatorLaws.{BothPush, OperationsPush, ArithmeticPushes};
+ghost use Rattle.meant_lines.specs.OperatorLaws.{BothPush, OperationsPush, ArithmeticPushes, ComparisonsPush};
 ghost use Rattle.meant_lines.specs.Housing.{DeclaredHomesRise, BlocksRise, MoreWordsRise};
 ghost use Rattle.meant_lines.specs.Zeroing.{ScalarsAreZeroed, ArraysAreZeroed};
 ghost use Rattle.meant_lines.specs.Declaring.{NewNamesAreCarried, ZeroScalarsAreKept, ZeroArraysAreKept};
@@ -121,6 +121,12 @@ pub fn operands_are_pushed()
     ensures both { BothPush }
     ensures operations { OperationsPush }
     ensures arithmetic { ArithmeticPushes }
+{}
+
+/// The code of a comparison of two numbers pushes 1 where it holds and 0 where it does not, by the constant next to one
+/// of them where that is a word, and by the difference where they are asked to be equal.
+pub fn comparisons_are_pushed()
+    ensures comparisons { ComparisonsPush }
 {}
 
 /// The homes of a scope rise and do not overlap: with those of the names that a declaration declares, with the block of
