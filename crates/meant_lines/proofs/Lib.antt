@@ -10,3 +10,4 @@ pub mod Declaring
 pub mod Shapes
 pub mod Arithmetic
 pub mod Comparisons
+pub mod Prefixes

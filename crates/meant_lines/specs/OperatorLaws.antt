@@ -1,21 +1,24 @@
 -- What the code of operators pushes, where the code of each operand pushes its value.
 use Rattle.std.specs.Prelude.{◌≡◌, ⊤, ℕ, ◌≤◌, ℤ, Bool, false, List, [], ◌∷◌, ◌++◌, ◌&&◌, FitsSigned, Option, Some, None}
-use Rattle.std.specs.Prelude.{if◌then◌else◌}
+use Rattle.std.specs.Prelude.{if◌then◌else◌, pos}
 use Rattle.std.specs.Int.{w32}
+use Rattle.std.specs.Ordering.{int_eq}
+use Rattle.occam_parser.specs.declared.tree.PrefixOperator.{PrefixOperator}
+use Rattle.occam_parser.specs.declared.tree.PrefixOperator.TheVariants as prefix
 use Rattle.occam_parser.specs.declared.tree.PairOperator.{PairOperator}
 use Rattle.occam_parser.specs.declared.tree.PairOperator.TheVariants as pair
 use Rattle.occam_parser.specs.declared.tree.ArithmeticPair.{ArithmeticPair}
-use Rattle.scalar_ranges.specs.Values.{pair_value}
+use Rattle.scalar_ranges.specs.Values.{negated, pair_value}
 use Rattle.scalar_ranges.specs.Entries.{Entry}
 use Rattle.scalar_ranges.specs.Environments.{Environment, Meets}
-use Rattle.word_arithmetic.specs.Word.{truth}
+use Rattle.word_arithmetic.specs.Word.{truth, word_not}
 use Rattle.word_arithmetic.specs.Comparison.{compares}
 use Rattle.word_arithmetic.specs.declared.compare.Comparison.{Comparison}
 use Rattle.word_arithmetic.specs.Binary.{computed}
 use Rattle.word_arithmetic.specs.declared.binary.Binary.{Binary}
-use Rattle.code_pieces.specs.Pieces.{operates}
+use Rattle.code_pieces.specs.Pieces.{Piece, operates}
 use Rattle.placed_code.specs.StraightPieces as pieces
-use Rattle.line_pieces.specs.Expressions.{Operand, both, comes_last, pushed, pushes_of, pair_code, is_left_first}
+use Rattle.line_pieces.specs.Expressions.{Operand, both, comes_last, pushed, pushes_of, pair_code, is_left_first, prefix_code}
 use Rattle.meant_lines.specs.Instructions.{IsBinary}
 use Rattle.meant_lines.specs.Carrying.{Ground, Carries}
 use Rattle.meant_lines.specs.Pushing.{AllStoreWithin, IsCounted, OperandPushes, Pushed, PushedBoth, keeps}
@@ -71,3 +74,14 @@ ComparisonsPush = (g : Ground) (top t : ℕ) (es : List Entry) (env : Environmen
     → Pushed g (pushed (pushes_of (pair.Comparison op) first second) t a b
     ++ pair_code (pair.Comparison op) first second) t false (leaves_below (pair.Comparison op) a b)
     (truth (compares op x y)) h
+
+-- what a prefix makes of the number that its operand pushes
+abbrev pub prefixed_value : PrefixOperator → ℤ → Option ℤ
+prefixed_value prefix.Negate x = negated x
+prefixed_value prefix.BitNot x = Some (word_not x)
+prefixed_value prefix.Not x = Some (truth (int_eq x (pos 0)))
+
+abbrev pub PrefixesPush : Type 0
+PrefixesPush = (g : Ground) (t : ℕ) (op : PrefixOperator) (ps : List Piece) (leaf small : Bool) (x v : ℤ)
+    (h : pieces.Held) → FitsSigned w32 x → prefixed_value op x ≡ Some v → Pushed g ps t leaf small x h
+    → Pushed g (ps ++ prefix_code op) t false small v h

@@ -17,6 +17,7 @@ ghost use Rattle.meant_lines.specs.CarryingLaws.{ScalarsAreCarried, ElementsAreC
 ghost use Rattle.meant_lines.specs.PushingLaws.{ConstantsPush, ScalarsPush, KnownWordsPush, WordsPush};
 ghost use Rattle.meant_lines.specs.PushingLaws.{KnownBytesPush, BytesPush, KnownItemsPush, ItemsPush};
 ghost use Rattle.meant_lines.specs.OperatorLaws.{BothPush, OperationsPush, ArithmeticPushes, ComparisonsPush};
+ghost use Rattle.meant_lines.specs.OperatorLaws.{PrefixesPush};
 ghost use Rattle.meant_lines.specs.Housing.{DeclaredHomesRise, BlocksRise, MoreWordsRise};
 ghost use Rattle.meant_lines.specs.Zeroing.{ScalarsAreZeroed, ArraysAreZeroed};
 ghost use Rattle.meant_lines.specs.Declaring.{NewNamesAreCarried, ZeroScalarsAreKept, ZeroArraysAreKept};
@@ -127,6 +128,11 @@ pub fn operands_are_pushed()
 /// of them where that is a word, and by the difference where they are asked to be equal.
 pub fn comparisons_are_pushed()
     ensures comparisons { ComparisonsPush }
+{}
+
+/// A prefix makes of the number that its operand pushes what the meaning says, and of a truth the other one.
+pub fn prefixes_are_pushed()
+    ensures prefixes { PrefixesPush }
 {}
 
 /// The homes of a scope rise and do not overlap: with those of the names that a declaration declares, with the block of
