@@ -11,3 +11,4 @@ pub mod Shapes
 pub mod Arithmetic
 pub mod Comparisons
 pub mod Prefixes
+pub mod Chains

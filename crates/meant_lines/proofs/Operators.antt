@@ -16,10 +16,10 @@ use Rattle.placed_code.specs.StraightPieces as pieces
 use Rattle.placed_code.specs.StraightPieces.{LeadOn, done, with_pushed, word_place}
 use Rattle.placed_code.proofs.StraightPieces.{lead_both}
 use Rattle.meant_lines.specs.Words.{IsInFrame, Holds, ChangesWithin, with_frame_word}
-use Rattle.meant_lines.specs.Instructions.{with_memory, without_a, with_result}
+use Rattle.meant_lines.specs.Instructions.{IsBinary, with_memory, without_a, with_result}
 use Rattle.meant_lines.specs.Carrying.{Ground, Carries}
 use Rattle.meant_lines.specs.Pushing.{Pushed, AllStoreWithin, Pushes, IsCounted, AreOperands}
-use Rattle.meant_lines.specs.Pushing.{PushedBoth}
+use Rattle.meant_lines.specs.Pushing.{PushedBoth, keeps}
 use Rattle.meant_lines.specs.OperatorLaws.{BothPush, OperationsPush}
 use Rattle.meant_lines.proofs.Words.{changes_both, changes_wider, changes_writing, other_word}
 use Rattle.meant_lines.proofs.Carrying.{outer_words_stay}
@@ -80,7 +80,7 @@ module _ (g : Ground) (top t : ℕ) (es : List Entry) (env : Environment) (meets
     (few : IsCounted t) (in_order : Bool) (x y : ℤ) (xs ys : List Piece) (lx sx ly sy : Bool) (h : pieces.Held)
     (carries : Carries g top es env h.memory) where
   -- the second operand leaves what is in A below its value
-  on_it : Pushes g top es env xs t lx sx x → Pushes g top es env ys (word_after t 1) ly sy y → sy ≡ true
+  pub on_it : Pushes g top es env xs t lx sx x → Pushes g top es env ys (word_after t 1) ly sy y → sy ≡ true
       → AllStoreWithin g.words (xs ++ ys) → PushedBoth g (xs ++ ys) t in_order ((sx || lx) && ly) x y h
   on_it push_x push_y small stores =
       let first = push_x (stores_first g.words xs ys stores) h carries in
@@ -166,7 +166,7 @@ module _ (g : Ground) (top t : ℕ) (es : List Entry) (env : Environment) (meets
       kept.frame.workspace inside (push_y (stores_first g.words ys (back in_order t) all) stored still)
 
   -- the first operand waits in a temporary
-  waiting : FitsSigned w32 x → Pushes g top es env xs t lx sx x → Pushes g top es env ys (word_after t 1) ly sy y
+  pub waiting : FitsSigned w32 x → Pushes g top es env xs t lx sx x → Pushes g top es env ys (word_after t 1) ly sy y
       → AllStoreWithin g.words (xs ++ (stores t ∷ (ys ++ back in_order t)))
       → PushedBoth g (xs ++ (stores t ∷ (ys ++ back in_order t))) t in_order ((sx || lx) && ly) x y h
   waiting fits push_x push_y all =
@@ -221,12 +221,12 @@ operands_give false op x y v s (inl are) gives either =
 operands_give false op x y v s (inr are) gives either =
     ap (λ (u : ℤ). computed op u s.a) are.0 ∙ ap (computed op y) are.1 ∙ either refl
 
-pub operations_push : OperationsPush
-operations_push g top t es env in_order a b operation op x y v h meets low few fits push_a push_b is gives either all
-    carries =
-    let code : List Piece = both in_order (comes_last a.leaf b.small) t a b in
-    let two = both_push g top t es env in_order a b x y h meets low few fits push_a push_b
-    (stores_first g.words code (operates operation ∷ []) all) carries in
+-- an operation of two operands that are pushed
+pub operation_behind : (g : Ground) (ps : List Piece) (t : ℕ) (in_order kept : Bool) (operation : ℤ) (op : Binary)
+    (x y v : ℤ) (h : pieces.Held) → IsBinary operation op → computed op x y ≡ Some v
+    → (in_order ≡ false → computed op y x ≡ Some v) → PushedBoth g ps t in_order kept x y h
+    → Pushed g (ps ++ operates operation ∷ []) t false kept v h
+operation_behind g ps t in_order kept operation op x y v h is gives either two =
     let k = two.after in
     record {
       after = with_result v k;
@@ -237,3 +237,11 @@ operations_push g top t es env in_order a b operation op x y v h meets low few f
       below = λ is. two.below is;
       alone = λ is. absurd (cc is);
     }
+
+pub operations_push : OperationsPush
+operations_push g top t es env in_order a b operation op x y v h meets low few fits push_a push_b is gives either all
+    carries =
+    let code : List Piece = both in_order (comes_last a.leaf b.small) t a b in
+    operation_behind g code t in_order (keeps a b) operation op x y v h is gives either
+    (both_push g top t es env in_order a b x y h meets low few fits push_a push_b
+    (stores_first g.words code (operates operation ∷ []) all) carries)

@@ -17,7 +17,8 @@ ghost use Rattle.meant_lines.specs.CarryingLaws.{ScalarsAreCarried, ElementsAreC
 ghost use Rattle.meant_lines.specs.PushingLaws.{ConstantsPush, ScalarsPush, KnownWordsPush, WordsPush};
 ghost use Rattle.meant_lines.specs.PushingLaws.{KnownBytesPush, BytesPush, KnownItemsPush, ItemsPush};
 ghost use Rattle.meant_lines.specs.OperatorLaws.{BothPush, OperationsPush, ArithmeticPushes, ComparisonsPush};
-ghost use Rattle.meant_lines.specs.OperatorLaws.{PrefixesPush};
+ghost use Rattle.meant_lines.specs.OperatorLaws.{PrefixesPush, ChainsCompute, TruthsAreJoined, FirstTwoPush};
+ghost use Rattle.meant_lines.specs.OperatorLaws.{OneMorePushes};
 ghost use Rattle.meant_lines.specs.Housing.{DeclaredHomesRise, BlocksRise, MoreWordsRise};
 ghost use Rattle.meant_lines.specs.Zeroing.{ScalarsAreZeroed, ArraysAreZeroed};
 ghost use Rattle.meant_lines.specs.Declaring.{NewNamesAreCarried, ZeroScalarsAreKept, ZeroArraysAreKept};
@@ -133,6 +134,16 @@ pub fn comparisons_are_pushed()
 /// A prefix makes of the number that its operand pushes what the meaning says, and of a truth the other one.
 pub fn prefixes_are_pushed()
     ensures prefixes { PrefixesPush }
+{}
+
+/// The operation of a chain has the value that the meaning gives, in either order of its operands. So the code of the
+/// first two operands pushes their value, and that of one operand more pushes the value with it, also where a constant
+/// is added.
+pub fn chains_are_pushed()
+    ensures operations { ChainsCompute }
+    ensures truths { TruthsAreJoined }
+    ensures first { FirstTwoPush }
+    ensures more { OneMorePushes }
 {}
 
 /// The homes of a scope rise and do not overlap: with those of the names that a declaration declares, with the block of
