@@ -140,7 +140,8 @@ module _ (g : Ground) (top t : ℕ) (es : List Entry) (env : Environment) (a b :
   both_pushed arithmetic.ShiftRight gives all = right_pushes y refl gives all
 
   -- the constant is added in place of the one that is subtracted
-  pub sum_pushed : (d : ℤ) → checked_sum x d ≡ Some v → AllStoreWithin g.words (a.first ++ Direct fun.AddConstant d ∷ [])
+  pub sum_pushed : (d : ℤ) → checked_sum x d ≡ Some v
+      → AllStoreWithin g.words (a.first ++ Direct fun.AddConstant d ∷ [])
       → Pushed g (a.first ++ Direct fun.AddConstant d ∷ []) t false (a.small && b.leaf) v h
   sum_pushed d gives all =
       let first = push_a.first (stores_first g.words a.first (Direct fun.AddConstant d ∷ []) all) h carries in

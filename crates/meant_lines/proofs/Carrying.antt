@@ -222,7 +222,7 @@ module _ {first end : ℕ} {old new : Memory} (changes : ChangesWithin first end
     elements_stay (Word w) kind type (Some size) range Nothing meets apart is = absurd is
     elements_stay (Word w) kind type (Some size) range (One v) meets apart is = absurd is
     elements_stay (home.Table values) kind type (Some size) range (Many vs) meets apart is =
-        (is.0, table_stays values is.1)
+        (is.0, λ reads. table_stays values (is.1 reads))
     elements_stay (home.Table values) kind type (Some size) range Nothing meets apart is = absurd is
     elements_stay (home.Table values) kind type (Some size) range (One v) meets apart is = absurd is
     elements_stay (Block w head) kind type (Some size) range held meets apart is = absurd is

@@ -173,7 +173,8 @@ module _ (g : Ground) (top t : ℕ) (es : List Entry) (env : Environment) (x y v
 
   -- the next operand is pushed on what is in A
   onto_by : (lx sx leaf small : Bool) (ps right : List Piece) → Pushes g top es env ps t lx sx x
-      → Pushes g top es env right (word_after t 1) leaf small y → AllStoreWithin g.words (ps ++ onto false t small right)
+      → Pushes g top es env right (word_after t 1) leaf small y
+      → AllStoreWithin g.words (ps ++ onto false t small right)
       → PushedBoth g (ps ++ onto false t small right) t false ((sx || lx) && leaf) x y h
   onto_by lx sx leaf true ps right first second all =
       on_it g top t es env meets low few false x y ps right lx sx leaf true h carries first second refl all
@@ -213,7 +214,8 @@ module _ (g : Ground) (top t : ℕ) (es : List Entry) (env : Environment) (x y v
       }
 
 pub first_two_push : FirstTwoPush
-first_two_push g top t es env op a b constant x y v h meets low few x_fits y_fits push_a push_b value gives all carries =
+first_two_push g top t es env op a b constant x y v h meets low few x_fits y_fits push_a push_b value gives all
+    carries =
     first_by g top t es env x y v h meets low few x_fits y_fits carries (added_by op constant) op constant a b refl
     push_a push_b value gives all
 

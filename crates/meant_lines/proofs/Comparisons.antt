@@ -434,5 +434,6 @@ module _ (g : Ground) (top t : ℕ) (es : List Entry) (env : Environment) (meets
       greater_or_equal first second (next_below second) refl value all
 
 pub comparisons_push : ComparisonsPush
-comparisons_push g top t es env op a b first second x y h meets low few x_fits y_fits push_a push_b is value all carries =
+comparisons_push g top t es env op a b first second x y h meets low few x_fits y_fits push_a push_b is value all
+    carries =
     compared g top t es env meets low few h carries a b x y x_fits y_fits push_a push_b op first second is value all

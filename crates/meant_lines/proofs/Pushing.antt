@@ -218,15 +218,16 @@ table_there g m values vs (pos j) v same table is =
     table.items j v (ap (item_at j) (sym same) ∙ is)
 
 pub known_items_push : KnownItemsPush
-known_items_push g top t es env name type values vs s small c v array is h carries =
+known_items_push g top t es env name type values vs s small c v array reads is h carries =
     let kept = array_kept g top es env name type (home.Table values) vs h.memory array carries in
+    let table = kept.1 reads in
     let a = g.footing.tables values in
     let k = with_pushed (word_of a) h in
     record {
       after = with_a v k;
       leads = lead_both (tables_are_pushed g.footing values h)
-          (distant_words_are_loaded g.footing c a v k (of_z-to_z w32 a kept.1.address)
-          (table_there g h.memory values vs c v kept.0 kept.1 is));
+          (distant_words_are_loaded g.footing c a v k (of_z-to_z w32 a table.address)
+          (table_there g h.memory values vs c v kept.0 table is));
       a = refl;
       changes = all_alike t g.words h.memory;
       below = λ is. refl;
@@ -235,18 +236,19 @@ known_items_push g top t es env name type values vs s small c v array is h carri
 
 pub items_push : ItemsPush
 unfolding selected
-items_push g top t es env name type values vs s leaf small i v low array subs pushes h carries =
+items_push g top t es env name type values vs s leaf small i v low array reads subs pushes h carries =
     let first = pushes h carries in
     let k = first.after in
     let still = carries_after g top t es env (before_offset s) leaf small i h array.meets low first carries in
     let kept = array_kept g top es env name type (home.Table values) vs k.memory array still in
+    let table = kept.1 reads in
     let a = g.footing.tables values in
     record {
       after = selected g a v k;
       leads = lead_both first.leads
           (lead_both (tables_are_pushed g.footing values k)
-          (word_selected g a i (or_zero s.offset) v k (of_z-to_z w32 a kept.1.address) first.a subs.first subs.offset
-          subs.both (table_there g k.memory values vs (i +ℤ or_zero s.offset) v kept.0 kept.1 subs.selects)));
+          (word_selected g a i (or_zero s.offset) v k (of_z-to_z w32 a table.address) first.a subs.first subs.offset
+          subs.both (table_there g k.memory values vs (i +ℤ or_zero s.offset) v kept.0 table subs.selects)));
       a = refl;
       changes = first.changes;
       below = λ is. first.below is;

@@ -1,5 +1,5 @@
 -- What memory holds of the names of a scope: the words of scalars, the elements of arrays, the items of tables.
-use Rattle.std.specs.Prelude.{◌≡◌, ℕ, ◌+◌, ◌^◌, ◌<◌, ◌≤◌, ℤ, pos, List, [], ◌∷◌, length, Option, Some, None, slice_get}
+use Rattle.std.specs.Prelude.{◌≡◌, ℕ, ◌+◌, ◌^◌, ◌<◌, ◌≤◌, ℤ, pos, List, [], ◌∷◌, ◌++◌, length, Option, Some, None, slice_get}
 use Rattle.std.specs.Prelude.{unwrap_or}
 use Rattle.module_format.specs.declared.limits.TheConstants.{MAX_DATA_WORDS}
 use Rattle.machine_state.specs.Memory.{Memory, place_of, local_address, byte_at, word_at}
@@ -7,19 +7,27 @@ use Rattle.occam_parser.specs.declared.tree.ValueType.{ValueType}
 use Rattle.occam_parser.specs.declared.tree.ValueType.TheVariants as value_type
 use Rattle.scalar_ranges.specs.Entries.{Meaning, Scalar, Array, Channel, Channels, Entry}
 use Rattle.scalar_ranges.specs.Environments.{Held, One, Many, Environment, item_at}
+use Rattle.code_pieces.specs.Pieces.{Piece, TableAddress}
 use Rattle.line_pieces.specs.Homes as home
 use Rattle.line_pieces.specs.Homes.{Home, Word, Block, words_for}
 use Rattle.line_pieces.specs.Declarations.{Frame}
 use Rattle.placed_code.specs.StraightPieces.{Footing, word_place}
 use Rattle.meant_lines.specs.Words.{IsInFrame, Holds}
 
--- Where a process runs: its workspace and the tables, how many words the frame has, the homes of its names from the
--- outermost one on, and how many turns are left of the loop with its block there.
+-- Where a process runs: its workspace and the tables, how many words the frame has, the pieces of all code, the homes
+-- of its names from the outermost one on, and how many turns are left of the loop with its block there.
 pub record Ground : Type 0 where
   pub footing : Footing
   pub words : ℕ
+  pub pieces : List Piece
   pub homes : List Home
   pub turns : ℕ → ℤ
+
+-- one of the pieces makes the address of this table
+pub record ReadsTable (ps : List Piece) (values : List ℤ) : Type 0 where
+  pub before : List Piece
+  pub rest : List Piece
+  pub whole : ps ≡ before ++ TableAddress values ∷ rest
 
 -- ---- what is held
 
@@ -51,10 +59,10 @@ IsScalarKept g m (Word w) (One v) = Holds m w v
 IsScalarKept g m (Block w head) (One v) = Holds m w v × Holds m (w + 1) (g.turns w)
 IsScalarKept g m h held = ⊥
 
--- an array is in its words, and a table in the constants
+-- An array is in its words, and a table in the constants, if code reads it.
 abbrev pub IsArrayKept : Ground → Memory → Home → ValueType → Held → Type 0
 IsArrayKept g m (Word w) type (Many vs) = HoldsArray type m w vs
-IsArrayKept g m (home.Table values) type (Many vs) = (vs ≡ values) × HoldsTable g m values
+IsArrayKept g m (home.Table values) type (Many vs) = (vs ≡ values) × (ReadsTable g.pieces values → HoldsTable g m values)
 IsArrayKept g m h type held = ⊥
 
 -- What a name holds is in its home. Constants, channels and procedures hold nothing there.

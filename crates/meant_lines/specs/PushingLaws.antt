@@ -15,7 +15,7 @@ use Rattle.line_pieces.specs.Homes.{Home, Word, home_of}
 use Rattle.line_pieces.specs.Expressions.{Subscript, scalar_code, or_zero, before_offset, element_of_words}
 use Rattle.line_pieces.specs.Expressions.{element_of_table}
 use Rattle.placed_code.specs.StraightPieces as pieces
-use Rattle.meant_lines.specs.Carrying.{Ground, Carries}
+use Rattle.meant_lines.specs.Carrying.{Ground, ReadsTable, Carries}
 use Rattle.meant_lines.specs.Pushing.{Pushed, PushesValue}
 
 abbrev pub ConstantsPush : Type 0
@@ -75,16 +75,17 @@ BytesPush = (g : Ground) (top t w : ℕ) (es : List Entry) (env : Environment) (
     → item_of vs i ≡ Some v → PushesValue g (Carries g top es env) s.whole t leaf small i
     → PushesValue g (Carries g top es env) (element_of_words value_type.Byte w None s) t false small v
 
--- an item of a table
+-- an item of a table that code reads
 abbrev pub KnownItemsPush : Type 0
 KnownItemsPush = (g : Ground) (top t : ℕ) (es : List Entry) (env : Environment) (name : List ℕ) (type : ValueType)
     (values vs : List ℤ) (s : Subscript) (small : Bool) (c v : ℤ)
-    → IsArray g es env name type (home.Table values) vs → item_of vs c ≡ Some v
+    → IsArray g es env name type (home.Table values) vs → ReadsTable g.pieces values → item_of vs c ≡ Some v
     → PushesValue g (Carries g top es env) (element_of_table values (Some c) s) t false small v
 
 abbrev pub ItemsPush : Type 0
 ItemsPush = (g : Ground) (top t : ℕ) (es : List Entry) (env : Environment) (name : List ℕ) (type : ValueType)
     (values vs : List ℤ) (s : Subscript) (leaf small : Bool) (i v : ℤ) → top ≤ t
-    → IsArray g es env name type (home.Table values) vs → AreSubscripts vs i (or_zero s.offset) v
+    → IsArray g es env name type (home.Table values) vs → ReadsTable g.pieces values
+    → AreSubscripts vs i (or_zero s.offset) v
     → PushesValue g (Carries g top es env) (before_offset s) t leaf small i
     → PushesValue g (Carries g top es env) (element_of_table values None s) t false small v
