@@ -12,3 +12,4 @@ pub mod Arithmetic
 pub mod Comparisons
 pub mod Prefixes
 pub mod Chains
+pub mod WholeChains

@@ -1,6 +1,6 @@
 -- What memory holds of the names of a scope: the words of scalars, the elements of arrays, the items of tables.
-use Rattle.std.specs.Prelude.{◌≡◌, ℕ, ◌+◌, ◌^◌, ◌<◌, ◌≤◌, ℤ, pos, List, [], ◌∷◌, ◌++◌, length, Option, Some, None, slice_get}
-use Rattle.std.specs.Prelude.{unwrap_or}
+use Rattle.std.specs.Prelude.{◌≡◌, ℕ, ◌+◌, ◌^◌, ◌<◌, ◌≤◌, ℤ, pos, List, [], ◌∷◌, ◌++◌, length, Option, Some, None}
+use Rattle.std.specs.Prelude.{slice_get, unwrap_or}
 use Rattle.module_format.specs.declared.limits.TheConstants.{MAX_DATA_WORDS}
 use Rattle.machine_state.specs.Memory.{Memory, place_of, local_address, byte_at, word_at}
 use Rattle.occam_parser.specs.declared.tree.ValueType.{ValueType}
@@ -62,7 +62,8 @@ IsScalarKept g m h held = ⊥
 -- An array is in its words, and a table in the constants, if code reads it.
 abbrev pub IsArrayKept : Ground → Memory → Home → ValueType → Held → Type 0
 IsArrayKept g m (Word w) type (Many vs) = HoldsArray type m w vs
-IsArrayKept g m (home.Table values) type (Many vs) = (vs ≡ values) × (ReadsTable g.pieces values → HoldsTable g m values)
+IsArrayKept g m (home.Table values) type (Many vs) =
+    (vs ≡ values) × (ReadsTable g.pieces values → HoldsTable g m values)
 IsArrayKept g m h type held = ⊥
 
 -- What a name holds is in its home. Constants, channels and procedures hold nothing there.

@@ -5,6 +5,7 @@ pub mod CarryingLaws
 pub mod Pushing
 pub mod PushingLaws
 pub mod OperatorLaws
+pub mod ChainLaws
 pub mod Housing
 pub mod Zeroing
 pub mod Declaring

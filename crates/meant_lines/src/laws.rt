@@ -19,6 +19,7 @@ ghost use Rattle.meant_lines.specs.PushingLaws.{KnownBytesPush, BytesPush, Known
 ghost use Rattle.meant_lines.specs.OperatorLaws.{BothPush, OperationsPush, ArithmeticPushes, ComparisonsPush};
 ghost use Rattle.meant_lines.specs.OperatorLaws.{PrefixesPush, ChainsCompute, TruthsAreJoined, FirstTwoPush};
 ghost use Rattle.meant_lines.specs.OperatorLaws.{OneMorePushes};
+ghost use Rattle.meant_lines.specs.ChainLaws.{TermsPush};
 ghost use Rattle.meant_lines.specs.Housing.{DeclaredHomesRise, BlocksRise, MoreWordsRise};
 ghost use Rattle.meant_lines.specs.Zeroing.{ScalarsAreZeroed, ArraysAreZeroed};
 ghost use Rattle.meant_lines.specs.Declaring.{NewNamesAreCarried, ZeroScalarsAreKept, ZeroArraysAreKept};
@@ -144,6 +145,12 @@ pub fn chains_are_pushed()
     ensures truths { TruthsAreJoined }
     ensures first { FirstTwoPush }
     ensures more { OneMorePushes }
+{}
+
+/// The code of a whole chain pushes its value, where that of each operand does. One constant is in the place of the
+/// first operands, where those are together a constant.
+pub fn whole_chains_are_pushed()
+    ensures terms { TermsPush }
 {}
 
 /// The homes of a scope rise and do not overlap: with those of the names that a declaration declares, with the block of
