@@ -1,0 +1,6 @@
+//! What the code of actions makes a process do.
+#![tactic(auto)]
+
+mod laws;
+
+pub use laws::{nothing_is_done, scalars_are_assigned};
