@@ -65,6 +65,9 @@ scalars_are_assigned c g top at to n w es env h ports name type value v begins s
     subst (λ (t : Doing). Behaves c (EndsAt g top es to) (point at h) t) (sym does)
     (straight_behaves c g begins.footing there
     (lead_both first.leads (words_are_stored g.footing w k kept.frame.workspace inside))
-    (over (refl, subst (λ (x : ℤ). Carries g top es (put n (One v) env) (with_frame_word w x k.memory)) (sym first.a)
-    (scalars_are_carried g top n w es env name scalar.kind type scalar.range v k.memory begins.meets scalar.means
-    scalar.number scalar.at pushed.word kept))))
+    (over (
+      refl,
+      subst (λ (x : ℤ). Carries g top es (put n (One v) env) (with_frame_word w x k.memory)) (sym first.a)
+          (scalars_are_carried g top n w es env name scalar.kind type scalar.range v k.memory begins.meets scalar.means
+          scalar.number scalar.at pushed.word kept),
+    )))

@@ -1,2 +1,5 @@
 pub mod Acting
 pub mod Assigning
+pub mod Exchanging
+pub mod Messages
+pub mod Sending

@@ -1,2 +1,4 @@
 pub mod Acting
 pub mod Assigning
+pub mod Exchanging
+pub mod Sending

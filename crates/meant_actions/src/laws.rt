@@ -2,6 +2,8 @@
 
 ghost use Rattle.meant_actions.specs.Acting.{SkipsBehave, StopsBehave};
 ghost use Rattle.meant_actions.specs.Assigning.{ScalarsAreAssigned};
+ghost use Rattle.meant_actions.specs.Exchanging.{RootsAreUndisturbed};
+ghost use Rattle.meant_actions.specs.Sending.{ValuesAreSent};
 
 /// `SKIP` leaves the environment as it is, and `STOP` halts.
 pub fn nothing_is_done()
@@ -13,4 +15,14 @@ pub fn nothing_is_done()
 /// it.
 pub fn scalars_are_assigned()
     ensures { ScalarsAreAssigned }
+{}
+
+/// In the root no name and no temporary is in the words that scheduling takes.
+pub fn undisturbed_frames_carry()
+    ensures { RootsAreUndisturbed }
+{}
+
+/// The code of an output whose value is at no place of its own sends the message of that value, from a temporary.
+pub fn values_are_sent()
+    ensures { ValuesAreSent }
 {}

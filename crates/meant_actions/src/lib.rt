@@ -3,4 +3,4 @@
 
 mod laws;
 
-pub use laws::{nothing_is_done, scalars_are_assigned};
+pub use laws::{nothing_is_done, scalars_are_assigned, undisturbed_frames_carry, values_are_sent};
