@@ -38,9 +38,11 @@ module _ (g : Ground) (hs : List Home) (m : Memory) where
   array_there (Word w) type (Many vs) is = is
   array_there (Word w) type Nothing is = absurd is
   array_there (Word w) type (One v) is = absurd is
-  array_there (home.Table values) type (Many vs) is =
-      (is.0, λ reads. let table = is.1 reads in
-          record { address = table.address; behind = table.behind; items = table.items })
+  array_there (home.Table values) type (Many vs) is = (
+    is.0,
+    λ reads. let table = is.1 reads in
+        record { address = table.address; behind = table.behind; items = table.items },
+  )
   array_there (home.Table values) type Nothing is = absurd is
   array_there (home.Table values) type (One v) is = absurd is
   array_there (Block w head) type held is = absurd is
