@@ -73,7 +73,7 @@ module _ (g : Ground) (old new : Memory)
   elements_same : (h : Home) (type : ValueType) (held : Held) → IsArrayKept g old h type held
       → IsArrayKept g new h type held
   elements_same (Word w) type (Many vs) is = array_same type w vs is
-  elements_same (home.Table values) type (Many vs) is = (is.0, table_same values is.1)
+  elements_same (home.Table values) type (Many vs) is = (is.0, λ reads. table_same values (is.1 reads))
   elements_same (Word w) type Nothing is = absurd is
   elements_same (Word w) type (One v) is = absurd is
   elements_same (home.Table values) type Nothing is = absurd is

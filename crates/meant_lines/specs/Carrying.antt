@@ -1,5 +1,5 @@
 -- What memory holds of the names of a scope: the words of scalars, the elements of arrays, the items of tables.
-use Rattle.std.specs.Prelude.{◌≡◌, ℕ, ◌+◌, ◌^◌, ◌<◌, ◌≤◌, ℤ, pos, List, [], ◌∷◌, ◌++◌, length, Option, Some, None}
+use Rattle.std.specs.Prelude.{◌≡◌, ℕ, ◌+◌, ◌^◌, ◌<◌, ◌≤◌, ℤ, pos, List, [], ◌∷◌, length, Option, Some, None}
 use Rattle.std.specs.Prelude.{slice_get, unwrap_or}
 use Rattle.module_format.specs.declared.limits.TheConstants.{MAX_DATA_WORDS}
 use Rattle.machine_state.specs.Memory.{Memory, place_of, local_address, byte_at, word_at}
@@ -7,10 +7,11 @@ use Rattle.occam_parser.specs.declared.tree.ValueType.{ValueType}
 use Rattle.occam_parser.specs.declared.tree.ValueType.TheVariants as value_type
 use Rattle.scalar_ranges.specs.Entries.{Meaning, Scalar, Array, Channel, Channels, Entry}
 use Rattle.scalar_ranges.specs.Environments.{Held, One, Many, Environment, item_at}
-use Rattle.code_pieces.specs.Pieces.{Piece, TableAddress}
+use Rattle.code_pieces.specs.Pieces.{Piece}
 use Rattle.line_pieces.specs.Homes as home
 use Rattle.line_pieces.specs.Homes.{Home, Word, Block, words_for}
 use Rattle.line_pieces.specs.Declarations.{Frame}
+use Rattle.placed_code.specs.TablesInMemory.{ReadsTable}
 use Rattle.placed_code.specs.StraightPieces.{Footing, word_place}
 use Rattle.meant_lines.specs.Words.{IsInFrame, Holds}
 
@@ -22,12 +23,6 @@ pub record Ground : Type 0 where
   pub pieces : List Piece
   pub homes : List Home
   pub turns : ℕ → ℤ
-
--- one of the pieces makes the address of this table
-pub record ReadsTable (ps : List Piece) (values : List ℤ) : Type 0 where
-  pub before : List Piece
-  pub rest : List Piece
-  pub whole : ps ≡ before ++ TableAddress values ∷ rest
 
 -- ---- what is held
 

@@ -15,7 +15,8 @@ use Rattle.line_pieces.specs.Homes.{Home, Word, home_of}
 use Rattle.line_pieces.specs.Expressions.{Subscript, scalar_code, or_zero, before_offset, element_of_words}
 use Rattle.line_pieces.specs.Expressions.{element_of_table}
 use Rattle.placed_code.specs.StraightPieces as pieces
-use Rattle.meant_lines.specs.Carrying.{Ground, ReadsTable, Carries}
+use Rattle.meant_lines.specs.Carrying.{Ground, Carries}
+use Rattle.placed_code.specs.TablesInMemory.{ReadsTable}
 use Rattle.meant_lines.specs.Pushing.{Pushed, PushesValue}
 
 abbrev pub ConstantsPush : Type 0
