@@ -1,11 +1,14 @@
 -- What is known of the words of an array where an element is read or stored that may be any of some of them.
-use Rattle.std.specs.Prelude.{◌≡◌, ℕ, suc, ◌≤◌, ℤ, pos, ◌+ℤ◌, false}
+use Rattle.std.specs.Prelude.{◌≡◌, ℕ, suc, ◌+◌, ◌*◌, ◌≤◌, ℤ, pos, ◌+ℤ◌, false}
 use Rattle.word_arithmetic.specs.Range.{Ends, IsRange, full}
+use Rattle.module_format.specs.Contents.{Contents}
+use Rattle.module_format.specs.declared.fact.Region.TheVariants as regions
+use Rattle.rulings.specs.Reach.{word_of_byte, words_touched}
 use Rattle.states.specs.declared.known.WordFact.TheVariants.{Alone}
 use Rattle.states.specs.declared.span.Leaving.TheVariants.{Widen}
 use Rattle.states.specs.Spans.{on_span, together}
-use Rattle.states.specs.State.{Facts, Change, changed, is_parted}
-use Rattle.rulings.specs.Pointers.{any_of}
+use Rattle.states.specs.State.{State, Facts, Change, changed, is_parted}
+use Rattle.rulings.specs.Pointers.{any_of, word_read}
 use Rattle.local_rules.specs.WordRules.{number_in}
 
 -- each of so many words from the first one on is a number in this range
@@ -27,3 +30,20 @@ FullWordsStayFull = (r : Ends) (facts : Facts) (first k : ℤ) (count : ℕ) →
 abbrev pub OtherWordsStay : Type 0
 OtherWordsStay = (change : Change) (facts : Facts) (k : ℤ) → change.touches k ≡ false
     → is_parted change.touches k (facts k) ≡ false → changed change facts k ≡ facts k
+
+-- ---- words of the frame that a pointer may lead to
+
+-- the first byte of the word that is so many words behind the first one
+abbrev pub last_byte : ℕ → ℕ → ℤ
+last_byte first count = pos (4 * (first + count))
+
+-- which of these words is read is a number in the range
+abbrev pub ElementsAreNumbers : Type 0
+ElementsAreNumbers = (m : Contents) (s : State) (r : Ends) (first count : ℕ) → IsRange r
+    → AreNumbersIn r s.frame first count
+    → word_read m s regions.Frame (pos (4 * first)) (last_byte first count) ≡ number_in r
+
+-- the words that a store may change are these
+pub record SpansAreOfWords : Type 0 where
+  pub first : (word : ℕ) → word_of_byte (pos (4 * word)) ≡ pos word
+  pub touched : (first count : ℕ) → words_touched (pos (4 * first)) (last_byte first count +ℤ pos 4) ≡ suc count

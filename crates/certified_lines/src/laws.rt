@@ -17,6 +17,7 @@ ghost use Rattle.certified_lines.specs.Numbers.{LesserWordsAreTold, EqualWordsAr
 ghost use Rattle.certified_lines.specs.Numbers.{NothingIsToldFromNowhere};
 ghost use Rattle.certified_lines.specs.Walking.{WalksReach, StraightPiecesWalk};
 ghost use Rattle.certified_lines.specs.Arrays.{AnyOfNumbersIsOne, FullWordsStayFull, OtherWordsStay};
+ghost use Rattle.certified_lines.specs.Arrays.{ElementsAreNumbers, SpansAreOfWords};
 
 /// What is known after straight pieces, and after others from there, is what is known after both.
 #[tactic(auto, using(crate::proofs::StraightRules::straight_rules_follow))]
@@ -99,10 +100,13 @@ pub fn straight_pieces_walk()
 {}
 
 /// Any of some words that are numbers in a range is one. Where a number may have been stored, a word that may be any
-/// number stays so, and other words are known as before.
+/// number stays so, and other words are known as before. A pointer to the words of the frame from one to another reads
+/// any of them, and a store through it may change these.
 #[tactic(auto, using(crate::proofs::Arrays::arrays))]
 pub fn words_stay_known()
     ensures any { AnyOfNumbersIsOne }
     ensures full { FullWordsStayFull }
     ensures others { OtherWordsStay }
+    ensures elements { ElementsAreNumbers }
+    ensures spans { SpansAreOfWords }
 {}
