@@ -25,11 +25,8 @@ use Rattle.states.specs.State.{State, written}
 use Rattle.rulings.specs.Rulings.{Ruling, Site, falls, breaks, outside_alternation, outside_starts, uses, reads_word}
 use Rattle.rulings.specs.Rulings.{writes_word, pays, goes_on}
 use Rattle.local_rules.specs.LocalRules.{local_operation_rule, local_rule}
-use Rattle.local_rules.specs.WordRules.{word_as_known}
-use Rattle.certified_lines.specs.Instructions.{WaitingIsKnownBelow}
-use Rattle.certified_lines.proofs.StraightRules.{fall_both}
 use Rattle.local_rules.specs.WordRules.{known_constant, becomes, range_of, number_in, fact_of_two, unary_result_fact}
-use Rattle.local_rules.specs.WordRules.{shift_range}
+use Rattle.local_rules.specs.WordRules.{shift_range, word_as_known}
 use Rattle.rulings.specs.Pointers.{near}
 use Rattle.facts.specs.Rules.{rule, rule_of, instruction_rule, operation_rule}
 use Rattle.code_pieces.specs.declared.operations.TheConstants.{MINIMUM_INTEGER}
@@ -40,7 +37,8 @@ use Rattle.certified_lines.specs.Instructions.{PieceFalls, is_told, LeastWordIsK
 use Rattle.certified_lines.specs.Instructions.{LoadedWordsAreKnown, StoredWordsAreKnown, AddressesAreKnown}
 use Rattle.certified_lines.specs.Instructions.{TablesAreKnown, RegistersAreReversed, SumsWithConstantsAreKnown}
 use Rattle.certified_lines.specs.Instructions.{ComparedConstantsAreKnown, TurnedBitsAreKnown, ResultsAreKnown}
-use Rattle.certified_lines.specs.Instructions.{ShiftedWordsAreKnown}
+use Rattle.certified_lines.specs.Instructions.{ShiftedWordsAreKnown, WaitingIsKnownBelow}
+use Rattle.certified_lines.proofs.StraightRules.{fall_both}
 
 -- an instruction whose rule leaves this, wherever it is
 pub falls_by : {g : Setting} {f : Fun} {e : ℤ} {s t : Told}

@@ -105,7 +105,8 @@ place_falls g at size number v fact s is enough =
     rw (one, is, le-ltb number size enough) refl
 
 -- an instruction has a byte
-fetched_on : {code : List ℕ} {at to : ℕ} {f : Fun} {e : ℤ} → ((n : ℕ) → get_or code n 0 < 256) → Fetches code at f e to → at < to
+fetched_on : {code : List ℕ} {at to : ℕ} {f : Fun} {e : ℤ} → ((n : ℕ) → get_or code n 0 < 256)
+    → Fetches code at f e to → at < to
 fetched_on {code} {at} {to} {f} {e} bytes there =
     let found : StandsAt code at (record { fun = f; operand = e; len = there.len }) =
     fetched-found code at bytes (record { fun = f; operand = e; len = there.len }) there.there in
@@ -115,7 +116,7 @@ fetched_on {code} {at} {to} {f} {e} bytes there =
 
 -- ---- pieces
 
--- code does not go back over straight pieces
+-- straight pieces do not end before they begin
 pub lies_up : {g : Setting} {c : LaidCode} {at to : ℕ} {ps : List Piece} {s t : Told} → Lie c at ps to
     → FallOn g ps s t → at ≤ to
 lies_up none done = omega arith
@@ -132,7 +133,8 @@ lies_up (more there lie) (table fall) =
     ]
 
 -- three instructions have some
-table_on : {c : LaidCode} {at to : ℕ} {values : List ℤ} → ((n : ℕ) → get_or c.code n 0 < 256) → LoadsTable c at values to → at < to
+table_on : {c : LaidCode} {at to : ℕ} {values : List ℤ} → ((n : ℕ) → get_or c.code n 0 < 256)
+    → LoadsTable c at values to → at < to
 table_on bytes loads =
     let first = fetched_on bytes loads.loads in
     let last = fetched_on bytes loads.points in

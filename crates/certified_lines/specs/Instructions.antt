@@ -20,16 +20,17 @@ use Rattle.states.specs.State.{unknown, known, with_fact, forgets, is_at}
 use Rattle.local_rules.specs.WordRules.{known_constant, word_as_known, result_fact, unary_result_fact, shift_range}
 use Rattle.local_rules.specs.WordRules.{fact_of_two, result_source, constant_source}
 use Rattle.code_pieces.specs.declared.operations.TheConstants.{REVERSE, NOT, MINIMUM_INTEGER}
-use Rattle.code_pieces.specs.Pieces.{below}
 use Rattle.code_pieces.specs.Pieces.{Piece, Direct, TableAddress, operates, loads, stores, points, constant, counted}
+use Rattle.code_pieces.specs.Pieces.{below}
 use Rattle.certified_lines.specs.StraightRules.{Setting, Told, FallOn, with_pushed, table_known}
 
 -- ---- what is known afterwards
 
--- this is known of another A
+-- A is another value, of which this is known
 abbrev pub with_a : Known → Told → Told
 with_a v t = record t { stack = with_top v t.stack }
 
+-- A is not needed any more
 abbrev pub without_a : Told → Told
 without_a t = record t { stack = popped unknown t.stack }
 
@@ -37,7 +38,7 @@ without_a t = record t { stack = popped unknown t.stack }
 abbrev pub with_result : Known → Told → Told
 with_result v t = with_a v (without_a t)
 
--- what is known of a word, and what registers know of what it was no longer
+-- this is known of a word, and registers do not tell any more of what it was
 abbrev pub with_word : ℕ → Fact → Told → Told
 with_word word fact t = record {
   stack = mapped (forgets (is_at (pos word))) t.stack;
