@@ -169,13 +169,15 @@ right_is_told results left right result is =
     second_told (range_of left) right (λ r s. option_map number_in (results r s)) result is
 
 pub sums_with_constants_are_known : SumsWithConstantsAreKnown
-unfolding rule rule_of instruction_rule local_rule instruction_of outside_alternation outside_starts becomes goes_on pays
+unfolding rule rule_of instruction_rule local_rule instruction_of outside_alternation outside_starts becomes goes_on
+    pays
 sums_with_constants_are_known g e fact s is =
     let told = left_is_told (result_range binary.Add) s.stack.a.fact (Number e e) fact is in
     falls_by (λ at size number pays. rw (uses_told, is, le-ltb number size pays) refl)
 
 pub compared_constants_are_known : ComparedConstantsAreKnown
-unfolding rule rule_of instruction_rule local_rule instruction_of outside_alternation outside_starts becomes goes_on pays
+unfolding rule rule_of instruction_rule local_rule instruction_of outside_alternation outside_starts becomes goes_on
+    pays
 compared_constants_are_known g e fact s is =
     let told = left_is_told (result_range binary.Equal) s.stack.a.fact (Number e e) fact is in
     falls_by (λ at size number pays. rw (uses_told, is, le-ltb number size pays) refl)

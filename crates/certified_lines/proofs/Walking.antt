@@ -160,7 +160,8 @@ module _ (g : Setting) (c : LaidCode) (is : IsSettingOf g c) where
       (subst (λ (k : ℕ). place_fact g.contents (pos k +ℤ d) ≡ Ok fact) (sym ends) leads) enough) free pays rest
 
   -- the address of a table is walked over
-  table_walks : (at middle to number : ℕ) (values : List ℤ) (s : Told) (u : State) (loads : LoadsTable c at values middle)
+  table_walks : (at middle to number : ℕ) (values : List ℤ) (s : Told) (u : State)
+      (loads : LoadsTable c at values middle)
       → NoTablesIn g.contents at middle → middle - at ≤ number
       → Walks g.contents middle (state_of g (with_pushed (table_known g values) s) (number - (middle - at))) to u
       → Walks g.contents at (state_of g s number) to u

@@ -91,8 +91,8 @@ pub fn comparisons_tell_of_words()
     ensures nowhere { NothingIsToldFromNowhere }
 {}
 
-/// Where straight pieces lie in the code of a module, what reaches their beginning reaches their end, and is known there
-/// to be what their rules leave.
+/// Where straight pieces lie in the code of a module, what reaches their beginning reaches their end, and there what
+/// their rules leave is known.
 #[tactic(auto, using(crate::proofs::Walking::walking))]
 pub fn straight_pieces_walk()
     ensures reach { WalksReach }
