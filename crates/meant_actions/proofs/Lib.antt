@@ -3,3 +3,4 @@ pub mod Assigning
 pub mod Exchanging
 pub mod Messages
 pub mod Sending
+pub mod Receiving

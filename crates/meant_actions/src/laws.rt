@@ -4,6 +4,7 @@ ghost use Rattle.meant_actions.specs.Acting.{SkipsBehave, StopsBehave};
 ghost use Rattle.meant_actions.specs.Assigning.{ScalarsAreAssigned};
 ghost use Rattle.meant_actions.specs.Exchanging.{RootsAreUndisturbed};
 ghost use Rattle.meant_actions.specs.Sending.{ValuesAreSent};
+ghost use Rattle.meant_actions.specs.Receiving.{IntsAreReceived};
 
 /// `SKIP` leaves the environment as it is, and `STOP` halts.
 pub fn nothing_is_done()
@@ -25,4 +26,9 @@ pub fn undisturbed_frames_carry()
 /// The code of an output whose value is at no place of its own sends the message of that value, from a temporary.
 pub fn values_are_sent()
     ensures { ValuesAreSent }
+{}
+
+/// The code of an input into a scalar of INT asks for a message and stores the number that its four bytes are.
+pub fn ints_are_received()
+    ensures { IntsAreReceived }
 {}

@@ -3,4 +3,7 @@
 
 mod laws;
 
-pub use laws::{nothing_is_done, scalars_are_assigned, undisturbed_frames_carry, values_are_sent};
+pub use laws::{
+    ints_are_received, nothing_is_done, scalars_are_assigned, undisturbed_frames_carry,
+    values_are_sent,
+};
