@@ -1,7 +1,6 @@
 -- What pieces do where they lie, and what `SKIP` and `STOP` do.
-use Rattle.std.proofs.Common.{◌≡◌, ℕ, ◌<◌, List, [], ◌∷◌, ◌++◌, length, refl, sym, subst, arith}
+use Rattle.std.proofs.Common.{◌≡◌, ℕ, ◌<◌, List, [], ◌∷◌, ◌++◌, length, refl, sym, subst}
 use Rattle.scalar_ranges.specs.Environments.{Environment}
-use Rattle.machine_state.specs.declared.op.Op.TheVariants as ops
 use Rattle.machine_state.specs.declared.instruction.Instruction.TheVariants.{Operate}
 use Rattle.machine_state.specs.Instructions.{instruction_of, op_of}
 use Rattle.prefix_decoder.specs.declared.function.Fun.TheVariants as fun
@@ -16,7 +15,7 @@ use Rattle.placed_code.specs.Behaves.{Behaves, over, halts}
 use Rattle.placed_code.proofs.PiecesGo.{straight_goes}
 use Rattle.placed_code.proofs.Behaves.{steps_behave}
 use Rattle.meant_lines.specs.Carrying.{Ground}
-use Rattle.meant_actions.specs.Acting.{EndsAt, SkipsBehave, StopsBehave}
+use Rattle.meant_actions.specs.Acting.{SkipsBehave, StopsBehave}
 
 -- what comes after straight pieces that lie there
 pub straight_behaves : (c : LaidCode) (g : Ground) {End : Environment → Point → Type 0} {t : Doing} {at to : ℕ}

@@ -1,24 +1,19 @@
 -- What is assigned is stored, and memory carries the environment after it.
-use Rattle.std.proofs.Common.{◌≡◌, ℕ, ◌+◌, ◌≤◌, ℤ, List, Option, Some, None, FitsSigned, refl, sym, ap, subst, ◌∙◌, arith}
-use Rattle.std.specs.Prelude.{option_and_then, ◌++◌, ◌∷◌, []}
+use Rattle.std.proofs.Common.{◌≡◌, ℕ, ◌+◌, ◌≤◌, ℤ, List, Option, Some, None, refl, sym, ap, subst, ◌∙◌, arith}
+use Rattle.std.specs.Prelude.{option_and_then, ◌++◌}
 use Rattle.occam_parser.specs.declared.tree.ValueType.{ValueType}
-use Rattle.occam_parser.specs.Expressions.{Expression}
 use Rattle.occam_parser.specs.Lines.{Place, Assign}
-use Rattle.scalar_ranges.specs.Entries.{Meaning, Scalar, Entry, meaning_in}
-use Rattle.scalar_ranges.specs.Environments as environments
-use Rattle.scalar_ranges.specs.Environments.{One, Environment, Meets}
+use Rattle.scalar_ranges.specs.Entries.{Scalar, Entry, meaning_in}
+use Rattle.scalar_ranges.specs.Environments.{One, Environment}
 use Rattle.scalar_ranges.specs.MoveLaws.{put}
-use Rattle.scalar_ranges.specs.Values.{number_of}
-use Rattle.program_meaning.specs.Links.{Port}
 use Rattle.program_meaning.specs.Storing.{stored}
 use Rattle.program_meaning.specs.Doing.{Doing, Leaves, or_fails, acting}
 use Rattle.program_meaning.proofs.NumbersStored.{scalars_stored}
-use Rattle.code_pieces.specs.Pieces.{Piece, stores, word_after}
-use Rattle.line_pieces.specs.Homes.{Home, Word, home_of}
+use Rattle.code_pieces.specs.Pieces.{word_after}
+use Rattle.line_pieces.specs.Homes.{Home, Word}
 use Rattle.line_pieces.specs.Expressions.{expression_code}
 use Rattle.line_pieces.specs.Actions.{Target, OwnWord, whole_target, target_of, store_code}
-use Rattle.placed_code.specs.StraightPieces.{Held}
-use Rattle.placed_code.specs.LaidCode.{LaidCode, Lie}
+use Rattle.placed_code.specs.LaidCode.{Lie}
 use Rattle.placed_code.specs.Behaves.{Behaves, over}
 use Rattle.placed_code.specs.Points.{point}
 use Rattle.placed_code.proofs.StraightPieces.{lead_both}

@@ -1,11 +1,10 @@
 -- What stays while a process waits, and the address of a link.
-use Rattle.std.proofs.Common.{◌≡◌, ℕ, zero, suc, ◌+◌, ◌*◌, ◌<◌, ◌≤◌, ◌⊎◌, inr, ℤ, pos, Bool, true, false, nat_eq}
-use Rattle.std.proofs.Common.{List, [], ◌∷◌, length, Option, Some, None, refl, sym, ap, subst, ◌∙◌, arith}
+use Rattle.std.proofs.Common.{◌≡◌, ℕ, ◌+◌, ◌<◌, ◌≤◌, inr, ℤ, pos, Bool, true, false, nat_eq}
+use Rattle.std.proofs.Common.{List, [], ◌∷◌, length, Option, Some, None, refl, ◌∙◌, arith}
 use Rattle.std.specs.Prelude.{slice_get, if◌then◌else◌}
 use Rattle.std.proofs.lemmas.Bool.{eqb-true}
 use Rattle.std.proofs.lemmas.Int.{ints}
 use Rattle.word_arithmetic.specs.Word.{least_word}
-use Rattle.word_arithmetic.specs.Range.{Ends}
 use Rattle.prefix_decoder.specs.declared.function.Fun.TheVariants as fun
 use Rattle.machine_state.specs.Memory.{Memory, byte_at, word_at, local_address}
 use Rattle.machine_state.specs.LocalStep.{address, word_of}
@@ -13,7 +12,6 @@ use Rattle.machine_state.specs.World.{link_word}
 use Rattle.machine_state.proofs.Reading.{word_at_same}
 use Rattle.occam_parser.specs.declared.tree.ValueType.{ValueType}
 use Rattle.occam_parser.specs.declared.tree.ValueType.TheVariants as value_type
-use Rattle.scalar_ranges.specs.declared.scope.ScalarKind.{ScalarKind}
 use Rattle.scalar_ranges.specs.Entries.{Meaning, Constant, Scalar, Array, Channel, Channels, Procedure, Entry}
 use Rattle.scalar_ranges.specs.Environments.{Held, Nothing, One, Many, Environment}
 use Rattle.code_pieces.specs.declared.operations.TheConstants.{MINIMUM_INTEGER}
@@ -25,11 +23,11 @@ use Rattle.placed_code.specs.StraightPieces as pieces
 use Rattle.placed_code.specs.StraightPieces.{Footing, LeadOn, with_pushed, word_place}
 use Rattle.placed_code.proofs.StraightPieces.{lead_both}
 use Rattle.placed_code.specs.Behaves.{IsScheduling}
-use Rattle.meant_lines.specs.Carrying.{Ground, HoldsByte, HoldsArray, HoldsTable, item_place, IsScalarKept, IsArrayKept}
+use Rattle.meant_lines.specs.Carrying.{Ground, HoldsArray, HoldsTable, item_place, IsScalarKept, IsArrayKept}
 use Rattle.meant_lines.specs.Carrying.{IsKeptThere, AreKept, Carries}
 use Rattle.meant_lines.proofs.Words.{addresses_read_back}
 use Rattle.meant_lines.proofs.Instructions.{least_word_is_pushed, addresses_move_on}
-use Rattle.meant_actions.specs.Exchanging.{OnlySchedulingChanges, RootsAreUndisturbed}
+use Rattle.meant_actions.specs.Exchanging.{RootsAreUndisturbed}
 
 -- ---- where all words of the frame are as they were
 

@@ -1,11 +1,10 @@
 -- A message is received where code says, and stored.
-use Rattle.std.proofs.Common.{◌≡◌, ℕ, ◌+◌, ◌*◌, ◌^◌, ◌<◌, ◌≤◌, ◌⊎◌, inl, inr, ℤ, pos, List, [], ◌∷◌, ◌++◌, length}
-use Rattle.std.proofs.Common.{Option, Some, None, FitsSigned, refl, sym, ap, subst, ◌∙◌, arith}
+use Rattle.std.proofs.Common.{◌≡◌, ℕ, ◌+◌, ◌*◌, ◌^◌, ◌<◌, ◌≤◌, ◌⊎◌, inl, inr, ℤ, List, [], ◌∷◌, ◌++◌, length}
+use Rattle.std.proofs.Common.{Option, Some, refl, sym, ap, subst, ◌∙◌, arith}
 use Rattle.module_format.specs.Order.{IsBytes}
-use Rattle.machine_state.specs.declared.op.Op.TheVariants as ops
 use Rattle.machine_state.specs.Instructions.{instruction_of, op_of}
 use Rattle.machine_state.specs.LocalStep.{address, word_of}
-use Rattle.machine_state.specs.Memory.{Memory, place_of, byte_at, with_word}
+use Rattle.machine_state.specs.Memory.{Memory, place_of, byte_at}
 use Rattle.machine_state.specs.World.{input_word}
 use Rattle.prefix_decoder.specs.declared.function.Fun.TheVariants as fun
 use Rattle.occam_parser.specs.declared.tree.ValueType.{ValueType}
@@ -16,17 +15,16 @@ use Rattle.scalar_ranges.specs.Environments.{One, Environment}
 use Rattle.scalar_ranges.specs.MoveLaws.{put}
 use Rattle.program_uses.specs.declared.uses.Direction.TheVariants as direction
 use Rattle.program_meaning.specs.Links.{Port, message_length, received}
-use Rattle.program_meaning.specs.Running.{port_of}
 use Rattle.program_meaning.specs.Storing.{stored}
-use Rattle.program_meaning.specs.Doing.{Doing, Leaves, Asks, or_fails, asking, acting}
+use Rattle.program_meaning.specs.Doing.{Doing, Leaves, Asks, or_fails, asking}
 use Rattle.program_meaning.proofs.NumbersStored.{scalars_stored}
 use Rattle.program_meaning.proofs.MessagesReadBack.{received_is_of_type}
 use Rattle.code_pieces.specs.declared.operations.TheConstants.{INPUT}
-use Rattle.code_pieces.specs.Pieces.{Piece, operates, points, constant}
+use Rattle.code_pieces.specs.Pieces.{operates, points, constant}
 use Rattle.line_pieces.specs.Homes.{Home, Link}
-use Rattle.line_pieces.specs.Actions.{Target, OwnWord, length_of, channel_code, channel_home, carried, exchange}
+use Rattle.line_pieces.specs.Actions.{Target, length_of, channel_code, channel_home, carried, exchange}
 use Rattle.line_pieces.specs.Actions.{link_code, target_address, cleaned}
-use Rattle.placed_code.specs.StraightPieces.{Footing, Held, LeadOn, with_pushed, word_place, word_address}
+use Rattle.placed_code.specs.StraightPieces.{Footing, Held, with_pushed, word_place, word_address}
 use Rattle.placed_code.specs.LaidCode as laid
 use Rattle.placed_code.specs.LaidCode.{LaidCode, Lie}
 use Rattle.placed_code.specs.Points.{Point, point}
@@ -36,8 +34,8 @@ use Rattle.meant_lines.specs.Carrying.{Ground, Carries}
 use Rattle.meant_lines.proofs.Words.{words_have_places, addresses_read_back}
 use Rattle.meant_lines.proofs.Instructions.{constants_are_pushed, addresses_are_pushed}
 use Rattle.meant_lines.proofs.Storing.{scalars_are_carried}
-use Rattle.meant_actions.specs.Acting.{EndsAt, Begins, IsScalar}
-use Rattle.meant_actions.specs.Exchanging.{IsPort, IsUndisturbed}
+use Rattle.meant_actions.specs.Acting.{EndsAt, IsScalar}
+use Rattle.meant_actions.specs.Exchanging.{IsUndisturbed}
 use Rattle.meant_actions.specs.Receiving.{IntsAreReceived}
 use Rattle.meant_actions.proofs.Acting.{straight_behaves, lie_both}
 use Rattle.meant_actions.proofs.Assigning.{whole, scalar_target, scalar_below}

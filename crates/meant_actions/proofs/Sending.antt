@@ -1,15 +1,13 @@
 -- A message is sent from where it lies.
-use Rattle.std.proofs.Common.{◌≡◌, ℕ, ◌+◌, ◌*◌, ◌^◌, ◌<◌, ◌≤◌, ◌⊎◌, inl, inr, ℤ, pos, List, [], ◌∷◌, ◌++◌, length}
-use Rattle.std.proofs.Common.{Option, Some, None, FitsSigned, refl, sym, ap, subst, ◌∙◌, arith}
-use Rattle.machine_state.specs.declared.op.Op.TheVariants as ops
+use Rattle.std.proofs.Common.{◌≡◌, ℕ, ◌+◌, ◌*◌, ◌^◌, ◌<◌, ◌≤◌, ◌⊎◌, inr, ℤ, List, [], ◌∷◌, ◌++◌, length}
+use Rattle.std.proofs.Common.{Option, Some, refl, sym, ap, subst, ◌∙◌, arith}
 use Rattle.machine_state.specs.Instructions.{instruction_of, op_of}
 use Rattle.machine_state.specs.LocalStep.{address, word_of}
-use Rattle.machine_state.specs.Memory.{Memory, place_of}
+use Rattle.machine_state.specs.Memory.{place_of}
 use Rattle.machine_state.specs.World.{output_word}
 use Rattle.prefix_decoder.specs.declared.function.Fun.TheVariants as fun
 use Rattle.occam_parser.specs.declared.tree.ValueType.{ValueType}
 use Rattle.occam_parser.specs.declared.tree.ValueType.TheVariants as value_type
-use Rattle.occam_parser.specs.Expressions.{Expression}
 use Rattle.occam_parser.specs.Lines.{Place, Output}
 use Rattle.scalar_ranges.specs.Entries.{Entry, meaning_in}
 use Rattle.scalar_ranges.specs.Environments.{Environment}
@@ -18,15 +16,15 @@ use Rattle.program_meaning.specs.Links.{Port, message_of}
 use Rattle.program_meaning.specs.Running.{port_of}
 use Rattle.program_meaning.specs.Doing.{Doing, Leaves, Sends, or_fails, sending, acting}
 use Rattle.code_pieces.specs.declared.operations.TheConstants.{OUTPUT}
-use Rattle.code_pieces.specs.Pieces.{Piece, operates, stores, points, constant}
+use Rattle.code_pieces.specs.Pieces.{operates, stores, points, constant}
 use Rattle.line_pieces.specs.Homes.{Home, Link}
 use Rattle.line_pieces.specs.Actions.{Target, length_of, channel_code, channel_home, carried, exchange, link_code}
 use Rattle.line_pieces.specs.Actions.{message_code}
 use Rattle.line_pieces.specs.Expressions.{expression_code, is_leaf, is_small}
-use Rattle.placed_code.specs.StraightPieces.{Footing, Held, LeadOn, with_pushed, word_place, word_address}
+use Rattle.placed_code.specs.StraightPieces.{Footing, Held, with_pushed, word_place, word_address}
 use Rattle.placed_code.specs.LaidCode as laid
 use Rattle.placed_code.specs.LaidCode.{LaidCode, Lie}
-use Rattle.placed_code.specs.Points.{Point, point}
+use Rattle.placed_code.specs.Points.{point}
 use Rattle.placed_code.specs.Behaves.{Behaves, over, sends, Has, IsScheduling}
 use Rattle.placed_code.proofs.StraightPieces.{lead_both}
 use Rattle.meant_lines.specs.Words.{IsInFrame, with_frame_word}
@@ -37,7 +35,7 @@ use Rattle.meant_lines.proofs.Carrying.{outer_words_stay}
 use Rattle.meant_lines.proofs.Instructions.{constants_are_pushed, words_are_stored, addresses_are_pushed}
 use Rattle.meant_lines.proofs.Pushing.{carries_after}
 use Rattle.meant_actions.specs.Acting.{EndsAt}
-use Rattle.meant_actions.specs.Exchanging.{IsPort, IsUndisturbed}
+use Rattle.meant_actions.specs.Exchanging.{IsUndisturbed}
 use Rattle.meant_actions.specs.Sending.{ValuesAreSent}
 use Rattle.meant_actions.proofs.Acting.{straight_behaves, lie_both}
 use Rattle.meant_actions.proofs.Exchanging.{link_pushed}

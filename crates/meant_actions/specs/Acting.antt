@@ -1,5 +1,5 @@
 -- Where the code of an action begins and ends, and what `SKIP` and `STOP` do.
-use Rattle.std.specs.Prelude.{◌≡◌, ℕ, ◌+◌, ◌<◌, ℤ, List, [], ◌∷◌, length, Option, Some, FitsSigned}
+use Rattle.std.specs.Prelude.{◌≡◌, ℕ, ◌<◌, ℤ, List, [], ◌∷◌, length, Option, Some, FitsSigned}
 use Rattle.std.specs.Int.{w32}
 use Rattle.occam_parser.specs.declared.tree.ValueType.{ValueType}
 use Rattle.occam_parser.specs.Expressions.{Expression}
