@@ -37,8 +37,8 @@ skips_behave c g top at to es env h ports begins laid.none = over (refl, begins.
 
 pub stops_behave : StopsBehave
 unfolding instruction_of op_of
-stops_behave c g top at to label es env h ports row (laid.more {middle = m} stop (laid.more {middle = n} label_there laid.none)) inside =
+stops_behave c g top at to label es env h ports row (laid.more {middle = m} stop (laid.more there laid.none)) inside =
     halts (record {
       executes = record { function = fun.Operate; operand = STOP_PROCESS; behind = m; fetches = stop; is = refl };
-      inside = subst (λ (x : ℕ). x < length c.code) (sym label_there.0) inside;
+      inside = subst (λ (x : ℕ). x < length c.code) (sym there.0) inside;
     })

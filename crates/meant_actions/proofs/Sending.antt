@@ -92,8 +92,8 @@ module _ (c : LaidCode) (g : Ground) (top to : ℕ) (es : List Entry) (env : Env
         undisturbed.carries env h.memory q.held.memory
             (record {
               size = went.size;
-              same = λ place apart.
-                  went.same place (λ x. apart (subst (λ (w : Footing). IsScheduling w.depth place) footing x)) (λ x. x);
+              same = λ place far.
+                  went.same place (λ x. far (subst (λ (w : Footing). IsScheduling w.depth place) footing x)) (λ x. x);
             })
             is_message.carries,
       ))
