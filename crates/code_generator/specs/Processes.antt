@@ -1,6 +1,6 @@
 -- The code of processes: a definition over the tree, with what is known at each place. A PAR and an ALT have none here.
 use Rattle.std.specs.Prelude.{ℕ, zero, ◌+◌, ℤ, pos, Bool, true, false, List, [], ◌∷◌, ◌++◌}
-use Rattle.std.specs.Prelude.{if◌then◌else◌, Option, Some, None, unwrap_or, option_map}
+use Rattle.std.specs.Prelude.{◌&&◌, if◌then◌else◌, Option, Some, None, unwrap_or, option_map}
 use Rattle.std.specs.List.{list_any}
 use Rattle.occam_layout.specs.declared.mark.Mark.TheVariants as mark
 use Rattle.occam_parser.specs.Terminals.{Terminal, Mark}
@@ -95,18 +95,29 @@ is_true (Alone (Truth holds)) = holds
 is_true (Alone (Bracketed e)) = is_true e
 is_true e = false
 
--- a process that does nothing
+-- A process that does nothing: SKIP, or a SEQ of processes that do nothing. What declares something is none.
 abbrev pub is_skip_action : Action → Bool
 is_skip_action Skip = true
 is_skip_action action = false
 
-abbrev pub does_nothing : Construct → Bool
-does_nothing (Act action) = is_skip_action action
-does_nothing c = false
+abbrev mutual
+  pub is_skip : Process → Bool
+  is_skip (Declared d p) = false
+  is_skip (Does line c) = does_nothing c
 
-abbrev pub is_skip : Process → Bool
-is_skip (Does line c) = does_nothing c
-is_skip p = false
+  pub does_nothing : Construct → Bool
+  does_nothing (Act action) = is_skip_action action
+  does_nothing (Block kind cs) = is_seq (block_word kind) && all_do_nothing cs
+  does_nothing (Replicated r b) = false
+
+  pub all_do_nothing : {part : Part} → Components part → Bool
+  all_do_nothing NoComponent = true
+  all_do_nothing (Further cs c) = all_do_nothing cs && component_is_skip c
+
+  pub component_is_skip : {part : Part} → Component part → Bool
+  component_is_skip (Plain p) = is_skip p
+  component_is_skip (Chosen line e p) = false
+  component_is_skip (Guarded line g p) = false
 
 -- A choice in its place: what is known where its test is and after it, whether its process does nothing, and the code
 -- of that, by where it begins.

@@ -4,10 +4,11 @@ ghost use Rattle.std.specs.Prelude.{◌≡◌, IfOk, Err};
 ghost use Rattle.occam_parser.specs.Expressions.{Alone};
 ghost use Rattle.occam_parser.specs.Views.{expression_of, term_of};
 ghost use Rattle.occam_parser.specs.LineViews.{action_of, replicator_of};
-ghost use Rattle.occam_parser.specs.BlockViews.{process_of, construct_of, choice_of, all_choices};
+ghost use Rattle.occam_parser.specs.BlockViews.{process_of, construct_of, choice_of, all_processes, all_choices};
 ghost use Rattle.program_uses.specs.Indices.{seen_repeats};
 ghost use Rattle.code_generator.specs.CallViews.{surroundings_of};
-ghost use Rattle.code_generator.specs.Processes.{is_true, is_skip_action, does_nothing, is_skip, times, under_if};
+ghost use Rattle.code_generator.specs.Processes.{is_true, is_skip_action, is_skip, does_nothing, all_do_nothing};
+ghost use Rattle.code_generator.specs.Processes.{times, under_if};
 ghost use Rattle.code_generator.specs.Processes.{taken_code, tested_code, open_code, construct_code};
 ghost use Rattle.code_generator.specs.Written.{site_of, Exceeds, AreEnded, choice_as, WritesAs, ending_at, WritesEnding};
 ghost use Rattle.code_generator.specs.Written.{choices_at, WritesChoices, if_at, WritesIf, turns_tested, turns_at};
@@ -97,21 +98,8 @@ fn is_skip_action(action: &Action) -> bool
     }
 }
 
-/// Whether a construct is `SKIP`.
-fn does_nothing(construct: &Construct) -> bool
-    ensures { result ≡ does_nothing (construct_of construct.now) }
-{
-    match construct {
-        Construct::Action(action) => is_skip_action(action),
-        Construct::Seq(_)
-        | Construct::If(_)
-        | Construct::Replicated { .. }
-        | Construct::Par(_)
-        | Construct::Alt(_) => false,
-    }
-}
-
-/// Whether a process is `SKIP`, with nothing declared before it.
+/// Whether a process is `SKIP`, or a `SEQ` of such processes, with nothing declared before it.
+#[cycle(nothing)]
 fn is_skip(process: &Process) -> bool
     ensures { result ≡ is_skip (process_of process.now) }
 {
@@ -119,6 +107,34 @@ fn is_skip(process: &Process) -> bool
         return false;
     }
     does_nothing(&process.construct)
+}
+
+/// Whether a construct is `SKIP`, or a `SEQ` of processes that do nothing.
+#[cycle(nothing)]
+fn does_nothing(construct: &Construct) -> bool
+    ensures { result ≡ does_nothing (construct_of construct.now) }
+{
+    match construct {
+        Construct::Action(action) => is_skip_action(action),
+        Construct::Seq(processes) => all_do_nothing(processes),
+        Construct::If(_)
+        | Construct::Replicated { .. }
+        | Construct::Par(_)
+        | Construct::Alt(_) => false,
+    }
+}
+
+/// Whether each of these processes does nothing.
+#[cycle(nothing)]
+fn all_do_nothing(processes: &[Process]) -> bool
+    ensures { result ≡ all_do_nothing (all_processes processes.now) }
+{
+    for process in processes {
+        if !is_skip(process) {
+            return false;
+        }
+    }
+    true
 }
 
 /// How many turns of a choice are tested, of `count`: the last one is not, if the condition is TRUE.
