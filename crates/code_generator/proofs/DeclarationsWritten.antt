@@ -4,11 +4,13 @@ use Rattle.std.proofs.lemmas.List.{append_assoc, append-nil, at_drop_more, at_dr
 use Rattle.occam_parser.specs.declared.tree.Declaration as code_declaration
 use Rattle.occam_parser.specs.LineViews.{declaration_of}
 use Rattle.program_uses.specs.InTurn.{in_turn}
+use Rattle.code_generator.specs.declared.limits.Limits.{Limits}
 use Rattle.code_generator.specs.declared.processes.ProcessWriter.{ProcessWriter}
 use Rattle.code_pieces.specs.Pieces.{Piece}
 use Rattle.line_pieces.specs.Declarations.{declaration_code}
 use Rattle.code_generator.specs.Processes.{Site, with_declaration}
-use Rattle.code_generator.specs.Written.{site_of, Declares, DeclaresAll, declarations_code}
+use Rattle.code_generator.specs.Written.{site_of, Declares, DeclaresAll, declarations_code, IsTooMuch}
+use Rattle.code_generator.proofs.Exceeding.{much_left}
 
 pub declared_next : (ds : List code_declaration.Declaration) (i : ℕ) (x : code_declaration.Declaration)
     (s t : ProcessWriter) (start : List Piece) → i < length ds → x ≡ get_or ds i x
@@ -58,3 +60,20 @@ declared_done ds i s t h a b =
       code = sym (ap (λ l. t.listing ++ l) none ∙ append-nil t.listing) ∙ a;
       site = sym still ∙ b;
     }
+
+-- one declaration is too much, and so are all of them
+pub declared_exceed : (l : Limits) (ds : List code_declaration.Declaration) (i : ℕ) (x : code_declaration.Declaration)
+    (s : ProcessWriter) (old whole : List Piece) → i < length ds → x ≡ get_or ds i x
+    → s.listing ++ declarations_code (map declaration_of (drop i ds)) (site_of s) ≡ old ++ whole
+    → IsTooMuch l s.listing (declaration_code (site_of s).known.entries (declaration_of x) s.frame.top)
+    → IsTooMuch l old whole
+declared_exceed l ds i x s old whole h is b much =
+    let here = declaration_code (site_of s).known.entries (declaration_of x) s.frame.top in
+    let rest = map declaration_of (drop (i + 1) ds) in
+    let later = declarations_code rest (with_declaration (declaration_of x) (site_of s)) in
+    let step : declarations_code (map declaration_of (drop i ds)) (site_of s) ≡ here ++ later =
+    at_drop_more (λ (xs : List code_declaration.Declaration). declarations_code (map declaration_of xs) (site_of s))
+    ds i x h
+    ∙ ap (λ y. declarations_code (declaration_of y ∷ rest) (site_of s)) (sym is) in
+    much_left l (s.listing ++ here) later (old ++ whole)
+    (append_assoc s.listing here later ∙ ap (λ ps. s.listing ++ ps) (sym step) ∙ b) much

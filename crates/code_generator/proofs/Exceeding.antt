@@ -26,6 +26,13 @@ much_more l old ps qs h = λ q.
     subst (λ x. is_too_much l.names x ≡ true) (append_assoc old ps qs)
     (too_much_stays l.names (old ++ ps) qs (h q))
 
+-- what was written is too much already, and these are left
+pub much_left : (l : Limits) (now left whole : List Piece) → now ++ left ≡ whole
+    → (l.is_sequential ≡ true → is_too_much l.names now ≡ true) → l.is_sequential ≡ true
+    → is_too_much l.names whole ≡ true
+much_left l now left whole is h q =
+    subst (λ x. is_too_much l.names x ≡ true) is (too_much_stays l.names now left (h q))
+
 -- ---- code
 
 -- pieces that are too much already, whatever follows
@@ -88,9 +95,12 @@ exceeds_all l upto n k old steps within h = exceeds_rest l upto n old steps (n -
 -- ---- where it is not asked
 
 -- A program that is not sequential is bounded otherwise.
+pub not_asked : (l : Limits) (old ps : List Piece) → l.is_sequential ≡ false → IsTooMuch l old ps
+not_asked l old ps h = λ q. absurd (cc (q, h))
+
 pub not_sequential : (l : Limits) (old : List Piece) (code : Option Code) → l.is_sequential ≡ false → Exceeds l old code
 not_sequential l old None h = tt
-not_sequential l old (Some c) h = λ q. absurd (cc (q, h))
+not_sequential l old (Some c) h = not_asked l old c.pieces h
 
 -- where something was spent
 pub spent_place : {s t : ProcessWriter} → Spends s t → site_of t ≡ site_of s

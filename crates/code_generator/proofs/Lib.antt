@@ -9,6 +9,7 @@ pub mod ItemsPassed
 pub mod LinksNumbered
 pub mod LoopsExceed
 pub mod LoopsWritten
+pub mod NamesCleared
 pub mod OutermostNames
 pub mod PartsExceed
 pub mod PartsWritten

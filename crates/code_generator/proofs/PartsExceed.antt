@@ -43,7 +43,7 @@ use Rattle.code_generator.specs.Written.{placed_ending, AreEnded, choices_at, af
 use Rattle.code_generator.specs.Written.{turns_tested, WritesSomeTurns, turns_at}
 use Rattle.code_generator.proofs.ActsWritten.{with_row_is}
 use Rattle.code_generator.proofs.ChoicesWritten.{ending_is, TakenLeft, ChoicesLeft}
-use Rattle.code_generator.proofs.Exceeding.{OneMore, exceeds_before, exceeds_closed, exceeds_behind}
+use Rattle.code_generator.proofs.Exceeding.{OneMore, exceeds_more, exceeds_before, exceeds_closed, exceeds_behind}
 use Rattle.code_generator.proofs.Exceeding.{exceeds_first, exceeds_second, exceeds_all, much_behind}
 use Rattle.code_generator.proofs.PartsWritten.{code_behind, site_after}
 use Rattle.code_generator.proofs.TurnsWritten.{turn_entered, ends_somehow, last_untested}
@@ -61,6 +61,16 @@ exceeds_process l {s} {t} around ds line c p is declares h =
     (subst (λ o. Exceeds l s.listing o) (sym (code_behind here ds line c (site_of s)))
     (exceeds_before l (construct_code here line c final) s.listing t.listing (declarations_code ds (site_of s))
     declares.code (subst (λ z. Exceeds l t.listing (construct_code here line c z)) declares.site h)))
+
+-- what it declares
+pub exceeds_declaring : (l : Limits) (s : ProcessWriter) (here : Surroundings) (ds : List Declaration) (line : ℕ)
+    (c : Construct) (p : Process) → with_declarations ds (Does line c) ≡ p
+    → IsTooMuch l s.listing (declarations_code ds (site_of s)) → Exceeds l s.listing (process_code here p (site_of s))
+exceeds_declaring l s here ds line c p is h =
+    subst (λ q. Exceeds l s.listing (process_code here q (site_of s))) is
+    (subst (λ o. Exceeds l s.listing o) (sym (code_behind here ds line c (site_of s)))
+    (exceeds_more l (construct_code here line c (in_turn with_declaration ds (site_of s))) s.listing
+    (declarations_code ds (site_of s)) h))
 
 -- ---- an action
 

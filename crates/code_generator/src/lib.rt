@@ -4,6 +4,7 @@
 mod alternatives;
 mod calling;
 mod choices;
+mod clearing;
 mod context;
 mod finer;
 mod guards;

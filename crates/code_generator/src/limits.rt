@@ -5,7 +5,7 @@ ghost use Rattle.line_pieces.specs.Limits.{is_too_much};
 ghost use Rattle.code_generator.specs.Written.{Spends};
 
 use crate::processes::ProcessWriter;
-use line_pieces::{GREATEST_ROWS, GREATEST_SAID, plus, size_of_count};
+use line_pieces::{GREATEST_ROWS, GREATEST_SAID, Listing, plus, size_of_count};
 use module_builder::GenFault;
 use program_sizes::GREATEST_SIZE;
 
@@ -41,6 +41,22 @@ impl Limits {
         } else {
             GenFault::Limit
         }
+    }
+
+    /// The error is [`GenFault::Limit`] if what was written is too much.
+    pub(crate) fn ask_room(self, listing: &Listing) -> Result<(), GenFault>
+        ensures { result ≡ Err GenFault.Limit → self.is_sequential ≡ true
+            → is_too_much self.names listing.now ≡ true }
+    {
+        let is_full = if self.is_sequential {
+            listing.is_too_much(self.names)
+        } else {
+            listing.is_full()
+        };
+        if is_full {
+            return Err(GenFault::Limit);
+        }
+        Ok(())
     }
 }
 
@@ -140,22 +156,6 @@ impl ProcessWriter<'_> {
         let entries = size_of_count(entries)?;
         self.spent.rows = plus(self.spent.rows, 1, GREATEST_ROWS as u32)?;
         self.spent.said = plus(self.spent.said, entries, GREATEST_SAID as u32)?;
-        Ok(())
-    }
-
-    /// The error is [`GenFault::Limit`] if what was written is too much.
-    pub(crate) fn ask_room(&self, limits: Limits) -> Result<(), GenFault>
-        ensures { result ≡ Err GenFault.Limit → limits.is_sequential ≡ true
-            → is_too_much limits.names self.now.listing ≡ true }
-    {
-        let is_full = if limits.is_sequential {
-            self.listing.is_too_much(limits.names)
-        } else {
-            self.listing.is_full()
-        };
-        if is_full {
-            return Err(GenFault::Limit);
-        }
         Ok(())
     }
 }

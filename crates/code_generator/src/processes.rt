@@ -8,16 +8,18 @@ ghost use Rattle.occam_parser.specs.LineViews.{action_of, constant_of, declarati
 ghost use Rattle.occam_parser.specs.BlockViews.{process_of, construct_of, body_of, plain_component, all_processes};
 ghost use Rattle.scalar_ranges.specs.Scopes.{entries_of, known_of};
 ghost use Rattle.line_pieces.specs.Actions.{action_code, test_code};
+ghost use Rattle.line_pieces.specs.Declarations.{declaration_code};
 ghost use Rattle.code_generator.specs.CallViews.{surroundings_of};
 ghost use Rattle.line_pieces.specs.FrameViews.{frame_seen};
 ghost use Rattle.code_generator.specs.Processes.{row_of, act_code, line_code, process_code};
 ghost use Rattle.code_generator.specs.Processes.{construct_code, body_code, components_code, component_code};
 ghost use Rattle.code_generator.specs.Written.{site_of, Appends, Declares, DeclaresAll, WritesConstruct, WritesProcess};
 ghost use Rattle.code_generator.specs.Written.{WritesSeq, WritesOne, WritesLoop, first_site, WritesLine, WritesRow};
-ghost use Rattle.code_generator.specs.Written.{IsTooMuch, Exceeds, row_code, looped_code};
+ghost use Rattle.code_generator.specs.Written.{IsTooMuch, Exceeds, declarations_code, row_code, looped_code};
 ghost use Rattle.code_generator.specs.Instances.{is_finer};
 
 use crate::calling::Surroundings;
+use crate::clearing::clear_names;
 use crate::context::Context;
 use crate::finer::is_finer;
 use crate::limits::{Limits, Spent};
@@ -96,13 +98,15 @@ impl<'a> ProcessWriter<'a> {
     }
 
     /// Variables, which are 0.
-    fn declare_variables(&mut self, names: &Names<'a>) -> Result<(), AllocError>
-        ensures { IfOk result (λ _. Declares self.old self.new (Variables (names_of names.now))) }
+    fn declare_variables(&mut self, limits: Limits, names: &Names<'a>) -> Result<(), GenFault>
+        ensures ok { IfOk result (λ _. Declares self.old self.new (Variables (names_of names.now))) }
+        ensures limit { result ≡ Err GenFault.Limit → IsTooMuch limits self.old.listing
+            (declaration_code (entries_of self.old.scope) (Variables (names_of names.now)) self.old.frame.top) }
     {
         let count = words_in(&self.scope, names.value_type, &names.size);
         let meaning = variable_meaning(&self.scope, names.value_type, &names.size);
-        self.listing
-            .write_zeros(&names.size, count, &names.names, self.frame.top)?;
+        let listing = &mut self.listing;
+        clear_names(listing, limits, &names.size, &names.names, self.frame.top, count)?;
         self.frame.add_names(count, &names.names)?;
         declare_names(&mut self.scope, &names.names, meaning)?;
         Ok(())
@@ -122,12 +126,13 @@ impl<'a> ProcessWriter<'a> {
     /// A declaration.
     fn declare(&mut self, limits: Limits, declaration: &Declaration<'a>) -> Result<(), GenFault>
         ensures ok { IfOk result (λ _. Declares self.old self.new (declaration_of declaration.now)) }
-        ensures limit { result ≡ Err GenFault.Limit → limits.is_sequential ≡ false }
+        ensures limit { result ≡ Err GenFault.Limit → IsTooMuch limits self.old.listing
+            (declaration_code (entries_of self.old.scope) (declaration_of declaration.now) self.old.frame.top) }
     {
         self.walk_over(limits, size_of_declaration(declaration), 0)?;
         match declaration {
             Declaration::Constant(constant) => Ok(self.declare_constant(constant)?),
-            Declaration::Variables(names) => Ok(self.declare_variables(names)?),
+            Declaration::Variables(names) => self.declare_variables(limits, names),
             Declaration::Channels(names) => Ok(self.declare_channels(names)?),
         }
     }
@@ -139,7 +144,8 @@ impl<'a> ProcessWriter<'a> {
         declarations: &[Declaration<'a>],
     ) -> Result<(), GenFault>
         ensures ok { IfOk result (λ _. DeclaresAll self.old self.new (map declaration_of declarations.now)) }
-        ensures limit { result ≡ Err GenFault.Limit → limits.is_sequential ≡ false }
+        ensures limit { result ≡ Err GenFault.Limit → IsTooMuch limits self.old.listing
+            (declarations_code (map declaration_of declarations.now) (site_of self.old)) }
     {
         for declaration in declarations {
             self.declare(limits, declaration)?;
@@ -159,7 +165,7 @@ impl<'a> ProcessWriter<'a> {
         let entries = facts_in(self.alloc, &self.scope, &self.frame)?;
         self.say(limits, entries.len())?;
         self.listing.push(Piece::Row { label, entries })?;
-        self.ask_room(limits)
+        limits.ask_room(&self.listing)
     }
 
     /// `STOP`: a row says what is known where code goes on that nothing reaches.

@@ -1,13 +1,11 @@
 -- Names of one line that are gone over one after the other.
-use Rattle.std.proofs.Common.{◌≡◌, ℕ, ◌+◌, ◌<◌, ◌≤◌, List, [], ◌∷◌, ◌++◌, length, map, take, drop, get_or, Option, Bor}
+use Rattle.std.proofs.Common.{◌≡◌, ℕ, ◌+◌, ◌<◌, ◌≤◌, List, [], ◌∷◌, ◌++◌, length, map, take, drop, get_or, Bor}
 use Rattle.std.proofs.Common.{sym}
 use Rattle.std.proofs.Common.{ap, ◌∙◌}
-use Rattle.std.proofs.lemmas.List.{append_assoc, append-nil, map_push, at_drop_more, at_drop_all, take_all}
-use Rattle.occam_parser.specs.Expressions.{Expression}
+use Rattle.std.proofs.lemmas.List.{append_assoc, map_push, at_drop_more, at_drop_all, take_all}
 use Rattle.occam_parser.specs.LineViews.{spelling_of}
 use Rattle.program_uses.proofs.Adding.{taken_one}
-use Rattle.code_pieces.specs.Pieces.{Piece, word_after}
-use Rattle.line_pieces.specs.Declarations.{Frame, with_words, with_names, zero_code, zero_names}
+use Rattle.line_pieces.specs.Declarations.{Frame, with_words, with_names}
 
 abbrev pub Names : Type 0
 Names = List (Bor (List ℕ))
@@ -32,30 +30,6 @@ words_done count names i start after h a =
     let none : with_names count (map spelling_of (drop i names)) after ≡ after =
     at_drop_all (λ (ns : Names). with_names count (map spelling_of ns) after) names i h in
     sym none ∙ a
-
--- ---- zeros
-
-pub zeros_next : (size : Option Expression) (count : ℕ) (names : Names) (i next further : ℕ)
-    (start before after : List Piece) → i < length names
-    → before ++ zero_names size count (map spelling_of (drop i names)) next ≡ start
-    → after ≡ before ++ zero_code size next count → further ≡ word_after next count
-    → after ++ zero_names size count (map spelling_of (drop (i + 1) names)) further ≡ start
-zeros_next size count names i next further start before after h b a f =
-    let step : zero_names size count (map spelling_of (drop i names)) next
-    ≡ zero_code size next count
-    ++ zero_names size count (map spelling_of (drop (i + 1) names)) (word_after next count) =
-    at_drop_more (λ (ns : Names). zero_names size count (map spelling_of ns) next) names i nobody h in
-    (λ j. a j ++ zero_names size count (map spelling_of (drop (i + 1) names)) (f j))
-    ∙ append_assoc before (zero_code size next count)
-    (zero_names size count (map spelling_of (drop (i + 1) names)) (word_after next count))
-    ∙ ap (λ x. before ++ x) (sym step) ∙ b
-
-pub zeros_done : (size : Option Expression) (count : ℕ) (names : Names) (i next : ℕ) (start after : List Piece)
-    → length names ≤ i → after ++ zero_names size count (map spelling_of (drop i names)) next ≡ start → after ≡ start
-zeros_done size count names i next start after h a =
-    let none : zero_names size count (map spelling_of (drop i names)) next ≡ [] =
-    at_drop_all (λ (ns : Names). zero_names size count (map spelling_of ns) next) names i h in
-    sym (ap (λ x. after ++ x) none ∙ append-nil after) ∙ a
 
 -- ---- values of items
 

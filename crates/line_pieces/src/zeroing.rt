@@ -1,13 +1,12 @@
 //! Writing the code that sets to 0 what is declared.
 
 ghost use Rattle.std.specs.Prelude.{◌≡◌, ◌++◌, ◌-◌, IfOk};
-ghost use Rattle.occam_parser.specs.OneOrMore.{as_list, one_or_more_of};
-ghost use Rattle.occam_parser.specs.LineViews.{any_of, spelling_of};
-ghost use Rattle.line_pieces.specs.Declarations.{spread, zero_array, zero_scalar, zero_code, zero_names};
+ghost use Rattle.occam_parser.specs.LineViews.{any_of};
+ghost use Rattle.line_pieces.specs.Declarations.{spread, zero_array, zero_scalar, zero_code};
 
 use crate::listing::Listing;
 use crate::setting::word_after;
-use occam_parser::{Expr, OneOrMore};
+use occam_parser::Expr;
 use std::alloc::AllocError;
 
 impl Listing {
@@ -36,7 +35,7 @@ impl Listing {
     }
 
     /// What one name denotes, by its first word.
-    fn write_zero(&mut self, size: &Option<Expr>, word: u32, count: u32) -> Result<(), AllocError>
+    pub fn write_zero(&mut self, size: &Option<Expr>, word: u32, count: u32) -> Result<(), AllocError>
         ensures { IfOk result (λ _. self.new ≡ self.old ++ zero_code (any_of size.now) word count) }
     {
         match size {
@@ -46,25 +45,5 @@ impl Listing {
             }
             Some(_) => self.write_zero_array(word, count),
         }
-    }
-
-    /// What these names denote, each of which takes `count` words, from this word on.
-    pub fn write_zeros(
-        &mut self,
-        size: &Option<Expr>,
-        count: u32,
-        names: &OneOrMore<&[u8]>,
-        word: u32,
-    ) -> Result<(), AllocError>
-        ensures { IfOk result (λ _. self.new ≡ self.old
-            ++ zero_names (any_of size.now) count (as_list (one_or_more_of spelling_of names.now)) word) }
-    {
-        self.write_zero(size, word, count)?;
-        let mut next = word_after(word, count);
-        for _name in &names.others {
-            self.write_zero(size, next, count)?;
-            next = word_after(next, count);
-        }
-        Ok(())
     }
 }

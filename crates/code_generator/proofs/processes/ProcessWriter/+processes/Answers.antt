@@ -36,7 +36,7 @@ use Rattle.code_generator.specs.Written.{Exceeds, entering_code, choice_as, Writ
 use Rattle.code_generator.specs.Written.{ending_at, WritesEnding, WritesSomeTurns, turns_at, WritesTurns}
 use Rattle.code_generator.proofs.ActsWritten.{writes_act, writes_from, writes_instance}
 use Rattle.code_generator.proofs.Exceeding.{exceeds_from, spent_place}
-use Rattle.code_generator.proofs.PartsExceed.{exceeds_process, exceeds_line, exceeds_row, exceeds_seq}
+use Rattle.code_generator.proofs.PartsExceed.{exceeds_declaring, exceeds_process, exceeds_line, exceeds_row, exceeds_seq}
 use Rattle.code_generator.proofs.PartsExceed.{exceeds_taken, exceeds_tested, exceeds_other, exceeds_open}
 use Rattle.code_generator.proofs.PartsExceed.{exceeds_choices, exceeds_ending, exceeds_opens, exceeds_passing}
 use Rattle.code_generator.proofs.PartsExceed.{exceeds_if, exceeds_if_end, exceeds_turns, exceeds_last_turn}
@@ -451,6 +451,20 @@ write_replicated-returns-in-Par-clause-ok t c =
     c.args.line x)) is c.write_repeated_par.ensures
 
 -- ---- what is too much
+
+pub write-returns-in_err-declare_all-clause-limit : goal.write-returns-in_err-declare_all-clause-limit
+write-returns-in_err-declare_all-clause-limit t c = λ e.
+    let p = c.args.process.now in
+    let s = c.args.self.now in
+    let ds = map declaration_of c.deref.result.now in
+    let view : with_declarations (map declaration_of p.declarations.items)
+    (Does p.line (construct_of p.construct.value)) ≡ process_of p = search (rules, the_lemmas) in
+    let fault = handed_on c.from_residual-in_err-declare_all.result c.in_err-declare_all.field-0.0 Limit
+    c.from_residual-in_err-declare_all.ensures.1 e in
+    exceeds_declaring c.args.around.limits s (surroundings_of c.args.around) ds p.line
+    (construct_of p.construct.value) (process_of p)
+    ((λ i. with_declarations (map declaration_of (c.deref.ensures.value i))
+    (Does p.line (construct_of p.construct.value))) ∙ view) (c.in_err-declare_all.ensures.limit (ap Err fault))
 
 pub write-returns-in_err-write_construct-clause-limit : goal.write-returns-in_err-write_construct-clause-limit
 write-returns-in_err-write_construct-clause-limit t c = λ e.

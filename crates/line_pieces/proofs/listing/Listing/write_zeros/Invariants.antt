@@ -1,9 +1,0 @@
-use Rattle.std.proofs.Common.{◌≡◌, ◌++◌, map, drop}
-use Rattle.occam_parser.specs.LineViews.{any_of, spelling_of}
-use Rattle.line_pieces.specs.Declarations.{zero_names}
-use Rattle.line_pieces.proofs.listing.Listing.write_zeros.Given as goal
-
-abbrev pub invariant-loop-name : goal.invariant-loop-name
-invariant-loop-name l =
-    l.self ++ zero_names (any_of l.size) l.count (map spelling_of (drop l._name-index l._name-items)) l.next
-    ≡ l.initial.self ++ zero_names (any_of l.size) l.count (map spelling_of l._name-items) l.initial.next
